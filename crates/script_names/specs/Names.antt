@@ -1,0 +1,19 @@
+-- Which bytes name an entry of a directory (POSIX.1-2017, Base Definitions, 3.170).
+use Rattle.std.specs.Prelude.{ℕ, Bool, false, not, ◌&&◌, ◌==◌, nat_le, nat_lt, List, [], ◌∷◌, length}
+use Rattle.std.specs.List.{list_all}
+
+-- `.` and `..`, which name a directory itself and the one above it
+abbrev pub is_dots : List ℕ → Bool
+is_dots [] = false
+is_dots (a ∷ []) = a == 46
+is_dots (a ∷ b ∷ []) = (a == 46) && (b == 46)
+is_dots (a ∷ b ∷ c ∷ rest) = false
+
+-- neither NUL nor `/`
+abbrev pub is_plain_byte : ℕ → Bool
+is_plain_byte b = not (b == 0) && not (b == 47)
+
+-- a name: 1 to 255 bytes, none NUL or `/`, neither `.` nor `..`
+abbrev pub is_name : List ℕ → Bool
+is_name bytes =
+    nat_lt 0 (length bytes) && nat_le (length bytes) 255 && list_all is_plain_byte bytes && not (is_dots bytes)

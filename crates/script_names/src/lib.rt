@@ -1,0 +1,26 @@
+//! The base of the checker: want of memory, lists, boxes, bytes and texts as contracts see them, copies,
+//! and the small values that every layer names: names and paths of the file tree, sites, marks, reasons.
+//! It stands on std alone. Begin with `list` and `name`.
+#![tactic(auto)]
+
+mod boxed;
+mod bytes;
+mod copied;
+mod list;
+mod mark;
+mod memory;
+mod name;
+mod path;
+mod reason;
+mod text;
+
+pub use boxed::Boxed;
+pub use bytes::Bytes;
+pub use copied::Copied;
+pub use list::List;
+pub use mark::{Mark, Site};
+pub use memory::Memory;
+pub use name::{Name, NameFault};
+pub use path::Path;
+pub use reason::{Done, Reason};
+pub use text::Text;
