@@ -1,0 +1,13 @@
+//! Feature trees: what stands at a place of the file tree, and the calls and laws of trees.
+//! It stands on script_names. Begin with `value`, and with specs/Tree.antt for what the calls mean.
+#![tactic(auto)]
+
+mod kind;
+mod put;
+mod same;
+pub mod shape;
+mod value;
+
+pub use kind::{Kind, Kinds};
+pub use put::PutFault;
+pub use value::{Entries, Value};
