@@ -1,5 +1,5 @@
 -- What is true of every directory: its names are names, they rise, and so below it.
-use Rattle.std.specs.Prelude.{◌≡◌, ℕ, Bool, true, ◌&&◌, List, [], ◌∷◌, map, refl}
+use Rattle.std.specs.Prelude.{◌≡◌, ℕ, Bool, true, ◌&&◌, IsTrue, List, [], ◌∷◌, map, refl}
 use Rattle.std.proofs.Common.{sym, ap, ◌∙◌}
 use Rattle.std.specs.Ordering.{is_lt}
 use Rattle.feature_trees.specs.declared.shape.Entry.{Entry, rolls-Entry'}
@@ -10,7 +10,8 @@ use Rattle.feature_trees.specs.declared.shape.Node.TheFolds.{fold-Node, fold-Ent
 use Rattle.feature_trees.specs.declared.value.Value.{Value}
 use Rattle.feature_trees.specs.declared.value.Value.TheVariants.{Absent, Reg, Link, Other, Dir}
 use Rattle.script_names.specs.Names.{is_name}
-use Rattle.feature_trees.specs.Tree.{name_cmp}
+use Rattle.feature_trees.specs.declared.kind.Kind.TheVariants as kind
+use Rattle.feature_trees.specs.Tree.{name_cmp, kind_of}
 
 -- the name comes before the first of these
 abbrev pub before : {A : Type 0} → List ℕ → List (List ℕ × A) → Bool
@@ -48,6 +49,11 @@ sound Reg = true
 sound (Link b) = true
 sound Other = true
 sound (Dir es) = sound_all es
+
+-- a tree of files: a directory that is sound
+pub record IsTree (v : Value) : Type 0 where
+  pub dir : kind_of v ≡ kind.Dir
+  pub sound : IsTrue (sound v)
 
 sound_entry_of : (e : Entry) → sound_entry e ≡ (e.name, sound_node e.node)
 sound_entry_of e = ap sound_entry (sym (rolls-Entry' (record { name = e.name; node = e.node }))) ∙ fold-roll-Entry Bool (List ℕ × Bool) sound_layer entry_layer (record { name = e.name; node = e.node })

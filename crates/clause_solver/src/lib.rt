@@ -1,0 +1,7 @@
+//! Clauses over the variables of feature trees, and what a clause covers.
+//! It stands on feature_trees and script_names. Begin with `clause`, and with specs/Literals.antt for what a literal says.
+#![tactic(auto)]
+
+mod clause;
+
+pub use clause::{Clause, Literal, Var};
