@@ -78,3 +78,17 @@ module _ {F R A : Type 0} where
   pub record Reads (name : F → List ℕ) (old new : ShelfState) (plan : Asking F R A) (result : Result A (Stop F R)) : Type 0 where
     pub kept : new.holds ≡ old.holds
     pub ends : ReadEnds name old new plan result
+
+-- where one reading ends without an answer, so does any that goes on from it
+abbrev pub StopsBoth : (F R A B : Type 0) → Type 0
+StopsBoth F R A B =
+    (name : F → List ℕ) (old new : ShelfState) (plan : Asking F R A) (next : A → Asking F R B) (stop : Stop F R)
+    → Reads name old new plan (Err stop) → Reads name old new (and_then plan next) (Err stop)
+
+-- where one reading has an answer, and the one that goes on from that answer ends so on the same shelf, both end so
+abbrev pub GoesOn : (F R A B : Type 0) → Type 0
+GoesOn F R A B =
+    (name : F → List ℕ) (old middle new : ShelfState) (plan : Asking F R A) (next : A → Asking F R B) (value : A)
+    (result : Result B (Stop F R))
+    → Reads name old middle plan (Ok value) → Reads name middle new (next value) result
+    → Reads name old new (and_then plan next) result
