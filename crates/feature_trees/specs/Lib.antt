@@ -5,3 +5,5 @@ pub mod Tree
 pub mod Place
 pub mod Sound
 pub mod Falls
+pub mod Show
+pub mod TreeText
