@@ -1,5 +1,5 @@
 -- The text of a clause: the line of its two variables, then one line per literal.
-use Rattle.std.specs.Prelude.{ℕ, Bool, true, false, List, [], ◌∷◌, ◌++◌, codes, if◌then◌else◌}
+use Rattle.std.specs.Prelude.{ℕ, Bool, List, [], ◌∷◌, ◌++◌, codes, map, if◌then◌else◌}
 use Rattle.std.specs.List.{flat_map}
 use Rattle.std.specs.Fmt.{decimal}
 use Rattle.feature_trees.specs.declared.kind.Kinds.{Kinds}
@@ -10,41 +10,42 @@ use Rattle.clause_solver.specs.declared.clause.Literal.{Literal}
 use Rattle.clause_solver.specs.declared.clause.Literal.TheVariants.{Entry, Kind, Fence, NotEmpty, Similar, Target}
 use Rattle.clause_solver.specs.declared.clause.Clause.{Clause}
 
+-- a text after a comma
+abbrev pub after_comma : List ℕ → List ℕ
+after_comma text = codes "," ++ text
+
 -- texts joined by commas
 abbrev pub joined : List (List ℕ) → List ℕ
 joined [] = []
-joined (text ∷ texts) = text ++ flat_map (λ more. codes "," ++ more) texts
+joined (text ∷ texts) = text ++ flat_map after_comma texts
 
 -- a variable: `v` and its number
 abbrev pub var_text : Var → List ℕ
 var_text x = codes "v" ++ decimal x.0
 
--- a word where the test holds, else none
-abbrev pub word_if : Bool → List ℕ → List (List ℕ)
-word_if true word = word ∷ []
-word_if false word = []
+-- the words of these whose test holds
+abbrev pub chosen : List (Bool × List ℕ) → List (List ℕ)
+chosen [] = []
+chosen (one ∷ rest) = (if one.0 then one.1 ∷ chosen rest else chosen rest)
 
--- the words of the kinds in a set
+-- the words of the kinds in a set, in the order absent, reg, link, other, dir
 abbrev pub kind_words : Kinds → List (List ℕ)
 kind_words kinds =
-    word_if kinds.absent (codes "absent")
-    ++ word_if kinds.reg (codes "reg")
-    ++ word_if kinds.link (codes "link")
-    ++ word_if kinds.other (codes "other")
-    ++ word_if kinds.dir (codes "dir")
+    chosen
+    ((kinds.absent, codes "absent") ∷ (kinds.reg, codes "reg") ∷ (kinds.link, codes "link") ∷ (kinds.other, codes "other") ∷ (kinds.dir, codes "dir") ∷ [])
 
 -- words joined by commas, or `-` where there are none
 abbrev pub words_text : List (List ℕ) → List ℕ
 words_text [] = codes "-"
 words_text (word ∷ words) = joined (word ∷ words)
 
--- a set of kinds, in the order absent, reg, link, other, dir
+-- a set of kinds
 abbrev pub kinds_text : Kinds → List ℕ
 kinds_text kinds = words_text (kind_words kinds)
 
 -- a set of names: between braces, by their one spelling
 abbrev pub names_text : List (List ℕ) → List ℕ
-names_text names = codes "{" ++ shown_names names ++ codes "}"
+names_text names = codes "{" ++ joined (map show names) ++ codes "}"
 
 -- the line of a literal
 abbrev pub literal_text : Literal → List ℕ
