@@ -8,6 +8,7 @@ mod put;
 mod same;
 pub mod shape;
 mod shown;
+pub mod theorems;
 mod value;
 
 pub use kind::{Kind, Kinds};
