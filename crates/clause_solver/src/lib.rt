@@ -3,5 +3,7 @@
 #![tactic(auto)]
 
 mod clause;
+mod text;
 
 pub use clause::{Clause, Literal, Var};
+pub use text::{print_clause, put_clause};
