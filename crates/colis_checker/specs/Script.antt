@@ -1,0 +1,52 @@
+-- A script of one command a line: the first line names the shell, the second sets the strict flag.
+use Rattle.std.specs.Prelude.{◌≡◌, ℕ, ◌+◌, List, [], ◌∷◌, length, Option, Some, None, Result, Ok, Err, codes, ◌==◌, true, false, if◌then◌else◌}
+use Rattle.std.specs.Str.{bytes_eq}
+use Rattle.colis_checker.specs.declared.package_files.Command.{Command}
+use Rattle.colis_checker.specs.declared.utility_calls.Planned.{Planned}
+use Rattle.colis_checker.specs.declared.utility_calls.Planned.TheVariants.{Known}
+use Rattle.colis_checker.specs.declared.script.ScriptFault.{ScriptFault}
+use Rattle.colis_checker.specs.declared.script.ScriptFault.TheVariants.{Line, Memory}
+
+-- a byte in front of the first of these lines
+abbrev pub onto_first : ℕ → List (List ℕ) → List (List ℕ)
+onto_first b [] = (b ∷ []) ∷ []
+onto_first b (line ∷ lines) = (b ∷ line) ∷ lines
+
+-- the lines of a text, of which the last may lack its newline
+abbrev pub lines_of : List ℕ → List (List ℕ)
+lines_of [] = []
+lines_of (b ∷ bs) = if b == 10 then [] ∷ lines_of bs else onto_first b (lines_of bs)
+
+-- the call of a line: `true` succeeds, `false` fails, and no other line is one
+abbrev pub call_of : List ℕ → Option Planned
+call_of line =
+    if bytes_eq line (codes "true") then Some (Known true) else (if bytes_eq line (codes "false") then Some (Known false) else None)
+
+-- the command of a line that begins at a place, in front of those of the later lines; the first line without one decides
+abbrev pub command_then : ℕ → Option Planned → Result (List Command) ℕ → Result (List Command) ℕ
+command_then place None rest = Err place
+command_then place (Some call) (Ok commands) = Ok (record { at = place; call = call } ∷ commands)
+command_then place (Some call) (Err later) = Err later
+
+-- the commands of lines, of which the first begins at a place; or the place of the first line that is no command
+abbrev pub commands_of : ℕ → List (List ℕ) → Result (List Command) ℕ
+commands_of place [] = Ok []
+commands_of place (line ∷ lines) = command_then place (call_of line) (commands_of (place + length line + 1) lines)
+
+-- the commands of a script with these lines and so many bytes, or the place of the first line that is not of the form;
+-- a line that is missing stands at the end
+abbrev pub script_lines : ℕ → List (List ℕ) → Result (List Command) ℕ
+script_lines end [] = Err end
+script_lines end (first ∷ []) = if bytes_eq first (codes "#!/bin/sh") then Err end else Err 0
+script_lines end (first ∷ second ∷ lines) =
+    if bytes_eq first (codes "#!/bin/sh") then (if bytes_eq second (codes "set -e") then commands_of 17 lines else Err 10) else Err 0
+
+-- the commands of a script, or the place of the first line that is not of the form
+abbrev pub script_of : List ℕ → Result (List Command) ℕ
+script_of text = script_lines (length text) (lines_of text)
+
+-- what reading a script answers: its commands, or the place of that line, or want of memory
+abbrev pub ScriptGives : Result (List Command) ℕ → Result (List Command) ScriptFault → Type 0
+ScriptGives wanted (Ok commands) = wanted ≡ Ok commands
+ScriptGives wanted (Err (Line place)) = wanted ≡ Err place
+ScriptGives wanted (Err Memory) = Unit {0}
