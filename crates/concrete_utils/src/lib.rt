@@ -2,6 +2,6 @@
 //! It stands on utility_calls, feature_trees and script_names. Begin with `act`, and with utility_calls' specs/Rows.antt.
 #![tactic(auto)]
 
-mod act;
+mod acts;
 
-pub use act::act;
+pub use acts::act;
