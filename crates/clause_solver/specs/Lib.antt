@@ -1,1 +1,11 @@
 pub mod Literals
+pub mod Stands
+pub mod Variables
+pub mod Greatest
+pub mod Written
+pub mod Shades
+pub mod Fresh
+pub mod Appends
+pub mod View
+pub mod Grown
+pub mod NewNames

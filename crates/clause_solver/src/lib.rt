@@ -3,5 +3,11 @@
 #![tactic(auto)]
 
 mod clause;
+mod appended;
+mod greatest;
+mod literals;
+mod store;
+mod variable;
 
 pub use clause::{Clause, Literal, Var};
+pub use store::Store;
