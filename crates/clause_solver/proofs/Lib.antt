@@ -12,3 +12,5 @@ pub mod NewNames
 pub mod Alive
 pub mod Leads
 pub mod Settles
+pub mod InOrder
+pub mod Covering

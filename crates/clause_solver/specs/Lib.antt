@@ -3,6 +3,7 @@ pub mod Stands
 pub mod Variables
 pub mod Greatest
 pub mod Written
+pub mod Solved
 pub mod Shades
 pub mod Fresh
 pub mod Appends

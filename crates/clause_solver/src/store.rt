@@ -4,6 +4,7 @@ ghost use Rattle.feature_trees.specs.Kinds.{has};
 ghost use Rattle.feature_trees.specs.Tree.{entry, kind_of};
 ghost use Rattle.feature_trees.specs.Sound.{IsTree};
 ghost use Rattle.clause_solver.specs.Literals.{Valuation, value_of_variable, Covers};
+ghost use Rattle.clause_solver.specs.Solved.{IsSolved};
 ghost use Rattle.clause_solver.specs.Stands.{Seen, Stands, Alive, Extends, HasEntry};
 ghost use Rattle.clause_solver.specs.Variables.{limited};
 
@@ -112,6 +113,24 @@ impl Store {
                 Ok(Var(y))
             }
         }
+    }
+
+    /// A clause in solved order with the same pairs: variable 0 is its start, and the tree now its `now`.
+    pub fn clause(&self) -> Result<Clause, Memory>
+        ensures seen { IfOk result (λ c. (c.literals ≡ self.now.literals) × (c.start.0 ≡ 0) × (c.now.0 ≡ self.now.current)) }
+        ensures covers { IfOk result (λ c. (t u : Value) → Covers c t u ↔ ((g : Valuation) × Stands self.now t g × (value_of_variable g self.now.current ≡ u))) }
+        ensures solved { IfOk result IsSolved }
+    {
+        let alloc = *self.vars.allocator();
+        let literals = match write_literals(alloc, &self.vars) {
+            Ok(literals) => literals,
+            Err(e) => return Err(e),
+        };
+        Ok(Clause {
+            literals,
+            start: Var(0),
+            now: Var(self.current),
+        })
     }
 }
 
