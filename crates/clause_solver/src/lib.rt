@@ -7,3 +7,6 @@ mod text;
 
 pub use clause::{Clause, Literal, Var};
 pub use text::{print_clause, put_clause};
+
+#[cfg(test)]
+mod text_tests;
