@@ -1,4 +1,5 @@
 pub mod Literals
+pub mod ClauseText
 pub mod Stands
 pub mod Variables
 pub mod Greatest

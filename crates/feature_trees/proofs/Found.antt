@@ -1,6 +1,6 @@
 -- What stands at a place among a directory's entries, and what an edit there does.
 use Rattle.std.proofs.Common.{◌≡◌, ℕ, zero, suc, ◌<◌, List, [], ◌∷◌, length, drop, set, add-one, ◌+◌, get_or, Some, None, refl, sym, ap, ◌∙◌, arith}
-use Rattle.std.specs.Prelude.{remove, insert}
+use Rattle.std.specs.Prelude.{remove, insert, slice_get}
 use Rattle.std.specs.declared.cmp.Ordering.TheVariants.{Less, Equal, Greater}
 use Rattle.std.proofs.lemmas.Grind.{common_steps}
 use Rattle.std.specs.FinMap.{slice_cmp-IsAntisymmetric, nat_cmp-IsAntisymmetric}
@@ -183,3 +183,22 @@ same_item (h ∷ hs) (suc i) x y lt = same_item hs i x y (omega arith)
 
 pub get_same : (xs ys : List Held) (i : ℕ) (x y : Held) → xs ≡ ys → i < length xs → x ≡ get_or xs i x → y ≡ get_or ys i y → x ≡ y
 get_same xs ys i x y e lt p q = p ∙ same_item xs i x y lt ∙ ap (λ (l : List Held). get_or l i y) e ∙ sym q
+
+-- a directory has as many entries as it holds
+pub length-seen : (hs : List Held) → length (seen hs) ≡ length hs
+length-seen [] = refl
+length-seen (h ∷ hs) = omega (arith, length-seen hs)
+
+-- the entry at a place
+pub seen_get : (hs : List Held) (i : ℕ) (h : Held) → i < length hs → h ≡ get_or hs i h → slice_get (seen hs) i ≡ Some (record { name = h.name; node = node_of h.value })
+seen_get [] i h lt e = absurd (omega arith)
+seen_get (x ∷ hs) zero h lt e = ap (λ (y : Held). Some (record { name = y.name; node = node_of y.value })) (sym e)
+seen_get (x ∷ hs) (suc i) h lt e = seen_get hs i h (omega arith) e
+
+-- how many entries a directory has, from what it holds
+pub entries_length : (xs hs : List Held) (es : List Entry) → xs ≡ hs → seen hs ≡ es → length xs ≡ length es
+entries_length xs hs es is view = ap (λ (ys : List Held). length ys) is ∙ sym (length-seen hs) ∙ ap (λ (ds : List Entry). length ds) view
+
+-- the entry at a place, from what a directory holds
+pub entries_get : (xs hs : List Held) (es : List Entry) (i : ℕ) (h : Held) → xs ≡ hs → seen hs ≡ es → i < length xs → h ≡ get_or xs i h → slice_get es i ≡ Some (record { name = h.name; node = node_of h.value })
+entries_get xs hs es i h is view lt e = ap (λ (ds : List Entry). slice_get ds i) (sym view) ∙ ap (λ (ys : List Held). slice_get (seen ys) i) (sym is) ∙ seen_get xs i h lt e

@@ -1,5 +1,5 @@
 -- A put keeps a directory sound, and a directory is determined by its entries.
-use Rattle.std.proofs.Common.{◌≡◌, ℕ, Bool, IsTrue, List, [], ◌∷◌, ◌++◌, map, refl, sym, ap, subst, ◌∙◌, append-nil}
+use Rattle.std.proofs.Common.{◌≡◌, ℕ, suc, arith, Bool, IsTrue, All, List, [], ◌∷◌, ◌++◌, map, refl, sym, ap, subst, ◌∙◌, append-nil}
 use Rattle.std.specs.declared.cmp.Ordering.{Ordering}
 use Rattle.std.specs.declared.cmp.Ordering.TheVariants.{Less, Equal, Greater}
 use Rattle.std.specs.Ordering.{is_lt}
@@ -13,11 +13,12 @@ use Rattle.feature_trees.specs.declared.shape.Node.TheFolds.{fold-roll-Node}
 use Rattle.feature_trees.specs.declared.value.Value.{Value}
 use Rattle.feature_trees.specs.declared.value.Value.TheVariants.{Absent, Reg, Link, Other, Dir}
 use Rattle.script_names.specs.Names.{is_name}
-use Rattle.feature_trees.specs.Tree.{find, name_cmp, by_order, update, held}
+use Rattle.feature_trees.specs.Tree.{find, name_cmp, by_order, update, held, put, entry, entries_of, kind_of}
+use Rattle.feature_trees.specs.declared.kind.Kind.TheVariants as kind
 use Rattle.feature_trees.specs.View.{value_layer, value_of, node_of, IsThere}
 use Rattle.feature_trees.specs.Sound.{sound_layer, entry_layer, before, sound_all, sound, sound_node, sound_Dir}
 use Rattle.feature_trees.proofs.Found.{same_name}
-use Rattle.feature_trees.proofs.Laws.{Above, Rises, rises_of, and_parts, and_made, ord, flip_less, above_more, find_above}
+use Rattle.feature_trees.proofs.Laws.{Above, Rises, rises_of, and_parts, and_made, ord, flip_less, above_more, find_above, sound-entry}
 
 abbrev pub EachSound : List Entry → Type 0
 EachSound [] = Unit {0}
@@ -158,3 +159,28 @@ same_finds (e ∷ es) (d ∷ ds) r t h = step (name_cmp e.name d.name) refl (sam
 
         both : e ∷ es ≡ d ∷ ds
         both = λ i. record { name = name i; node = node i } ∷ rest i
+
+sound_entries : (v : Value) → IsTrue (sound v) → IsTrue (sound_all (entries_of v))
+sound_entries Absent s = refl
+sound_entries Reg s = refl
+sound_entries (Link b) s = refl
+sound_entries Other s = refl
+sound_entries (Dir es) s = s
+
+-- a put of a sound value at names keeps a value sound
+pub sound-put : (v : Value) (p : List (List ℕ)) (w : Value) → IsTrue (sound v) → IsTrue (sound w) → All (λ (f : List ℕ). IsTrue (is_name f)) p → IsTrue (sound (put v p w))
+sound-put v [] w s t names = t
+sound-put v (f ∷ p) w s t names =
+    sound-update (entries_of v) f (put (entry v f) p w) (sound_entries v s) (names 0 f (omega arith)) (sound-put (entry v f) p w (sound-entry v f s) t (λ k d lt. names (suc k) d (omega arith)))
+
+-- two directories with the same entries are the same
+pub same_dirs : (v w : Value) → IsTrue (sound v) → IsTrue (sound w) → kind_of v ≡ kind.Dir → kind_of w ≡ kind.Dir → ((f : List ℕ) → entry v f ≡ entry w f) → v ≡ w
+same_dirs (Dir es) (Dir ds) s t d e h = ap Dir (same_finds es ds (rises_of es s) (rises_of ds t) h)
+same_dirs Absent w s t d e h = cc
+same_dirs Reg w s t d e h = cc
+same_dirs (Link b) w s t d e h = cc
+same_dirs Other w s t d e h = cc
+same_dirs (Dir es) Absent s t d e h = cc
+same_dirs (Dir es) Reg s t d e h = cc
+same_dirs (Dir es) (Link b) s t d e h = cc
+same_dirs (Dir es) Other s t d e h = cc

@@ -5,3 +5,6 @@ pub mod Tree
 pub mod Place
 pub mod Sound
 pub mod Falls
+pub mod Laws
+pub mod Show
+pub mod TreeText

@@ -10,10 +10,12 @@ Passed hs f zero = Unit {0}
 Passed [] f (suc i) = ⊥
 Passed (h ∷ hs) f (suc i) = (name_cmp f h.name ≡ Greater) × Passed hs f i
 
+-- the first of these has that name
 abbrev pub BeginsAt : List Held → List ℕ → Type 0
 BeginsAt [] f = ⊥
 BeginsAt (h ∷ hs) f = name_cmp f h.name ≡ Equal
 
+-- the name comes before the first of these, if there is one
 abbrev pub BeginsAfter : List Held → List ℕ → Type 0
 BeginsAfter [] f = Unit {0}
 BeginsAfter (h ∷ hs) f = name_cmp f h.name ≡ Less

@@ -23,18 +23,22 @@ abbrev pub rises : List (List ℕ × Bool) → Bool
 rises [] = true
 rises (x ∷ xs) = is_name x.0 && (x.1 && (before x.0 xs && rises xs))
 
+-- whether one node is sound, from its entries' names and whether they are
 abbrev pub sound_layer : Open.Node-F Bool (List ℕ × Bool) → Bool
 sound_layer Open.Reg = true
 sound_layer (Open.Link b) = true
 sound_layer Open.Other = true
 sound_layer (Open.Dir xs) = rises xs
 
+-- an entry's name, and whether its node is sound
 abbrev pub entry_layer : Open.Entry-F Bool (List ℕ × Bool) → List ℕ × Bool
 entry_layer e = (e.name, e.node)
 
+-- whether a node is sound: in every directory of it the names are names and rise
 abbrev pub sound_node : Node → Bool
 sound_node = fold-Node Bool (List ℕ × Bool) sound_layer entry_layer
 
+-- an entry's name, and whether its node is sound, over whole trees
 abbrev pub sound_entry : Entry → List ℕ × Bool
 sound_entry = fold-Entry Bool (List ℕ × Bool) sound_layer entry_layer
 
@@ -55,12 +59,15 @@ pub record IsTree (v : Value) : Type 0 where
   pub dir : kind_of v ≡ kind.Dir
   pub sound : IsTrue (sound v)
 
+-- an entry is as sound as its node
 sound_entry_of : (e : Entry) → sound_entry e ≡ (e.name, sound_node e.node)
 sound_entry_of e = ap sound_entry (sym (rolls-Entry' (record { name = e.name; node = e.node }))) ∙ fold-roll-Entry Bool (List ℕ × Bool) sound_layer entry_layer (record { name = e.name; node = e.node })
 
+-- and so for many
 sound_entries_of : (es : List Entry) → map sound_entry es ≡ map (λ (e : Entry). (e.name, sound_node e.node)) es
 sound_entries_of [] = refl
 sound_entries_of (e ∷ es) = λ i. sound_entry_of e i ∷ sound_entries_of es i
 
+-- a directory is sound exactly where its entries are
 pub sound_Dir : (es : List Entry) → sound_node (N.Dir es) ≡ sound_all es
 sound_Dir es = ap sound_node (sym (N.rolls-Dir es)) ∙ fold-roll-Node Bool (List ℕ × Bool) sound_layer entry_layer (Open.Dir es) ∙ ap rises (sound_entries_of es)

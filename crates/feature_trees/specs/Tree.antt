@@ -55,6 +55,7 @@ present (Link b) = Some (Link b)
 present Other = Some Other
 present (Dir es) = Some (Dir es)
 
+-- whether a value is a directory
 abbrev pub is_dir : Value → Bool
 is_dir Absent = false
 is_dir Reg = false
@@ -62,6 +63,7 @@ is_dir (Link b) = false
 is_dir Other = false
 is_dir (Dir es) = true
 
+-- the entries of a directory; other values have none
 abbrev pub entries_of : Value → List Entry
 entries_of Absent = []
 entries_of Reg = []

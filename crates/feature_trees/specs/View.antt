@@ -11,6 +11,7 @@ use Rattle.feature_trees.specs.declared.value.Value.{Value}
 use Rattle.feature_trees.specs.declared.value.Value.TheVariants as V
 use Rattle.feature_trees.specs.declared.value.Held.{Held}
 
+-- a value as a node; nothing is asked of Absent, which no entry has
 abbrev pub node_of : Value → Node
 node_of V.Absent = N.Other
 node_of V.Reg = N.Reg
@@ -18,10 +19,12 @@ node_of (V.Link b) = N.Link b
 node_of V.Other = N.Other
 node_of (V.Dir e) = N.Dir e
 
+-- the entries of a directory, from what it holds
 abbrev pub seen : List Held → List Entry
 seen [] = []
 seen (h ∷ rest) = record { name = h.name; node = node_of h.value } ∷ seen rest
 
+-- one layer of a node as a value
 abbrev pub value_layer : Open.Node-F Node Entry → Value
 value_layer Open.Reg = V.Reg
 value_layer (Open.Link b) = V.Link b

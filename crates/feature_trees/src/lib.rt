@@ -3,11 +3,19 @@
 #![tactic(auto)]
 
 mod kind;
+mod print;
 mod put;
 mod same;
 pub mod shape;
+mod shown;
+pub mod theorems;
 mod value;
 
 pub use kind::{Kind, Kinds};
+pub use print::{print_tree, put_tree};
 pub use put::PutFault;
+pub use shown::{put_shown, show};
 pub use value::{Entries, Value};
+
+#[cfg(test)]
+mod tests;

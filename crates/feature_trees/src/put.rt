@@ -8,8 +8,8 @@ ghost use Rattle.feature_trees.specs.declared.value.Value.TheVariants.{Dir};
 use crate::value::{Held, Value, place, set_held};
 use script_names::{Memory, Name, Path};
 
-/// Why nothing was put.
-#[derive(Clone, Copy, Debug)]
+/// Why nothing was put: a name of the path but the last is no directory's, or want of memory.
+#[derive(Clone, Copy, Debug, PartialEq, Eq)]
 pub enum PutFault {
     NoParent,
     Memory,

@@ -1,11 +1,12 @@
-ghost use Rattle.std.specs.Prelude.{◌≡◌, IsTrue, MatchResult, OnOk, OnErr};
+ghost use Rattle.std.specs.Prelude.{◌≡◌, ◌≤◌, [], length, slice_get, IsTrue, MatchResult, OnOk, OnErr, IfNone, IfSome};
 ghost use Rattle.std.specs.Option.{option_copied};
 ghost use Rattle.feature_trees.specs.Place.{IsAt, IsGap};
-ghost use Rattle.feature_trees.specs.View.{seen, AllThere, IsThere};
+ghost use Rattle.feature_trees.specs.View.{seen, node_of, AllThere, IsThere};
 ghost use Rattle.feature_trees.specs.Sound.{sound, sound_all};
 ghost use Rattle.feature_trees.specs.Tree.{find, entry, at, present, update};
 
 use script_names::{Bytes, Copied, Memory, Name, Path};
+use std::alloc::Global;
 use std::cmp::Ordering;
 use std::marker::Model;
 
@@ -64,6 +65,37 @@ impl Model for Entries {
 }
 
 impl Entries {
+    /// No entries.
+    pub fn new(alloc: Global) -> Entries
+        ensures { result ≡ [] }
+    {
+        Entries {
+            items: Vec::new(alloc),
+        }
+    }
+
+    /// How many entries there are.
+    pub fn len(&self) -> usize
+        ensures { result ≡ length self.now }
+    {
+        let items = self.items.as_slice();
+        items.len()
+    }
+
+    /// The entry at a place, counted from 0, in the order of the names; None exactly where there are no more.
+    pub fn get_at(&self, at: usize) -> Option<(&Name, &Value)>
+        ensures none { IfNone result (length self.now ≤ at) }
+        ensures some { IfSome result (λ one. slice_get self.now at ≡ Some (record { name = one.0.now; node = node_of one.1.now })) }
+    {
+        let items = self.items.as_slice();
+        if at < items.len() {
+            let held = &items[at];
+            Some((&held.name, &held.value))
+        } else {
+            None
+        }
+    }
+
     /// The entries are sound.
     pub fn known(&self)
         ensures { IsTrue (sound_all self.now) }
