@@ -11,3 +11,4 @@ pub mod Appends
 pub mod View
 pub mod Grown
 pub mod NewNames
+pub mod Pairs
