@@ -11,3 +11,5 @@ pub mod Appends
 pub mod View
 pub mod Grown
 pub mod NewNames
+pub mod Opens
+pub mod Builds

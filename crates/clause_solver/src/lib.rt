@@ -7,6 +7,8 @@ mod appended;
 mod clause;
 mod greatest;
 mod literals;
+mod new_name;
+mod start_tree;
 mod store;
 mod text;
 mod variable;
