@@ -19,3 +19,6 @@ pub use text::{print_clause, put_clause};
 
 #[cfg(test)]
 mod text_tests;
+
+#[cfg(test)]
+mod store_tests;
