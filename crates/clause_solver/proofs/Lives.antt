@@ -1,9 +1,9 @@
 -- The cases of a variable that has an entry, and one more variable that gets its greatest kind.
-use Rattle.std.proofs.Common.{◌≡◌, ◌≢◌, ℕ, zero, suc, ◌+◌, ◌<◌, ◌≤◌, ◌⊎◌, inl, inr, ◌||◌, ◌&&◌, ◌↔◌, Bool, true, false, IsTrue, Option, Some, None, List, [], ◌∷◌, length, set, get_or, refl, sym, ap, subst, ◌∙◌, arith, get_or-set_other, get_or-set_same, below_more}
+use Rattle.std.proofs.Common.{◌≡◌, ◌≢◌, ℕ, zero, suc, ◌+◌, ◌<◌, ◌≤◌, ◌⊎◌, inl, inr, ◌||◌, ◌&&◌, ◌↔◌, Bool, true, false, IsTrue, List, [], ◌∷◌, length, set, get_or, refl, sym, ap, ◌∙◌, arith, get_or-set_other, get_or-set_same, below_more}
 use Rattle.feature_trees.specs.declared.kind.Kind.{Kind}
 use Rattle.feature_trees.specs.declared.kind.Kind.TheVariants.{Absent, Dir}
 use Rattle.feature_trees.specs.Kinds.{has}
-use Rattle.clause_solver.specs.declared.greatest.Shade.{Shade, fold-roll-Shade}
+use Rattle.clause_solver.specs.declared.greatest.Shade.{fold-roll-Shade}
 use Rattle.clause_solver.specs.declared.greatest.Shade.TheVariants.{Also, Nothing, rolls-Also, rolls-Nothing}
 use Rattle.clause_solver.specs.declared.greatest.Shade.TheOpen.{Also as an_also, Nothing as a_nothing}
 use Rattle.clause_solver.specs.declared.variable.MadeValue.{MadeValue}
@@ -11,8 +11,8 @@ use Rattle.clause_solver.specs.declared.variable.Definition.{Definition}
 use Rattle.clause_solver.specs.declared.variable.Definition.TheVariants.{Start, Child, Derived, Ensured, Made}
 use Rattle.clause_solver.specs.declared.variable.Variable.{Variable}
 use Rattle.clause_solver.specs.Shades.{names, layer}
-use Rattle.clause_solver.specs.Variables.{var_at, Listed, is_node, Earlier, Ordered}
-use Rattle.clause_solver.specs.Greatest.{kind_at, name_in, best_by, best_of, unfenced, Lively, free, held, here, below, kept, IsOpen, IsHeld, FineAt, Fine}
+use Rattle.clause_solver.specs.Variables.{var_at, Listed, is_node, Ordered}
+use Rattle.clause_solver.specs.Greatest.{kind_at, name_in, best_by, best_of, unfenced, Lively, free, held, here, below, kept, IsOpen, IsHeld, FineAt}
 use Rattle.clause_solver.proofs.KindSets.{and_both, both_and}
 
 pub node_parent : (vars : List Variable) → Ordered vars → (m n : ℕ) (f : List ℕ) → m < length vars → (var_at vars m).definition ≡ Child n f → IsTrue (is_node (var_at vars n).definition)

@@ -1,12 +1,11 @@
 -- Which places are shown with one more entry: enough of them, and only places without a fence.
-use Rattle.std.proofs.Common.{◌≡◌, ◌≢◌, ℕ, ◌+◌, ◌<◌, ◌≤◌, ◌&&◌, Bool, true, false, IsTrue, Option, Some, None, ◌⊎◌, inl, inr, List, [], ◌∷◌, length, set, get_or-set_same, refl, sym, ap, ◌∙◌, arith}
+use Rattle.std.proofs.Common.{◌≡◌, ℕ, ◌+◌, ◌<◌, Bool, true, false, IsTrue, inl, inr, List, [], length, set, get_or-set_same, refl, sym, ◌∙◌}
 use Rattle.feature_trees.specs.declared.kind.Kind.{Kind}
 use Rattle.clause_solver.specs.declared.variable.MadeValue.{MadeValue}
-use Rattle.clause_solver.specs.declared.variable.Definition.{Definition}
-use Rattle.clause_solver.specs.declared.variable.Definition.TheVariants.{Start, Child, Derived, Ensured, Made}
+use Rattle.clause_solver.specs.declared.variable.Definition.TheVariants.{Derived, Ensured, Made}
 use Rattle.clause_solver.specs.declared.variable.Variable.{Variable}
-use Rattle.clause_solver.specs.Variables.{var_at, Listed, is_node, Ordered}
-use Rattle.clause_solver.specs.Greatest.{kind_at, unfenced, unfenced_if, Lively, free, held, here, below, kept}
+use Rattle.clause_solver.specs.Variables.{var_at, is_node}
+use Rattle.clause_solver.specs.Greatest.{unfenced, unfenced_if, Lively, free, held, here, below, kept}
 use Rattle.clause_solver.specs.Opens.{mark_at, opened, IsRoot, itself, derived, ensured}
 use Rattle.clause_solver.proofs.Names.{last_cases}
 use Rattle.clause_solver.proofs.KindSets.{and_both, both_and}

@@ -60,7 +60,12 @@ fn kind_made(value: &MadeValue) -> Kind
 }
 
 // The greatest kind by a definition, given those of the earlier variables.
-pub(crate) fn greatest_by(vars: &[Variable], best: &[Kind], kinds: Kinds, definition: &Definition) -> Kind
+pub(crate) fn greatest_by(
+    vars: &[Variable],
+    best: &[Kind],
+    kinds: Kinds,
+    definition: &Definition,
+) -> Kind
     requires same { length best.now ≡ length vars.now }
     requires within { Within vars.now definition.now }
     ensures { result ≡ best_by vars.now best.now kinds definition.now }
@@ -137,7 +142,9 @@ fn is_held(vars: &[Variable], best: &[Kind], x: usize, shade: &Shade, m: usize) 
     ensures { IsTrue result ↔ IsHeld vars.now best.now x (names shade.now) m }
 {
     match &vars[m].definition {
-        Definition::Child(of, f) => *of as usize == x && best[m] != Kind::Absent && !listed(&*shade, f),
+        Definition::Child(of, f) => *of as usize == x
+            && best[m] != Kind::Absent
+            && !listed(&*shade, f),
         _ => false,
     }
 }
@@ -178,7 +185,13 @@ fn is_shown(best: &[Kind], y: usize, shade: &Shade, f: &Name) -> bool
 
 /// Whether a variable has an entry outside the shade, among the greatest kinds;
 /// places without a fence may be counted as having one more, or not.
-pub(crate) fn lives(vars: &[Variable], best: &[Kind], counted: bool, x: usize, shade: &Shade) -> bool
+pub(crate) fn lives(
+    vars: &[Variable],
+    best: &[Kind],
+    counted: bool,
+    x: usize,
+    shade: &Shade,
+) -> bool
     requires same { length best.now ≡ length vars.now }
     requires order { Ordered vars.now }
     requires inside { x < length vars.now }

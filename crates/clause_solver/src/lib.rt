@@ -18,7 +18,6 @@ pub use store::Store;
 pub use text::{print_clause, put_clause};
 
 #[cfg(test)]
-mod text_tests;
-
-#[cfg(test)]
 mod store_tests;
+#[cfg(test)]
+mod text_tests;

@@ -51,7 +51,13 @@ fn is_wanted(vars: &[Variable], marks: &[bool], i: usize) -> bool
 }
 
 // Every variable of its greatest kind before any entry is known.
-fn bare_values(alloc: Global, vars: &[Variable], best: &[Kind], marks: &[bool], z: &Name) -> Result<Vec<Value>, Memory>
+fn bare_values(
+    alloc: Global,
+    vars: &[Variable],
+    best: &[Kind],
+    marks: &[bool],
+    z: &Name,
+) -> Result<Vec<Value>, Memory>
     requires same { length best.now ≡ length vars.now }
     requires marks { length marks.now ≡ length vars.now }
     ensures { IfOk result (λ v. AreBare vars.now best.now marks.now z.now v.items) }
@@ -91,7 +97,13 @@ fn hand(values: &mut [Value], definition: &Definition, v: Value) -> Result<(), M
 
 /// The start tree in which each place has its greatest kind, with one more entry of a new name at the marked places.
 /// The values are made from the last variable to the first, and each is moved into its parent once.
-pub(crate) fn grow(alloc: Global, vars: &[Variable], best: &[Kind], marks: &[bool], z: &Name) -> Result<Value, Memory>
+pub(crate) fn grow(
+    alloc: Global,
+    vars: &[Variable],
+    best: &[Kind],
+    marks: &[bool],
+    z: &Name,
+) -> Result<Value, Memory>
     requires same { length best.now ≡ length vars.now }
     requires marks { length marks.now ≡ length vars.now }
     requires order { Ordered vars.now }
@@ -159,7 +171,11 @@ fn open_for(vars: &[Variable], best: &[Kind], marks: &mut [bool], i: usize)
 }
 
 /// Marks for the places that have to be shown with one more entry, so that each variable has one that needs it.
-pub(crate) fn open_places(alloc: Global, vars: &[Variable], best: &[Kind]) -> Result<Vec<bool>, Memory>
+pub(crate) fn open_places(
+    alloc: Global,
+    vars: &[Variable],
+    best: &[Kind],
+) -> Result<Vec<bool>, Memory>
     requires same { length best.now ≡ length vars.now }
     requires order { Ordered vars.now }
     requires fine { Fine vars.now best.now (unfenced vars.now) }

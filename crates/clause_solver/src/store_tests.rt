@@ -49,7 +49,8 @@ fn limits(rt: HostRuntime) -> Result<(), Fail> {
     assert!(rt; s.limit(bin, Kinds::of(Kind::Dir)));
     let again = walk(&rt, &mut s, &[b"usr", b"bin"])?;
     assert_eq!(rt; (etc, bin, again), (Var(1), Var(3), Var(3)));
-    let text = "clause start v0 now v0\nkind v0 dir\nentry v0 etc v1\nkind v1 dir\nentry v0 usr v2\nentry v2 bin v3\nkind v3 dir\n";
+    let text =
+        "clause start v0 now v0\nkind v0 dir\nentry v0 etc v1\nkind v1 dir\nentry v0 usr v2\nentry v2 bin v3\nkind v3 dir\n";
     expect_clause(&rt, &s, text)?;
     expect_tree(&rt, &mut s, "d /etc\nd /usr\nd /usr/bin\n")?;
     let mut copy = s.copy(rt.alloc())?;
@@ -75,7 +76,11 @@ fn shows_each_kind(rt: HostRuntime) -> Result<(), Fail> {
         let x = walk(&rt, &mut s, &[b"etc", word])?;
         assert!(rt; s.limit(x, kinds));
     }
-    expect_tree(&rt, &mut s, "d /etc\nd /etc/d\nl /etc/l x\no /etc/o\nf /etc/r\n")
+    expect_tree(
+        &rt,
+        &mut s,
+        "d /etc\nd /etc/d\nl /etc/l x\no /etc/o\nf /etc/r\n",
+    )
 }
 
 #[test]

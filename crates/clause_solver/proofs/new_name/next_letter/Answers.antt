@@ -1,4 +1,4 @@
-use Rattle.std.proofs.Common.{◌≡◌, ◌≤◌, [], ◌∷◌, ◌++◌, arith}
+use Rattle.std.proofs.Common.{◌≤◌, [], ◌∷◌, ◌++◌, arith}
 use Rattle.clause_solver.specs.NewNames.{beginning}
 use Rattle.clause_solver.proofs.NewNames.{other_letter}
 use Rattle.clause_solver.proofs.new_name.next_letter.Goals as goal

@@ -1,4 +1,4 @@
-use Rattle.std.proofs.Common.{◌≡◌, ◌∙◌, ◌+◌, ap, length, rules, arith, length-append}
+use Rattle.std.proofs.Common.{◌≡◌, ◌∙◌, ◌+◌, ap, length, length-append}
 use Rattle.clause_solver.specs.Opens.{bare}
 use Rattle.clause_solver.proofs.Built.{bare_more}
 use Rattle.clause_solver.proofs.start_tree.bare_values.Goals as goal

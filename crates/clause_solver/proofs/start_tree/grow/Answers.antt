@@ -1,9 +1,8 @@
-use Rattle.std.proofs.Common.{◌≡◌, ◌≢◌, ◌∙◌, ◌<◌, ◌≤◌, ℕ, ap, sym, length, arith, length-append, ◌+◌}
-use Rattle.std.specs.Vec.{with_items}
+use Rattle.std.proofs.Common.{◌≡◌, ◌∙◌, ◌<◌, ap, sym, length, arith, length-append, ◌+◌}
 use Rattle.std.proofs.lemmas.List.{with_items_is}
 use Rattle.clause_solver.specs.declared.variable.Variable.{Variable}
 use Rattle.clause_solver.specs.Variables.{var_at, no_variable}
-use Rattle.clause_solver.specs.Builds.{IsBuilt, handed}
+use Rattle.clause_solver.specs.Builds.{handed}
 use Rattle.clause_solver.proofs.Lives.{var_same}
 use Rattle.clause_solver.proofs.Built.{hand_step}
 use Rattle.clause_solver.proofs.start_tree.grow.Goals as goal

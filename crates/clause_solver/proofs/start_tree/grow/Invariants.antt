@@ -1,4 +1,4 @@
-use Rattle.std.proofs.Common.{◌≡◌, ℕ, ◌<◌, ◌≤◌, length}
+use Rattle.std.proofs.Common.{◌<◌, ◌≤◌, length}
 use Rattle.clause_solver.specs.Builds.{IsBuilt}
 use Rattle.clause_solver.proofs.start_tree.grow.Given as goal
 

@@ -1,4 +1,4 @@
-use Rattle.std.proofs.Common.{◌≡◌, ◌∙◌, ◌<◌, set, length, ap, sym, subst, IsTrue, ℕ, Some, None, true}
+use Rattle.std.proofs.Common.{◌≡◌, ◌<◌, set, length, subst, IsTrue, Some, true}
 use Rattle.clause_solver.specs.Opens.{mark_at}
 use Rattle.clause_solver.proofs.Lives.{shade_nothing}
 use Rattle.clause_solver.proofs.Opens.{lively_any, lively_opened, mark_same}
@@ -20,7 +20,7 @@ returns-clause-lives c t =
     let inside : r < length marks = rw c.requires.marks c.in-Some.ensures.within in
     lively_opened c.args.vars.now c.args.best.now (set marks r true) (c.requires.lively t)
     (λ r' q.
-        let found : c.root.result ≡ Some r' = c.root.ensures.root r' q in
-        let is : c.root.result ≡ Some r = c.in-Some.is in
-        let e : r ≡ r' = cc in
-        subst (λ n. IsTrue (mark_at (set marks r true) n)) e (mark_same marks r inside))
+    let found : c.root.result ≡ Some r' = c.root.ensures.root r' q in
+    let is : c.root.result ≡ Some r = c.in-Some.is in
+    let e : r ≡ r' = cc in
+    subst (λ n. IsTrue (mark_at (set marks r true) n)) e (mark_same marks r inside))

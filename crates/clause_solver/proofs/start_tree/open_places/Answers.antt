@@ -1,5 +1,4 @@
-use Rattle.std.proofs.Common.{◌≡◌, ◌∙◌, ap, length, sym, IsTrue, ℕ, Bool, List}
-use Rattle.std.specs.Vec.{with_items}
+use Rattle.std.proofs.Common.{◌≡◌, ◌∙◌, ap, length, sym, IsTrue, ℕ}
 use Rattle.std.proofs.lemmas.List.{with_items_is}
 use Rattle.clause_solver.specs.Opens.{mark_at}
 use Rattle.clause_solver.proofs.Opens.{lives_next}
