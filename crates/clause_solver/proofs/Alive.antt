@@ -1,8 +1,6 @@
 -- A pair is left exactly where the greatest kinds are fine.
-use Rattle.std.proofs.Common.{◌≡◌, ℕ, ◌<◌, ◌≤◌, ◌↔◌, Bool, IsTrue, None, Some, Option, List, length, refl, sym, ap, ◌∙◌, arith, true, false}
+use Rattle.std.proofs.Common.{◌≡◌, ℕ, ◌<◌, ◌≤◌, ◌↔◌, Bool, IsTrue, None, Some, Option, List, length, refl}
 use Rattle.feature_trees.specs.declared.kind.Kind.{Kind}
-use Rattle.feature_trees.specs.declared.kind.Kind.TheVariants as kind
-use Rattle.feature_trees.specs.declared.value.Value.{Value}
 use Rattle.feature_trees.specs.Tree.{kind_of}
 use Rattle.clause_solver.specs.declared.variable.Variable.{Variable}
 use Rattle.clause_solver.specs.Literals.{Valuation, value_of_variable, IsSound}
@@ -10,11 +8,14 @@ use Rattle.clause_solver.specs.Stands.{Stands, Alive}
 use Rattle.clause_solver.specs.Variables.{var_at, AllFit, Ordered, AlwaysDir, OnlyDir, is_node}
 use Rattle.clause_solver.specs.Greatest.{IsBest, Fine, unfenced, is_unfenced}
 use Rattle.clause_solver.specs.Grown.{values}
+use Rattle.clause_solver.specs.Opens.{mark_at, opened}
+use Rattle.clause_solver.proofs.KindSets.{and_both}
 use Rattle.clause_solver.proofs.Pairs.{fits_from, fits_to}
 use Rattle.clause_solver.proofs.OneMore.{seen_of}
 use Rattle.clause_solver.proofs.Least.{fine}
 use Rattle.clause_solver.proofs.Grown.{evals, evals_length, whole_sound, all_fit, node_is}
-use Rattle.clause_solver.proofs.NewNames.{IsNew, new_name}
+use Rattle.clause_solver.specs.NewNames.{IsNew}
+use Rattle.clause_solver.proofs.NewNames.{new_name}
 
 -- what fits stands for its start
 pub stands_of : (vars : List Variable) (now : ℕ) → 0 < length vars → AlwaysDir vars now → OnlyDir vars 0 → (g : Valuation) → length g ≡ length vars → IsSound g → AllFit vars g → Stands (seen_of vars now) (value_of_variable g 0) g
@@ -52,3 +53,10 @@ alive_iff vars best now small order is tree start = (
       (value_of_variable (values best (unfenced vars) new.0 0 vars) 0, pair.0, pair.1),
   λ some. let s = some.2 in fine vars best some.1 order is s.values (fits_from vars some.1 order s.values s.met),
 )
+
+opened_none : (vars : List Variable) (marks : List Bool) (i : ℕ) → IsTrue (opened vars marks i) → (var_at vars i).fence ≡ None
+opened_none vars marks i h = unfenced_none vars i (and_both (mark_at marks i) (unfenced vars i) h).1
+
+-- the tree that is built is a start tree
+pub shown_pair : (vars : List Variable) (best : List Kind) (now : ℕ) (marks : List Bool) (z : List ℕ) → IsNew vars z → Ordered vars → IsBest vars best → AlwaysDir vars now → OnlyDir vars 0 → Fine vars best (opened vars marks) → (g : Valuation) × Stands (seen_of vars now) (value_of_variable (values best (opened vars marks) z 0 vars) 0) g
+shown_pair vars best now marks z new order is tree start f = pair_of vars best now (opened vars marks) z new (λ i w. opened_none vars marks i) order is tree start f

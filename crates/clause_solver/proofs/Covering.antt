@@ -1,10 +1,9 @@
 -- A clause with a store's literals covers the pairs of the store.
-use Rattle.std.proofs.Common.{◌≡◌, ℕ, zero, suc, ◌+◌, ◌<◌, ◌≤◌, ◌↔◌, ◌⊎◌, inl, inr, IsTrue, List, [], ◌∷◌, ◌++◌, length, get_or, refl, sym, ap, ◌∙◌, arith}
+use Rattle.std.proofs.Common.{◌≡◌, ℕ, zero, suc, ◌+◌, ◌<◌, ◌↔◌, inl, inr, List, [], ◌∷◌, ◌++◌, length, refl, sym, ap, ◌∙◌, arith}
 use Rattle.std.proofs.lemmas.List.{length-append, get_or_append_left}
 use Rattle.std.proofs.Math.Seq.{get_or-append_seam}
 use Rattle.feature_trees.specs.declared.value.Value.{Value}
 use Rattle.feature_trees.specs.declared.value.Value.TheVariants as value
-use Rattle.feature_trees.specs.Tree.{kind_of}
 use Rattle.clause_solver.specs.declared.clause.Clause.{Clause}
 use Rattle.clause_solver.specs.declared.variable.Variable.{Variable}
 use Rattle.clause_solver.specs.Literals.{Valuation, value_of_variable, IsSound, MeetsAll, Covers}
@@ -12,7 +11,7 @@ use Rattle.clause_solver.specs.Stands.{Stands}
 use Rattle.clause_solver.specs.Variables.{var_at, AllFit, Ordered, AlwaysDir, OnlyDir}
 use Rattle.clause_solver.specs.Written.{literals_from}
 use Rattle.clause_solver.proofs.Names.{last_cases}
-use Rattle.clause_solver.proofs.Pairs.{sound_at, fits_from, fits_to}
+use Rattle.clause_solver.proofs.Pairs.{sound_at, fits_from}
 use Rattle.clause_solver.proofs.OneMore.{seen_of, fits_same, sound_push}
 use Rattle.clause_solver.proofs.Alive.{stands_of}
 

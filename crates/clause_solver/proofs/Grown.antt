@@ -1,5 +1,5 @@
 -- The tree of the greatest kinds, and the valuation that it gives.
-use Rattle.std.proofs.Common.{◌≡◌, ◌≢◌, ℕ, zero, suc, ◌+◌, ◌<◌, ◌≤◌, ◌⊎◌, inl, inr, ◌&&◌, Bool, true, false, IsTrue, Option, Some, None, List, [], ◌∷◌, ◌++◌, length, get_or, refl, sym, ap, subst, ◌∙◌, arith, nat_eq, if◌then◌else◌}
+use Rattle.std.proofs.Common.{◌≡◌, ◌≢◌, ℕ, zero, suc, ◌+◌, ◌<◌, ◌≤◌, ◌⊎◌, inl, inr, Bool, true, false, IsTrue, None, List, [], ◌∷◌, ◌++◌, length, refl, sym, ap, subst, ◌∙◌, arith, nat_eq}
 use Rattle.std.proofs.lemmas.List.{length-append, get_or_append_left}
 use Rattle.std.proofs.lemmas.Cmp.{tied_itself}
 use Rattle.std.proofs.Math.Seq.{get_or-append_seam}
@@ -7,21 +7,19 @@ use Rattle.script_names.specs.Names.{is_name}
 use Rattle.feature_trees.specs.declared.kind.Kind.{Kind}
 use Rattle.feature_trees.specs.declared.kind.Kind.TheVariants as kind
 use Rattle.feature_trees.specs.declared.value.Value.{Value}
-use Rattle.feature_trees.specs.declared.value.Value.TheVariants.{Absent, Reg, Link, Other, Dir}
+use Rattle.feature_trees.specs.declared.value.Value.TheVariants.{Absent, Reg}
 use Rattle.feature_trees.specs.declared.shape.Entry.{Entry}
-use Rattle.feature_trees.specs.Kinds.{has}
-use Rattle.feature_trees.specs.Tree.{entry, kind_of, find, update, name_cmp, by_order}
+use Rattle.feature_trees.specs.Tree.{entry, kind_of, find, update, by_order}
 use Rattle.feature_trees.specs.View.{node_of, value_of, value_of-node_of}
 use Rattle.feature_trees.specs.Sound.{sound, sound_all}
 use Rattle.feature_trees.proofs.Laws.{ord, Rises, rises_of, find-update_same, find-update_other}
 use Rattle.feature_trees.proofs.Kept.{sound-update}
-use Rattle.clause_solver.specs.declared.variable.MadeValue.{MadeValue}
 use Rattle.clause_solver.specs.declared.variable.Definition.{Definition}
 use Rattle.clause_solver.specs.declared.variable.Definition.TheVariants.{Start, Child, Derived, Ensured, Made}
 use Rattle.clause_solver.specs.declared.variable.Variable.{Variable}
 use Rattle.clause_solver.specs.Literals.{Valuation, value_of_variable, IsSound}
-use Rattle.clause_solver.specs.Variables.{var_at, Listed, allowed, defined, made_value, Fits, AllFit, is_node, Earlier, Ordered}
-use Rattle.clause_solver.specs.Greatest.{kind_at, choose, is_dir, best_by, IsBest, Lively, free, held, here, below, kept, Fine}
+use Rattle.clause_solver.specs.Variables.{var_at, Listed, allowed, defined, made_value, AllFit, is_node, Earlier, Ordered}
+use Rattle.clause_solver.specs.Greatest.{kind_at, is_dir, best_by, IsBest, Lively, free, held, here, below, kept, Fine}
 use Rattle.clause_solver.specs.Grown.{grown, add, kids, extra, values}
 use Rattle.clause_solver.proofs.Names.{nat_cases, bool_cases, eq_cases, same_yes, name_cases}
 use Rattle.clause_solver.proofs.KindSets.{is_dir_cases}

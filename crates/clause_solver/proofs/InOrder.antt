@@ -1,5 +1,5 @@
 -- The literals of a store are in solved order.
-use Rattle.std.proofs.Common.{◌≡◌, ◌≢◌, ℕ, zero, suc, ◌+◌, ◌<◌, ◌≤◌, ◌⊎◌, inl, inr, Bool, true, false, Option, Some, None, List, [], ◌∷◌, ◌++◌, length, get_or, refl, sym, ap, subst, ◌∙◌, arith, append_assoc}
+use Rattle.std.proofs.Common.{◌≡◌, ℕ, zero, suc, ◌+◌, ◌<◌, inl, inr, Bool, true, false, Option, Some, None, List, [], ◌∷◌, ◌++◌, length, get_or, refl, arith, append_assoc}
 use Rattle.std.specs.Prelude.{Contains}
 use Rattle.feature_trees.specs.declared.kind.Kinds.{Kinds}
 use Rattle.clause_solver.specs.declared.clause.Literal.{Literal}
@@ -10,8 +10,8 @@ use Rattle.clause_solver.specs.declared.variable.Definition.{Definition}
 use Rattle.clause_solver.specs.declared.variable.Definition.TheVariants.{Start, Child, Derived, Ensured, Made}
 use Rattle.clause_solver.specs.declared.variable.Variable.{Variable}
 use Rattle.clause_solver.specs.Variables.{var_at, Earlier, Ordered}
-use Rattle.clause_solver.specs.Written.{var, made_literals, definition_literals, is_all, kinds_literals, fence_literals, filled_literals, literals_of, literals_from}
-use Rattle.clause_solver.specs.Solved.{Solves, done, entry, absent, reg, link, empty, similar, fact, Replaces, none, one}
+use Rattle.clause_solver.specs.Written.{var, made_literals, definition_literals, is_all, kinds_literals, fence_literals, filled_literals, literals_from}
+use Rattle.clause_solver.specs.Solved.{Solves, done, entry, absent, reg, link, empty, similar, fact, none, one}
 use Rattle.clause_solver.proofs.Names.{bool_cases, nat_cases}
 
 -- the numbers below n, the greatest first

@@ -1,17 +1,15 @@
 -- An entry is followed through the definitions, and where it is found.
-use Rattle.std.proofs.Common.{◌≡◌, ◌≢◌, ℕ, ◌+◌, ◌<◌, ◌≤◌, List, [], ◌∷◌, ◌++◌, length, take, IsTrue, refl, sym, ap, ◌∙◌, arith, get_or}
-use Rattle.std.proofs.lemmas.List.{take_all, length-append, get_or-take}
-use Rattle.feature_trees.specs.declared.value.Value.{Value}
+use Rattle.std.proofs.Common.{◌≡◌, ◌≢◌, ℕ, ◌+◌, ◌<◌, List, [], ◌∷◌, ◌++◌, length, take, refl, sym, ap, ◌∙◌, arith}
+use Rattle.std.proofs.lemmas.List.{take_all, get_or-take}
 use Rattle.feature_trees.specs.declared.value.Value.TheVariants as value
-use Rattle.feature_trees.specs.declared.kind.Kind.{Kind}
 use Rattle.feature_trees.specs.Tree.{entry}
 use Rattle.clause_solver.specs.declared.appended.Found.TheVariants.{Known, Nothing, At}
 use Rattle.clause_solver.specs.declared.variable.MadeValue.TheVariants as made
 use Rattle.clause_solver.specs.declared.variable.Definition.{Definition}
-use Rattle.clause_solver.specs.declared.variable.Definition.TheVariants.{Start, Child, Derived, Ensured, Made}
+use Rattle.clause_solver.specs.declared.variable.Definition.TheVariants.{Child, Derived, Made}
 use Rattle.clause_solver.specs.declared.variable.Variable.{Variable}
 use Rattle.clause_solver.specs.Literals.{Valuation, value_of_variable, IsSound}
-use Rattle.clause_solver.specs.Stands.{Seen, Stands, Extends, HasEntry}
+use Rattle.clause_solver.specs.Stands.{Seen, Extends, HasEntry}
 use Rattle.clause_solver.specs.Variables.{var_at, AllFit, Earlier, Ordered, IsChild, defined}
 use Rattle.clause_solver.specs.Appends.{SameEntry, LeadsTo}
 use Rattle.clause_solver.specs.Fresh.{fresh}

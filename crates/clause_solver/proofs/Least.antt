@@ -1,20 +1,18 @@
 -- Where some valuation meets all, the greatest kinds are fine.
-use Rattle.std.proofs.Common.{◌≡◌, ◌≢◌, ℕ, zero, suc, ◌+◌, ◌<◌, ◌≤◌, ◌⊎◌, inl, inr, ◌||◌, ◌&&◌, Bool, true, false, IsTrue, Option, Some, None, List, [], ◌∷◌, length, get_or, refl, sym, ap, subst, ◌∙◌, arith}
+use Rattle.std.proofs.Common.{◌≡◌, ◌≢◌, ℕ, zero, suc, ◌<◌, inl, inr, ◌&&◌, true, false, IsTrue, Option, Some, None, List, [], ◌∷◌, length, refl, sym, ap, ◌∙◌, arith}
 use Rattle.feature_trees.specs.declared.kind.Kind.{Kind}
-use Rattle.feature_trees.specs.declared.kind.Kind.TheVariants.{Absent, Reg, Link, Other, Dir}
-use Rattle.feature_trees.specs.declared.kind.Kinds.{Kinds}
+use Rattle.feature_trees.specs.declared.kind.Kind.TheVariants.{Absent, Dir}
 use Rattle.feature_trees.specs.declared.value.Value.{Value}
 use Rattle.feature_trees.specs.declared.value.Value.TheVariants as value
 use Rattle.feature_trees.specs.Kinds.{has}
 use Rattle.feature_trees.specs.Tree.{entry, kind_of}
-use Rattle.feature_trees.specs.Sound.{sound}
 use Rattle.clause_solver.specs.declared.variable.MadeValue.{MadeValue}
 use Rattle.clause_solver.specs.declared.variable.MadeValue.TheVariants as made
 use Rattle.clause_solver.specs.declared.variable.Definition.{Definition}
 use Rattle.clause_solver.specs.declared.variable.Definition.TheVariants.{Start, Child, Derived, Ensured, Made}
 use Rattle.clause_solver.specs.declared.variable.Variable.{Variable}
 use Rattle.clause_solver.specs.Literals.{Valuation, value_of_variable, IsSound}
-use Rattle.clause_solver.specs.Variables.{var_at, Listed, allowed, member, defined, made_value, Fits, AllFit, is_node, Ordered}
+use Rattle.clause_solver.specs.Variables.{var_at, Listed, allowed, member, defined, made_value, AllFit, is_node, Ordered}
 use Rattle.clause_solver.specs.Greatest.{kind_at, choose, is_dir, best_by, IsBest, unfenced, Lively, free, held, here, below, kept, Fine}
 use Rattle.clause_solver.proofs.Names.{name_cases, bool_cases}
 use Rattle.clause_solver.proofs.KindSets.{choose_in, choose_dir, choose_present}

@@ -14,3 +14,5 @@ pub mod Leads
 pub mod Settles
 pub mod InOrder
 pub mod Covering
+pub mod Opens
+pub mod Built

@@ -1,9 +1,9 @@
 -- The cases of a variable that has an entry, and one more variable that gets its greatest kind.
-use Rattle.std.proofs.Common.{◌≡◌, ◌≢◌, ℕ, zero, suc, ◌+◌, ◌<◌, ◌≤◌, ◌⊎◌, inl, inr, ◌||◌, ◌&&◌, ◌↔◌, Bool, true, false, IsTrue, Option, Some, None, List, [], ◌∷◌, length, set, get_or, refl, sym, ap, subst, ◌∙◌, arith, get_or-set_other, get_or-set_same, below_more}
+use Rattle.std.proofs.Common.{◌≡◌, ◌≢◌, ℕ, zero, suc, ◌+◌, ◌<◌, ◌≤◌, ◌⊎◌, inl, inr, ◌||◌, ◌&&◌, ◌↔◌, Bool, true, false, IsTrue, List, [], ◌∷◌, length, set, get_or, refl, sym, ap, ◌∙◌, arith, get_or-set_other, get_or-set_same, below_more}
 use Rattle.feature_trees.specs.declared.kind.Kind.{Kind}
 use Rattle.feature_trees.specs.declared.kind.Kind.TheVariants.{Absent, Dir}
 use Rattle.feature_trees.specs.Kinds.{has}
-use Rattle.clause_solver.specs.declared.greatest.Shade.{Shade, fold-roll-Shade}
+use Rattle.clause_solver.specs.declared.greatest.Shade.{fold-roll-Shade}
 use Rattle.clause_solver.specs.declared.greatest.Shade.TheVariants.{Also, Nothing, rolls-Also, rolls-Nothing}
 use Rattle.clause_solver.specs.declared.greatest.Shade.TheOpen.{Also as an_also, Nothing as a_nothing}
 use Rattle.clause_solver.specs.declared.variable.MadeValue.{MadeValue}
@@ -11,8 +11,8 @@ use Rattle.clause_solver.specs.declared.variable.Definition.{Definition}
 use Rattle.clause_solver.specs.declared.variable.Definition.TheVariants.{Start, Child, Derived, Ensured, Made}
 use Rattle.clause_solver.specs.declared.variable.Variable.{Variable}
 use Rattle.clause_solver.specs.Shades.{names, layer}
-use Rattle.clause_solver.specs.Variables.{var_at, Listed, is_node, Earlier, Ordered}
-use Rattle.clause_solver.specs.Greatest.{kind_at, name_in, best_by, best_of, unfenced, Lively, free, held, here, below, kept, IsOpen, IsHeld, FineAt, Fine}
+use Rattle.clause_solver.specs.Variables.{var_at, Listed, is_node, Ordered}
+use Rattle.clause_solver.specs.Greatest.{kind_at, name_in, best_by, best_of, unfenced, Lively, free, held, here, below, kept, IsOpen, IsHeld, FineAt}
 use Rattle.clause_solver.proofs.KindSets.{and_both, both_and}
 
 pub node_parent : (vars : List Variable) → Ordered vars → (m n : ℕ) (f : List ℕ) → m < length vars → (var_at vars m).definition ≡ Child n f → IsTrue (is_node (var_at vars n).definition)
@@ -43,28 +43,22 @@ module _ (vars : List Variable) (best : List Kind) (open_at : ℕ → Bool) wher
       inr (rw (ex, ef) at rest1)
   lively_derived order n x f y ds e (kept x' e' rest1) = let bad : Derived x f y ≡ Ensured x' = sym e ∙ e' in absurd (cc)
 
-  pub lively_ensured_at : Ordered vars → (n x : ℕ) (ds : List (List ℕ)) → (var_at vars n).definition ≡ Ensured x → Lively vars best open_at n ds → Lively vars best open_at x ds
-  lively_ensured_at order n x ds e (free a b c) = let bad : false ≡ true = rw e at a in absurd (cc)
-  lively_ensured_at order n x ds e (held m g w e' some out) = let bad : false ≡ true = rw e at (node_parent vars order m n g w e') in absurd (cc)
-  lively_ensured_at order n x ds e (here x' f' y' e' some out) = let bad : Ensured x ≡ Derived x' f' y' = sym e ∙ e' in absurd (cc)
-  lively_ensured_at order n x ds e (below x' f' y' e' rest1) = let bad : Ensured x ≡ Derived x' f' y' = sym e ∙ e' in absurd (cc)
-  lively_ensured_at order n x ds e (kept x' e' rest1) =
+  pub lively_ensured : Ordered vars → (n x : ℕ) (ds : List (List ℕ)) → (var_at vars n).definition ≡ Ensured x → Lively vars best open_at n ds → Lively vars best open_at x ds
+  lively_ensured order n x ds e (free a b c) = let bad : false ≡ true = rw e at a in absurd (cc)
+  lively_ensured order n x ds e (held m g w e' some out) = let bad : false ≡ true = rw e at (node_parent vars order m n g w e') in absurd (cc)
+  lively_ensured order n x ds e (here x' f' y' e' some out) = let bad : Ensured x ≡ Derived x' f' y' = sym e ∙ e' in absurd (cc)
+  lively_ensured order n x ds e (below x' f' y' e' rest1) = let bad : Ensured x ≡ Derived x' f' y' = sym e ∙ e' in absurd (cc)
+  lively_ensured order n x ds e (kept x' e' rest1) =
       let same : Ensured x' ≡ Ensured x = sym e' ∙ e in
       let ex : x' ≡ x = cc in
       rw ex at rest1
 
-  pub lively_made_at : Ordered vars → (n : ℕ) (k : MadeValue) (ds : List (List ℕ)) → (var_at vars n).definition ≡ Made k → Lively vars best open_at n ds → ⊥
-  lively_made_at order n k ds e (free a b c) = let bad : false ≡ true = rw e at a in absurd (cc)
-  lively_made_at order n k ds e (held m g w e' some out) = let bad : false ≡ true = rw e at (node_parent vars order m n g w e') in absurd (cc)
-  lively_made_at order n k ds e (here x' f' y' e' some out) = let bad : Made k ≡ Derived x' f' y' = sym e ∙ e' in absurd (cc)
-  lively_made_at order n k ds e (below x' f' y' e' rest1) = let bad : Made k ≡ Derived x' f' y' = sym e ∙ e' in absurd (cc)
-  lively_made_at order n k ds e (kept x' e' rest1) = let bad : Made k ≡ Ensured x' = sym e ∙ e' in absurd (cc)
-
-pub lively_ensured : (vars : List Variable) (best : List Kind) → Ordered vars → (n x : ℕ) (ds : List (List ℕ)) → (var_at vars n).definition ≡ Ensured x → Lively vars best (unfenced vars) n ds → Lively vars best (unfenced vars) x ds
-lively_ensured vars best = lively_ensured_at vars best (unfenced vars)
-
-pub lively_made : (vars : List Variable) (best : List Kind) → Ordered vars → (n : ℕ) (k : MadeValue) (ds : List (List ℕ)) → (var_at vars n).definition ≡ Made k → Lively vars best (unfenced vars) n ds → ⊥
-lively_made vars best = lively_made_at vars best (unfenced vars)
+  pub lively_made : Ordered vars → (n : ℕ) (k : MadeValue) (ds : List (List ℕ)) → (var_at vars n).definition ≡ Made k → Lively vars best open_at n ds → ⊥
+  lively_made order n k ds e (free a b c) = let bad : false ≡ true = rw e at a in absurd (cc)
+  lively_made order n k ds e (held m g w e' some out) = let bad : false ≡ true = rw e at (node_parent vars order m n g w e') in absurd (cc)
+  lively_made order n k ds e (here x' f' y' e' some out) = let bad : Made k ≡ Derived x' f' y' = sym e ∙ e' in absurd (cc)
+  lively_made order n k ds e (below x' f' y' e' rest1) = let bad : Made k ≡ Derived x' f' y' = sym e ∙ e' in absurd (cc)
+  lively_made order n k ds e (kept x' e' rest1) = let bad : Made k ≡ Ensured x' = sym e ∙ e' in absurd (cc)
 
 same_by : (vars : List Variable) (best : List Kind) (i k : ℕ) (v : Kind) → Ordered vars → k ≤ i → i < length vars → (d : Definition) → (var_at vars k).definition ≡ d → best_by vars (set best i v) (var_at vars k).kinds d ≡ best_by vars best (var_at vars k).kinds d
 same_by vars best i k v order h w Start e = refl
@@ -94,25 +88,25 @@ or_right : (a b : Bool) → IsTrue b → IsTrue (a || b)
 or_right true b h = refl
 or_right false b h = h
 
-pub node_iff : (vars : List Variable) (best : List Kind) (n : ℕ) (ds : List (List ℕ)) (a b : Bool) → IsTrue (is_node (var_at vars n).definition) → (IsTrue a ↔ IsOpen vars best n) → (IsTrue b ↔ ((m : ℕ) × (m < length vars) × IsHeld vars best n ds m)) → IsTrue (a || b) ↔ Lively vars best (unfenced vars) n ds
-node_iff vars best n ds a b node ia ib = (
+pub node_iff : (vars : List Variable) (best : List Kind) (open_at : ℕ → Bool) (n : ℕ) (ds : List (List ℕ)) (a b : Bool) → IsTrue (is_node (var_at vars n).definition) → (IsTrue a ↔ IsOpen best open_at n) → (IsTrue b ↔ ((m : ℕ) × (m < length vars) × IsHeld vars best n ds m)) → IsTrue (a || b) ↔ Lively vars best open_at n ds
+node_iff vars best open_at n ds a b node ia ib = (
   λ t. elim (or_cases a b t) [
     | inl u ↦ let q = ia.0 u in free node q.0 q.1
     | inr u ↦ let q = ib.0 u in held q.0 (name_in (var_at vars q.0).definition) q.1 q.2.0 q.2.1 q.2.2
   ],
-  λ l. elim (lively_node vars best (unfenced vars) n ds node l) [
+  λ l. elim (lively_node vars best open_at n ds node l) [
     | inl q ↦ or_left a b (ia.1 q)
     | inr q ↦ or_right a b (ib.1 q)
   ],
 )
 
-pub derived_iff : (vars : List Variable) (best : List Kind) → Ordered vars → (n x : ℕ) (f : List ℕ) (y : ℕ) (ds : List (List ℕ)) (a b : Bool) → (var_at vars n).definition ≡ Derived x f y → (IsTrue a ↔ ((kind_at best y ≢ Absent) × (¬ (Listed f ds)))) → (IsTrue b ↔ Lively vars best (unfenced vars) x (f ∷ ds)) → IsTrue (a || b) ↔ Lively vars best (unfenced vars) n ds
-derived_iff vars best order n x f y ds a b e ia ib = (
+pub derived_iff : (vars : List Variable) (best : List Kind) (open_at : ℕ → Bool) → Ordered vars → (n x : ℕ) (f : List ℕ) (y : ℕ) (ds : List (List ℕ)) (a b : Bool) → (var_at vars n).definition ≡ Derived x f y → (IsTrue a ↔ ((kind_at best y ≢ Absent) × (¬ (Listed f ds)))) → (IsTrue b ↔ Lively vars best open_at x (f ∷ ds)) → IsTrue (a || b) ↔ Lively vars best open_at n ds
+derived_iff vars best open_at order n x f y ds a b e ia ib = (
   λ t. elim (or_cases a b t) [
     | inl u ↦ let q = ia.0 u in here x f y e q.0 q.1
     | inr u ↦ below x f y e (ib.0 u)
   ],
-  λ l. elim (lively_derived vars best (unfenced vars) order n x f y ds e l) [
+  λ l. elim (lively_derived vars best open_at order n x f y ds e l) [
     | inl q ↦ or_left a b (ia.1 q)
     | inr q ↦ or_right a b (ib.1 q)
   ],

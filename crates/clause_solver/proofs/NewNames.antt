@@ -1,15 +1,13 @@
 -- Among the names of enough letters one is new: each letter is chosen so that fewer of the used names go on with it.
-use Rattle.std.proofs.Common.{◌≡◌, ◌≢◌, ℕ, zero, suc, ◌+◌, ◌*◌, ◌<◌, ◌≤◌, ◌⊎◌, inl, inr, ◌&&◌, Bool, true, false, not, IsTrue, List, [], ◌∷◌, ◌++◌, length, get_or, refl, sym, ap, subst, ◌∙◌, arith, nat_eq}
+use Rattle.std.proofs.Common.{◌≡◌, ◌≢◌, ℕ, zero, suc, ◌+◌, ◌*◌, ◌<◌, ◌≤◌, ◌⊎◌, inl, inr, ◌&&◌, Bool, true, false, IsTrue, List, [], ◌∷◌, ◌++◌, length, refl, ap, ◌∙◌, arith, nat_eq}
 use Rattle.std.proofs.lemmas.List.{length-append}
 use Rattle.std.proofs.lemmas.Bool.Decides.{nat_tests}
-use Rattle.std.specs.Prelude.{◌==◌, nat_le, nat_lt, ◌||◌}
+use Rattle.std.specs.Prelude.{◌==◌, nat_le, nat_lt}
 use Rattle.std.specs.List.{list_all}
 use Rattle.script_names.specs.Names.{is_name, is_dots, is_plain_byte}
-use Rattle.clause_solver.specs.declared.variable.Definition.{Definition}
-use Rattle.clause_solver.specs.declared.variable.Definition.TheVariants.{Start, Child, Derived, Ensured, Made}
 use Rattle.clause_solver.specs.declared.variable.Variable.{Variable}
 use Rattle.clause_solver.specs.Variables.{var_at}
-use Rattle.clause_solver.specs.NewNames.{name_used, begins, one_if, beginning, two_to}
+use Rattle.clause_solver.specs.NewNames.{name_used, begins, one_if, beginning, two_to, is_letter, IsNew}
 use Rattle.clause_solver.proofs.Names.{bool_cases, eq_cases, same_yes}
 
 -- at most one of two letters goes on with a name
@@ -58,10 +56,6 @@ not_used z (v ∷ vs) none zero w = λ e.
     let count : one_if (begins z (name_used v.definition)) ≡ 1 = ap one_if one in
     omega (arith, count, none)
 not_used z (v ∷ vs) none (suc j) w = not_used z vs (omega (arith, none)) j (omega arith)
-
--- the two letters that new names are made of
-abbrev pub is_letter : ℕ → Bool
-is_letter x = nat_eq x 97 || nat_eq x 98
 
 letter_cases : (x : ℕ) → IsTrue (is_letter x) → (x ≡ 97) ⊎ (x ≡ 98)
 letter_cases x h = elim (eq_cases x 97) [
@@ -129,12 +123,6 @@ goes vs (suc n) p h w =
           record { z = r.z; none = r.none; letters = r.letters; long = omega (arith, l, long) }
     ]
 
--- a name that no definition uses
-pub record IsNew (vars : List Variable) (z : List ℕ) : Type 0 where
-  pub name : IsTrue (is_name z)
-  pub child : (j p : ℕ) → j < length vars → (var_at vars j).definition ≡ Child p z → ⊥
-  pub derived : (j x y : ℕ) → j < length vars → (var_at vars j).definition ≡ Derived x z y → ⊥
-
 pub new_by : (vars : List Variable) (z : List ℕ) → is_name z ≡ true → beginning z vars ≡ 0 → IsNew vars z
 new_by vars z name none = record {
   name = name;
@@ -148,3 +136,25 @@ new_name vars small =
     let power : two_to 32 ≡ 4294967296 = refl in
     let r = goes vars 32 [] tt (omega (arith, most, power, small)) in
     (r.z, new_by vars r.z (letters_name r.z r.letters r.long) r.none)
+
+-- the steps of the search for a new name
+pub next_nothing : (p : List ℕ) (x : ℕ) → begins (p ++ x ∷ []) [] ≡ false
+next_nothing [] x = refl
+next_nothing (y ∷ p) x = refl
+
+pub next_last : (x b : ℕ) (rest : List ℕ) → begins (x ∷ []) (b ∷ rest) ≡ nat_eq x b
+next_last x b rest = elim (bool_cases (nat_eq x b)) [ inl t ↦ rw t refl | inr f ↦ rw f refl ]
+
+pub other_letter : (p : List ℕ) (vars : List Variable) (room : ℕ) → beginning p vars < 2 * room → room ≤ beginning (p ++ 97 ∷ []) vars → beginning (p ++ 98 ∷ []) vars < room
+other_letter p vars room few many = let s = split p vars in omega (arith, s, few, many)
+
+pub half_room : (n room : ℕ) → room ≡ two_to n → (m : ℕ) → n ≡ m + 1 → room ≡ 2 * two_to m
+half_room n room e m q = let q' : n ≡ suc m = omega arith in rw (e, q') refl
+
+pub first_room : (vars : List Variable) → length vars ≤ 4294967295 → beginning [] vars < 4294967296
+first_room vars small = let most = beginning_most [] vars in omega (arith, most, small)
+
+pub none_left : (z : List ℕ) (vars : List Variable) (n room : ℕ) → n ≡ 0 → room ≡ two_to n → beginning z vars < room → length z ≡ 32 → AllLetters z → IsNew vars z
+none_left z vars n room e r few long letters =
+    let one : room ≡ 1 = rw (r, e) refl in
+    new_by vars z (letters_name z letters long) (omega (arith, one, few))

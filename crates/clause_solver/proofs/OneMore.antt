@@ -1,13 +1,13 @@
 -- One more variable: what was left stays, extended by the variable's one value.
-use Rattle.std.proofs.Common.{◌≡◌, ◌≢◌, ℕ, zero, suc, ◌+◌, ◌<◌, ◌≤◌, ◌⊎◌, inl, inr, ◌↔◌, Bool, true, false, IsTrue, Option, Some, None, List, [], ◌∷◌, ◌++◌, length, get_or, take, refl, sym, ap, subst, ◌∙◌, arith}
+use Rattle.std.proofs.Common.{◌≡◌, ℕ, ◌+◌, ◌<◌, ◌≤◌, inl, inr, IsTrue, Some, None, List, [], ◌∷◌, ◌++◌, length, take, refl, sym, ap, ◌∙◌, arith}
 use Rattle.std.proofs.lemmas.List.{length-append, get_or_append_left, get_or-take, length-take-le}
 use Rattle.std.proofs.Math.Seq.{get_or-append_seam, take-append_seam}
 use Rattle.feature_trees.specs.declared.kind.Kind.{Kind}
 use Rattle.feature_trees.specs.declared.kind.Kind.TheVariants as kind
 use Rattle.feature_trees.specs.declared.value.Value.{Value}
 use Rattle.feature_trees.specs.declared.value.Value.TheVariants as value
-use Rattle.feature_trees.specs.Kinds.{has, all}
-use Rattle.feature_trees.specs.Tree.{entry, kind_of, update, entries_of}
+use Rattle.feature_trees.specs.Kinds.{all}
+use Rattle.feature_trees.specs.Tree.{entry, update, entries_of}
 use Rattle.feature_trees.specs.Sound.{sound}
 use Rattle.feature_trees.proofs.Laws.{sound-entry}
 use Rattle.clause_solver.specs.declared.variable.MadeValue.{MadeValue}
@@ -16,9 +16,9 @@ use Rattle.clause_solver.specs.declared.variable.Definition.{Definition}
 use Rattle.clause_solver.specs.declared.variable.Definition.TheVariants.{Start, Child, Derived, Ensured, Made}
 use Rattle.clause_solver.specs.declared.variable.Variable.{Variable}
 use Rattle.clause_solver.specs.Literals.{Valuation, value_of_variable, IsSound}
-use Rattle.clause_solver.specs.Stands.{Seen, Stands, Extends, HasEntry}
-use Rattle.clause_solver.specs.Variables.{no_variable, var_at, allowed, member, defined, made_value, Fits, AllFit, Earlier, Ordered, is_node, AlwaysDir, OnlyDir, IsChild}
-use Rattle.clause_solver.specs.Greatest.{kind_at, best_by, best_of, IsBest}
+use Rattle.clause_solver.specs.Stands.{Seen, Stands, Extends}
+use Rattle.clause_solver.specs.Variables.{no_variable, var_at, defined, made_value, Fits, AllFit, Earlier, Ordered, AlwaysDir, OnlyDir, IsChild}
+use Rattle.clause_solver.specs.Greatest.{kind_at, best_by, IsBest}
 use Rattle.clause_solver.specs.Fresh.{fresh}
 use Rattle.clause_solver.specs.Written.{literals_from}
 use Rattle.clause_solver.proofs.Names.{last_cases}

@@ -1,10 +1,7 @@
 -- The literals of a store, variable by variable.
-use Rattle.std.proofs.Common.{◌≡◌, ◌≢◌, ℕ, zero, suc, ◌+◌, ◌<◌, ◌≤◌, ◌⊎◌, inl, inr, ◌&&◌, Bool, true, false, IsTrue, Option, Some, None, List, [], ◌∷◌, ◌++◌, length, get_or, refl, sym, ap, subst, ◌∙◌, arith}
-use Rattle.std.specs.Prelude.{if◌then◌else◌}
+use Rattle.std.proofs.Common.{◌≡◌, ◌≢◌, ℕ, zero, suc, ◌+◌, ◌<◌, ◌≤◌, ◌⊎◌, inl, inr, Bool, true, false, IsTrue, Option, Some, None, List, [], ◌∷◌, ◌++◌, length, refl, sym, ap, ◌∙◌, arith}
 use Rattle.std.proofs.lemmas.List.{get_or_past}
-use Rattle.feature_trees.specs.declared.kind.Kind.TheVariants as kind
 use Rattle.feature_trees.specs.declared.kind.Kinds.{Kinds}
-use Rattle.feature_trees.specs.declared.value.Value.{Value}
 use Rattle.feature_trees.specs.declared.value.Value.TheVariants as value
 use Rattle.feature_trees.specs.Kinds.{has}
 use Rattle.feature_trees.specs.Tree.{entry, kind_of}
@@ -15,11 +12,11 @@ use Rattle.clause_solver.specs.declared.variable.MadeValue.TheVariants as made
 use Rattle.clause_solver.specs.declared.variable.Definition.{Definition}
 use Rattle.clause_solver.specs.declared.variable.Definition.TheVariants.{Start, Child, Derived, Ensured, Made}
 use Rattle.clause_solver.specs.declared.variable.Variable.{Variable}
-use Rattle.clause_solver.specs.Literals.{Valuation, value_of_variable, Meets, MeetsAll, IsSound}
+use Rattle.clause_solver.specs.Literals.{Valuation, value_of_variable, MeetsAll, IsSound}
 use Rattle.clause_solver.specs.Variables.{var_at, allowed, member, defined, made_value, Fits, AllFit, Earlier, Ordered}
 use Rattle.clause_solver.specs.declared.clause.Literal.TheVariants.{Kind as KindLiteral}
 use Rattle.clause_solver.specs.Written.{var, made_literals, definition_literals, is_all, kinds_literals, fence_literals, filled_literals, literals_of, literals_from}
-use Rattle.clause_solver.proofs.Names.{bool_cases, name_cases, listed_from_member, member_from_listed, listed_from_contains, contains_from_listed}
+use Rattle.clause_solver.proofs.Names.{bool_cases, listed_from_member, member_from_listed, listed_from_contains, contains_from_listed}
 use Rattle.clause_solver.proofs.KindSets.{all_have, of_absent, of_reg, of_dir}
 use Rattle.clause_solver.proofs.Values.{absent_or_not, absent_kind, reg_kind, derived_same, derived_other, derived_from, ensured_from, empty_from, entry_is}
 

@@ -1,18 +1,15 @@
 -- A store with one more variable is settled.
-use Rattle.std.proofs.Common.{◌≡◌, ℕ, ◌+◌, ◌<◌, ◌≤◌, List, [], ◌∷◌, ◌++◌, length, IsTrue, Result, Ok, Err, OnErr, IfOk, refl, sym, ap, ◌∙◌, arith}
+use Rattle.std.proofs.Common.{◌≡◌, ℕ, ◌+◌, ◌<◌, List, [], ◌∷◌, ◌++◌, length, IsTrue, refl, ap, arith}
 use Rattle.std.proofs.lemmas.List.{length-append}
 use Rattle.script_names.specs.Names.{is_name}
-use Rattle.script_names.specs.declared.memory.Memory.{Memory}
-use Rattle.feature_trees.specs.Kinds.{all}
 use Rattle.clause_solver.specs.declared.variable.MadeValue.TheVariants as made
 use Rattle.clause_solver.specs.declared.variable.Definition.{Definition}
-use Rattle.clause_solver.specs.declared.variable.Definition.TheVariants.{Start, Child, Derived, Ensured, Made}
+use Rattle.clause_solver.specs.declared.variable.Definition.TheVariants.{Child, Made}
 use Rattle.clause_solver.specs.declared.variable.Variable.{Variable}
-use Rattle.clause_solver.specs.declared.appended.Found.TheVariants.{Known, Nothing, At}
+use Rattle.clause_solver.specs.declared.appended.Found.TheVariants.{Nothing, At}
 use Rattle.clause_solver.specs.declared.store.Store.TheInside.{Inside}
 use Rattle.clause_solver.specs.Stands.{Extends, HasEntry}
-use Rattle.clause_solver.specs.Variables.{Ordered, Earlier, IsChild, is_node, var_at}
-use Rattle.clause_solver.specs.Greatest.{best_by}
+use Rattle.clause_solver.specs.Variables.{Ordered, Earlier, IsChild}
 use Rattle.clause_solver.specs.Fresh.{fresh}
 use Rattle.clause_solver.specs.Appends.{IsAppended, LeadsTo}
 use Rattle.clause_solver.specs.View.{seen, IsSettled}

@@ -1,18 +1,15 @@
 -- Values of the file tree: their kinds, their entries, and values made of others.
-use Rattle.std.proofs.Common.{◌≡◌, ◌≢◌, ℕ, ◌⊎◌, inl, inr, IsTrue, List, [], ◌∷◌, refl, sym, ap, subst, ◌∙◌}
+use Rattle.std.proofs.Common.{◌≡◌, ◌≢◌, ℕ, ◌⊎◌, inl, inr, IsTrue, List, [], ◌∷◌, refl, sym, ap, ◌∙◌}
 use Rattle.std.specs.List.{Contains}
 use Rattle.script_names.specs.Names.{is_name}
-use Rattle.feature_trees.specs.declared.kind.Kind.{Kind}
 use Rattle.feature_trees.specs.declared.kind.Kind.TheVariants as kind
 use Rattle.feature_trees.specs.declared.value.Value.{Value}
 use Rattle.feature_trees.specs.declared.value.Value.TheVariants.{Absent, Reg, Link, Other, Dir}
-use Rattle.feature_trees.specs.declared.shape.Entry.{Entry}
 use Rattle.feature_trees.specs.Tree.{entry, kind_of, find, update, entries_of}
 use Rattle.feature_trees.specs.Sound.{sound, sound_all}
-use Rattle.feature_trees.proofs.Laws.{Rises, rises_of, find-update_same, find-update_other, sound-entry}
+use Rattle.feature_trees.proofs.Laws.{Rises, rises_of, find-update_same, find-update_other}
 use Rattle.feature_trees.proofs.Kept.{sound-update, same_finds}
 use Rattle.clause_solver.specs.Literals.{AgreesOutside}
-use Rattle.clause_solver.specs.Variables.{Listed}
 use Rattle.clause_solver.proofs.Names.{name_cases, listed_from_contains}
 
 -- only a directory has an entry

@@ -51,6 +51,10 @@ is_unfenced (Some names) = false
 abbrev pub unfenced : List Variable → ℕ → Bool
 unfenced vars n = is_unfenced (var_at vars n).fence
 
+-- the places without a fence, or none
+abbrev pub unfenced_if : List Variable → Bool → ℕ → Bool
+unfenced_if vars counted n = counted && unfenced vars n
+
 -- among the greatest kinds the variable has an entry outside the names; a place that is open may have one more entry
 pub data Lively (vars : List Variable) (best : List Kind) (open_at : ℕ → Bool) : ℕ → List (List ℕ) → Type 0 where
   free : {n : ℕ} {ds : List (List ℕ)} → IsTrue (is_node (var_at vars n).definition) → kind_at best n ≡ Dir → IsTrue (open_at n) → Lively vars best open_at n ds
@@ -77,8 +81,8 @@ name_in (Ensured x) = []
 name_in (Made m) = []
 
 -- a place that may have any entry
-abbrev pub IsOpen : List Variable → List Kind → ℕ → Type 0
-IsOpen vars best x = (kind_at best x ≡ Dir) × IsTrue (unfenced vars x)
+abbrev pub IsOpen : List Kind → (ℕ → Bool) → ℕ → Type 0
+IsOpen best open_at x = (kind_at best x ≡ Dir) × IsTrue (open_at x)
 
 -- the variable m is an entry of x outside the names, and is there
 abbrev pub IsHeld : List Variable → List Kind → ℕ → List (List ℕ) → ℕ → Type 0

@@ -12,3 +12,5 @@ pub mod View
 pub mod Grown
 pub mod NewNames
 pub mod Pairs
+pub mod Opens
+pub mod Builds

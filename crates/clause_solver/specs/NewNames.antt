@@ -1,8 +1,10 @@
 -- The names that the definitions of a store use, and how many of them begin alike.
-use Rattle.std.specs.Prelude.{ℕ, zero, suc, ◌+◌, ◌*◌, List, [], ◌∷◌, Bool, true, false, ◌&&◌, nat_eq}
+use Rattle.std.specs.Prelude.{◌≡◌, ◌<◌, length, IsTrue, ℕ, zero, suc, ◌+◌, ◌*◌, List, [], ◌∷◌, Bool, true, false, ◌&&◌, ◌||◌, nat_eq}
 use Rattle.clause_solver.specs.declared.variable.Definition.{Definition}
 use Rattle.clause_solver.specs.declared.variable.Definition.TheVariants.{Start, Child, Derived, Ensured, Made}
 use Rattle.clause_solver.specs.declared.variable.Variable.{Variable}
+use Rattle.clause_solver.specs.Variables.{var_at}
+use Rattle.script_names.specs.Names.{is_name}
 
 -- the name in a definition
 abbrev pub name_used : Definition → List ℕ
@@ -32,3 +34,13 @@ beginning p (v ∷ vs) = one_if (begins p (name_used v.definition)) + beginning 
 abbrev pub two_to : ℕ → ℕ
 two_to zero = 1
 two_to (suc n) = 2 * two_to n
+
+-- a name that no definition uses
+pub record IsNew (vars : List Variable) (z : List ℕ) : Type 0 where
+  pub name : IsTrue (is_name z)
+  pub child : (j p : ℕ) → j < length vars → (var_at vars j).definition ≡ Child p z → ⊥
+  pub derived : (j x y : ℕ) → j < length vars → (var_at vars j).definition ≡ Derived x z y → ⊥
+
+-- the two letters that new names are made of: `a` and `b`
+abbrev pub is_letter : ℕ → Bool
+is_letter x = nat_eq x 97 || nat_eq x 98

@@ -2,7 +2,6 @@
 use Rattle.std.specs.Prelude.{◌≡◌, ℕ, List, [], ◌∷◌, ◌++◌, Contains}
 use Rattle.std.specs.declared.cmp.Ordering.TheVariants.{Less}
 use Rattle.feature_trees.specs.declared.kind.Kind.TheVariants as kind
-use Rattle.feature_trees.specs.declared.kind.Kinds.{Kinds}
 use Rattle.feature_trees.specs.Kinds.{of}
 use Rattle.feature_trees.specs.Tree.{name_cmp}
 use Rattle.clause_solver.specs.declared.clause.Var.{Var}

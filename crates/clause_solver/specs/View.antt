@@ -1,5 +1,5 @@
 -- How callers see a store, and what is true of every store.
-use Rattle.std.specs.Prelude.{◌≡◌, ℕ, ◌<◌, ◌≤◌, List, length}
+use Rattle.std.specs.Prelude.{◌≡◌, ◌<◌, ◌≤◌, length}
 use Rattle.clause_solver.specs.declared.store.Store.TheInside.{Inside}
 use Rattle.clause_solver.specs.Stands.{Seen}
 use Rattle.clause_solver.specs.Variables.{Ordered, AlwaysDir, OnlyDir}

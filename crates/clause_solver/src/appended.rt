@@ -63,7 +63,11 @@ fn is_child(definition: &Definition, of: u32, f: &Name) -> bool
 }
 
 /// Adds a variable; for want of memory, or of numbers for variables, all is as before.
-pub(crate) fn append(vars: &mut Vec<Variable>, best: &mut Vec<Kind>, definition: Definition) -> Result<u32, Memory>
+pub(crate) fn append(
+    vars: &mut Vec<Variable>,
+    best: &mut Vec<Kind>,
+    definition: Definition,
+) -> Result<u32, Memory>
     requires same { length best.old.items ≡ length vars.old.items }
     requires within { Within vars.old.items definition }
     requires small { length vars.old.items ≤ 4294967295 }

@@ -1,7 +1,7 @@
 ghost use Rattle.std.specs.Prelude.{◌≡◌, ℕ, ◌<◌, ◌↔◌, List, [], ◌∷◌, length, IsTrue, ◌≢◌};
 ghost use Rattle.clause_solver.specs.Literals.{Valuation, IsSound};
 ghost use Rattle.clause_solver.specs.Variables.{Ordered, Listed, member, allowed, var_at, is_node, made_value, AllFit};
-ghost use Rattle.clause_solver.specs.Greatest.{IsBest, Lively, Fine, FineAt, IsOpen, IsHeld, kind_at, best_by, best_of, choose, name_in, unfenced, is_unfenced};
+ghost use Rattle.clause_solver.specs.Greatest.{IsBest, Lively, Fine, FineAt, IsOpen, IsHeld, kind_at, best_by, best_of, choose, name_in, unfenced, unfenced_if};
 ghost use Rattle.clause_solver.specs.Appends.{Within};
 ghost use Rattle.clause_solver.specs.Shades.{names};
 ghost use Rattle.clause_solver.specs.declared.variable.Definition.TheVariants.{Child};
@@ -60,7 +60,12 @@ fn kind_made(value: &MadeValue) -> Kind
 }
 
 // The greatest kind by a definition, given those of the earlier variables.
-pub(crate) fn greatest_by(vars: &[Variable], best: &[Kind], kinds: Kinds, definition: &Definition) -> Kind
+pub(crate) fn greatest_by(
+    vars: &[Variable],
+    best: &[Kind],
+    kinds: Kinds,
+    definition: &Definition,
+) -> Kind
     requires same { length best.now ≡ length vars.now }
     requires within { Within vars.now definition.now }
     ensures { result ≡ best_by vars.now best.now kinds definition.now }
@@ -121,13 +126,13 @@ fn listed(shade: &Shade, f: &Name) -> bool
     }
 }
 
-// Whether a place may have any entry.
-fn is_open(vars: &[Variable], best: &[Kind], x: usize) -> bool
+// Whether a place may have any entry, where places without a fence are counted.
+fn is_open(vars: &[Variable], best: &[Kind], counted: bool, x: usize) -> bool
     requires same { length best.now ≡ length vars.now }
     requires inside { x < length vars.now }
-    ensures { IsTrue result ↔ IsOpen vars.now best.now x }
+    ensures { IsTrue result ↔ IsOpen best.now (unfenced_if vars.now counted) x }
 {
-    best[x] == Kind::Dir && vars[x].fence.is_none()
+    counted && best[x] == Kind::Dir && vars[x].fence.is_none()
 }
 
 // Whether the variable m is an entry of x outside the shade, and is there.
@@ -137,7 +142,9 @@ fn is_held(vars: &[Variable], best: &[Kind], x: usize, shade: &Shade, m: usize) 
     ensures { IsTrue result ↔ IsHeld vars.now best.now x (names shade.now) m }
 {
     match &vars[m].definition {
-        Definition::Child(of, f) => *of as usize == x && best[m] != Kind::Absent && !listed(&*shade, f),
+        Definition::Child(of, f) => *of as usize == x
+            && best[m] != Kind::Absent
+            && !listed(&*shade, f),
         _ => false,
     }
 }
@@ -156,14 +163,14 @@ fn some_held(vars: &[Variable], best: &[Kind], x: usize, shade: &Shade) -> bool
 }
 
 // Whether a place has an entry outside the shade, among the greatest kinds.
-fn node_lives(vars: &[Variable], best: &[Kind], x: usize, shade: &Shade) -> bool
+fn node_lives(vars: &[Variable], best: &[Kind], counted: bool, x: usize, shade: &Shade) -> bool
     requires same { length best.now ≡ length vars.now }
     requires order { Ordered vars.now }
     requires inside { x < length vars.now }
     requires node { IsTrue (is_node (var_at vars.now x).definition) }
-    ensures { IsTrue result ↔ Lively vars.now best.now (unfenced vars.now) x (names shade.now) }
+    ensures { IsTrue result ↔ Lively vars.now best.now (unfenced_if vars.now counted) x (names shade.now) }
 {
-    let open = is_open(vars, best, x);
+    let open = is_open(vars, best, counted, x);
     let held = some_held(vars, best, x, &*shade);
     open | held
 }
@@ -176,24 +183,31 @@ fn is_shown(best: &[Kind], y: usize, shade: &Shade, f: &Name) -> bool
     best[y] != Kind::Absent && !listed(&*shade, f)
 }
 
-// Whether a variable has an entry outside the shade, among the greatest kinds.
-fn lives(vars: &[Variable], best: &[Kind], x: usize, shade: &Shade) -> bool
+/// Whether a variable has an entry outside the shade, among the greatest kinds;
+/// places without a fence may be counted as having one more, or not.
+pub(crate) fn lives(
+    vars: &[Variable],
+    best: &[Kind],
+    counted: bool,
+    x: usize,
+    shade: &Shade,
+) -> bool
     requires same { length best.now ≡ length vars.now }
     requires order { Ordered vars.now }
     requires inside { x < length vars.now }
-    ensures { IsTrue result ↔ Lively vars.now best.now (unfenced vars.now) x (names shade.now) }
+    ensures { IsTrue result ↔ Lively vars.now best.now (unfenced_if vars.now counted) x (names shade.now) }
 {
     match &vars[x].definition {
-        Definition::Start => node_lives(vars, best, x, &*shade),
-        Definition::Child(_, _) => node_lives(vars, best, x, &*shade),
+        Definition::Start => node_lives(vars, best, counted, x, &*shade),
+        Definition::Child(_, _) => node_lives(vars, best, counted, x, &*shade),
         Definition::Derived(of, f, y) => {
             let of = *of as usize;
             let first = is_shown(best, *y as usize, &*shade, f);
             let deeper = Shade::Also(f, &*shade);
-            let second = lives(vars, best, of, &deeper);
+            let second = lives(vars, best, counted, of, &deeper);
             first | second
         }
-        Definition::Ensured(of) => lives(vars, best, *of as usize, &*shade),
+        Definition::Ensured(of) => lives(vars, best, counted, *of as usize, &*shade),
         Definition::Made(_) => false,
     }
 }
@@ -208,7 +222,7 @@ fn is_fine_at(vars: &[Variable], best: &[Kind], i: usize) -> bool
     let fits = vars[i].kinds.has(best[i]);
     if vars[i].not_empty {
         let shade = Shade::Nothing;
-        let lives = lives(vars, best, i, &shade);
+        let lives = lives(vars, best, true, i, &shade);
         fits & lives
     } else {
         fits

@@ -7,6 +7,8 @@ mod appended;
 mod clause;
 mod greatest;
 mod literals;
+mod new_name;
+mod start_tree;
 mod store;
 mod text;
 mod variable;
@@ -15,5 +17,7 @@ pub use clause::{Clause, Literal, Var};
 pub use store::Store;
 pub use text::{print_clause, put_clause};
 
+#[cfg(test)]
+mod store_tests;
 #[cfg(test)]
 mod text_tests;

@@ -20,7 +20,12 @@ fn is_all(kinds: Kinds) -> bool
 }
 
 // Adds the literals of a made value.
-fn add_made(alloc: Global, literals: &mut List<Literal>, i: u32, value: &MadeValue) -> Result<(), Memory>
+fn add_made(
+    alloc: Global,
+    literals: &mut List<Literal>,
+    i: u32,
+    value: &MadeValue,
+) -> Result<(), Memory>
     ensures { OnOk result (literals.new ≡ literals.old ++ made_literals i value.now) }
 {
     match value {
@@ -35,7 +40,14 @@ fn add_made(alloc: Global, literals: &mut List<Literal>, i: u32, value: &MadeVal
 }
 
 // Adds the literals of a variable with one entry replaced.
-fn add_derived(alloc: Global, literals: &mut List<Literal>, i: u32, of: u32, f: &Name, value: u32) -> Result<(), Memory>
+fn add_derived(
+    alloc: Global,
+    literals: &mut List<Literal>,
+    i: u32,
+    of: u32,
+    f: &Name,
+    value: u32,
+) -> Result<(), Memory>
     ensures { OnOk result (literals.new ≡ literals.old ++ definition_literals i (Definition.Derived of f.now value)) }
 {
     let mut names = List::new(alloc);
@@ -47,14 +59,23 @@ fn add_derived(alloc: Global, literals: &mut List<Literal>, i: u32, of: u32, f: 
 }
 
 // Adds the literals of a definition.
-fn add_definition(alloc: Global, literals: &mut List<Literal>, i: u32, definition: &Definition) -> Result<(), Memory>
+fn add_definition(
+    alloc: Global,
+    literals: &mut List<Literal>,
+    i: u32,
+    definition: &Definition,
+) -> Result<(), Memory>
     ensures { OnOk result (literals.new ≡ literals.old ++ definition_literals i definition.now) }
 {
     match definition {
         Definition::Start => Ok(()),
         Definition::Child(of, f) => literals.add(Literal::Entry(Var(*of), f.copy(alloc)?, Var(i))),
         Definition::Derived(of, f, value) => add_derived(alloc, literals, i, *of, f, *value),
-        Definition::Ensured(of) => literals.add(Literal::Similar(Var(i), List::new(alloc), Var(*of))),
+        Definition::Ensured(of) => literals.add(Literal::Similar(
+            Var(i),
+            List::new(alloc),
+            Var(*of),
+        )),
         Definition::Made(value) => add_made(alloc, literals, i, value),
     }
 }
@@ -71,7 +92,12 @@ fn add_kinds(literals: &mut List<Literal>, i: u32, kinds: Kinds) -> Result<(), M
 }
 
 // Adds the literal of a fence.
-fn add_fence(alloc: Global, literals: &mut List<Literal>, i: u32, fence: &Option<List<Name>>) -> Result<(), Memory>
+fn add_fence(
+    alloc: Global,
+    literals: &mut List<Literal>,
+    i: u32,
+    fence: &Option<List<Name>>,
+) -> Result<(), Memory>
     ensures { OnOk result (literals.new ≡ literals.old ++ fence_literals i fence.now) }
 {
     match fence {
@@ -92,7 +118,12 @@ fn add_filled(literals: &mut List<Literal>, i: u32, not_empty: bool) -> Result<(
 }
 
 // Adds the literals of a variable.
-fn add_variable(alloc: Global, literals: &mut List<Literal>, i: u32, v: &Variable) -> Result<(), Memory>
+fn add_variable(
+    alloc: Global,
+    literals: &mut List<Literal>,
+    i: u32,
+    v: &Variable,
+) -> Result<(), Memory>
     ensures { OnOk result (literals.new ≡ literals.old ++ literals_of i v.now) }
 {
     add_definition(alloc, literals, i, &v.definition)?;

@@ -12,8 +12,10 @@ use crate::appended::{Found, append, find, resolve};
 use crate::clause::{Clause, Var};
 use crate::greatest::decide;
 use crate::literals::write_literals;
+use crate::new_name::new_name;
+use crate::start_tree::{grow, open_places};
 use crate::variable::{Definition, MadeValue, Variable};
-use feature_trees::{Kind, Kinds};
+use feature_trees::{Kind, Kinds, Value};
 use script_names::{Copied, Memory, Name};
 use std::alloc::Global;
 use std::marker::Model;
@@ -113,6 +115,27 @@ impl Store {
                 Ok(Var(y))
             }
         }
+    }
+
+    /// A start tree of some pair, the same at each run. A directory of it has an entry that no variable stands for
+    /// only where some directory has to have one.
+    pub fn start_tree(&self, alloc: Global) -> Result<Value, Memory>
+        requires { Alive self.now }
+        ensures { IfOk result (λ t. (g : Valuation) × Stands self.now t g) }
+    {
+        let marks = match open_places(alloc, &self.vars, &self.best) {
+            Ok(marks) => marks,
+            Err(e) => return Err(e),
+        };
+        let z = match new_name(alloc, &self.vars) {
+            Ok(z) => z,
+            Err(e) => return Err(e),
+        };
+        let tree = match grow(alloc, &self.vars, &self.best, &marks, &z) {
+            Ok(tree) => tree,
+            Err(e) => return Err(e),
+        };
+        Ok(tree)
     }
 
     /// A clause in solved order with the same pairs: variable 0 is its start, and the tree now its `now`.

@@ -55,7 +55,11 @@ impl Copied for Definition {
         match self {
             Definition::Start => Ok(Definition::Start),
             Definition::Child(of, name) => Ok(Definition::Child(*of, name.copy(alloc)?)),
-            Definition::Derived(of, name, value) => Ok(Definition::Derived(*of, name.copy(alloc)?, *value)),
+            Definition::Derived(of, name, value) => Ok(Definition::Derived(
+                *of,
+                name.copy(alloc)?,
+                *value,
+            )),
             Definition::Ensured(of) => Ok(Definition::Ensured(*of)),
             Definition::Made(value) => Ok(Definition::Made(value.copy(alloc)?)),
         }

@@ -1,4 +1,4 @@
-use Rattle.std.proofs.Common.{◌≡◌, ◌≢◌, ◌∙◌, ap, arith, length, ◌<◌, IsTrue, true, false, sym}
+use Rattle.std.proofs.Common.{◌≡◌, ◌≢◌, ◌∙◌, ap}
 use Rattle.clause_solver.specs.declared.variable.Variable.{Variable}
 use Rattle.clause_solver.specs.declared.variable.Definition.TheVariants.{Derived}
 use Rattle.clause_solver.specs.Variables.{var_at, no_variable}

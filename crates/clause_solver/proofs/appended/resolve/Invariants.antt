@@ -1,4 +1,4 @@
-use Rattle.std.proofs.Common.{ℕ, ◌<◌, length}
+use Rattle.std.proofs.Common.{◌<◌, length}
 use Rattle.clause_solver.specs.Appends.{SameEntry}
 use Rattle.clause_solver.proofs.appended.resolve.Given as goal
 

@@ -1,5 +1,5 @@
-use Rattle.std.proofs.Common.{◌≡◌, ◌≤◌, ◌↔◌, ℕ, IsTrue, length, arith, sym}
-use Rattle.clause_solver.proofs.Lives.{FineBelow, fine_more}
+use Rattle.std.proofs.Common.{◌≡◌, length, arith}
+use Rattle.clause_solver.proofs.Lives.{fine_more}
 use Rattle.clause_solver.proofs.greatest.decide.Goals as goal
 
 pub loop-i-preserved : goal.loop-i-preserved

@@ -1,4 +1,4 @@
-use Rattle.std.proofs.Common.{◌≡◌, ◌<◌, length, rules, arith, length-set}
+use Rattle.std.proofs.Common.{◌<◌, length, rules, arith, length-set}
 use Rattle.clause_solver.proofs.Lives.{settled_more}
 use Rattle.clause_solver.proofs.greatest.settle.Goals as goal
 

@@ -1,4 +1,4 @@
-use Rattle.std.proofs.Common.{◌≡◌, ◌∙◌, ap, refl, sym, length}
+use Rattle.std.proofs.Common.{◌≡◌, refl, length}
 use Rattle.clause_solver.specs.Written.{literals_from}
 use Rattle.clause_solver.proofs.InOrder.{below, contains_below, in_order}
 use Rattle.clause_solver.proofs.Covering.{covers_iff}

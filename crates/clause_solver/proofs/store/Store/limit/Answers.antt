@@ -1,11 +1,10 @@
-use Rattle.std.proofs.Common.{◌≡◌, ◌<◌, ◌≤◌, ◌↔◌, IsTrue, ◌∙◌, ap, length, rules, arith, sym, length-set}
+use Rattle.std.proofs.Common.{◌≡◌, ◌<◌, ◌≤◌, ◌↔◌, IsTrue, ◌∙◌, ap, length, sym, length-set}
 use Rattle.std.specs.Vec.{with_items}
 use Rattle.std.proofs.lemmas.List.{with_items_is}
-use Rattle.clause_solver.specs.Variables.{limited, Ordered}
+use Rattle.clause_solver.specs.Variables.{limited}
 use Rattle.clause_solver.specs.Greatest.{IsBest, Fine, unfenced}
 use Rattle.clause_solver.proofs.Alive.{alive_iff}
 use Rattle.clause_solver.proofs.Limited.{limited_order, limited_only, limited_always, limited_exact}
-use Rattle.clause_solver.proofs.OneMore.{seen_of}
 use Rattle.clause_solver.proofs.store.Store.limit.Goals as goal
 
 pub decide-requires-clause-order : goal.decide-requires-clause-order

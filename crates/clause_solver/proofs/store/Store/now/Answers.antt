@@ -1,4 +1,3 @@
-use Rattle.std.proofs.Common.{◌≡◌, ◌∙◌, sym, List}
 use Rattle.clause_solver.specs.Stands.{Stands}
 use Rattle.clause_solver.proofs.OneMore.{seen_of}
 use Rattle.clause_solver.proofs.Unique.{unique}

@@ -1,0 +1,27 @@
+-- The places of the start tree that are shown with an entry of a new name.
+use Rattle.std.specs.Prelude.{◌≡◌, ℕ, List, slice_index_or, IsTrue, Bool, false, ◌&&◌}
+use Rattle.feature_trees.specs.declared.kind.Kind.{Kind}
+use Rattle.feature_trees.specs.declared.value.Value.{Value}
+use Rattle.clause_solver.specs.declared.variable.Definition.TheVariants.{Derived, Ensured}
+use Rattle.clause_solver.specs.declared.variable.Variable.{Variable}
+use Rattle.clause_solver.specs.Variables.{var_at, is_node}
+use Rattle.clause_solver.specs.Greatest.{unfenced, kind_at}
+use Rattle.clause_solver.specs.Grown.{extra, grown}
+
+-- the mark at a place
+abbrev pub mark_at : List Bool → ℕ → Bool
+mark_at marks n = slice_index_or marks n false
+
+-- whether the place is marked, and has no fence
+abbrev pub opened : List Variable → List Bool → ℕ → Bool
+opened vars marks n = mark_at marks n && unfenced vars n
+
+-- the place of the start tree that the variable is made from
+pub data IsRoot (vars : List Variable) : ℕ → ℕ → Type 0 where
+  itself : {n : ℕ} → IsTrue (is_node (var_at vars n).definition) → IsRoot vars n n
+  derived : {n r : ℕ} (x : ℕ) (f : List ℕ) (y : ℕ) → (var_at vars n).definition ≡ Derived x f y → IsRoot vars x r → IsRoot vars n r
+  ensured : {n r : ℕ} (x : ℕ) → (var_at vars n).definition ≡ Ensured x → IsRoot vars x r → IsRoot vars n r
+
+-- a place of its greatest kind before any entry is known, with one entry of a new name where it is opened
+abbrev pub bare : List Variable → List Kind → List Bool → List ℕ → ℕ → Value
+bare vars best marks z n = grown (kind_at best n) (extra (opened vars marks n) z)

@@ -1,0 +1,75 @@
+ghost use Rattle.std.specs.Prelude.{◌≡◌, ◌+◌, ◌<◌, ◌≤◌, ◌*◌, [], ◌∷◌, ◌++◌, length, IfOk, IsTrue};
+ghost use Rattle.clause_solver.specs.NewNames.{beginning, begins, name_used, is_letter, IsNew};
+
+use crate::variable::{Definition, Variable};
+use script_names::{Memory, Name, NameFault};
+use std::alloc::Global;
+
+// Whether the bytes begin with p and then x.
+fn goes_on(p: &[u8], x: u8, bytes: &[u8]) -> bool
+    ensures { result ≡ begins (p.now ++ x ∷ []) bytes.now }
+{
+    match bytes {
+        [] => false,
+        [b, rest @ ..] => match p {
+            [] => x == *b,
+            [a, more @ ..] => *a == *b && goes_on(more, x, rest),
+        },
+    }
+}
+
+// Whether the name in a definition begins with p and then x.
+fn uses(p: &[u8], x: u8, definition: &Definition) -> bool
+    ensures { result ≡ begins (p.now ++ x ∷ []) (name_used definition.now) }
+{
+    match definition {
+        Definition::Child(_, f) => goes_on(p, x, f.as_slice()),
+        Definition::Derived(_, f, _) => goes_on(p, x, f.as_slice()),
+        _ => goes_on(p, x, &[]),
+    }
+}
+
+// How many names in definitions begin with p and then x.
+fn count_going_on(vars: &[Variable], p: &[u8], x: u8) -> usize
+    ensures { result ≡ beginning (p.now ++ x ∷ []) vars.now }
+{
+    let mut count = 0;
+    for i in 0..vars.len() {
+        if uses(p, x, &vars[i].definition) {
+            count += 1;
+        }
+    }
+    count
+}
+
+// The letter that fewer of the names go on with.
+fn next_letter(vars: &[Variable], p: &[u8], room: usize) -> u8
+    requires { beginning p.now vars.now < 2 * room }
+    ensures letter { IsTrue (is_letter result) }
+    ensures few { beginning (p.now ++ result ∷ []) vars.now < room }
+{
+    if count_going_on(vars, p, b'a') < room {
+        b'a'
+    } else {
+        b'b'
+    }
+}
+
+/// A name that no definition uses: 32 letters, each chosen so that fewer of the names go on with it.
+pub(crate) fn new_name(alloc: Global, vars: &[Variable]) -> Result<Name, Memory>
+    requires { length vars.now ≤ 4294967295 }
+    ensures { IfOk result (IsNew vars.now) }
+{
+    let mut bytes = Vec::new(alloc);
+    let mut room: usize = 4294967296;
+    for i in 0usize..32 {
+        room /= 2;
+        let letter = next_letter(vars, &bytes, room);
+        bytes.push(letter)?;
+    }
+    match Name::read(alloc, &bytes) {
+        Ok(name) => Ok(name),
+        Err(NameFault::Memory) => Err(Memory),
+        Err(NameFault::Bad) => unreachable!(),
+    }
+}

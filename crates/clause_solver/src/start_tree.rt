@@ -1,0 +1,190 @@
+ghost use Rattle.std.specs.Prelude.{◌≡◌, ℕ, ◌<◌, ◌≤◌, List, [], length, IsTrue, OnOk, IfOk, IfSome, Some};
+ghost use Rattle.feature_trees.specs.declared.value.Value.TheVariants as value;
+ghost use Rattle.clause_solver.specs.Literals.{value_of_variable};
+ghost use Rattle.clause_solver.specs.Variables.{Ordered, var_at};
+ghost use Rattle.clause_solver.specs.Greatest.{Fine, Lively, unfenced, kind_at};
+ghost use Rattle.clause_solver.specs.Grown.{values, grown, some_target, extra};
+ghost use Rattle.clause_solver.specs.NewNames.{beginning, begins, name_used, IsNew};
+ghost use Rattle.clause_solver.specs.Opens.{mark_at, opened, IsRoot};
+ghost use Rattle.clause_solver.specs.Builds.{AreBare, with_entry, handed, ParentBelow};
+
+use crate::greatest::{Shade, lives};
+use crate::variable::{Definition, Variable};
+use feature_trees::{Entries, Kind, Value};
+use script_names::{Bytes, Memory, Name, NameFault};
+use std::alloc::Global;
+
+// A directory with one entry of that name where it is wanted.
+fn bare_dir(alloc: Global, wanted: bool, z: &Name) -> Result<Value, Memory>
+    ensures { IfOk result (λ v. v ≡ value.Dir (extra wanted z.now)) }
+{
+    let mut entries = Entries::new(alloc);
+    if wanted {
+        match entries.set(z, Value::Reg) {
+            Ok(()) => {}
+            Err(e) => return Err(e),
+        }
+    }
+    Ok(Value::Dir(entries))
+}
+
+// A place of a kind before any entry is known.
+fn bare_value(alloc: Global, kind: Kind, wanted: bool, z: &Name) -> Result<Value, Memory>
+    ensures { IfOk result (λ v. v ≡ grown kind (extra wanted z.now)) }
+{
+    match kind {
+        Kind::Absent => Ok(Value::Absent),
+        Kind::Reg => Ok(Value::Reg),
+        Kind::Link => Ok(Value::Link(Bytes::from_slice(alloc, b"x")?)),
+        Kind::Other => Ok(Value::Other),
+        Kind::Dir => bare_dir(alloc, wanted, z),
+    }
+}
+
+// Whether a place is marked, and has no fence.
+fn is_wanted(vars: &[Variable], marks: &[bool], i: usize) -> bool
+    requires marks { length marks.now ≡ length vars.now }
+    requires inside { i < length vars.now }
+    ensures { result ≡ opened vars.now marks.now i }
+{
+    marks[i] && vars[i].fence.is_none()
+}
+
+// Every variable of its greatest kind before any entry is known.
+fn bare_values(
+    alloc: Global,
+    vars: &[Variable],
+    best: &[Kind],
+    marks: &[bool],
+    z: &Name,
+) -> Result<Vec<Value>, Memory>
+    requires same { length best.now ≡ length vars.now }
+    requires marks { length marks.now ≡ length vars.now }
+    ensures { IfOk result (λ v. AreBare vars.now best.now marks.now z.now v.items) }
+{
+    let mut bases = Vec::new(alloc);
+    for i in 0..vars.len() {
+        let wanted = is_wanted(vars, marks, i);
+        let base = match bare_value(alloc, best[i], wanted, z) {
+            Ok(base) => base,
+            Err(e) => return Err(e),
+        };
+        bases.push(base)?;
+    }
+    Ok(bases)
+}
+
+// Puts a value under a name of a directory.
+fn put_entry(parent: &mut Value, f: &Name, v: Value) -> Result<(), Memory>
+    ensures { OnOk result (parent.new ≡ with_entry parent.old f.now v) }
+{
+    match parent {
+        Value::Dir(entries) => entries.set(f, v),
+        _ => Ok(()),
+    }
+}
+
+// Moves a value into its parent, where it is an entry.
+fn hand(values: &mut [Value], definition: &Definition, v: Value) -> Result<(), Memory>
+    requires { ParentBelow (length values.old) definition.now }
+    ensures { OnOk result (values.new ≡ handed values.old definition.now v) }
+{
+    match definition {
+        Definition::Child(of, f) => put_entry(&mut values[*of as usize], f, v),
+        _ => Ok(()),
+    }
+}
+
+/// The start tree in which each place has its greatest kind, with one more entry of a new name at the marked places.
+/// The values are made from the last variable to the first, and each is moved into its parent once.
+pub(crate) fn grow(
+    alloc: Global,
+    vars: &[Variable],
+    best: &[Kind],
+    marks: &[bool],
+    z: &Name,
+) -> Result<Value, Memory>
+    requires same { length best.now ≡ length vars.now }
+    requires marks { length marks.now ≡ length vars.now }
+    requires order { Ordered vars.now }
+    ensures { IfOk result (λ v. v ≡ value_of_variable (values best.now (opened vars.now marks.now) z.now 0 vars.now) 0) }
+{
+    let mut built = match bare_values(alloc, vars, best, marks, z) {
+        Ok(built) => built,
+        Err(e) => return Err(e),
+    };
+    while let Some(v) = built.pop() {
+        let i = built.len();
+        if i == 0 {
+            return Ok(v);
+        }
+        match hand(&mut built, &vars[i].definition, v) {
+            Ok(()) => {}
+            Err(e) => return Err(e),
+        }
+    }
+    unreachable!()
+}
+
+// The place of the start tree that a variable is made from, where there is one.
+fn root(vars: &[Variable], x: usize) -> Option<usize>
+    requires order { Ordered vars.now }
+    requires inside { x < length vars.now }
+    ensures within { IfSome result (λ r. r < length vars.now) }
+    ensures root { (r : ℕ) → IsRoot vars.now x r → result ≡ Some r }
+{
+    let mut here = x;
+    loop {
+        match &vars[here].definition {
+            Definition::Start => return Some(here),
+            Definition::Child(_, _) => return Some(here),
+            Definition::Derived(of, _, _) => here = *of as usize,
+            Definition::Ensured(of) => here = *of as usize,
+            Definition::Made(_) => return None,
+        }
+    }
+}
+
+// Marks the place that a variable is made from, where the variable needs an entry and has none otherwise.
+fn open_for(vars: &[Variable], best: &[Kind], marks: &mut [bool], i: usize)
+    requires same { length best.now ≡ length vars.now }
+    requires marks { length marks.old ≡ length vars.now }
+    requires order { Ordered vars.now }
+    requires inside { i < length vars.now }
+    requires lively { IsTrue (var_at vars.now i).not_empty → Lively vars.now best.now (unfenced vars.now) i [] }
+    ensures same { length marks.new ≡ length marks.old }
+    ensures more { (n : ℕ) → IsTrue (mark_at marks.old n) → IsTrue (mark_at marks.new n) }
+    ensures lives { IsTrue (var_at vars.now i).not_empty → Lively vars.now best.now (opened vars.now marks.new) i [] }
+{
+    if !vars[i].not_empty {
+        return;
+    }
+    let shade = Shade::Nothing;
+    if lives(vars, best, false, i, &shade) {
+        return;
+    }
+    let r = match root(vars, i) {
+        Some(r) => r,
+        None => return,
+    };
+    marks[r] = true;
+}
+
+/// Marks for the places that have to be shown with one more entry, so that each variable has one that needs it.
+pub(crate) fn open_places(
+    alloc: Global,
+    vars: &[Variable],
+    best: &[Kind],
+) -> Result<Vec<bool>, Memory>
+    requires same { length best.now ≡ length vars.now }
+    requires order { Ordered vars.now }
+    requires fine { Fine vars.now best.now (unfenced vars.now) }
+    ensures same { IfOk result (λ v. length v.items ≡ length vars.now) }
+    ensures fine { IfOk result (λ v. Fine vars.now best.now (opened vars.now v.items)) }
+{
+    let mut marks = vec![in alloc; false; vars.len()]?;
+    for i in 0..vars.len() {
+        open_for(vars, best, &mut marks, i);
+    }
+    Ok(marks)
+}

@@ -1,0 +1,115 @@
+ghost use Rattle.std.specs.Prelude.{◌<◌, ◌≤◌, IfOk};
+
+use crate::clause::Var;
+use crate::store::Store;
+use crate::text::print_clause;
+use feature_trees::{Kind, Kinds, Value, print_tree};
+use script_names::{Copied, Name};
+use std::process::Abort;
+use std::test::Fail;
+
+// The variable of a path, from the tree now on.
+fn walk<R: Abort + AllocGlobal>(rt: &R, s: &mut Store, words: &[&[u8]]) -> Result<Var, Fail>
+    ensures known { IfOk result (λ y. y.0 < s.new.count) }
+{
+    let mut here = s.now();
+    for word in words {
+        let name = Name::read(rt.alloc(), word)?;
+        here = s.child(here, &name)?;
+    }
+    Ok(here)
+}
+
+fn expect_clause<R: Abort + AllocGlobal>(rt: &R, s: &Store, text: &str) -> Result<(), Fail> {
+    let clause = s.clause()?;
+    let printed = print_clause(rt.alloc(), &clause)?;
+    assert_eq!(rt; printed.as_slice(), text.as_bytes());
+    Ok(())
+}
+
+// The tree of a store that has a pair, by a limit that leaves all pairs.
+fn expect_tree<R: Abort + AllocGlobal>(rt: &R, s: &mut Store, text: &str) -> Result<(), Fail> {
+    let now = s.now();
+    assert!(rt; s.limit(now, Kinds::all()));
+    let tree = s.start_tree(rt.alloc())?;
+    assert!(rt; matches!(tree, Value::Dir(_)));
+    let printed = print_tree(rt.alloc(), &tree)?;
+    assert_eq!(rt; printed.as_slice(), text.as_bytes());
+    Ok(())
+}
+
+#[test]
+fn limits(rt: HostRuntime) -> Result<(), Fail> {
+    let mut s = Store::start(rt.alloc())?;
+    expect_clause(&rt, &s, "clause start v0 now v0\nkind v0 dir\n")?;
+    expect_tree(&rt, &mut s, "")?;
+    let etc = walk(&rt, &mut s, &[b"etc"])?;
+    assert!(rt; s.limit(etc, Kinds::of(Kind::Dir)));
+    let bin = walk(&rt, &mut s, &[b"usr", b"bin"])?;
+    assert!(rt; s.limit(bin, Kinds::of(Kind::Dir)));
+    let again = walk(&rt, &mut s, &[b"usr", b"bin"])?;
+    assert_eq!(rt; (etc, bin, again), (Var(1), Var(3), Var(3)));
+    let text =
+        "clause start v0 now v0\nkind v0 dir\nentry v0 etc v1\nkind v1 dir\nentry v0 usr v2\nentry v2 bin v3\nkind v3 dir\n";
+    expect_clause(&rt, &s, text)?;
+    expect_tree(&rt, &mut s, "d /etc\nd /usr\nd /usr/bin\n")?;
+    let mut copy = s.copy(rt.alloc())?;
+    let now = s.now();
+    assert!(rt; !s.limit(now, Kinds::of(Kind::Reg)));
+    assert!(rt; !s.limit(now, Kinds::all()));
+    expect_clause(&rt, &copy, text)?;
+    expect_tree(&rt, &mut copy, "d /etc\nd /usr\nd /usr/bin\n")
+}
+
+#[test]
+fn shows_each_kind(rt: HostRuntime) -> Result<(), Fail> {
+    let some = Kinds::either(Kinds::of(Kind::Absent), Kinds::of(Kind::Other));
+    let rows: [(&[u8], Kinds); 5] = [
+        (b"r", Kinds::of(Kind::Reg)),
+        (b"l", Kinds::of(Kind::Link)),
+        (b"o", some),
+        (b"a", Kinds::of(Kind::Absent)),
+        (b"d", Kinds::all()),
+    ];
+    let mut s = Store::start(rt.alloc())?;
+    for (word, kinds) in rows {
+        let x = walk(&rt, &mut s, &[b"etc", word])?;
+        assert!(rt; s.limit(x, kinds));
+    }
+    expect_tree(
+        &rt,
+        &mut s,
+        "d /etc\nd /etc/d\nl /etc/l x\no /etc/o\nf /etc/r\n",
+    )
+}
+
+#[test]
+fn takes_many(rt: HostRuntime) -> Result<(), Fail> {
+    let mut deep = Store::start(rt.alloc())?;
+    let name: &[u8] = b"a";
+    let x = walk(&rt, &mut deep, &[name; 64])?;
+    assert_eq!(rt; x, Var(64));
+    assert!(rt; deep.limit(x, Kinds::of(Kind::Dir)));
+    let tree = deep.start_tree(rt.alloc())?;
+    assert!(rt; matches!(tree, Value::Dir(_)));
+    // the line of the k-th name has 2 k + 3 bytes
+    assert_eq!(rt; print_tree(rt.alloc(), &tree)?.len(), 4352);
+    let mut wide = Store::start(rt.alloc())?;
+    for i in 0u32..2000 {
+        let digits = [
+            b'0' + (i / 1000 % 10) as u8,
+            b'0' + (i / 100 % 10) as u8,
+            b'0' + (i / 10 % 10) as u8,
+            b'0' + (i % 10) as u8,
+        ];
+        let x = walk(&rt, &mut wide, &[&digits])?;
+        assert!(rt; wide.limit(x, Kinds::of(Kind::Reg)));
+    }
+    let now = wide.now();
+    assert!(rt; wide.limit(now, Kinds::all()));
+    match wide.start_tree(rt.alloc())? {
+        Value::Dir(entries) => assert_eq!(rt; entries.len(), 2000),
+        _ => assert!(rt; false),
+    }
+    Ok(())
+}
