@@ -1,7 +1,6 @@
 pub mod Literals
 pub mod ClauseText
 pub mod Stands
-pub mod Pairs
 pub mod Variables
 pub mod Greatest
 pub mod Written
@@ -12,3 +11,4 @@ pub mod Appends
 pub mod View
 pub mod Grown
 pub mod NewNames
+pub mod Pairs
