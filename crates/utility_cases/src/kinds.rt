@@ -11,11 +11,9 @@ use utility_calls::Act;
 pub(crate) fn not_link() -> Kinds
     ensures { (k : Kind) → IsTrue (has result k) ↔ (k ≢ Link) }
 {
+    let none_or_dir = Kinds::either(Kinds::of(Kind::Absent), Kinds::of(Kind::Dir));
     let file = Kinds::either(Kinds::of(Kind::Reg), Kinds::of(Kind::Other));
-    Kinds::either(
-        Kinds::either(Kinds::of(Kind::Absent), Kinds::of(Kind::Dir)),
-        file,
-    )
+    Kinds::either(none_or_dir, file)
 }
 
 // The kinds at the end of the path for which the act takes a row, where no link stands on the way.

@@ -7,3 +7,6 @@ mod kinds;
 mod ways;
 
 pub use cases::{may_take, take_row};
+
+#[cfg(test)]
+mod tests;
