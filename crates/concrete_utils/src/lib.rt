@@ -5,3 +5,6 @@
 mod acts;
 
 pub use acts::act;
+
+#[cfg(test)]
+mod tests;

@@ -5,10 +5,9 @@ use Rattle.feature_trees.specs.declared.value.Value.TheVariants as value
 use Rattle.feature_trees.specs.declared.kind.Kind.{Kind}
 use Rattle.feature_trees.specs.declared.kind.Kind.TheVariants.{Absent, Reg, Link, Other, Dir}
 use Rattle.feature_trees.specs.Tree.{entry, at, kind_of}
-use Rattle.feature_trees.specs.Sound.{IsTree}
 use Rattle.utility_calls.specs.declared.act.Act.{Act}
 use Rattle.utility_calls.specs.declared.act.Act.TheVariants.{Exists, IsDir}
-use Rattle.utility_calls.specs.Rows.{link_on_way, at_link, way_row, slash_row, kind_row, path_of, row}
+use Rattle.utility_calls.specs.Rows.{link_on_way, at_link, way_row, slash_row, kind_row, end_row, path_of, row}
 use Rattle.utility_calls.specs.Applies.{kind_at, NoLinkOnWay, IsOwnRow, exists_link, exists_absent, exists_reg, exists_other, exists_dir, is_dir_link, is_dir_absent, is_dir_reg, is_dir_other, is_dir_dir, Applies, on_way, at_slash, own}
 
 -- whether a kind is a link
@@ -99,7 +98,7 @@ own_of (IsDir p) Link = is_dir_link p
 own_of (IsDir p) Other = is_dir_other p
 own_of (IsDir p) Dir = is_dir_dir p
 
-own_is : {act : Act} {n : ℕ} {k : Kind} → IsOwnRow act n k → n ≡ kind_row act k
+pub own_is : {act : Act} {n : ℕ} {k : Kind} → IsOwnRow act n k → n ≡ kind_row act k
 own_is (exists_link p) = refl
 own_is (exists_absent p) = refl
 own_is (exists_reg p) = refl
@@ -111,7 +110,7 @@ own_is (is_dir_reg p) = refl
 own_is (is_dir_other p) = refl
 own_is (is_dir_dir p) = refl
 
-slash_is : (s : Bool) (k : Kind) (n : ℕ) → IsTrue s → k ≢ Absent → k ≢ Dir → slash_row s k n ≡ 64
+pub slash_is : (s : Bool) (k : Kind) (n : ℕ) → IsTrue s → k ≢ Absent → k ≢ Dir → slash_row s k n ≡ 64
 slash_is false k n h na nd = cc
 slash_is true Absent n h na nd = absurd (na refl)
 slash_is true Reg n h na nd = refl
@@ -119,7 +118,7 @@ slash_is true Link n h na nd = refl
 slash_is true Other n h na nd = refl
 slash_is true Dir n h na nd = absurd (nd refl)
 
-no_slash_is : (s : Bool) (k : Kind) (n : ℕ) → (IsTrue s → (k ≡ Absent) ⊎ (k ≡ Dir)) → slash_row s k n ≡ n
+pub no_slash_is : (s : Bool) (k : Kind) (n : ℕ) → (IsTrue s → (k ≡ Absent) ⊎ (k ≡ Dir)) → slash_row s k n ≡ n
 no_slash_is false k n h = refl
 no_slash_is true k n h = elim (h refl) [ inl e ↦ ap (λ x. slash_row true x n) e | inr e ↦ ap (λ x. slash_row true x n) e ]
 
@@ -129,9 +128,6 @@ module _ (act : Act) (tree : Value) where
 
   abbrev end_kind : Kind
   end_kind = kind_of (at tree names)
-
-  abbrev end_row : Kind → ℕ
-  end_row k = slash_row (path_of act).slash k (kind_row act k)
 
   own_at : NoLinkOnWay tree names → (k : Kind) → end_kind ≡ k → (IsTrue (path_of act).slash → (k ≡ Absent) ⊎ (k ≡ Dir)) → Applies act tree (kind_row act k)
   own_at clear k e free = own (kind_row act k) clear (subst (λ x. IsTrue (path_of act).slash → (x ≡ Absent) ⊎ (x ≡ Dir)) (sym e) free) (subst (IsOwnRow act (kind_row act k)) (sym e) (own_of act k))
@@ -147,30 +143,30 @@ module _ (act : Act) (tree : Value) where
   end_applies clear true se Other e = stopped_at clear se Other e (λ h. cc) (λ h. cc)
   end_applies clear true se Dir e = own_at clear Dir e (λ h. inr refl)
 
-  no_link : IsTree tree → Found names tree 0 None → NoLinkOnWay tree names
-  no_link t h zero lt e = let a : Dir ≡ Link = sym t.dir ∙ e in cc
+  no_link : kind_of tree ≡ Dir → Found names tree 0 None → NoLinkOnWay tree names
+  no_link t h zero lt e = let a : Dir ≡ Link = sym t ∙ e in cc
   no_link t h (suc k) lt e = h (suc k) (omega arith) lt e
 
-  applies_by : IsTree tree → (o : Option ℕ) → Found names tree 0 o → Applies act tree (way_row o (end_row end_kind))
+  applies_by : kind_of tree ≡ Dir → (o : Option ℕ) → Found names tree 0 o → Applies act tree (way_row o (end_row act end_kind))
   applies_by t None h = end_applies (no_link t h) (path_of act).slash refl end_kind refl
   applies_by t (Some n) h = let is : h.k ≡ n = omega (arith, h.is) in subst (Applies act tree) is (on_way h.k h.low h.high h.link)
 
-  pub row_applies : IsTree tree → Applies act tree (row act tree)
+  pub row_applies : kind_of tree ≡ Dir → Applies act tree (row act tree)
   row_applies t = applies_by t (link_on_way 0 tree names) (found names tree 0)
 
   none_on_way : NoLinkOnWay tree names → (o : Option ℕ) → Found names tree 0 o → o ≡ None
   none_on_way clear None h = refl
   none_on_way clear (Some n) h = absurd (clear h.k h.high h.link)
 
-  end_is : NoLinkOnWay tree names → row act tree ≡ end_row end_kind
-  end_is clear = ap (λ o. way_row o (end_row end_kind)) (none_on_way clear (link_on_way 0 tree names) (found names tree 0))
+  pub end_is : NoLinkOnWay tree names → row act tree ≡ end_row act end_kind
+  end_is clear = ap (λ o. way_row o (end_row act end_kind)) (none_on_way clear (link_on_way 0 tree names) (found names tree 0))
 
   pub no_other : {n : ℕ} → Applies act tree n → n ≡ row act tree
-  no_other (on_way k low high e) = sym (ap (λ o. way_row o (end_row end_kind)) (counted names tree 0 k low high e) ∙ omega arith)
+  no_other (on_way k low high e) = sym (ap (λ o. way_row o (end_row act end_kind)) (counted names tree 0 k low high e) ∙ omega arith)
   no_other (at_slash clear s na nd) = sym (end_is clear ∙ slash_is (path_of act).slash end_kind (kind_row act end_kind) s na nd)
   no_other (own n clear free is) = own_is is ∙ sym (no_slash_is (path_of act).slash end_kind (kind_row act end_kind) free) ∙ sym (end_is clear)
 
-kind_few : (act : Act) (k : Kind) → (kind_row act k ≤ 67) × (64 ≤ kind_row act k)
+pub kind_few : (act : Act) (k : Kind) → (kind_row act k ≤ 67) × (64 ≤ kind_row act k)
 kind_few (Exists p) Absent = (omega arith, omega arith)
 kind_few (Exists p) Reg = (omega arith, omega arith)
 kind_few (Exists p) Link = (omega arith, omega arith)
@@ -182,7 +178,7 @@ kind_few (IsDir p) Link = (omega arith, omega arith)
 kind_few (IsDir p) Other = (omega arith, omega arith)
 kind_few (IsDir p) Dir = (omega arith, omega arith)
 
-slash_few : (s : Bool) (k : Kind) (n : ℕ) → (n ≤ 67) × (64 ≤ n) → (slash_row s k n ≤ 67) × (64 ≤ slash_row s k n)
+pub slash_few : (s : Bool) (k : Kind) (n : ℕ) → (n ≤ 67) × (64 ≤ n) → (slash_row s k n ≤ 67) × (64 ≤ slash_row s k n)
 slash_few false k n h = h
 slash_few true Absent n h = h
 slash_few true Reg n h = (omega arith, omega arith)
@@ -190,11 +186,11 @@ slash_few true Link n h = (omega arith, omega arith)
 slash_few true Other n h = (omega arith, omega arith)
 slash_few true Dir n h = h
 
-way_few : (names : List (List ℕ)) (tree : Value) (o : Option ℕ) (n : ℕ) → Found names tree 0 o → length names ≤ 64 → (n ≤ 67) × (64 ≤ n) → (way_row o n ≤ 67) × (way_row o n < 64 → way_row o n < length names)
-way_few names tree None n f few h = (h.0, λ lt. absurd (omega (arith, h.1)))
-way_few names tree (Some m) n f few h = (omega (arith, f.is, f.high), λ lt. omega (arith, f.is, f.high))
+way_few : (names : List (List ℕ)) (tree : Value) (o : Option ℕ) (n : ℕ) → Found names tree 0 o → length names ≤ 64 → (n ≤ 67) × (64 ≤ n) → (1 ≤ way_row o n) × (way_row o n ≤ 67) × (way_row o n < 64 → way_row o n < length names)
+way_few names tree None n f few h = (omega (arith, h.1), h.0, λ lt. absurd (omega (arith, h.1)))
+way_few names tree (Some m) n f few h = (omega (arith, f.is, f.low), omega (arith, f.is, f.high), λ lt. omega (arith, f.is, f.high))
 
-pub few : (act : Act) (tree : Value) → length (path_of act).names ≤ 64 → (row act tree ≤ 67) × (row act tree < 64 → row act tree < length (path_of act).names)
+pub few : (act : Act) (tree : Value) → length (path_of act).names ≤ 64 → (1 ≤ row act tree) × (row act tree ≤ 67) × (row act tree < 64 → row act tree < length (path_of act).names)
 few act tree small =
     let k = kind_of (at tree (path_of act).names) in
-    way_few (path_of act).names tree (link_on_way 0 tree (path_of act).names) (slash_row (path_of act).slash k (kind_row act k)) (found (path_of act).names tree 0) small (slash_few (path_of act).slash k (kind_row act k) (kind_few act k))
+    way_few (path_of act).names tree (link_on_way 0 tree (path_of act).names) (end_row act k) (found (path_of act).names tree 0) small (slash_few (path_of act).slash k (kind_row act k) (kind_few act k))

@@ -51,6 +51,6 @@ RowApplies = (act : Act) (tree : Value) → IsTree tree → Applies act tree (ro
 abbrev pub NoOtherApplies : Type 0
 NoOtherApplies = (act : Act) (tree : Value) (n : ℕ) → IsTree tree → Applies act tree n → n ≡ row act tree
 
--- rows are at most 67, and those below 64 are below the count of names
+-- rows are 1 to 67, and those below 64 are below the count of names
 abbrev pub RowsAreFew : Type 0
-RowsAreFew = (act : Act) (tree : Value) → length (path_of act).names ≤ 64 → (row act tree ≤ 67) × (row act tree < 64 → row act tree < length (path_of act).names)
+RowsAreFew = (act : Act) (tree : Value) → length (path_of act).names ≤ 64 → (1 ≤ row act tree) × (row act tree ≤ 67) × (row act tree < 64 → row act tree < length (path_of act).names)

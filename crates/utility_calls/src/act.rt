@@ -1,5 +1,5 @@
 ghost use Rattle.std.specs.Prelude.{◌≡◌, ℕ, true, if◌then◌else◌, IfOk};
-ghost use Rattle.utility_calls.specs.Rows.{path_of, kind_row, slash_row, exists_row, is_dir_row, row_answer};
+ghost use Rattle.utility_calls.specs.Rows.{path_of, end_row, slash_row, exists_row, is_dir_row, row_answer};
 
 use feature_trees::Kind;
 use script_names::{Copied, Done, Memory, Path, Reason};
@@ -35,7 +35,7 @@ impl Act {
 
     /// The row of the act where no link stands on the way, by the kind of what stands at its path.
     pub fn row_at(&self, kind: Kind) -> u8
-        ensures { result ≡ slash_row (path_of self.now).slash kind (kind_row self.now kind) }
+        ensures { result ≡ end_row self.now kind }
     {
         if self.path().slash() && stops_slash(kind) {
             return 64;

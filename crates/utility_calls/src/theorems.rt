@@ -8,7 +8,7 @@ pub fn one_row_applies()
     ensures alone { NoOtherApplies }
 {}
 
-/// No row of an act is above 67, and one for a link on the way is below the count of names.
+/// The rows of an act are 1 to 67, and one for a link on the way is below the count of names.
 pub fn rows_are_few()
     ensures { RowsAreFew }
 {}

@@ -1,0 +1,4 @@
+pub mod Steps
+pub mod RowIs
+pub mod TakenIs
+pub mod Witnesses

@@ -1,0 +1,63 @@
+ghost use Rattle.std.specs.Prelude.{◌≡◌, ◌≢◌, ◌<◌, ◌≤◌, ◌↔◌, length, IsTrue, IfOk, IfSome, IfNone};
+ghost use Rattle.feature_trees.specs.declared.kind.Kind.TheVariants as kind;
+ghost use Rattle.feature_trees.specs.declared.value.Value.{Value};
+ghost use Rattle.feature_trees.specs.Tree.{kind_of};
+ghost use Rattle.clause_solver.specs.Stands.{Alive};
+ghost use Rattle.clause_solver.specs.Pairs.{HasPair};
+ghost use Rattle.utility_calls.specs.Rows.{path_of, row as row_of};
+ghost use Rattle.utility_cases.specs.Taken.{Taken};
+
+use crate::kinds::end_kinds;
+use crate::ways::keep;
+use clause_solver::Store;
+use feature_trees::{Kind, Kinds};
+use script_names::{Copied, Memory};
+use std::alloc::Global;
+use utility_calls::Act;
+
+/// The pairs of a store in which the act takes a row, each with the tree that the act leaves; None exactly where no pair
+/// takes it.
+pub fn take_row(alloc: Global, store: &Store, act: &Act, row: u8) -> Result<Option<Store>, Memory>
+    ensures exact { IfOk result (λ o. IfSome o (λ new. (t v : Value) → HasPair new t v ↔ Taken store.now act.now row t v)) }
+    ensures alive { IfOk result (λ o. IfSome o Alive) }
+    ensures none { IfOk result (λ o. IfNone o ((t u : Value) → HasPair store.now t u → row_of act.now u ≢ row)) }
+{
+    if !may_take(act, row) {
+        return Ok(None);
+    }
+    let mut new = store.copy(alloc)?;
+    let left = keep_row(&mut new, act, row)?;
+    if left { Ok(Some(new)) } else { Ok(None) }
+}
+
+// Leaves the pairs in which the act takes the row, each with the tree that the act leaves; says whether one is left.
+fn keep_row(new: &mut Store, act: &Act, row: u8) -> Result<bool, Memory>
+    requires { row < 64 → (1 ≤ row) × (row < length (path_of act.now).names) }
+    ensures alive { IfOk result (λ left. IsTrue left ↔ Alive new.new) }
+    ensures pairs { IfOk result (λ left. (t v : Value) → HasPair new.new t v ↔ Taken new.old act.now row t v) }
+{
+    let names = act.path().names();
+    if row < 64 {
+        let to_link = &names[..row as usize];
+        let left = keep(new, to_link, Kinds::of(Kind::Link))?;
+        Ok(left)
+    } else {
+        let left = keep(new, names, end_kinds(act, row))?;
+        Ok(left)
+    }
+}
+
+/// Whether the act takes a row on some tree.
+pub fn may_take(act: &Act, row: u8) -> bool
+    ensures { IsTrue result ↔ ((tree : Value) × (kind_of tree ≡ kind.Dir) × (row_of act.now tree ≡ row)) }
+{
+    let names = act.path().names();
+    if row < 64 {
+        return 0 < row && (row as usize) < names.len();
+    }
+    if names.is_empty() {
+        act.row_at(Kind::Dir) == row
+    } else {
+        !end_kinds(act, row).is_none()
+    }
+}
