@@ -1,0 +1,6 @@
+pub mod Orders
+pub mod Binding
+pub mod Stages
+pub mod Rows
+pub mod Single
+pub mod Scripts

@@ -1,0 +1,157 @@
+-- The commands of a script, one after the other, under the strict flag.
+use Rattle.std.proofs.Common.{◌≡◌, ℕ, zero, suc, ◌+◌, ◌<◌, ◌≤◌, Bool, true, false, if◌then◌else◌, List, [], ◌∷◌, ◌++◌, drop, length, get_or, refl, sym, ap, ◌∙◌, subst, arith}
+use Rattle.std.specs.Prelude.{Option, Some, None}
+use Rattle.std.proofs.Math.Seq.{drop-cons}
+use Rattle.script_names.specs.declared.mark.Mark.{Mark}
+use Rattle.script_names.specs.declared.mark.Site.{Site}
+use Rattle.feature_trees.specs.declared.value.Value.{Value}
+use Rattle.feature_trees.specs.declared.kind.Kind.{Kind}
+use Rattle.feature_trees.specs.declared.kind.Kind.TheVariants as kind
+use Rattle.feature_trees.specs.Tree.{entry, at, kind_of}
+use Rattle.utility_calls.specs.declared.act.Act.{Act}
+use Rattle.utility_calls.specs.declared.act.Act.TheVariants.{Exists, IsDir}
+use Rattle.utility_calls.specs.declared.act.Planned.{Planned}
+use Rattle.utility_calls.specs.declared.act.Planned.TheVariants.{Known, Ask}
+use Rattle.utility_calls.specs.Rows.{row, at_link, link_on_way, slash_row, exists_row, is_dir_row, kind_row, way_row, path_of}
+use Rattle.shell_rules.specs.declared.run.End.{End}
+use Rattle.shell_rules.specs.declared.run.End.TheVariants.{Status, Stopped, Bound}
+use Rattle.shell_rules.specs.declared.run.Run.{Run}
+use Rattle.shell_rules.specs.declared.command.Command.{Command}
+use Rattle.shell_rules.specs.Strict.{after_strict, call_run, command_run, strict_run}
+use Rattle.symbolic_exec.specs.State.{State, RunOf, ends}
+use Rattle.symbolic_exec.specs.Traces.{Begins}
+use Rattle.symbolic_exec.specs.Points.{then_by}
+use Rattle.symbolic_exec.specs.Script.{of_run, script_run, one_run, goes_on, strictly}
+use Rattle.symbolic_exec.proofs.Orders.{begins_refl, begins_trans}
+use Rattle.symbolic_exec.proofs.Binding.{Grows}
+
+-- ---- after a success, and after any other end
+
+pub strictly_goes : (m : State → RunOf End) (e : End) (s : State) → goes_on e ≡ true → strictly m e s ≡ m s
+strictly_goes m e s h = ap (λ b. if b then m s else ends e s) h
+
+pub strictly_stays : (m : State → RunOf End) (e : End) (s : State) → goes_on e ≡ false → strictly m e s ≡ ends e s
+strictly_stays m e s h = ap (λ b. if b then m s else ends e s) h
+
+after_end : (e : End) (trace : List Mark) (tree : Value) (next : Run)
+    → of_run (after_strict e (record { end = e; trace = trace; tree = tree }) next) ≡ (if goes_on e then of_run next else ends e (record { trace = trace; tree = tree }))
+after_end (Status true) trace tree next = refl
+after_end (Status false) trace tree next = refl
+after_end (Stopped reason site) trace tree next = refl
+after_end (Bound site) trace tree next = refl
+
+-- the first command, and then the others
+pub strict_split : (step : ℕ) (command : Command) (commands : List Command) (e : End) (s : State)
+    → strictly (script_run step (command ∷ commands)) e s ≡ then_by (strictly (one_run step command) e s) (strictly (script_run step commands))
+strict_split step command commands (Status true) s =
+    let first = command_run step command s.trace s.tree in
+    after_end first.end first.trace first.tree (strict_run step commands first.trace first.tree)
+strict_split step command commands (Status false) s = refl
+strict_split step command commands (Stopped reason site) s = refl
+strict_split step command commands (Bound site) s = refl
+
+-- no command more
+pub strict_end : (step : ℕ) (e : End) (s : State) → strictly (script_run step []) e s ≡ ends e s
+strict_end step (Status true) s = refl
+strict_end step (Status false) s = refl
+strict_end step (Stopped reason site) s = refl
+strict_end step (Bound site) s = refl
+
+pub drop_split : (step : ℕ) (commands : List Command) (i : ℕ) (command : Command) → i < length commands → command ≡ get_or commands i command → (e : End) (s : State)
+    → strictly (script_run step (drop i commands)) e s ≡ then_by (strictly (one_run step command) e s) (strictly (script_run step (drop (i + 1) commands)))
+drop_split step commands i command lt is e s =
+    let n : i + 1 ≡ suc i = omega arith in
+    let cut : drop i commands ≡ command ∷ drop (suc i) commands = drop-cons commands i command lt ∙ ap (λ x. x ∷ drop (suc i) commands) (sym is) in
+    ap (λ l. strictly (script_run step l) e s) cut
+    ∙ strict_split step command (drop (suc i) commands) e s
+    ∙ ap (λ j. then_by (strictly (one_run step command) e s) (strictly (script_run step (drop j commands)))) (sym n)
+
+drop_nothing : (commands : List Command) (i : ℕ) → length commands ≤ i → drop i commands ≡ []
+drop_nothing [] zero le = refl
+drop_nothing [] (suc i) le = refl
+drop_nothing (c ∷ cs) zero le = absurd (omega arith)
+drop_nothing (c ∷ cs) (suc i) le = drop_nothing cs i (omega arith)
+
+pub drop_end : (step : ℕ) (commands : List Command) (i : ℕ) → length commands ≤ i → (e : End) (s : State) → strictly (script_run step (drop i commands)) e s ≡ ends e s
+drop_end step commands i le e s = ap (λ l. strictly (script_run step l) e s) (drop_nothing commands i le) ∙ strict_end step e s
+
+-- ---- the commands only add to the trace
+
+if_begins : (b : Bool) (q : List Mark) (x y : RunOf End) → Begins q x.now.trace → Begins q y.now.trace → Begins q (if b then x else y).now.trace
+if_begins true q x y h k = h
+if_begins false q x y h k = k
+
+strict_grows : (m : State → RunOf End) → ((s : State) → Begins s.trace (m s).now.trace) → Grows (strictly m)
+strict_grows m h e s = if_begins (goes_on e) s.trace (m s) (ends e s) (h s) (begins_refl s.trace)
+
+call_begins : (call : Planned) (site : Site) (trace : List Mark) (tree : Value) → Begins trace (call_run call site trace tree).trace
+call_begins (Known ok) site trace tree = begins_refl trace
+call_begins (Ask act negate) site trace tree = record { more = record { site = site; row = row act tree } ∷ []; is = refl }
+
+pub one_grows : (step : ℕ) (command : Command) → Grows (strictly (one_run step command))
+one_grows step command = strict_grows (one_run step command) (λ s. call_begins command.call (record { step = step; at = command.at }) s.trace s.tree)
+
+script_begins : (step : ℕ) (commands : List Command) (s : State) → Begins s.trace (script_run step commands s).now.trace
+script_begins step [] s = begins_refl s.trace
+script_begins step (command ∷ commands) s =
+    let first = one_run step command s in
+    subst (λ (r : RunOf End). Begins s.trace r.now.trace) (sym (strict_split step command commands (Status true) s))
+    (begins_trans s.trace first.now.trace (strictly (script_run step commands) first.end first.now).now.trace
+    (one_grows step command (Status true) s) (strict_grows (script_run step commands) (script_begins step commands) first.end first.now))
+
+pub script_grows : (step : ℕ) (commands : List Command) → Grows (strictly (script_run step commands))
+script_grows step commands = strict_grows (script_run step commands) (script_begins step commands)
+
+-- ---- an act has no row above 67
+
+abbrev Below : ℕ → Option ℕ → Type 0
+Below k None = Unit {0}
+Below k (Some c) = c < k
+
+link_below : (k : Kind) (count n : ℕ) (later : Option ℕ) → count < n → Below n later → Below n (at_link k count later)
+link_below kind.Absent count n later lt h = h
+link_below kind.Reg count n later lt h = h
+link_below kind.Link count n later lt h = lt
+link_below kind.Other count n later lt h = h
+link_below kind.Dir count n later lt h = h
+
+way_below : (count n : ℕ) (v : Value) (names : List (List ℕ)) → count + length names ≤ n → Below n (link_on_way count v names)
+way_below count n v [] le = tt
+way_below count n v (f ∷ []) le = tt
+way_below count n v (f ∷ g ∷ rest) le = link_below (kind_of (entry v f)) (suc count) n (link_on_way (suc count) (entry v f) (g ∷ rest)) (omega arith) (way_below (suc count) n (entry v f) (g ∷ rest) (omega arith))
+
+exists_small : (k : Kind) → exists_row k < 68
+exists_small kind.Absent = omega arith
+exists_small kind.Reg = omega arith
+exists_small kind.Link = omega arith
+exists_small kind.Other = omega arith
+exists_small kind.Dir = omega arith
+
+is_dir_small : (k : Kind) → is_dir_row k < 68
+is_dir_small kind.Absent = omega arith
+is_dir_small kind.Reg = omega arith
+is_dir_small kind.Link = omega arith
+is_dir_small kind.Other = omega arith
+is_dir_small kind.Dir = omega arith
+
+kind_small : (act : Act) (k : Kind) → kind_row act k < 68
+kind_small (Exists p) k = exists_small k
+kind_small (IsDir p) k = is_dir_small k
+
+slash_small : (b : Bool) (k : Kind) (n : ℕ) → n < 68 → slash_row b k n < 68
+slash_small false k n lt = lt
+slash_small true kind.Absent n lt = lt
+slash_small true kind.Reg n lt = omega arith
+slash_small true kind.Link n lt = omega arith
+slash_small true kind.Other n lt = omega arith
+slash_small true kind.Dir n lt = lt
+
+way_small : (o : Option ℕ) (n : ℕ) → Below 64 o → n < 68 → way_row o n < 68
+way_small None n h lt = lt
+way_small (Some c) n h lt = omega (arith, h)
+
+pub row_small : (act : Act) (tree : Value) → length (path_of act).names ≤ 64 → row act tree < 68
+row_small act tree le =
+    let p = path_of act in
+    let k = kind_of (at tree p.names) in
+    way_small (link_on_way 0 tree p.names) (slash_row p.slash k (kind_row act k)) (way_below 0 64 tree p.names (omega (arith, le))) (slash_small p.slash k (kind_row act k) (kind_small act k))
