@@ -1,5 +1,5 @@
 -- The bind: each path of a list gives place to the paths of what comes next after it.
-use Rattle.std.proofs.Common.{inl, inr, ◌≡◌, ℕ, suc, ◌+◌, ◌-◌, ◌<◌, ◌≤◌, List, [], ◌∷◌, ◌++◌, length, Result, Ok, Err, refl, sym, ap, ◌∙◌, subst, arith, append_assoc, length-append}
+use Rattle.std.proofs.Common.{inl, inr, ◌≡◌, ℕ, suc, ◌+◌, ◌-◌, ◌<◌, ◌≤◌, List, [], ◌∷◌, ◌++◌, length, Result, Ok, Err, IfOk, IfErr, refl, sym, ap, ◌∙◌, subst, arith, append_assoc, length-append}
 use Rattle.std.specs.Prelude.{◌⊎◌}
 use Rattle.script_names.specs.declared.mark.Mark.{Mark}
 use Rattle.feature_trees.specs.declared.value.Value.{Value}
@@ -210,3 +210,8 @@ rest_alive waiting x xs w a = subst (λ l. AllAlive l) w a
 
 pub memory_found : {E : Type 0} (g : Key → RunOf E → Type 0) (q : List Mark) (room : ℕ) (e : PathsFault) → e ≡ fault.Memory → Found g q room (Err e)
 memory_found g q room e is = subst (λ e. Found g q room (Err e)) (sym is) tt
+
+pub alone_found : {E : Type 0} (m : State → RunOf E) (p : PathState) (e : E) (room : ℕ) (res : Result (List (Ended E)) PathsFault) → 1 ≤ room → IsAlive p.store
+    → ((u : Value) → m (at_tree p u) ≡ ends e (at_tree p u)) → IfOk res (λ xs. xs ≡ record { end = e; state = p } ∷ []) → IfErr res (λ f. f ≡ fault.Memory) → Found (From m p) p.trace room res
+alone_found m p e room (Ok xs) le a h ok err = alone_within m p e room xs le a h ok
+alone_found m p e room (Err f) le a h ok err = memory_found (From m p) p.trace room f err

@@ -1,7 +1,7 @@
 -- The commands of a script, one after the other, under the strict flag.
-use Rattle.std.proofs.Common.{◌≡◌, ℕ, zero, suc, ◌+◌, ◌<◌, ◌≤◌, Bool, true, false, if◌then◌else◌, List, [], ◌∷◌, ◌++◌, drop, length, get_or, refl, sym, ap, ◌∙◌, subst, arith}
+use Rattle.std.proofs.Common.{◌≡◌, ℕ, zero, suc, ◌+◌, ◌<◌, ◌≤◌, Bool, true, false, if◌then◌else◌, List, [], ◌∷◌, ◌++◌, drop, take, length, get_or, refl, sym, ap, ◌∙◌, subst, arith}
 use Rattle.std.specs.Prelude.{Option, Some, None}
-use Rattle.std.proofs.Math.Seq.{drop-cons}
+use Rattle.std.proofs.Math.Seq.{drop-cons, take-suc}
 use Rattle.script_names.specs.declared.mark.Mark.{Mark}
 use Rattle.script_names.specs.declared.mark.Site.{Site}
 use Rattle.feature_trees.specs.declared.value.Value.{Value}
@@ -18,12 +18,15 @@ use Rattle.shell_rules.specs.declared.run.End.TheVariants.{Status, Stopped, Boun
 use Rattle.shell_rules.specs.declared.run.Run.{Run}
 use Rattle.shell_rules.specs.declared.command.Command.{Command}
 use Rattle.shell_rules.specs.Strict.{after_strict, call_run, command_run, strict_run}
+use Rattle.symbolic_exec.specs.declared.state.Ended.{Ended}
 use Rattle.symbolic_exec.specs.State.{State, RunOf, ends}
 use Rattle.symbolic_exec.specs.Traces.{Begins}
 use Rattle.symbolic_exec.specs.Points.{then_by}
-use Rattle.symbolic_exec.specs.Script.{of_run, script_run, one_run, goes_on, strictly}
+use Rattle.symbolic_exec.specs.Script.{of_run, script_run, one_run, goes_on, strictly, AllLeft}
+use Rattle.symbolic_exec.specs.Forks.{fork_run, row_end}
 use Rattle.symbolic_exec.proofs.Orders.{begins_refl, begins_trans}
 use Rattle.symbolic_exec.proofs.Binding.{Grows}
+use Rattle.symbolic_exec.proofs.Stages.{AllStay}
 
 -- ---- after a success, and after any other end
 
@@ -155,3 +158,26 @@ row_small act tree le =
     let p = path_of act in
     let k = kind_of (at tree p.names) in
     way_small (link_on_way 0 tree p.names) (slash_row p.slash k (kind_row act k)) (way_below 0 64 tree p.names (omega (arith, le))) (slash_small p.slash k (kind_row act k) (kind_small act k))
+
+-- ---- the paths of one command
+
+pub known_run : (step : ℕ) (command : Command) (ok : Bool) → command.call ≡ Known ok → (s : State) → one_run step command s ≡ ends (Status ok) s
+known_run step command ok is s = ap (λ call. of_run (call_run call (record { step = step; at = command.at }) s.trace s.tree)) is
+
+pub ask_run : (step : ℕ) (command : Command) (act : Act) (negate : Bool) → command.call ≡ Ask act negate → (s : State)
+    → one_run step command s ≡ fork_run act (record { step = step; at = command.at }) (row_end negate (record { step = step; at = command.at })) s
+ask_run step command act negate is s = ap (λ call. of_run (call_run call (record { step = step; at = command.at }) s.trace s.tree)) is
+
+-- no command more is done
+pub left_stay : (m : State → RunOf End) (xs : List (Ended End)) → AllLeft xs → AllStay (strictly m) xs
+left_stay m [] h = tt
+left_stay m (x ∷ xs) h = ((λ s. strictly_stays m x.end s h.0), left_stay m xs h.1)
+
+left_push : (xs : List (Ended End)) (x : Ended End) → AllLeft xs → goes_on x.end ≡ false → AllLeft (xs ++ x ∷ [])
+left_push [] x h l = (l, tt)
+left_push (y ∷ xs) x h l = (h.0, left_push xs x h.1 l)
+
+pub left_take : (xs : List (Ended End)) (i : ℕ) (x : Ended End) → i < length xs → x ≡ get_or xs i x → goes_on x.end ≡ false → AllLeft (take i xs) → AllLeft (take (i + 1) xs)
+left_take xs i x lt e l h =
+    let n : i + 1 ≡ suc i = omega arith in
+    subst (λ ys. AllLeft ys) (sym (ap (λ j. take j xs) n ∙ take-suc xs i x lt ∙ ap (λ y. take i xs ++ y ∷ []) (sym e))) (left_push (take i xs) x h l)

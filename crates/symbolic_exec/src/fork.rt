@@ -2,14 +2,14 @@
 
 ghost use Rattle.std.specs.Prelude.{◌≡◌, ◌<◌, ◌++◌, ◌∷◌, [], IfOk};
 ghost use Rattle.feature_trees.specs.declared.value.Value.{Value as Tree};
-ghost use Rattle.utility_calls.specs.Rows.{row as row_of, row_answer};
+ghost use Rattle.utility_calls.specs.Rows.{row as row_of, row_answer, path_of};
 ghost use Rattle.symbolic_exec.specs.Forks.{fork_run, row_end, marked};
 ghost use Rattle.symbolic_exec.specs.Points.{Found, From};
 
 use crate::queue::Queue;
 use crate::stand_in::take_row;
 use crate::state::{Ended, PathState, PathsFault};
-use script_names::{Copied, Done, List, Mark, Memory, Reason, Site};
+use script_names::{Copied, Done, List, Mark, Memory, Path, Reason, Site};
 use shell_rules::End;
 use std::alloc::Global;
 use utility_calls::Act;
@@ -54,15 +54,21 @@ fn with_mark(alloc: Global, trace: &List<Mark>, site: Site, row: u8) -> Result<L
     }
 }
 
-// How many rows an act has: no row that applies has this number or a higher one.
+// The path that an act names.
+fn act_path(act: &Act) -> &Path
+    ensures { result.now ≡ path_of act.now }
+{
+    match act {
+        Act::Exists(path) => path,
+        Act::IsDir(path) => path,
+    }
+}
+
+// How many rows an act has: the number of each row that applies is below this.
 fn row_count(act: &Act) -> u8
     ensures { (tree : Tree) → row_of act.now tree < result }
 {
-    let path = match act {
-        Act::Exists(path) => path,
-        Act::IsDir(path) => path,
-    };
-    path.names();
+    act_path(act).names();
     68
 }
 
