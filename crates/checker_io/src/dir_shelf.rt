@@ -1,7 +1,7 @@
-ghost use Rattle.std.specs.Prelude.{◌≡◌, ◌<◌, ◌≤◌, ◌+◌, ◌-◌, [], None, IfOk, length, vec_items};
+ghost use Rattle.std.specs.Prelude.{◌≡◌, ◌<◌, ◌≤◌, ◌+◌, ◌-◌, [], IfOk, length};
 ghost use Rattle.std.specs.Io.KnownBytes.{ReadConsumes};
 ghost use Rattle.checker_io.specs.DirShelf.{DirFaults, DirCounts, RestTakes, name_or_empty, dir_state};
-ghost use Rattle.checker_io.specs.Shelf.{ShelfState, ReadCause};
+ghost use Rattle.checker_io.specs.Shelf.{ReadCause};
 
 use crate::shelf::{Shelf, ShelfFault};
 use script_names::{Bytes, Text};

@@ -1,8 +1,7 @@
-ghost use Rattle.std.specs.Prelude.{◌≡◌, ◌≢◌, ◌≤◌, ◌++◌, [], ◌∷◌, ℕ, List, Some, None, Err, OnOk, OnErr, IfOk, IfSome, length, option_copied, if◌then◌else◌};
+ghost use Rattle.std.specs.Prelude.{◌≡◌, ◌≢◌, ◌≤◌, ◌++◌, [], ◌∷◌, ℕ, List, Some, Err, OnOk, OnErr, IfOk, length, option_copied, if◌then◌else◌};
 ghost use Rattle.std.specs.Str.{bytes_eq};
 ghost use Rattle.checker_io.specs.MemShelf.{MemFiles, MemReads, held, shelf_state};
-ghost use Rattle.checker_io.specs.Shelf.{ShelfState, ReadGives, ReadCause};
-ghost use Rattle.checker_io.specs.declared.mem_shelf.File.{File};
+ghost use Rattle.checker_io.specs.Shelf.{ReadGives, ReadCause};
 ghost use Rattle.checker_io.specs.declared.shelf.ShelfFault.TheVariants.{Failed};
 
 use crate::shelf::{Shelf, ShelfFault};

@@ -1,6 +1,6 @@
 ghost use Rattle.std.specs.Prelude.{◌≡◌, ◌++◌, [], ◌∷◌, Some, OnOk, OnErr};
 ghost use Rattle.checker_io.specs.MemSink.{MemBytes, MemWrites, taken_at, sink_state};
-ghost use Rattle.checker_io.specs.Sink.{SinkState, WriteTakes, WriteCause};
+ghost use Rattle.checker_io.specs.Sink.{WriteTakes, WriteCause};
 
 use crate::sink::{Sink, SinkFault};
 use script_names::Memory;

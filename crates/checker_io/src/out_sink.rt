@@ -1,7 +1,7 @@
-ghost use Rattle.std.specs.Prelude.{◌≡◌, ◌≢◌, None, Ok, Err, OnOk, OnErr, if◌then◌else◌};
+ghost use Rattle.std.specs.Prelude.{◌≡◌, ◌≢◌, Err, OnErr};
 ghost use Rattle.checker_io.specs.Faults.{one_more};
 ghost use Rattle.checker_io.specs.OutSink.{writer_of, faults_of, out_state, TakesPiece};
-ghost use Rattle.checker_io.specs.Sink.{SinkState, Took, TookPrefix, WriteTakes, WriteCause};
+ghost use Rattle.checker_io.specs.Sink.{WriteTakes, WriteCause};
 ghost use Rattle.checker_io.specs.declared.sink.SinkFault.TheVariants.{Memory};
 
 use crate::sink::{Sink, SinkFault};

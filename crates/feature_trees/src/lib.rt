@@ -16,3 +16,6 @@ pub use print::{print_tree, put_tree};
 pub use put::PutFault;
 pub use shown::{put_shown, show};
 pub use value::{Entries, Value};
+
+#[cfg(test)]
+mod tests;
