@@ -4,3 +4,4 @@ pub mod Stages
 pub mod Rows
 pub mod Single
 pub mod Scripts
+pub mod Entry

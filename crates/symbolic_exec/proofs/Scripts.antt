@@ -94,7 +94,7 @@ call_begins (Ask act negate) site trace tree = record { more = record { site = s
 pub one_grows : (step : ℕ) (command : Command) → Grows (strictly (one_run step command))
 one_grows step command = strict_grows (one_run step command) (λ s. call_begins command.call (record { step = step; at = command.at }) s.trace s.tree)
 
-script_begins : (step : ℕ) (commands : List Command) (s : State) → Begins s.trace (script_run step commands s).now.trace
+pub script_begins : (step : ℕ) (commands : List Command) (s : State) → Begins s.trace (script_run step commands s).now.trace
 script_begins step [] s = begins_refl s.trace
 script_begins step (command ∷ commands) s =
     let first = one_run step command s in

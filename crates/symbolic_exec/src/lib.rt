@@ -3,9 +3,12 @@
 #![tactic(auto)]
 
 mod fork;
+
 mod queue;
 mod run;
+mod script;
 mod stand_in;
 mod state;
 
+pub use script::paths;
 pub use state::{Ended, PathState, PathsFault};
