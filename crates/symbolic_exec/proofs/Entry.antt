@@ -1,10 +1,11 @@
 -- Where paths begin: whether the store has a pair, and room for none.
-use Rattle.std.proofs.Common.{◌≡◌, ℕ, zero, suc, ◌<◌, ◌≤◌, Bool, true, false, List, [], ◌∷◌, ◌++◌, length, Result, Ok, Err, IfOk, IfErr, IsTrue, refl, sym, ap, ◌∙◌, subst, arith}
+use Rattle.std.proofs.Common.{◌≡◌, ℕ, zero, suc, ◌<◌, ◌≤◌, Bool, true, false, List, [], ◌∷◌, ◌++◌, length, Result, Ok, Err, IfOk, IfErr, IsTrue, rules, refl, sym, ap, ◌∙◌, subst, arith}
 use Rattle.std.specs.Prelude.{◌↔◌}
 use Rattle.script_names.specs.declared.mark.Mark.{Mark}
 use Rattle.feature_trees.specs.declared.value.Value.{Value}
 use Rattle.feature_trees.specs.declared.kind.Kind.{Kind}
 use Rattle.feature_trees.specs.declared.kind.Kind.TheVariants as kind
+use Rattle.feature_trees.specs.declared.kind.Kinds.{Kinds}
 use Rattle.feature_trees.specs.Kinds.{has, all}
 use Rattle.feature_trees.specs.Tree.{kind_of}
 use Rattle.clause_solver.specs.Literals.{Valuation, value_of_variable}
@@ -46,6 +47,18 @@ pair_alive s a = (a.0, a.2.0, a.2.1)
 
 pub one_tree : (s : Seen) → ((t : Value) (g h : Valuation) → Stands s t g → Stands s t h → g ≡ h) → IsUnique s
 one_tree s unique t u v p q = sym p.2 ∙ ap (λ g. value_of_variable g s.current) (unique t p.0 q.0 p.1 q.1) ∙ q.2
+
+pub all_kinds : (old new : Seen) (x : ℕ) (k : Kinds) → x ≡ old.current → k ≡ all
+    → ((t : Value) (g : Valuation) → Stands new t g ↔ (Stands old t g × IsTrue (has k (kind_of (value_of_variable g x))))) → AllKinds old new
+all_kinds old new x k e f h =
+    subst (λ (x : ℕ). (t : Value) (g : Valuation) → Stands new t g ↔ (Stands old t g × IsTrue (has all (kind_of (value_of_variable g x))))) e
+    (subst (λ (k : Kinds). (t : Value) (g : Valuation) → Stands new t g ↔ (Stands old t g × IsTrue (has k (kind_of (value_of_variable g x))))) f h)
+
+pub alive_on : (old new : Seen) → new.current ≡ old.current → AllKinds old new → IsAlive old → Alive new
+alive_on old new e h a = pair_alive new (a.0, a.1, pair_on old new e h a.0 a.1 a.2)
+
+pub alive_back : (old new : Seen) → new.current ≡ old.current → AllKinds old new → Alive new → IsAlive old
+alive_back old new e h a = let b = alive_pair new a in (b.0, b.1, pair_back old new e h b.0 b.1 b.2)
 
 -- the same points from another store of the same pairs
 pub same_store : {E : Type 0} (m : State → RunOf E) (old new : Seen) (trace : List Mark) (room : ℕ) (res : Result (List (Ended E)) PathsFault) → new.current ≡ old.current → AllKinds old new
