@@ -62,6 +62,10 @@ abbrev pub kind_row : Act → Kind → ℕ
 kind_row (Exists p) k = exists_row k
 kind_row (IsDir p) k = is_dir_row k
 
+-- the row of an act where no link stands on the way, by what stands at its path
+abbrev pub end_row : Act → Kind → ℕ
+end_row act k = slash_row (path_of act).slash k (kind_row act k)
+
 -- the count of a link on the way, else the row for what stands at the path
 abbrev pub way_row : Option ℕ → ℕ → ℕ
 way_row None row = row
@@ -72,8 +76,7 @@ way_row (Some count) row = count
 abbrev pub row : Act → Value → ℕ
 row act tree =
     let p = path_of act in
-    let k = kind_of (at tree p.names) in
-    way_row (link_on_way 0 tree p.names) (slash_row p.slash k (kind_row act k))
+    way_row (link_on_way 0 tree p.names) (end_row act (kind_of (at tree p.names)))
 
 -- What a row answers: a link is not followed, on the way or at the path; a slash behind what is no directory is not
 -- specified; row 66 is the answer no, and row 67 the answer yes.

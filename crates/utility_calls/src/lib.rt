@@ -3,5 +3,6 @@
 #![tactic(auto)]
 
 mod act;
+pub mod theorems;
 
-pub use act::{Act, Planned};
+pub use act::{Act, Planned, row_answer};
