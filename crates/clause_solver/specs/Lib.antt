@@ -1,6 +1,7 @@
 pub mod Literals
 pub mod ClauseText
 pub mod Stands
+pub mod Pairs
 pub mod Variables
 pub mod Greatest
 pub mod Written

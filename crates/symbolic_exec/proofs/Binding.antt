@@ -7,7 +7,10 @@ use Rattle.symbolic_exec.specs.declared.state.PathState.{PathState}
 use Rattle.symbolic_exec.specs.declared.state.Ended.{Ended}
 use Rattle.symbolic_exec.specs.declared.state.PathsFault.{PathsFault}
 use Rattle.symbolic_exec.specs.declared.state.PathsFault.TheVariants as fault
-use Rattle.symbolic_exec.specs.State.{Key, HasPair, IsAlive, State, RunOf, ends, at_tree, run_at}
+use Rattle.clause_solver.specs.Pairs.{HasPair}
+use Rattle.clause_solver.specs.Stands.{Seen, Alive}
+use Rattle.clause_solver.specs.Literals.{value_of_variable}
+use Rattle.symbolic_exec.specs.State.{Key, State, RunOf, ends, at_tree, run_at}
 use Rattle.symbolic_exec.specs.Traces.{Begins, Before, AllBegin, AllAfter, Rising}
 use Rattle.symbolic_exec.specs.Points.{Point, Points, From, then_by, Going, trace_of, traces, AllAlive, Sound, Reaches, Met, AllMet, Many, Within, Found}
 use Rattle.symbolic_exec.proofs.Orders.{nil_right, begins_refl, begins_trans, rising_replace, under_replace}
@@ -46,6 +49,13 @@ points_split {E} (a ∷ ds) bs t r (inr p) = later (points_split ds bs t r p)
 
 -- ---- points that are met
 
+-- a pair of a store that has one
+pub some_pair : (s : Seen) → Alive s → (t : Key) × (u : Value) × HasPair s t u
+some_pair s a = (a.0, value_of_variable a.1 s.current, (a.1, a.2, refl))
+
+pub some_alive : (s : Seen) (t : Key) (u : Value) → HasPair s t u → Alive s
+some_alive s t u h = (t, h.0, h.1)
+
 pub met_append : {E : Type 0} (g : Key → RunOf E → Type 0) (ds bs : List (List Mark)) → AllMet g ds → AllMet g bs → AllMet g (ds ++ bs)
 met_append g [] bs h k = k
 met_append g (a ∷ ds) bs h k = (h.0, met_append g ds bs h.1 k)
@@ -57,7 +67,7 @@ met_all g h f (x ∷ fs) m = (let y = f m.0.0 m.0.1 m.0.2 in (m.0.0, y.0, y.1, b
 pub alive_met : {E : Type 0} (xs : List (Ended E)) → AllAlive xs → AllMet (Points xs) (traces xs)
 alive_met [] a = tt
 alive_met {E} (x ∷ xs) a =
-    let l = a.0 in
+    let l = some_pair x.state.store a.0 in
     ((l.0, run_at x l.1, inl (l.1, l.2, refl), begins_refl (trace_of x)), met_all (Points xs) (Points (x ∷ xs)) (λ t r p. (r, inr p, begins_refl r.now.trace)) (traces xs) (alive_met xs a.1))
 
 -- ---- equal points
@@ -174,7 +184,7 @@ module _ {E F : Type 0} (goal : Key → RunOf F → Type 0) (k : E → State →
   each_go ys new w e b c = go_on goal k q done new x xs ys c e (subst (λ ws. Between goal k q done ws) w b)
 
 -- a path that ends otherwise from each of its pairs, and forks none
-pub one_path : {E : Type 0} (m : State → RunOf E) (p : PathState) (x : Ended E) (room : ℕ) → 1 ≤ room → IsAlive x.state.store → trace_of x ≡ p.trace
+pub one_path : {E : Type 0} (m : State → RunOf E) (p : PathState) (x : Ended E) (room : ℕ) → 1 ≤ room → Alive x.state.store → trace_of x ≡ p.trace
     → ((t : Key) (r : RunOf E) → Point x t r → From m p t r) → ((t : Key) (r : RunOf E) → From m p t r → Point x t r) → Within (From m p) p.trace room (x ∷ [])
 one_path {E} m p x room le b e f g = record {
   reaches = record {
@@ -189,7 +199,7 @@ one_path {E} m p x room le b e f g = record {
     only t r (inl h) = f t r h
     only t r (inr h) = absurd h
 
-pub alone_within : {E : Type 0} (m : State → RunOf E) (p : PathState) (e : E) (room : ℕ) (xs : List (Ended E)) → 1 ≤ room → IsAlive p.store
+pub alone_within : {E : Type 0} (m : State → RunOf E) (p : PathState) (e : E) (room : ℕ) (xs : List (Ended E)) → 1 ≤ room → Alive p.store
     → ((u : Value) → m (at_tree p u) ≡ ends e (at_tree p u)) → xs ≡ record { end = e; state = p } ∷ [] → Within (From m p) p.trace room xs
 alone_within m p e room xs le a h is =
     subst (λ l. Within (From m p) p.trace room l) (sym is)
@@ -205,13 +215,13 @@ pub room_left : {E F : Type 0} (room : ℕ) (done : List (Ended F)) (waiting : L
 room_left room done waiting x xs w le =
     let b : length waiting ≡ length xs + 1 = ap length w ∙ (omega arith) in omega (arith, b, le)
 
-pub rest_alive : {E : Type 0} (waiting : List (Ended E)) (x : Ended E) (xs : List (Ended E)) → waiting ≡ x ∷ xs → AllAlive waiting → IsAlive x.state.store × AllAlive xs
+pub rest_alive : {E : Type 0} (waiting : List (Ended E)) (x : Ended E) (xs : List (Ended E)) → waiting ≡ x ∷ xs → AllAlive waiting → Alive x.state.store × AllAlive xs
 rest_alive waiting x xs w a = subst (λ l. AllAlive l) w a
 
 pub memory_found : {E : Type 0} (g : Key → RunOf E → Type 0) (q : List Mark) (room : ℕ) (e : PathsFault) → e ≡ fault.Memory → Found g q room (Err e)
 memory_found g q room e is = subst (λ e. Found g q room (Err e)) (sym is) tt
 
-pub alone_found : {E : Type 0} (m : State → RunOf E) (p : PathState) (e : E) (room : ℕ) (res : Result (List (Ended E)) PathsFault) → 1 ≤ room → IsAlive p.store
+pub alone_found : {E : Type 0} (m : State → RunOf E) (p : PathState) (e : E) (room : ℕ) (res : Result (List (Ended E)) PathsFault) → 1 ≤ room → Alive p.store
     → ((u : Value) → m (at_tree p u) ≡ ends e (at_tree p u)) → IfOk res (λ xs. xs ≡ record { end = e; state = p } ∷ []) → IfErr res (λ f. f ≡ fault.Memory) → Found (From m p) p.trace room res
 alone_found m p e room (Ok xs) le a h ok err = alone_within m p e room xs le a h ok
 alone_found m p e room (Err f) le a h ok err = memory_found (From m p) p.trace room f err

@@ -14,12 +14,13 @@ use Rattle.symbolic_exec.specs.declared.state.PathState.{PathState}
 use Rattle.symbolic_exec.specs.declared.state.Ended.{Ended}
 use Rattle.symbolic_exec.specs.declared.state.PathsFault.{PathsFault}
 use Rattle.symbolic_exec.specs.declared.state.PathsFault.TheVariants as fault
-use Rattle.symbolic_exec.specs.State.{Key, HasPair, IsAlive, State, RunOf, at_tree}
+use Rattle.clause_solver.specs.Pairs.{HasPair}
+use Rattle.symbolic_exec.specs.State.{Key, State, RunOf, at_tree}
 use Rattle.symbolic_exec.specs.Traces.{Begins}
 use Rattle.symbolic_exec.specs.Points.{From, Many, Within, Found}
 use Rattle.symbolic_exec.specs.Exact.{IsUnique, AreThePaths, AreTooMany, AreFew}
 use Rattle.symbolic_exec.proofs.Orders.{begins_refl}
-use Rattle.symbolic_exec.proofs.Binding.{same_found}
+use Rattle.symbolic_exec.proofs.Binding.{same_found, some_pair, some_alive}
 use Rattle.symbolic_exec.proofs.Single.{the_paths, are_few, are_too_many}
 
 -- a limit to all kinds keeps each pair
@@ -39,12 +40,6 @@ pair_back old new e h t u p = (p.0, ((h t p.0).0 p.1).0, ap (λ x. value_of_vari
 pub pair_on : (old new : Seen) → new.current ≡ old.current → AllKinds old new → (t : Key) (u : Value) → HasPair old t u → HasPair new t u
 pair_on old new e h t u p = (p.0, (h t p.0).1 (p.1, each_kind (kind_of (value_of_variable p.0 old.current))), ap (λ x. value_of_variable p.0 x) e ∙ p.2)
 
-pub alive_pair : (s : Seen) → Alive s → IsAlive s
-alive_pair s a = (a.0, value_of_variable a.1 s.current, (a.1, a.2, refl))
-
-pub pair_alive : (s : Seen) → IsAlive s → Alive s
-pair_alive s a = (a.0, a.2.0, a.2.1)
-
 pub one_tree : (s : Seen) → ((t : Value) (g h : Valuation) → Stands s t g → Stands s t h → g ≡ h) → IsUnique s
 one_tree s unique t u v p q = sym p.2 ∙ ap (λ g. value_of_variable g s.current) (unique t p.0 q.0 p.1 q.1) ∙ q.2
 
@@ -54,11 +49,11 @@ all_kinds old new x k e f h =
     subst (λ (x : ℕ). (t : Value) (g : Valuation) → Stands new t g ↔ (Stands old t g × IsTrue (has all (kind_of (value_of_variable g x))))) e
     (subst (λ (k : Kinds). (t : Value) (g : Valuation) → Stands new t g ↔ (Stands old t g × IsTrue (has k (kind_of (value_of_variable g x))))) f h)
 
-pub alive_on : (old new : Seen) → new.current ≡ old.current → AllKinds old new → IsAlive old → Alive new
-alive_on old new e h a = pair_alive new (a.0, a.1, pair_on old new e h a.0 a.1 a.2)
+pub alive_on : (old new : Seen) → new.current ≡ old.current → AllKinds old new → Alive old → Alive new
+alive_on old new e h a = let b = some_pair old a in some_alive new b.0 b.1 (pair_on old new e h b.0 b.1 b.2)
 
-pub alive_back : (old new : Seen) → new.current ≡ old.current → AllKinds old new → Alive new → IsAlive old
-alive_back old new e h a = let b = alive_pair new a in (b.0, b.1, pair_back old new e h b.0 b.1 b.2)
+pub alive_back : (old new : Seen) → new.current ≡ old.current → AllKinds old new → Alive new → Alive old
+alive_back old new e h a = let b = some_pair new a in some_alive old b.0 b.1 (pair_back old new e h b.0 b.1 b.2)
 
 -- the same points from another store of the same pairs
 pub same_store : {E : Type 0} (m : State → RunOf E) (old new : Seen) (trace : List Mark) (room : ℕ) (res : Result (List (Ended E)) PathsFault) → new.current ≡ old.current → AllKinds old new
@@ -68,10 +63,10 @@ same_store m old new trace room res e h w =
     (λ t r x. (x.0, pair_back old new e h t x.0 x.1, x.2)) (λ t r x. (x.0, pair_on old new e h t x.0 x.1, x.2)) w
 
 -- no pair: no path
-pub no_pair : {E : Type 0} (m : State → RunOf E) (p : PathState) (room : ℕ) (xs : List (Ended E)) → (IsAlive p.store → ⊥) → xs ≡ [] → Within (From m p) p.trace room xs
+pub no_pair : {E : Type 0} (m : State → RunOf E) (p : PathState) (room : ℕ) (xs : List (Ended E)) → (Alive p.store → ⊥) → xs ≡ [] → Within (From m p) p.trace room xs
 no_pair m p room xs n e = subst (λ l. Within (From m p) p.trace room l) (sym e) (record {
   reaches = record {
-    all = λ t r f. absurd (n (t, f.0, f.1));
+    all = λ t r f. absurd (n (some_alive p.store t f.0 f.1));
     none_else = λ t r x. absurd x;
     sound = record { alive = tt; rising = tt; under = tt };
   };
@@ -79,13 +74,13 @@ no_pair m p room xs n e = subst (λ l. Within (From m p) p.trace room l) (sym e)
 })
 
 -- a pair, and no room for its path
-pub no_room : {E : Type 0} (m : State → RunOf E) (p : PathState) → ((s : State) → Begins s.trace (m s).now.trace) → IsAlive p.store → Many (From m p) p.trace 0
+pub no_room : {E : Type 0} (m : State → RunOf E) (p : PathState) → ((s : State) → Begins s.trace (m s).now.trace) → Alive p.store → Many (From m p) p.trace 0
 no_room m p g a = record {
   fronts = p.trace ∷ [];
   rising = (tt, tt);
   under = (begins_refl p.trace, tt);
   count = omega arith;
-  met = ((a.0, m (at_tree p a.1), (a.1, a.2, refl), g (at_tree p a.1)), tt);
+  met = (let b = some_pair p.store a in ((b.0, m (at_tree p b.1), (b.1, b.2, refl), g (at_tree p b.1)), tt));
 }
 
 -- ---- the form that is read, by the answer

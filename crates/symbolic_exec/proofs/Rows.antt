@@ -4,17 +4,18 @@ use Rattle.std.specs.Prelude.{◌⊎◌, ◌↔◌, Option, Some, None, IfSome, 
 use Rattle.script_names.specs.declared.mark.Mark.{Mark}
 use Rattle.script_names.specs.declared.mark.Site.{Site}
 use Rattle.feature_trees.specs.declared.value.Value.{Value}
-use Rattle.clause_solver.specs.Stands.{Seen}
+use Rattle.clause_solver.specs.Stands.{Seen, Alive}
 use Rattle.utility_calls.specs.declared.act.Act.{Act}
 use Rattle.utility_calls.specs.Rows.{row, tree_after}
 use Rattle.symbolic_exec.specs.declared.state.PathState.{PathState}
 use Rattle.symbolic_exec.specs.declared.state.Ended.{Ended}
-use Rattle.symbolic_exec.specs.State.{Key, HasPair, IsAlive, State, RunOf, ends, at_tree, run_at}
+use Rattle.clause_solver.specs.Pairs.{HasPair}
+use Rattle.symbolic_exec.specs.State.{Key, State, RunOf, ends, at_tree, run_at}
 use Rattle.symbolic_exec.specs.Traces.{Begins, Before, AllBegin, AllAfter, Rising}
 use Rattle.symbolic_exec.specs.Points.{Points, From, trace_of, traces, Sound, Met, Many, Within}
 use Rattle.symbolic_exec.specs.Forks.{marked, fork_run, TakesRow, NoneTakes}
 use Rattle.symbolic_exec.proofs.Orders.{begins_refl, begin_append, after_push}
-use Rattle.symbolic_exec.proofs.Binding.{points_left, points_right, points_split, traces_append, traces_length, alive_met, met_all, met_append, alive_append}
+use Rattle.symbolic_exec.proofs.Binding.{points_left, points_right, points_split, traces_append, traces_length, some_pair, alive_met, met_all, met_append, alive_append}
 
 -- the traces end with a mark below this row
 abbrev pub AllLower : List Mark → Site → ℕ → List (List Mark) → Type 0
@@ -55,9 +56,9 @@ module _ {E : Type 0} (act : Act) (site : Site) (end_of : ℕ → E) (p : PathSt
     pub sound : Sound p.trace out
     pub lower : AllLower p.trace site n (traces out)
 
-  pub begin_rows : (out : List (Ended E)) → out ≡ [] → Rows 0 out
-  begin_rows out e = subst (λ l. Rows 0 l) (sym e) (record {
-    all = λ t u h lt. absurd (omega (arith, lt));
+  pub begin_rows : (n : ℕ) (out : List (Ended E)) → ((u : Value) → n ≤ row act u) → out ≡ [] → Rows n out
+  begin_rows n out least e = subst (λ l. Rows n l) (sym e) (record {
+    all = λ t u h lt. absurd (let m = least u in omega (arith, m, lt));
     none_else = λ t r x. absurd x;
     sound = record { alive = tt; rising = tt; under = tt };
     lower = tt;
@@ -85,7 +86,7 @@ module _ {E : Type 0} (act : Act) (site : Site) (end_of : ℕ → E) (p : PathSt
       ∙ ap (λ w. ends (end_of n) (record { trace = marked p.trace site n; tree = w })) (sym f)
 
   -- these pairs take it
-  pub add_row : (n : ℕ) (out new : List (Ended E)) (s : Seen) → TakesRow p.store s act n → IsAlive s → new ≡ out ++ taken n s ∷ [] → Rows n out → Rows (n + 1) new
+  pub add_row : (n : ℕ) (out new : List (Ended E)) (s : Seen) → TakesRow p.store s act n → Alive s → new ≡ out ++ taken n s ∷ [] → Rows n out → Rows (n + 1) new
   add_row n out new s exact alive e h = subst (λ l. Rows (n + 1) l) (sym e) (record {
     all = λ t u a lt. go t u a lt;
     none_else = λ t r x. back t r (points_split out (taken n s ∷ []) t r x);
@@ -118,19 +119,22 @@ module _ {E : Type 0} (act : Act) (site : Site) (end_of : ℕ → E) (p : PathSt
       back t r (inr (inr x)) = absurd x
 
   -- and there is no room for it
-  pub over_rows : (n room : ℕ) (out : List (Ended E)) (s : Seen) → TakesRow p.store s act n → IsAlive s → room ≤ length out → Rows n out → Many (From (fork_run act site end_of) p) p.trace room
+  pub over_rows : (n room : ℕ) (out : List (Ended E)) (s : Seen) → TakesRow p.store s act n → Alive s → room ≤ length out → Rows n out → Many (From (fork_run act site end_of) p) p.trace room
   over_rows n room out s exact alive le h = record {
     fronts = traces out ++ marked p.trace site n ∷ [];
     rising = rising_push p.trace site n (traces out) h.sound.rising h.lower;
     under = begin_append p.trace (traces out) (marked p.trace site n ∷ []) h.sound.under (begins_marked p.trace site n, tt);
     count = (let a = length-append (traces out) (marked p.trace site n ∷ []) in let b = traces_length out in let c : length (marked p.trace site n ∷ []) ≡ 1 = refl in omega (arith, a, b, c, le));
     met = met_append (From (fork_run act site end_of) p) (traces out) (marked p.trace site n ∷ [])
-        (met_all (Points out) (From (fork_run act site end_of) p) (λ t r x. (r, h.none_else t r x, begins_refl r.now.trace)) (traces out) (alive_met out h.sound.alive)) (last (exact alive.0 alive.1), tt);
+        (met_all (Points out) (From (fork_run act site end_of) p) (λ t r x. (r, h.none_else t r x, begins_refl r.now.trace)) (traces out) (alive_met out h.sound.alive)) (last, tt);
   }
     where
-      last : (HasPair s alive.0 alive.1 ↔ ((u : Value) × HasPair p.store alive.0 u × (row act u ≡ n) × (alive.1 ≡ tree_after act u))) → Met (From (fork_run act site end_of) p) (marked p.trace site n)
-      last x = let y = x.0 alive.2 in
-          (alive.0, run_at (taken n s) alive.1, (y.0, y.1, sym (taken_run n s y.0 alive.1 y.2 y.3)), begins_refl (marked p.trace site n))
+      pair : (t : Key) × (v : Value) × HasPair s t v
+      pair = some_pair s alive
+
+      last : Met (From (fork_run act site end_of) p) (marked p.trace site n)
+      last = let y = (exact pair.0 pair.1).0 pair.2 in
+          (pair.0, run_at (taken n s) pair.1, (y.0, y.1, sym (taken_run n s y.0 pair.1 y.2 y.3)), begins_refl (marked p.trace site n))
 
   pub end_rows : (n room : ℕ) (out : List (Ended E)) → ((u : Value) → row act u < n) → length out ≤ room → Rows n out → Within (From (fork_run act site end_of) p) p.trace room out
   end_rows n room out all le h = record {

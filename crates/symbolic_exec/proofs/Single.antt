@@ -5,7 +5,9 @@ use Rattle.script_names.specs.declared.mark.Mark.{Mark}
 use Rattle.feature_trees.specs.declared.value.Value.{Value}
 use Rattle.symbolic_exec.specs.declared.state.PathState.{PathState}
 use Rattle.symbolic_exec.specs.declared.state.Ended.{Ended}
-use Rattle.symbolic_exec.specs.State.{Key, HasPair, IsAlive, State, RunOf, at_tree, run_at}
+use Rattle.clause_solver.specs.Pairs.{HasPair}
+use Rattle.clause_solver.specs.Stands.{Alive}
+use Rattle.symbolic_exec.specs.State.{Key, State, RunOf, at_tree, run_at}
 use Rattle.symbolic_exec.specs.Traces.{Begins, Before, AllBegin, AllAfter, Rising}
 use Rattle.symbolic_exec.specs.Points.{Points, From, trace_of, traces, AllAlive, Met, AllMet, Many, Within}
 use Rattle.symbolic_exec.specs.Exact.{IsUnique, IsAt, Once, AreThePaths, AllRun, AreTooMany, AreFew}

@@ -7,7 +7,9 @@ use Rattle.symbolic_exec.specs.declared.state.PathState.{PathState}
 use Rattle.symbolic_exec.specs.declared.state.Ended.{Ended}
 use Rattle.symbolic_exec.specs.declared.state.PathsFault.{PathsFault}
 use Rattle.symbolic_exec.specs.declared.state.PathsFault.TheVariants as fault
-use Rattle.symbolic_exec.specs.State.{Key, HasPair, IsAlive, State, RunOf, ends, at_tree, run_at}
+use Rattle.clause_solver.specs.Pairs.{HasPair}
+use Rattle.clause_solver.specs.Stands.{Alive}
+use Rattle.symbolic_exec.specs.State.{Key, State, RunOf, ends, at_tree, run_at}
 use Rattle.symbolic_exec.specs.Points.{Point, Points, From, then_by, Going, trace_of, AllAlive, Sound, Reaches, AllMet, Many, Within, Found}
 use Rattle.symbolic_exec.proofs.Orders.{begins_refl}
 use Rattle.symbolic_exec.proofs.Binding.{Grows, met_all}
@@ -20,7 +22,7 @@ pub record Stage {E F : Type 0} (goal : Key → RunOf F → Type 0) (k : E → S
   pub count : length xs ≤ room
 
 -- one path before anything was done
-pub begin_stage : {E F : Type 0} (m : State → RunOf F) (k : E → State → RunOf F) (e : E) (p : PathState) (room : ℕ) (xs : List (Ended E)) → 1 ≤ room → IsAlive p.store
+pub begin_stage : {E F : Type 0} (m : State → RunOf F) (k : E → State → RunOf F) (e : E) (p : PathState) (room : ℕ) (xs : List (Ended E)) → 1 ≤ room → Alive p.store
     → ((s : State) → m s ≡ k e s) → xs ≡ record { end = e; state = p } ∷ [] → Stage (From m p) k p.trace room xs
 begin_stage {E} {F} m k e p room xs le a h is = subst (λ l. Stage (From m p) k p.trace room l) (sym is) (record {
   all = λ t r f. (run_at (record { end = e; state = p }) f.0, inl (f.0, f.1, refl), f.2 ∙ h (at_tree p f.0));

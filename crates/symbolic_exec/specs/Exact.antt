@@ -5,7 +5,8 @@ use Rattle.feature_trees.specs.declared.value.Value.{Value}
 use Rattle.clause_solver.specs.Stands.{Seen}
 use Rattle.symbolic_exec.specs.declared.state.PathState.{PathState}
 use Rattle.symbolic_exec.specs.declared.state.Ended.{Ended}
-use Rattle.symbolic_exec.specs.State.{Key, HasPair, State, RunOf, at_tree, run_at}
+use Rattle.clause_solver.specs.Pairs.{HasPair}
+use Rattle.symbolic_exec.specs.State.{Key, State, RunOf, at_tree, run_at}
 use Rattle.symbolic_exec.specs.Traces.{Rising, AllBegin}
 use Rattle.symbolic_exec.specs.Points.{traces, AllAlive}
 

@@ -10,7 +10,8 @@ use Rattle.shell_rules.specs.declared.run.End.{End}
 use Rattle.shell_rules.specs.Strict.{asked}
 use Rattle.symbolic_exec.specs.declared.state.PathState.{PathState}
 use Rattle.symbolic_exec.specs.declared.state.Ended.{Ended}
-use Rattle.symbolic_exec.specs.State.{Key, HasPair, State, RunOf, ends}
+use Rattle.clause_solver.specs.Pairs.{HasPair}
+use Rattle.symbolic_exec.specs.State.{Key, State, RunOf, ends}
 
 -- the trace with the mark of this row
 abbrev pub marked : List Mark → Site → ℕ → List Mark

@@ -7,7 +7,9 @@ use Rattle.symbolic_exec.specs.declared.state.PathState.{PathState}
 use Rattle.symbolic_exec.specs.declared.state.Ended.{Ended}
 use Rattle.symbolic_exec.specs.declared.state.PathsFault.{PathsFault}
 use Rattle.symbolic_exec.specs.declared.state.PathsFault.TheVariants.{Over, Memory}
-use Rattle.symbolic_exec.specs.State.{Key, HasPair, IsAlive, State, RunOf, at_tree, run_at}
+use Rattle.clause_solver.specs.Pairs.{HasPair}
+use Rattle.clause_solver.specs.Stands.{Alive}
+use Rattle.symbolic_exec.specs.State.{Key, State, RunOf, at_tree, run_at}
 use Rattle.symbolic_exec.specs.Traces.{Begins, AllBegin, Rising}
 
 -- a point is a start tree and a run from it; these are the points of a path: one for each pair of its store
@@ -43,7 +45,7 @@ traces (x ∷ xs) = trace_of x ∷ traces xs
 -- each path has a pair
 abbrev pub AllAlive : {E : Type 0} → List (Ended E) → Type 0
 AllAlive [] = Unit {0}
-AllAlive (x ∷ xs) = IsAlive x.state.store × AllAlive xs
+AllAlive (x ∷ xs) = Alive x.state.store × AllAlive xs
 
 -- each path has a pair, the traces rise, and all begin with q
 pub record Sound {E : Type 0} (q : List Mark) (xs : List (Ended E)) : Type 0 where

@@ -1,23 +1,13 @@
 -- What a path stands for: the pairs of its store, and a concrete run from each of them.
-use Rattle.std.specs.Prelude.{◌≡◌, List}
+use Rattle.std.specs.Prelude.{List}
 use Rattle.script_names.specs.declared.mark.Mark.{Mark}
 use Rattle.feature_trees.specs.declared.value.Value.{Value}
-use Rattle.clause_solver.specs.Literals.{Valuation, value_of_variable}
-use Rattle.clause_solver.specs.Stands.{Seen, Stands}
 use Rattle.symbolic_exec.specs.declared.state.PathState.{PathState}
 use Rattle.symbolic_exec.specs.declared.state.Ended.{Ended}
 
 -- by what the pairs of a store are told apart: the start tree
 abbrev pub Key : Type 0
 Key = Value
-
--- the store has the pair of this start tree and this tree now
-abbrev pub HasPair : Seen → Key → Value → Type 0
-HasPair s t u = (g : Valuation) × Stands s t g × (value_of_variable g s.current ≡ u)
-
--- the store has a pair
-abbrev pub IsAlive : Seen → Type 0
-IsAlive s = (t : Key) × (u : Value) × HasPair s t u
 
 -- where a concrete run stands: the marks of the acts done so far, and the tree
 pub record State : Type 0 where

@@ -1,39 +1,23 @@
 //! An act forks a path into one path for each of its rows that a pair takes.
 
-ghost use Rattle.std.specs.Prelude.{◌≡◌, ◌<◌, ◌++◌, ◌∷◌, [], IfOk};
-ghost use Rattle.feature_trees.specs.declared.value.Value.{Value as Tree};
-ghost use Rattle.utility_calls.specs.Rows.{row as row_of, row_answer, path_of};
+ghost use Rattle.std.specs.Prelude.{◌≡◌, ◌++◌, ◌∷◌, [], IfOk};
 ghost use Rattle.symbolic_exec.specs.Forks.{fork_run, row_end, marked};
 ghost use Rattle.symbolic_exec.specs.Points.{Found, From};
 
 use crate::queue::Queue;
 use crate::stand_in::take_row;
 use crate::state::{Ended, PathState, PathsFault};
-use script_names::{Copied, Done, List, Mark, Memory, Path, Reason, Site};
+use script_names::{Copied, Done, List, Mark, Memory, Site};
 use shell_rules::End;
 use std::alloc::Global;
-use utility_calls::Act;
-
-// What a row of a question answers.
-fn answer_of_row(row: u8) -> Done
-    ensures { result ≡ row_answer row }
-{
-    if row < 64 {
-        return Done::Stopped(Reason::Link);
-    }
-    match row {
-        64 => Done::Stopped(Reason::Slash),
-        65 => Done::Stopped(Reason::Link),
-        66 => Done::Failed,
-        _ => Done::Ok,
-    }
-}
+use utility_calls::theorems::rows_are_few;
+use utility_calls::{Act, row_answer};
 
 // How a row of a question ends its command.
 fn end_of_row(row: u8, negate: bool, site: Site) -> End
     ensures { result ≡ row_end negate site row }
 {
-    match answer_of_row(row) {
+    match row_answer(row) {
         Done::Ok => End::Status(!negate),
         Done::Failed => End::Status(negate),
         Done::Stopped(reason) => End::Stopped(reason, site),
@@ -54,24 +38,6 @@ fn with_mark(alloc: Global, trace: &List<Mark>, site: Site, row: u8) -> Result<L
     }
 }
 
-// The path that an act names.
-fn act_path(act: &Act) -> &Path
-    ensures { result.now ≡ path_of act.now }
-{
-    match act {
-        Act::Exists(path) => path,
-        Act::IsDir(path) => path,
-    }
-}
-
-// How many rows an act has: the number of each row that applies is below this.
-fn row_count(act: &Act) -> u8
-    ensures { (tree : Tree) → row_of act.now tree < result }
-{
-    act_path(act).names();
-    68
-}
-
 // The paths of an act from a state, by rising rows.
 pub fn fork(
     alloc: Global,
@@ -83,8 +49,10 @@ pub fn fork(
 ) -> Result<Queue<Ended<End>>, PathsFault>
     ensures { Found (From (fork_run act.now site (row_end negate site)) from.now) from.now.trace room result }
 {
+    rows_are_few();
+    act.path().names();
     let mut out = Queue::new(alloc);
-    for row in 0..row_count(act) {
+    for row in 1..68_u8 {
         let found = match take_row(alloc, &from.store, act, row) {
             Ok(found) => found,
             Err(_) => return Err(PathsFault::Memory),

@@ -2,7 +2,7 @@
 
 ghost use Rattle.std.specs.Prelude.{◌≡◌, ◌≤◌, [], ◌∷◌, length, List as Items, IfOk, IfErr, false};
 ghost use Rattle.script_names.specs.declared.mark.Mark.{Mark};
-ghost use Rattle.symbolic_exec.specs.State.{IsAlive};
+ghost use Rattle.clause_solver.specs.Stands.{Alive};
 ghost use Rattle.symbolic_exec.specs.Points.{AllAlive, Sound, Found, From, Going};
 ghost use Rattle.symbolic_exec.specs.Script.{script_run, one_run, goes_on, strictly, AllLeft};
 
@@ -64,7 +64,7 @@ fn one(
     from: PathState,
     room: usize,
 ) -> Result<Queue<Ended<End>>, PathsFault>
-    requires alive { IsAlive from.store }
+    requires alive { Alive from.store }
     requires room { 1 ≤ room }
     ensures { Found (From (one_run step command.now) from) from.trace room result }
 {
@@ -124,7 +124,7 @@ pub fn every(
     from: PathState,
     room: usize,
 ) -> Result<Queue<Ended<End>>, PathsFault>
-    requires alive { IsAlive from.store }
+    requires alive { Alive from.store }
     requires room { 1 ≤ room }
     ensures { Found (From (script_run step commands.now) from) from.trace room result }
 {

@@ -7,11 +7,11 @@ use Rattle.symbolic_exec.specs.declared.state.PathState.{PathState}
 use Rattle.symbolic_exec.specs.declared.state.PathsFault.{PathsFault}
 use Rattle.symbolic_exec.specs.declared.state.PathsFault.TheVariants as fault
 use Rattle.clause_solver.specs.Stands.{Seen, Alive}
-use Rattle.symbolic_exec.specs.State.{State, RunOf, IsAlive}
+use Rattle.symbolic_exec.specs.State.{State, RunOf}
 use Rattle.symbolic_exec.specs.Points.{From, Many, Within, Found}
 use Rattle.symbolic_exec.specs.Script.{script_run}
 use Rattle.symbolic_exec.proofs.Scripts.{script_begins}
-use Rattle.symbolic_exec.proofs.Entry.{AllKinds, all_kinds, alive_pair, alive_on, alive_back, one_tree, same_store, no_pair, no_room, exact_of, few_of, over_of}
+use Rattle.symbolic_exec.proofs.Entry.{AllKinds, all_kinds, alive_on, alive_back, one_tree, same_store, no_pair, no_room, exact_of, few_of, over_of}
 use Rattle.symbolic_exec.proofs.script.paths.Goals as goal
 use Rattle.symbolic_exec.proofs.script.paths.Goals.{After-limit}
 
@@ -19,10 +19,10 @@ kinds : (c : After-limit) → AllKinds c.args.from.store c.limit.new.self
 kinds c = all_kinds c.args.from.store c.limit.new.self c.now-now.result.0 c.all.result c.now-now.ensures.now c.all.ensures c.limit.ensures.exact
 
 -- no pair is left
-none : (old new : Seen) → new.current ≡ old.current → AllKinds old new → (IsTrue false ↔ Alive new) → IsAlive old → ⊥
+none : (old new : Seen) → new.current ≡ old.current → AllKinds old new → (IsTrue false ↔ Alive new) → Alive old → ⊥
 none old new e h f a = let x : IsTrue false = f.1 (alive_on old new e h a) in absurd (cc x)
 
-some : (old new : Seen) → new.current ≡ old.current → AllKinds old new → (IsTrue true ↔ Alive new) → IsAlive old
+some : (old new : Seen) → new.current ≡ old.current → AllKinds old new → (IsTrue true ↔ Alive new) → Alive old
 some old new e h f = alive_back old new e h (f.0 refl)
 
 -- the paths from the store that was asked are those from the given one
@@ -61,7 +61,7 @@ returns-then-room-eq0-clause-over c =
     (some c.args.from.store c.limit.new.self c.limit.ensures.kept.1 (kinds (goal.at.returns-then-room-eq0-clause-over c).After-limit) c.if-not-limit.ensures.alive)))
 
 pub every-requires-clause-alive : goal.every-requires-clause-alive
-every-requires-clause-alive c = alive_pair c.limit.new.self (c.if-not-limit.ensures.alive.0 refl)
+every-requires-clause-alive c = c.if-not-limit.ensures.alive.0 refl
 
 pub returns-in-Err-clause-found : goal.returns-in-Err-clause-found
 returns-in-Err-clause-found c = found (goal.at.returns-in-Err-clause-found c).After-limit (Err c.in-Err.fault) c.in-Err.ensures
