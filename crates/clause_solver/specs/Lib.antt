@@ -12,3 +12,4 @@ pub mod Appends
 pub mod View
 pub mod Grown
 pub mod NewNames
+pub mod Pairs
