@@ -1,7 +1,6 @@
 pub mod Literals
 pub mod ClauseText
 pub mod Stands
-pub mod Pairs
 pub mod Variables
 pub mod Greatest
 pub mod Written

@@ -11,8 +11,8 @@ use Rattle.clause_solver.specs.Pairs.{HasPair}
 use Rattle.clause_solver.specs.Stands.{Seen, Alive}
 use Rattle.clause_solver.specs.Literals.{value_of_variable}
 use Rattle.symbolic_exec.specs.State.{Key, State, RunOf, ends, at_tree, run_at}
-use Rattle.symbolic_exec.specs.Traces.{Begins, Before, AllBegin, AllAfter, Rising}
-use Rattle.symbolic_exec.specs.Points.{Point, Points, From, then_by, Going, trace_of, traces, AllAlive, Sound, Reaches, Met, AllMet, Many, Within, Found}
+use Rattle.symbolic_exec.specs.Traces.{Begins, AllBegin, Rising}
+use Rattle.symbolic_exec.specs.Points.{Point, Points, From, then_by, Going, trace_of, traces, AllAlive, Sound, Reaches, AllMet, Many, Within, Found}
 use Rattle.symbolic_exec.proofs.Orders.{nil_right, begins_refl, begins_trans, rising_replace, under_replace}
 
 -- ---- lists of paths

@@ -1,6 +1,6 @@
 -- An act's rows, one after the other.
 use Rattle.std.proofs.Common.{inl, inr, ◌≡◌, ℕ, ◌+◌, ◌<◌, ◌≤◌, List, [], ◌∷◌, ◌++◌, length, refl, sym, ap, ◌∙◌, subst, arith, length-append}
-use Rattle.std.specs.Prelude.{◌⊎◌, ◌↔◌, Option, Some, None, IfSome, IfNone}
+use Rattle.std.specs.Prelude.{◌⊎◌}
 use Rattle.script_names.specs.declared.mark.Mark.{Mark}
 use Rattle.script_names.specs.declared.mark.Site.{Site}
 use Rattle.feature_trees.specs.declared.value.Value.{Value}
@@ -10,9 +10,9 @@ use Rattle.utility_calls.specs.Rows.{row, tree_after}
 use Rattle.symbolic_exec.specs.declared.state.PathState.{PathState}
 use Rattle.symbolic_exec.specs.declared.state.Ended.{Ended}
 use Rattle.clause_solver.specs.Pairs.{HasPair}
-use Rattle.symbolic_exec.specs.State.{Key, State, RunOf, ends, at_tree, run_at}
-use Rattle.symbolic_exec.specs.Traces.{Begins, Before, AllBegin, AllAfter, Rising}
-use Rattle.symbolic_exec.specs.Points.{Points, From, trace_of, traces, Sound, Met, Many, Within}
+use Rattle.symbolic_exec.specs.State.{Key, RunOf, ends, at_tree, run_at}
+use Rattle.symbolic_exec.specs.Traces.{Begins, Before, AllBegin, Rising}
+use Rattle.symbolic_exec.specs.Points.{Points, From, traces, Sound, Met, Many, Within}
 use Rattle.symbolic_exec.specs.Forks.{marked, fork_run, TakesRow, NoneTakes}
 use Rattle.symbolic_exec.proofs.Orders.{begins_refl, begin_append, after_push}
 use Rattle.symbolic_exec.proofs.Binding.{points_left, points_right, points_split, traces_append, traces_length, some_pair, alive_met, met_all, met_append, alive_append}

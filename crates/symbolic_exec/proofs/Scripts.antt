@@ -1,18 +1,13 @@
 -- The commands of a script, one after the other, under the strict flag.
 use Rattle.std.proofs.Common.{◌≡◌, ℕ, zero, suc, ◌+◌, ◌<◌, ◌≤◌, Bool, true, false, if◌then◌else◌, List, [], ◌∷◌, ◌++◌, drop, take, length, get_or, refl, sym, ap, ◌∙◌, subst, arith}
-use Rattle.std.specs.Prelude.{Option, Some, None}
 use Rattle.std.proofs.Math.Seq.{drop-cons, take-suc}
 use Rattle.script_names.specs.declared.mark.Mark.{Mark}
 use Rattle.script_names.specs.declared.mark.Site.{Site}
 use Rattle.feature_trees.specs.declared.value.Value.{Value}
-use Rattle.feature_trees.specs.declared.kind.Kind.{Kind}
-use Rattle.feature_trees.specs.declared.kind.Kind.TheVariants as kind
-use Rattle.feature_trees.specs.Tree.{entry, at, kind_of}
 use Rattle.utility_calls.specs.declared.act.Act.{Act}
-use Rattle.utility_calls.specs.declared.act.Act.TheVariants.{Exists, IsDir}
 use Rattle.utility_calls.specs.declared.act.Planned.{Planned}
 use Rattle.utility_calls.specs.declared.act.Planned.TheVariants.{Known, Ask}
-use Rattle.utility_calls.specs.Rows.{row, at_link, link_on_way, slash_row, exists_row, is_dir_row, kind_row, way_row, path_of}
+use Rattle.utility_calls.specs.Rows.{row}
 use Rattle.shell_rules.specs.declared.run.End.{End}
 use Rattle.shell_rules.specs.declared.run.End.TheVariants.{Status, Stopped, Bound}
 use Rattle.shell_rules.specs.declared.run.Run.{Run}

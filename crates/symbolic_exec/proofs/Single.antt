@@ -1,17 +1,16 @@
 -- From the form that goes together to the form that is read.
-use Rattle.std.proofs.Common.{inl, inr, ◌≡◌, ℕ, zero, suc, ◌<◌, ◌≤◌, List, [], ◌∷◌, length, refl, sym, ap, ◌∙◌, subst, arith}
+use Rattle.std.proofs.Common.{inl, inr, ◌≡◌, ℕ, zero, suc, ◌≤◌, List, [], ◌∷◌, length, refl, sym, ap, ◌∙◌, subst, arith}
 use Rattle.std.specs.Prelude.{◌⊎◌}
 use Rattle.script_names.specs.declared.mark.Mark.{Mark}
 use Rattle.feature_trees.specs.declared.value.Value.{Value}
 use Rattle.symbolic_exec.specs.declared.state.PathState.{PathState}
 use Rattle.symbolic_exec.specs.declared.state.Ended.{Ended}
 use Rattle.clause_solver.specs.Pairs.{HasPair}
-use Rattle.clause_solver.specs.Stands.{Alive}
 use Rattle.symbolic_exec.specs.State.{Key, State, RunOf, at_tree, run_at}
-use Rattle.symbolic_exec.specs.Traces.{Begins, Before, AllBegin, AllAfter, Rising}
-use Rattle.symbolic_exec.specs.Points.{Points, From, trace_of, traces, AllAlive, Met, AllMet, Many, Within}
+use Rattle.symbolic_exec.specs.Traces.{Begins, Before, AllAfter, Rising}
+use Rattle.symbolic_exec.specs.Points.{Points, From, trace_of, traces, AllMet, Many, Within}
 use Rattle.symbolic_exec.specs.Exact.{IsUnique, IsAt, Once, AreThePaths, AllRun, AreTooMany, AreFew}
-use Rattle.symbolic_exec.proofs.Orders.{begins_trans, begins_refl, before_left, before_right, before_other}
+use Rattle.symbolic_exec.proofs.Orders.{before_left, before_right, before_other}
 use Rattle.symbolic_exec.proofs.Binding.{traces_length}
 
 after_at : {E : Type 0} (t : List Mark) (xs : List (Ended E)) (k : ℕ) (y : Ended E) → AllAfter t (traces xs) → IsAt xs k y → Before t (trace_of y)

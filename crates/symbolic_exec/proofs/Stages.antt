@@ -1,16 +1,13 @@
 -- A list of paths on its way through the parts of a program.
-use Rattle.std.proofs.Common.{inl, inr, ◌≡◌, ℕ, suc, ◌+◌, ◌<◌, ◌≤◌, List, [], ◌∷◌, ◌++◌, length, Result, Ok, Err, refl, sym, ap, ◌∙◌, subst, arith, take, get_or}
-use Rattle.std.specs.Prelude.{◌⊎◌}
+use Rattle.std.proofs.Common.{inl, inr, ◌≡◌, ℕ, ◌≤◌, List, [], ◌∷◌, length, Err, refl, sym, ap, ◌∙◌, subst}
 use Rattle.script_names.specs.declared.mark.Mark.{Mark}
-use Rattle.feature_trees.specs.declared.value.Value.{Value}
 use Rattle.symbolic_exec.specs.declared.state.PathState.{PathState}
 use Rattle.symbolic_exec.specs.declared.state.Ended.{Ended}
 use Rattle.symbolic_exec.specs.declared.state.PathsFault.{PathsFault}
 use Rattle.symbolic_exec.specs.declared.state.PathsFault.TheVariants as fault
-use Rattle.clause_solver.specs.Pairs.{HasPair}
 use Rattle.clause_solver.specs.Stands.{Alive}
 use Rattle.symbolic_exec.specs.State.{Key, State, RunOf, ends, at_tree, run_at}
-use Rattle.symbolic_exec.specs.Points.{Point, Points, From, then_by, Going, trace_of, AllAlive, Sound, Reaches, AllMet, Many, Within, Found}
+use Rattle.symbolic_exec.specs.Points.{Points, From, then_by, Going, Sound, Within, Found}
 use Rattle.symbolic_exec.proofs.Orders.{begins_refl}
 use Rattle.symbolic_exec.proofs.Binding.{Grows, met_all}
 

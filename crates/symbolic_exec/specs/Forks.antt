@@ -8,8 +8,6 @@ use Rattle.utility_calls.specs.declared.act.Act.{Act}
 use Rattle.utility_calls.specs.Rows.{row, row_answer, tree_after}
 use Rattle.shell_rules.specs.declared.run.End.{End}
 use Rattle.shell_rules.specs.Strict.{asked}
-use Rattle.symbolic_exec.specs.declared.state.PathState.{PathState}
-use Rattle.symbolic_exec.specs.declared.state.Ended.{Ended}
 use Rattle.clause_solver.specs.Pairs.{HasPair}
 use Rattle.symbolic_exec.specs.State.{Key, State, RunOf, ends}
 

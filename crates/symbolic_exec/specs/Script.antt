@@ -1,5 +1,5 @@
 -- The commands of a script, as what is done from one state.
-use Rattle.std.specs.Prelude.{◌≡◌, ℕ, Bool, true, false, List, [], ◌∷◌, if◌then◌else◌}
+use Rattle.std.specs.Prelude.{◌≡◌, ℕ, Bool, false, List, [], ◌∷◌, if◌then◌else◌}
 use Rattle.shell_rules.specs.declared.run.End.{End}
 use Rattle.shell_rules.specs.declared.run.End.TheVariants.{Status, Stopped, Bound}
 use Rattle.shell_rules.specs.declared.run.Run.{Run}

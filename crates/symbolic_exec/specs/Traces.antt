@@ -1,5 +1,5 @@
 -- The order of traces: by their first different mark, which is one act's, by its rows.
-use Rattle.std.specs.Prelude.{◌≡◌, ℕ, ◌<◌, List, [], ◌∷◌, ◌++◌}
+use Rattle.std.specs.Prelude.{◌≡◌, ◌<◌, List, [], ◌∷◌, ◌++◌}
 use Rattle.script_names.specs.declared.mark.Mark.{Mark}
 
 -- the trace a, and then more

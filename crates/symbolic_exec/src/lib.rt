@@ -12,3 +12,6 @@ mod state;
 
 pub use script::paths;
 pub use state::{Ended, PathState, PathsFault};
+
+#[cfg(test)]
+mod script_tests;

@@ -1,7 +1,7 @@
-use Rattle.std.proofs.Common.{◌≡◌, ◌≤◌, ◌+◌, ◌++◌, length, arith, ap, ◌∙◌, [], ◌∷◌, length-append, subst}
+use Rattle.std.proofs.Common.{◌≡◌, ◌≤◌, length, arith, ap, ◌∙◌, [], ◌∷◌, length-append, subst}
 use Rattle.std.specs.Prelude.{IfSome, IfNone}
 use Rattle.clause_solver.specs.Stands.{Alive}
-use Rattle.symbolic_exec.specs.Forks.{row_end, marked, TakesRow, NoneTakes}
+use Rattle.symbolic_exec.specs.Forks.{row_end, TakesRow, NoneTakes}
 use Rattle.script_names.specs.Paths.{PathParts}
 use Rattle.utility_calls.specs.declared.act.Act.{Act}
 use Rattle.utility_calls.specs.Rows.{path_of}

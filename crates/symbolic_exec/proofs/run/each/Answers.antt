@@ -1,4 +1,4 @@
-use Rattle.std.proofs.Common.{◌≡◌, ◌≤◌, ◌-◌, ◌+◌, [], ◌∷◌, length, arith, refl, sym, Ok, Err}
+use Rattle.std.proofs.Common.{◌-◌, [], ◌∷◌, length, arith, refl, sym, Ok, Err}
 use Rattle.symbolic_exec.specs.State.{at_tree}
 use Rattle.symbolic_exec.specs.Points.{Going}
 use Rattle.symbolic_exec.specs.Script.{one_run, strictly}

@@ -1,4 +1,4 @@
-use Rattle.std.proofs.Common.{◌≡◌, ◌≤◌, ◌+◌, List, length}
+use Rattle.std.proofs.Common.{◌≤◌, ◌+◌, List, length}
 use Rattle.script_names.specs.declared.mark.Mark.{Mark}
 use Rattle.symbolic_exec.specs.Points.{AllAlive, Sound, Going}
 use Rattle.symbolic_exec.specs.Script.{one_run, strictly}

@@ -1,4 +1,4 @@
-use Rattle.std.proofs.Common.{◌≡◌, ◌+◌, drop, refl, Ok, Err}
+use Rattle.std.proofs.Common.{◌+◌, drop, refl}
 use Rattle.shell_rules.specs.declared.run.End.TheVariants.{Status}
 use Rattle.std.specs.Prelude.{true}
 use Rattle.symbolic_exec.specs.Points.{From}

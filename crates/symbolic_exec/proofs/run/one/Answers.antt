@@ -1,7 +1,5 @@
-use Rattle.std.proofs.Common.{◌≡◌, Ok, Err}
-use Rattle.std.specs.Prelude.{Result, IfOk, IfErr}
 use Rattle.shell_rules.specs.declared.run.End.TheVariants.{Status}
-use Rattle.symbolic_exec.specs.State.{at_tree, ends}
+use Rattle.symbolic_exec.specs.State.{at_tree}
 use Rattle.symbolic_exec.specs.Forks.{fork_run, row_end}
 use Rattle.symbolic_exec.specs.Script.{one_run}
 use Rattle.symbolic_exec.proofs.Binding.{same_from, alone_found}

@@ -1,4 +1,4 @@
-use Rattle.std.proofs.Common.{◌≡◌, ◌≤◌, ◌+◌, length, take, arith, sym}
+use Rattle.std.proofs.Common.{arith, sym}
 use Rattle.symbolic_exec.proofs.Scripts.{left_take}
 use Rattle.symbolic_exec.proofs.run.some_go_on.Goals as goal
 

@@ -1,13 +1,10 @@
-use Rattle.std.proofs.Common.{◌≡◌, ℕ, List, [], Result, Ok, Err, IsTrue, false, true, refl, sym, subst}
+use Rattle.std.proofs.Common.{◌≡◌, List, Result, Ok, Err, IsTrue, false, true, refl, sym, subst}
 use Rattle.std.specs.Prelude.{◌↔◌}
 use Rattle.shell_rules.specs.declared.run.End.{End}
-use Rattle.feature_trees.specs.declared.value.Value.{Value}
 use Rattle.symbolic_exec.specs.declared.state.Ended.{Ended}
-use Rattle.symbolic_exec.specs.declared.state.PathState.{PathState}
 use Rattle.symbolic_exec.specs.declared.state.PathsFault.{PathsFault}
 use Rattle.symbolic_exec.specs.declared.state.PathsFault.TheVariants as fault
 use Rattle.clause_solver.specs.Stands.{Seen, Alive}
-use Rattle.symbolic_exec.specs.State.{State, RunOf}
 use Rattle.symbolic_exec.specs.Points.{From, Many, Within, Found}
 use Rattle.symbolic_exec.specs.Script.{script_run}
 use Rattle.symbolic_exec.proofs.Scripts.{script_begins}
