@@ -1,1 +1,4 @@
+pub mod Fields
 pub mod Named
+pub mod Pieces
+pub mod Words

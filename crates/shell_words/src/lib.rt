@@ -1,7 +1,14 @@
 //! Words of the shell: how an expanded word is cut into fields, joined to one string, and matched as a pattern,
-//! and the finite map of the variables. It stands on script_names alone. Begin with `piece` and `fields`.
+//! and the finite map of the variables. It stands on script_names alone. Begin with `piece` and `field`.
 #![tactic(auto)]
 
 mod env;
+mod fault;
+mod field;
+mod letter;
+mod piece;
 
 pub use env::Env;
+pub use fault::WordFault;
+pub use field::{fields, join};
+pub use piece::Piece;
