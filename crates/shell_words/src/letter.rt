@@ -1,12 +1,13 @@
-ghost use Rattle.std.specs.Prelude.{◌≡◌, ◌++◌, IfOk, OnOk};
+ghost use Rattle.std.specs.Prelude.{◌≡◌, ◌++◌, map, IfOk, OnOk};
 ghost use Rattle.shell_words.specs.Words.{word, letters_of, marked, is_blank, is_unquoted};
+ghost use Rattle.shell_words.specs.Patterns.{pattern_letters};
 
 use crate::piece::Piece;
 use script_names::{Copied, List, Memory};
 use std::alloc::Global;
 
 /// A letter of a word: a byte with the mark of its piece, or the place where a quoted piece begins.
-#[derive(Clone, Copy, Debug)]
+#[derive(Clone, Copy)]
 pub enum Letter {
     Quote,
     Quoted(u8),
@@ -31,15 +32,33 @@ pub fn letters(alloc: Global, pieces: &[Piece]) -> Result<List<Letter>, Memory>
     Ok(out)
 }
 
+// The letters of a pattern, in order.
+pub fn pattern_letters(alloc: Global, pieces: &[Piece]) -> Result<List<Letter>, Memory>
+    ensures { IfOk result (λ letters. letters ≡ pattern_letters pieces.now) }
+{
+    let mut out = List::new(alloc);
+    for piece in pieces {
+        add_bytes(&mut out, piece)?;
+    }
+    Ok(out)
+}
+
 // The letters of a piece, behind those that are there.
 fn add_piece(out: &mut List<Letter>, piece: &Piece) -> Result<(), Memory>
     ensures { OnOk result (out.new ≡ out.old ++ letters_of piece.now) }
 {
-    let quoted = piece.quoted;
-    let split = piece.split;
-    if quoted {
+    if piece.quoted {
         out.add(Letter::Quote)?;
     }
+    add_bytes(out, piece)
+}
+
+// The bytes of a piece with their mark, behind the letters that are there.
+fn add_bytes(out: &mut List<Letter>, piece: &Piece) -> Result<(), Memory>
+    ensures { OnOk result (out.new ≡ out.old ++ map (marked piece.now.quoted piece.now.split) piece.now.text) }
+{
+    let quoted = piece.quoted;
+    let split = piece.split;
     for byte in piece.text.as_slice() {
         out.add(marked(quoted, split, *byte))?;
     }

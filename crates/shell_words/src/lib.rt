@@ -6,9 +6,12 @@ mod env;
 mod fault;
 mod field;
 mod letter;
+mod pattern;
 mod piece;
+mod run;
 
 pub use env::Env;
 pub use fault::WordFault;
 pub use field::{fields, join};
+pub use pattern::matches;
 pub use piece::Piece;
