@@ -15,3 +15,6 @@ pub use fault::WordFault;
 pub use field::{fields, join};
 pub use pattern::matches;
 pub use piece::Piece;
+
+#[cfg(test)]
+mod tests;
