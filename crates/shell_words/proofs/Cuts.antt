@@ -1,5 +1,5 @@
 -- One letter of a word after another is cut: what is wanted stays the same.
-use Rattle.std.proofs.Common.{◌≡◌, ℕ, ◌+◌, ◌-◌, ◌<◌, ◌≤◌, true, false, cond, List, [], ◌∷◌, ◌++◌, Result, Ok, Err, length, get_or, take, drop, refl, sym, ap, ◌∙◌, append_assoc, add-one, arith, length-drop, get_or-drop}
+use Rattle.std.proofs.Common.{◌≡◌, ℕ, ◌+◌, ◌-◌, ◌<◌, ◌≤◌, Bool, true, false, cond, List, [], ◌∷◌, ◌++◌, Result, Ok, Err, length, get_or, take, drop, refl, sym, ap, ◌∙◌, append_assoc, add-one, arith, length-drop, get_or-drop}
 use Rattle.std.proofs.Math.Seq.{drop-cons}
 use Rattle.std.proofs.Math.ListN.{drop_of_length-le}
 use Rattle.std.proofs.lemmas.List.{take_more}
@@ -109,3 +109,57 @@ module _ (w : List Letter) (fields : List (List ℕ)) (from at : ℕ) (on : from
       ∙ at_end fields (take (at - from) (drop from w))
       ∙ ap (λ n. behind fields (collected (filter has_letter (take (n - from) (drop from w) ∷ [])))) here
       ∙ adds [] ∙ whole more
+
+-- two words whose first parts are the same, and whose other fields are
+record SameFields (w v : List Letter) : Type 0 where
+  first : List Letter
+  more : List (List Letter)
+  others : List (List Letter)
+  left : parts w ≡ first ∷ more
+  right : parts v ≡ first ∷ others
+  same : filter has_letter more ≡ filter has_letter others
+
+one-letter-more : (x : Letter) (w v : List Letter) → SameFields w v → SameFields (x ∷ w) (x ∷ v)
+one-letter-more x w v s = go (is_blank x) refl
+  where
+    cut : List Letter → Bool → List (List Letter)
+    cut u t = cond t ([] ∷ parts u) (onto (x ∷ []) (parts u))
+
+    go : (t : Bool) → is_blank x ≡ t → SameFields (x ∷ w) (x ∷ v)
+    go true e = record {
+      first = [];
+      more = s.first ∷ s.more;
+      others = s.first ∷ s.others;
+      left = ap (cut w) e ∙ ap (λ ps. [] ∷ ps) s.left;
+      right = ap (cut v) e ∙ ap (λ ps. [] ∷ ps) s.right;
+      same = ap (λ fs. cond (has_letter s.first) (s.first ∷ fs) fs) s.same;
+    }
+    go false e = record {
+      first = x ∷ s.first;
+      more = s.more;
+      others = s.others;
+      left = ap (cut w) e ∙ ap (onto (x ∷ [])) s.left;
+      right = ap (cut v) e ∙ ap (onto (x ∷ [])) s.right;
+      same = s.same;
+    }
+
+same-fields : (front rest : List Letter) (a b : Letter) → is_blank a ≡ true → is_blank b ≡ true → SameFields (front ++ a ∷ b ∷ rest) (front ++ b ∷ rest)
+same-fields [] rest a b blank_a blank_b =
+    let second : parts (b ∷ rest) ≡ [] ∷ parts rest = ap (λ t. cond t ([] ∷ parts rest) (onto (b ∷ []) (parts rest))) blank_b in
+    record {
+      first = [];
+      more = [] ∷ parts rest;
+      others = parts rest;
+      left = ap (λ t. cond t ([] ∷ parts (b ∷ rest)) (onto (a ∷ []) (parts (b ∷ rest)))) blank_a ∙ ap (λ ps. [] ∷ ps) second;
+      right = second;
+      same = refl;
+    }
+same-fields (x ∷ front) rest a b blank_a blank_b =
+    one-letter-more x (front ++ a ∷ b ∷ rest) (front ++ b ∷ rest) (same-fields front rest a b blank_a blank_b)
+
+pub run-cuts-once : (front rest : List Letter) (a b : Letter) → is_blank a ≡ true → is_blank b ≡ true → fields_of (front ++ a ∷ b ∷ rest) ≡ fields_of (front ++ b ∷ rest)
+run-cuts-once front rest a b blank_a blank_b =
+    let s = same-fields front rest a b blank_a blank_b in
+    ap (λ ps. collected (filter has_letter ps)) s.left
+    ∙ ap (λ fs. collected (cond (has_letter s.first) (s.first ∷ fs) fs)) s.same
+    ∙ sym (ap (λ ps. collected (filter has_letter ps)) s.right)

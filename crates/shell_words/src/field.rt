@@ -1,5 +1,5 @@
-ghost use Rattle.std.specs.Prelude.{◌≡◌};
-ghost use Rattle.shell_words.specs.Words.{word, bytes_of, has_glob};
+ghost use Rattle.std.specs.Prelude.{◌≡◌, ◌∷◌, ◌++◌, true, List as Letters};
+ghost use Rattle.shell_words.specs.Words.{word, bytes_of, has_glob, is_blank};
 ghost use Rattle.shell_words.specs.Fields.{Gives, Adds, fields_of, field_value, short, joined};
 
 use crate::fault::WordFault;
@@ -19,6 +19,12 @@ pub fn fields(alloc: Global, pieces: &List<Piece>) -> Result<List<Bytes>, WordFa
     let word = letters(alloc, pieces.as_slice())?;
     cut(alloc, word.as_slice())
 }
+
+/// Says of a run of blanks that it counts once, however long it is: one blank more in front of a blank changes no field.
+pub fn a_run_cuts_once()
+    ensures { (front rest : Letters Letter) (a b : Letter) → is_blank a ≡ true → is_blank b ≡ true
+        → fields_of (front ++ a ∷ b ∷ rest) ≡ fields_of (front ++ b ∷ rest) }
+{}
 
 // The fields of a word's letters: the parts between its blanks that have a byte or a quoted piece.
 fn cut(alloc: Global, word: &[Letter]) -> Result<List<Bytes>, WordFault>

@@ -83,9 +83,7 @@ pub fn is_blank(letter: &Letter) -> bool
     ensures { result ≡ is_blank letter.now }
 {
     match letter {
-        Letter::Quote => false,
-        Letter::Quoted(_) => false,
-        Letter::Plain(_) => false,
+        Letter::Quote | Letter::Quoted(_) | Letter::Plain(_) => false,
         Letter::Split(b) => *b == b' ' || *b == b'\t' || *b == b'\n',
     }
 }
@@ -95,9 +93,7 @@ pub fn is_unquoted(letter: &Letter, byte: u8) -> bool
     ensures { result ≡ is_unquoted byte letter.now }
 {
     match letter {
-        Letter::Quote => false,
-        Letter::Quoted(_) => false,
-        Letter::Plain(b) => *b == byte,
-        Letter::Split(b) => *b == byte,
+        Letter::Quote | Letter::Quoted(_) => false,
+        Letter::Plain(b) | Letter::Split(b) => *b == byte,
     }
 }

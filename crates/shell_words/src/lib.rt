@@ -12,7 +12,7 @@ mod run;
 
 pub use env::Env;
 pub use fault::WordFault;
-pub use field::{fields, join};
+pub use field::{a_run_cuts_once, fields, join};
 pub use pattern::matches;
 pub use piece::Piece;
 

@@ -162,9 +162,7 @@ fn code(letter: &Letter) -> u8
 {
     match letter {
         Letter::Quote => 0,
-        Letter::Quoted(b) => *b,
-        Letter::Plain(b) => *b,
-        Letter::Split(b) => *b,
+        Letter::Quoted(b) | Letter::Plain(b) | Letter::Split(b) => *b,
     }
 }
 
@@ -193,9 +191,7 @@ fn is_split_backslash(letter: &Letter) -> bool
     ensures { result ≡ is_split_backslash letter.now }
 {
     match letter {
-        Letter::Quote => false,
-        Letter::Quoted(_) => false,
-        Letter::Plain(_) => false,
+        Letter::Quote | Letter::Quoted(_) | Letter::Plain(_) => false,
         Letter::Split(b) => *b == b'\\',
     }
 }
@@ -211,9 +207,7 @@ fn is_left_out_item(item: &Item) -> bool
     ensures { result ≡ is_left_out_item item.now }
 {
     match item {
-        Item::Byte(_) => false,
-        Item::Any => false,
-        Item::Star => false,
+        Item::Byte(_) | Item::Any | Item::Star => false,
         Item::Set(_, letters) => {
             let letters = letters.as_slice();
             has_pair(letters, b'[', b':')

@@ -62,9 +62,7 @@ fn is_star(item: &Item) -> bool
     ensures { result ≡ is_star item.now }
 {
     match item {
-        Item::Byte(_) => false,
-        Item::Any => false,
+        Item::Byte(_) | Item::Any | Item::Set(_, _) => false,
         Item::Star => true,
-        Item::Set(_, _) => false,
     }
 }
