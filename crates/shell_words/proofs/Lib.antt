@@ -1,0 +1,4 @@
+pub mod Cuts
+pub mod Matching
+pub mod Named
+pub mod Reading

@@ -1,0 +1,6 @@
+pub mod Fields
+pub mod Named
+pub mod Patterns
+pub mod Pieces
+pub mod Runs
+pub mod Words
