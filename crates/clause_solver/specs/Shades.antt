@@ -3,6 +3,7 @@ use Rattle.std.specs.Prelude.{ℕ, List, [], ◌∷◌}
 use Rattle.clause_solver.specs.declared.greatest.Shade.{Shade, Shade-F, fold-Shade}
 use Rattle.clause_solver.specs.declared.greatest.Shade.TheOpen.{Nothing, Also}
 
+-- the names of a shade from those of the shade below it
 abbrev pub layer : Shade-F (List (List ℕ)) → List (List ℕ)
 layer Nothing = []
 layer (Also f below) = f.now ∷ below.now
