@@ -1,0 +1,79 @@
+//! An act forks a path into one path for each of its rows that a pair takes.
+
+ghost use Rattle.std.specs.Prelude.{◌≡◌, ◌++◌, ◌∷◌, [], IfOk};
+ghost use Rattle.symbolic_exec.specs.Forks.{fork_run, row_end, marked};
+ghost use Rattle.symbolic_exec.specs.Points.{Found, From};
+
+use crate::queue::Queue;
+use crate::state::{Ended, PathState, PathsFault};
+use script_names::{Copied, Done, List, Mark, Memory, Site};
+use shell_rules::End;
+use std::alloc::Global;
+use utility_calls::theorems::rows_are_few;
+use utility_calls::{Act, row_answer};
+use utility_cases::take_row;
+
+// How a row of a question ends its command.
+fn end_of_row(row: u8, negate: bool, site: Site) -> End
+    ensures { result ≡ row_end negate site row }
+{
+    match row_answer(row) {
+        Done::Ok => End::Status(!negate),
+        Done::Failed => End::Status(negate),
+        Done::Stopped(reason) => End::Stopped(reason, site),
+    }
+}
+
+// The trace with one mark more.
+fn with_mark(alloc: Global, trace: &List<Mark>, site: Site, row: u8) -> Result<List<Mark>, Memory>
+    ensures { IfOk result (λ t. t ≡ marked trace.now site row) }
+{
+    let mut more = match trace.copy(alloc) {
+        Ok(more) => more,
+        Err(_) => return Err(Memory),
+    };
+    match more.add(Mark { site, row }) {
+        Ok(()) => Ok(more),
+        Err(_) => Err(Memory),
+    }
+}
+
+// The paths of an act from a state, by rising rows.
+pub fn fork(
+    alloc: Global,
+    site: Site,
+    act: &Act,
+    negate: bool,
+    from: &PathState,
+    room: usize,
+) -> Result<Queue<Ended<End>>, PathsFault>
+    ensures { Found (From (fork_run act.now site (row_end negate site)) from.now) from.now.trace room result }
+{
+    rows_are_few();
+    act.path().names();
+    let mut out = Queue::new(alloc);
+    for row in 1..68_u8 {
+        let found = match take_row(alloc, &from.store, act, row) {
+            Ok(found) => found,
+            Err(_) => return Err(PathsFault::Memory),
+        };
+        let store = match found {
+            Some(store) => store,
+            None => continue,
+        };
+        if out.len() >= room {
+            return Err(PathsFault::Over);
+        }
+        let trace = match with_mark(alloc, &from.trace, site, row) {
+            Ok(trace) => trace,
+            Err(_) => return Err(PathsFault::Memory),
+        };
+        let end = end_of_row(row, negate, site);
+        let state = PathState { store, trace };
+        match out.push(Ended { end, state }) {
+            Ok(()) => (),
+            Err(_) => return Err(PathsFault::Memory),
+        }
+    }
+    Ok(out)
+}

@@ -1,0 +1,282 @@
+//! Paths of small scripts from all trees, by the rows of `test -e` and `test -d`.
+
+use crate::{Ended, PathState, PathsFault, paths};
+use clause_solver::Store;
+use feature_trees::{Kind, Kinds};
+use script_names::{List, Mark, Memory, Name, Path, Reason, Site};
+use shell_rules::{Command, End};
+use std::alloc::Global;
+use utility_calls::{Act, Planned};
+
+/// What a command of a table is.
+#[derive(Clone, Copy)]
+enum Call {
+    True,
+    False,
+    Exists,
+    IsDir,
+    NotExists,
+}
+
+/// A command: its place, what it is, the names of its path, and whether the path ends in a slash.
+type Row<'a> = (u32, Call, &'a [&'a [u8]], bool);
+
+/// A path: the places and rows of its marks, and its end.
+type Want<'a> = (&'a [(u32, u8)], End);
+
+const ROOT: &[&[u8]] = &[];
+
+const A: &[&[u8]] = &[b"a"];
+
+const AB: &[&[u8]] = &[b"a", b"b"];
+
+fn path(alloc: Global, words: &[&[u8]], slash: bool) -> Result<Path, Memory> {
+    let mut names = List::new(alloc);
+    for word in words {
+        match Name::read(alloc, word) {
+            Ok(name) => names.add(name)?,
+            Err(_) => return Err(Memory),
+        }
+    }
+    if names.len() > 64 {
+        return Err(Memory);
+    }
+    Ok(Path::new(names, slash))
+}
+
+fn planned(alloc: Global, call: Call, words: &[&[u8]], slash: bool) -> Result<Planned, Memory> {
+    let path = path(alloc, words, slash)?;
+    Ok(match call {
+        Call::True => Planned::Known(true),
+        Call::False => Planned::Known(false),
+        Call::Exists => Planned::Ask {
+            act: Act::Exists(path),
+            negate: false,
+        },
+        Call::IsDir => Planned::Ask {
+            act: Act::IsDir(path),
+            negate: false,
+        },
+        Call::NotExists => Planned::Ask {
+            act: Act::Exists(path),
+            negate: true,
+        },
+    })
+}
+
+fn answer(alloc: Global, rows: &[Row], room: usize) -> Result<List<Ended<End>>, PathsFault> {
+    let mut commands = List::new(alloc);
+    for (at, call, words, slash) in rows {
+        let call = match planned(alloc, *call, words, *slash) {
+            Ok(call) => call,
+            Err(_) => return Err(PathsFault::Memory),
+        };
+        match commands.add(Command { at: *at, call }) {
+            Ok(()) => (),
+            Err(_) => return Err(PathsFault::Memory),
+        }
+    }
+    let store = match Store::start(alloc) {
+        Ok(store) => store,
+        Err(_) => return Err(PathsFault::Memory),
+    };
+    let trace = List::new(alloc);
+    paths(
+        alloc,
+        3,
+        commands.as_slice(),
+        PathState { store, trace },
+        room,
+    )
+}
+
+fn same_marks(trace: &List<Mark>, want: &[(u32, u8)]) -> bool {
+    let marks = trace.as_slice();
+    if marks.len() != want.len() {
+        return false;
+    }
+    for i in 0..marks.len() {
+        let (at, row) = want[i];
+        let site = Site { step: 3, at };
+        if marks[i] != (Mark { site, row }) {
+            return false;
+        }
+    }
+    true
+}
+
+fn same_paths(paths: &List<Ended<End>>, want: &[Want]) -> bool {
+    let paths = paths.as_slice();
+    if paths.len() != want.len() {
+        return false;
+    }
+    for i in 0..paths.len() {
+        let (marks, end) = want[i];
+        if paths[i].end != end || !same_marks(&paths[i].state.trace, marks) {
+            return false;
+        }
+    }
+    true
+}
+
+/// Whether the script has these paths where there is room for just so many, and too many where there is room for one less.
+fn has_paths(alloc: Global, rows: &[Row], want: &[Want]) -> bool {
+    let right = match answer(alloc, rows, want.len()) {
+        Ok(list) => same_paths(&list, want),
+        Err(_) => false,
+    };
+    match answer(alloc, rows, want.len().saturating_sub(1)) {
+        Err(PathsFault::Over) => right,
+        Ok(_) => false,
+        Err(PathsFault::Memory) => false,
+    }
+}
+
+fn link(at: u32) -> End {
+    End::Stopped(Reason::Link, Site { step: 3, at })
+}
+
+const OK: End = End::Status(true);
+
+const FAILED: End = End::Status(false);
+
+#[test]
+fn one_act(rt: HostRuntime) {
+    let alloc = rt.alloc();
+    let slash = End::Stopped(Reason::Slash, Site { step: 3, at: 9 });
+    let four: [Want; 4] = [
+        (&[(9, 1)], link(9)),
+        (&[(9, 65)], link(9)),
+        (&[(9, 66)], FAILED),
+        (&[(9, 67)], OK),
+    ];
+    let negated: [Want; 4] = [
+        (&[(9, 1)], link(9)),
+        (&[(9, 65)], link(9)),
+        (&[(9, 66)], OK),
+        (&[(9, 67)], FAILED),
+    ];
+    let with_slash: [Want; 4] = [
+        (&[(9, 1)], link(9)),
+        (&[(9, 64)], slash),
+        (&[(9, 66)], FAILED),
+        (&[(9, 67)], OK),
+    ];
+    assert!(rt; has_paths(alloc, &[], &[(&[], OK)]), "no command");
+    assert!(rt;
+        has_paths(
+            alloc,
+            &[(9, Call::Exists, ROOT, false)],
+            &[(&[(9, 67)], OK)]
+        ),
+        "the root"
+    );
+    assert!(rt;
+        has_paths(alloc, &[(9, Call::IsDir, A, false)], &four[1..]),
+        "one name"
+    );
+    assert!(rt;
+        has_paths(alloc, &[(9, Call::Exists, AB, false)], &four),
+        "two names"
+    );
+    assert!(rt;
+        has_paths(alloc, &[(9, Call::NotExists, AB, false)], &negated),
+        "negated"
+    );
+    assert!(rt;
+        has_paths(alloc, &[(9, Call::IsDir, AB, true)], &with_slash),
+        "with a slash"
+    );
+}
+
+#[test]
+fn two_acts(rt: HostRuntime) {
+    let alloc = rt.alloc();
+    let a_then_ab: [Want; 5] = [
+        (&[(1, 65)], link(1)),
+        (&[(1, 66)], FAILED),
+        (&[(1, 67), (2, 65)], link(2)),
+        (&[(1, 67), (2, 66)], FAILED),
+        (&[(1, 67), (2, 67)], OK),
+    ];
+    let ab_then_a: [Want; 4] = [
+        (&[(1, 1)], link(1)),
+        (&[(1, 65)], link(1)),
+        (&[(1, 66)], FAILED),
+        (&[(1, 67), (2, 67)], OK),
+    ];
+    let twice: [Want; 3] = [
+        (&[(1, 65)], link(1)),
+        (&[(1, 66)], FAILED),
+        (&[(1, 67), (2, 67)], OK),
+    ];
+    let absent_and_there: [Want; 3] = [
+        (&[(1, 65)], link(1)),
+        (&[(1, 66), (2, 66)], FAILED),
+        (&[(1, 67)], FAILED),
+    ];
+    assert!(rt;
+        has_paths(
+            alloc,
+            &[(1, Call::Exists, A, false), (2, Call::Exists, AB, false)],
+            &a_then_ab
+        ),
+        "prefix first"
+    );
+    assert!(rt;
+        has_paths(
+            alloc,
+            &[(1, Call::Exists, AB, false), (2, Call::Exists, A, false)],
+            &ab_then_a
+        ),
+        "prefix last"
+    );
+    assert!(rt;
+        has_paths(
+            alloc,
+            &[(1, Call::Exists, A, false), (2, Call::Exists, A, false)],
+            &twice
+        ),
+        "twice"
+    );
+    assert!(rt;
+        has_paths(
+            alloc,
+            &[(1, Call::NotExists, A, false), (2, Call::Exists, A, false)],
+            &absent_and_there
+        ),
+        "both"
+    );
+}
+
+#[test]
+fn known_calls(rt: HostRuntime) {
+    let alloc = rt.alloc();
+    let three: [Want; 3] = [
+        (&[(1, 65)], link(1)),
+        (&[(1, 66)], FAILED),
+        (&[(1, 67)], FAILED),
+    ];
+    let rows: [Row; 4] = [
+        (0, Call::True, ROOT, false),
+        (1, Call::IsDir, A, false),
+        (2, Call::False, ROOT, false),
+        (3, Call::Exists, A, false),
+    ];
+    assert!(rt; has_paths(alloc, &rows, &three), "nothing after a failure");
+    match Store::start(alloc) {
+        Ok(mut store) => {
+            let now = store.now();
+            assert!(rt;
+                !store.limit(now, Kinds::of(Kind::Reg)),
+                "a tree is no file"
+            );
+            let trace = List::new(alloc);
+            match paths(alloc, 3, &[], PathState { store, trace }, 0) {
+                Ok(list) => assert!(rt; list.len() == 0, "no pair, no path"),
+                Err(_) => assert!(rt; false, "no pair, no fault"),
+            }
+        }
+        Err(_) => assert!(rt; false, "a store"),
+    }
+}

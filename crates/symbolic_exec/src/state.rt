@@ -1,0 +1,25 @@
+//! What a path is made of.
+
+use clause_solver::Store;
+use script_names::{List, Mark};
+
+/// Where a path stands: the pairs of trees that are on it, and the marks of its acts, in order.
+#[derive(Debug, Drop)]
+pub struct PathState {
+    pub store: Store,
+    pub trace: List<Mark>,
+}
+
+/// A path: how it ended, and its state then.
+#[derive(Debug, Drop)]
+pub struct Ended<E> {
+    pub end: E,
+    pub state: PathState,
+}
+
+/// Why there is no list of paths: more different traces than there is room for, or want of memory.
+#[derive(Clone, Copy, Debug, PartialEq, Eq)]
+pub enum PathsFault {
+    Over,
+    Memory,
+}
