@@ -1,6 +1,6 @@
 -- An act's rows, one after the other.
 use Rattle.std.proofs.Common.{inl, inr, ◌≡◌, ℕ, ◌+◌, ◌<◌, ◌≤◌, List, [], ◌∷◌, ◌++◌, length, refl, sym, ap, ◌∙◌, subst, arith, length-append}
-use Rattle.std.specs.Prelude.{◌⊎◌}
+use Rattle.std.specs.Prelude.{◌⊎◌, ◌↔◌}
 use Rattle.script_names.specs.declared.mark.Mark.{Mark}
 use Rattle.script_names.specs.declared.mark.Site.{Site}
 use Rattle.feature_trees.specs.declared.value.Value.{Value}
@@ -13,9 +13,18 @@ use Rattle.clause_solver.specs.Pairs.{HasPair}
 use Rattle.symbolic_exec.specs.State.{Key, RunOf, ends, at_tree, run_at}
 use Rattle.symbolic_exec.specs.Traces.{Begins, Before, AllBegin, Rising}
 use Rattle.symbolic_exec.specs.Points.{Points, From, traces, Sound, Met, Many, Within}
-use Rattle.symbolic_exec.specs.Forks.{marked, fork_run, TakesRow, NoneTakes}
+use Rattle.symbolic_exec.specs.Forks.{marked, fork_run}
+use Rattle.utility_cases.specs.Taken.{Taken}
 use Rattle.symbolic_exec.proofs.Orders.{begins_refl, begin_append, after_push}
 use Rattle.symbolic_exec.proofs.Binding.{points_left, points_right, points_split, traces_append, traces_length, some_pair, alive_met, met_all, met_append, alive_append}
+
+-- the pairs of `new` are those of `old` that take the row, each with the tree after the act
+abbrev pub TakesRow : Seen → Seen → Act → ℕ → Type 0
+TakesRow old new act n = (t : Key) (v : Value) → HasPair new t v ↔ Taken old act n t v
+
+-- no pair takes the row
+abbrev pub NoneTakes : Seen → Act → ℕ → Type 0
+NoneTakes s act n = (t : Key) (u : Value) → HasPair s t u → row act u ≡ n → ⊥
 
 -- the traces end with a mark below this row
 abbrev pub AllLower : List Mark → Site → ℕ → List (List Mark) → Type 0

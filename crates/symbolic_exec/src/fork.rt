@@ -5,13 +5,13 @@ ghost use Rattle.symbolic_exec.specs.Forks.{fork_run, row_end, marked};
 ghost use Rattle.symbolic_exec.specs.Points.{Found, From};
 
 use crate::queue::Queue;
-use crate::stand_in::take_row;
 use crate::state::{Ended, PathState, PathsFault};
 use script_names::{Copied, Done, List, Mark, Memory, Site};
 use shell_rules::End;
 use std::alloc::Global;
 use utility_calls::theorems::rows_are_few;
 use utility_calls::{Act, row_answer};
+use utility_cases::take_row;
 
 // How a row of a question ends its command.
 fn end_of_row(row: u8, negate: bool, site: Site) -> End

@@ -3,11 +3,9 @@
 #![tactic(auto)]
 
 mod fork;
-
 mod queue;
 mod run;
 mod script;
-mod stand_in;
 mod state;
 
 pub use script::paths;

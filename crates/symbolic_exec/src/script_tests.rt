@@ -25,7 +25,9 @@ type Row<'a> = (u32, Call, &'a [&'a [u8]], bool);
 type Want<'a> = (&'a [(u32, u8)], End);
 
 const ROOT: &[&[u8]] = &[];
+
 const A: &[&[u8]] = &[b"a"];
+
 const AB: &[&[u8]] = &[b"a", b"b"];
 
 fn path(alloc: Global, words: &[&[u8]], slash: bool) -> Result<Path, Memory> {
@@ -79,7 +81,13 @@ fn answer(alloc: Global, rows: &[Row], room: usize) -> Result<List<Ended<End>>, 
         Err(_) => return Err(PathsFault::Memory),
     };
     let trace = List::new(alloc);
-    paths(alloc, 3, commands.as_slice(), PathState { store, trace }, room)
+    paths(
+        alloc,
+        3,
+        commands.as_slice(),
+        PathState { store, trace },
+        room,
+    )
 }
 
 fn same_marks(trace: &List<Mark>, want: &[(u32, u8)]) -> bool {
@@ -129,21 +137,56 @@ fn link(at: u32) -> End {
 }
 
 const OK: End = End::Status(true);
+
 const FAILED: End = End::Status(false);
 
 #[test]
 fn one_act(rt: HostRuntime) {
     let alloc = rt.alloc();
     let slash = End::Stopped(Reason::Slash, Site { step: 3, at: 9 });
-    let four: [Want; 4] = [(&[(9, 1)], link(9)), (&[(9, 65)], link(9)), (&[(9, 66)], FAILED), (&[(9, 67)], OK)];
-    let negated: [Want; 4] = [(&[(9, 1)], link(9)), (&[(9, 65)], link(9)), (&[(9, 66)], OK), (&[(9, 67)], FAILED)];
-    let with_slash: [Want; 4] = [(&[(9, 1)], link(9)), (&[(9, 64)], slash), (&[(9, 66)], FAILED), (&[(9, 67)], OK)];
+    let four: [Want; 4] = [
+        (&[(9, 1)], link(9)),
+        (&[(9, 65)], link(9)),
+        (&[(9, 66)], FAILED),
+        (&[(9, 67)], OK),
+    ];
+    let negated: [Want; 4] = [
+        (&[(9, 1)], link(9)),
+        (&[(9, 65)], link(9)),
+        (&[(9, 66)], OK),
+        (&[(9, 67)], FAILED),
+    ];
+    let with_slash: [Want; 4] = [
+        (&[(9, 1)], link(9)),
+        (&[(9, 64)], slash),
+        (&[(9, 66)], FAILED),
+        (&[(9, 67)], OK),
+    ];
     assert!(rt; has_paths(alloc, &[], &[(&[], OK)]), "no command");
-    assert!(rt; has_paths(alloc, &[(9, Call::Exists, ROOT, false)], &[(&[(9, 67)], OK)]), "the root");
-    assert!(rt; has_paths(alloc, &[(9, Call::IsDir, A, false)], &four[1..]), "one name");
-    assert!(rt; has_paths(alloc, &[(9, Call::Exists, AB, false)], &four), "two names");
-    assert!(rt; has_paths(alloc, &[(9, Call::NotExists, AB, false)], &negated), "negated");
-    assert!(rt; has_paths(alloc, &[(9, Call::IsDir, AB, true)], &with_slash), "with a slash");
+    assert!(rt;
+        has_paths(
+            alloc,
+            &[(9, Call::Exists, ROOT, false)],
+            &[(&[(9, 67)], OK)]
+        ),
+        "the root"
+    );
+    assert!(rt;
+        has_paths(alloc, &[(9, Call::IsDir, A, false)], &four[1..]),
+        "one name"
+    );
+    assert!(rt;
+        has_paths(alloc, &[(9, Call::Exists, AB, false)], &four),
+        "two names"
+    );
+    assert!(rt;
+        has_paths(alloc, &[(9, Call::NotExists, AB, false)], &negated),
+        "negated"
+    );
+    assert!(rt;
+        has_paths(alloc, &[(9, Call::IsDir, AB, true)], &with_slash),
+        "with a slash"
+    );
 }
 
 #[test]
@@ -162,18 +205,58 @@ fn two_acts(rt: HostRuntime) {
         (&[(1, 66)], FAILED),
         (&[(1, 67), (2, 67)], OK),
     ];
-    let twice: [Want; 3] = [(&[(1, 65)], link(1)), (&[(1, 66)], FAILED), (&[(1, 67), (2, 67)], OK)];
-    let absent_and_there: [Want; 3] = [(&[(1, 65)], link(1)), (&[(1, 66), (2, 66)], FAILED), (&[(1, 67)], FAILED)];
-    assert!(rt; has_paths(alloc, &[(1, Call::Exists, A, false), (2, Call::Exists, AB, false)], &a_then_ab), "prefix first");
-    assert!(rt; has_paths(alloc, &[(1, Call::Exists, AB, false), (2, Call::Exists, A, false)], &ab_then_a), "prefix last");
-    assert!(rt; has_paths(alloc, &[(1, Call::Exists, A, false), (2, Call::Exists, A, false)], &twice), "twice");
-    assert!(rt; has_paths(alloc, &[(1, Call::NotExists, A, false), (2, Call::Exists, A, false)], &absent_and_there), "both");
+    let twice: [Want; 3] = [
+        (&[(1, 65)], link(1)),
+        (&[(1, 66)], FAILED),
+        (&[(1, 67), (2, 67)], OK),
+    ];
+    let absent_and_there: [Want; 3] = [
+        (&[(1, 65)], link(1)),
+        (&[(1, 66), (2, 66)], FAILED),
+        (&[(1, 67)], FAILED),
+    ];
+    assert!(rt;
+        has_paths(
+            alloc,
+            &[(1, Call::Exists, A, false), (2, Call::Exists, AB, false)],
+            &a_then_ab
+        ),
+        "prefix first"
+    );
+    assert!(rt;
+        has_paths(
+            alloc,
+            &[(1, Call::Exists, AB, false), (2, Call::Exists, A, false)],
+            &ab_then_a
+        ),
+        "prefix last"
+    );
+    assert!(rt;
+        has_paths(
+            alloc,
+            &[(1, Call::Exists, A, false), (2, Call::Exists, A, false)],
+            &twice
+        ),
+        "twice"
+    );
+    assert!(rt;
+        has_paths(
+            alloc,
+            &[(1, Call::NotExists, A, false), (2, Call::Exists, A, false)],
+            &absent_and_there
+        ),
+        "both"
+    );
 }
 
 #[test]
 fn known_calls(rt: HostRuntime) {
     let alloc = rt.alloc();
-    let three: [Want; 3] = [(&[(1, 65)], link(1)), (&[(1, 66)], FAILED), (&[(1, 67)], FAILED)];
+    let three: [Want; 3] = [
+        (&[(1, 65)], link(1)),
+        (&[(1, 66)], FAILED),
+        (&[(1, 67)], FAILED),
+    ];
     let rows: [Row; 4] = [
         (0, Call::True, ROOT, false),
         (1, Call::IsDir, A, false),
@@ -184,7 +267,10 @@ fn known_calls(rt: HostRuntime) {
     match Store::start(alloc) {
         Ok(mut store) => {
             let now = store.now();
-            assert!(rt; !store.limit(now, Kinds::of(Kind::Reg)), "a tree is no file");
+            assert!(rt;
+                !store.limit(now, Kinds::of(Kind::Reg)),
+                "a tree is no file"
+            );
             let trace = List::new(alloc);
             match paths(alloc, 3, &[], PathState { store, trace }, 0) {
                 Ok(list) => assert!(rt; list.len() == 0, "no pair, no path"),

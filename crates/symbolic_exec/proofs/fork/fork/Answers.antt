@@ -1,11 +1,11 @@
 use Rattle.std.proofs.Common.{◌≡◌, ◌≤◌, length, arith, ap, ◌∙◌, [], ◌∷◌, length-append, subst}
 use Rattle.std.specs.Prelude.{IfSome, IfNone}
 use Rattle.clause_solver.specs.Stands.{Alive}
-use Rattle.symbolic_exec.specs.Forks.{row_end, TakesRow, NoneTakes}
+use Rattle.symbolic_exec.specs.Forks.{row_end}
 use Rattle.script_names.specs.Paths.{PathParts}
 use Rattle.utility_calls.specs.declared.act.Act.{Act}
 use Rattle.utility_calls.specs.Rows.{path_of}
-use Rattle.symbolic_exec.proofs.Rows.{begin_rows, end_rows, skip_row, add_row, over_rows, taken_is, taken}
+use Rattle.symbolic_exec.proofs.Rows.{TakesRow, NoneTakes, begin_rows, end_rows, skip_row, add_row, over_rows, taken_is, taken}
 use Rattle.symbolic_exec.proofs.fork.fork.Goals as goal
 
 pub loop-row-preserved-in-None : goal.loop-row-preserved-in-None
@@ -31,7 +31,6 @@ loop-row-preserved c =
           (subst (λ o. IfSome o (λ s. TakesRow c.args.from.now.store s c.args.act.now c.loop-row.row)) c.in-Some.is c.in-Ok.ensures.exact)
           (subst (λ o. IfSome o (λ s. Alive s)) c.in-Some.is c.in-Ok.ensures.alive) n c.loop-row.invariant.rows;
     }
-
 
 few : (act : Act) (p : PathParts) → p ≡ path_of act → length p.names ≤ 64 → length (path_of act).names ≤ 64
 few act p e le = subst (λ (q : PathParts). length q.names ≤ 64) e le
