@@ -12,6 +12,8 @@ mod memory;
 mod name;
 mod path;
 mod reason;
+#[cfg(test)]
+mod tests;
 mod text;
 
 pub use boxed::Boxed;

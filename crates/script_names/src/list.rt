@@ -40,6 +40,14 @@ impl<T> List<T> {
         self.items.as_slice()
     }
 
+    /// The items, given up by the list.
+    pub fn into_vec(self) -> Vec<T>
+        ensures { result.items ≡ self }
+    {
+        let List { items } = self;
+        items
+    }
+
     /// How many items there are.
     pub fn len(&self) -> usize
         ensures { result ≡ length self.now }

@@ -1,0 +1,4 @@
+pub mod Readings
+pub mod Sinks
+mod Rests
+mod Held

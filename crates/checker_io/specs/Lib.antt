@@ -1,0 +1,9 @@
+pub mod Faults
+pub mod Shelf
+pub mod Sink
+pub mod MemShelf
+pub mod MemSink
+pub mod DirShelf
+pub mod OutSink
+pub mod Pieces
+pub mod Reading

@@ -1,0 +1,106 @@
+-- Sets of kinds.
+use Rattle.std.proofs.Common.{◌≡◌, ◌≢◌, ◌⊎◌, inl, inr, Bool, true, false, ◌&&◌, IsTrue, refl}
+use Rattle.feature_trees.specs.declared.kind.Kind.{Kind}
+use Rattle.feature_trees.specs.declared.kind.Kind.TheVariants.{Absent, Reg, Link, Other, Dir}
+use Rattle.feature_trees.specs.declared.kind.Kinds.{Kinds}
+use Rattle.feature_trees.specs.Kinds.{has, both, of}
+use Rattle.clause_solver.specs.Greatest.{choose, is_dir}
+use Rattle.clause_solver.specs.Written.{is_all}
+
+pub has_both : (a b : Kinds) (k : Kind) → has (both a b) k ≡ (has a k && has b k)
+has_both a b Absent = refl
+has_both a b Reg = refl
+has_both a b Link = refl
+has_both a b Other = refl
+has_both a b Dir = refl
+
+pub of_absent : (k : Kind) → IsTrue (has (of Absent) k) → k ≡ Absent
+of_absent Absent h = refl
+of_absent Reg h = cc
+of_absent Link h = cc
+of_absent Other h = cc
+of_absent Dir h = cc
+
+pub of_reg : (k : Kind) → IsTrue (has (of Reg) k) → k ≡ Reg
+of_reg Absent h = cc
+of_reg Reg h = refl
+of_reg Link h = cc
+of_reg Other h = cc
+of_reg Dir h = cc
+
+pub of_dir : (k : Kind) → IsTrue (has (of Dir) k) → k ≡ Dir
+of_dir Absent h = cc
+of_dir Reg h = cc
+of_dir Link h = cc
+of_dir Other h = cc
+of_dir Dir h = refl
+
+abbrev set_of : Bool → Bool → Bool → Bool → Bool → Kinds
+set_of a r l o d = record { absent = a; reg = r; link = l; other = o; dir = d }
+
+all_by : (a r l o d : Bool) (k : Kind) → IsTrue (is_all (set_of a r l o d)) → IsTrue (has (set_of a r l o d) k)
+all_by true true true true true Absent h = refl
+all_by true true true true true Reg h = refl
+all_by true true true true true Link h = refl
+all_by true true true true true Other h = refl
+all_by true true true true true Dir h = refl
+all_by false r l o d k h = cc
+all_by true false l o d k h = cc
+all_by true true false o d k h = cc
+all_by true true true false d k h = cc
+all_by true true true true false k h = cc
+
+-- the set of all kinds has each
+pub all_have : (s : Kinds) (k : Kind) → IsTrue (is_all s) → IsTrue (has s k)
+all_have s k h = all_by s.absent s.reg s.link s.other s.dir k h
+
+chosen : (a r l o d : Bool) (k : Kind) → IsTrue (has (set_of a r l o d) k) → IsTrue (has (set_of a r l o d) (choose (set_of a r l o d)))
+chosen a r l o true k h = refl
+chosen a true l o false k h = refl
+chosen a false true o false k h = refl
+chosen a false false true false k h = refl
+chosen a false false false false Absent h = h
+chosen a false false false false Reg h = cc
+chosen a false false false false Link h = cc
+chosen a false false false false Other h = cc
+chosen a false false false false Dir h = cc
+
+-- where a kind is in the set, the greatest one is
+pub choose_in : (s : Kinds) (k : Kind) → IsTrue (has s k) → IsTrue (has s (choose s))
+choose_in s k h = chosen s.absent s.reg s.link s.other s.dir k h
+
+chosen_dir : (a r l o d : Bool) → IsTrue d → choose (set_of a r l o d) ≡ Dir
+chosen_dir a r l o true h = refl
+chosen_dir a r l o false h = cc
+
+pub choose_dir : (s : Kinds) → IsTrue (has s Dir) → choose s ≡ Dir
+choose_dir s h = chosen_dir s.absent s.reg s.link s.other s.dir h
+
+chosen_present : (a r l o d : Bool) (k : Kind) → IsTrue (has (set_of a r l o d) k) → k ≢ Absent → choose (set_of a r l o d) ≢ Absent
+chosen_present a r l o true k h ne = λ e. cc
+chosen_present a true l o false k h ne = λ e. cc
+chosen_present a false true o false k h ne = λ e. cc
+chosen_present a false false true false k h ne = λ e. cc
+chosen_present a false false false false Absent h ne = λ e. ne refl
+chosen_present a false false false false Reg h ne = λ e. cc
+chosen_present a false false false false Link h ne = λ e. cc
+chosen_present a false false false false Other h ne = λ e. cc
+chosen_present a false false false false Dir h ne = λ e. cc
+
+pub choose_present : (s : Kinds) (k : Kind) → IsTrue (has s k) → k ≢ Absent → choose s ≢ Absent
+choose_present s k h ne = chosen_present s.absent s.reg s.link s.other s.dir k h ne
+
+pub is_dir_cases : (k : Kind) → (k ≡ Dir) ⊎ (is_dir k ≡ false)
+is_dir_cases Absent = inr refl
+is_dir_cases Reg = inr refl
+is_dir_cases Link = inr refl
+is_dir_cases Other = inr refl
+is_dir_cases Dir = inl refl
+
+pub and_both : (a b : Bool) → IsTrue (a && b) → IsTrue a × IsTrue b
+and_both true b h = (refl, h)
+and_both false b h = cc
+
+pub both_and : (a b : Bool) → IsTrue a → IsTrue b → IsTrue (a && b)
+both_and true b h w = w
+both_and false b h w = cc

@@ -1,0 +1,16 @@
+pub mod Names
+pub mod KindSets
+pub mod Values
+pub mod Lives
+pub mod Pairs
+pub mod OneMore
+pub mod Unique
+pub mod Limited
+pub mod Least
+pub mod Grown
+pub mod NewNames
+pub mod Alive
+pub mod Leads
+pub mod Settles
+pub mod InOrder
+pub mod Covering

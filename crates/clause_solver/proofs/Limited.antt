@@ -1,0 +1,96 @@
+-- What a limit leaves.
+use Rattle.std.proofs.Common.{◌≡◌, ◌≢◌, ℕ, zero, suc, ◌+◌, ◌<◌, ◌≤◌, ◌↔◌, ◌&&◌, ◌⊎◌, inl, inr, Bool, true, false, IsTrue, Some, List, [], ◌∷◌, length, set, get_or, refl, sym, ap, subst, ◌∙◌, arith, length-set, get_or-set_other, get_or-set_same}
+use Rattle.feature_trees.specs.declared.kind.Kind.{Kind}
+use Rattle.feature_trees.specs.declared.kind.Kinds.{Kinds}
+use Rattle.feature_trees.specs.declared.value.Value.{Value}
+use Rattle.feature_trees.specs.Kinds.{has, both}
+use Rattle.feature_trees.specs.Tree.{kind_of}
+use Rattle.clause_solver.specs.declared.variable.Definition.{Definition}
+use Rattle.clause_solver.specs.declared.variable.Definition.TheVariants.{Start, Child, Derived, Ensured, Made}
+use Rattle.clause_solver.specs.declared.variable.Variable.{Variable}
+use Rattle.clause_solver.specs.Literals.{Valuation, value_of_variable, IsSound}
+use Rattle.clause_solver.specs.Stands.{Stands}
+use Rattle.clause_solver.specs.Variables.{var_at, Fits, AllFit, Earlier, Ordered, AlwaysDir, OnlyDir, limited, is_node}
+use Rattle.clause_solver.proofs.Names.{nat_cases}
+use Rattle.clause_solver.proofs.KindSets.{has_both, and_both, both_and}
+use Rattle.clause_solver.proofs.Pairs.{fits_from, fits_to}
+use Rattle.clause_solver.proofs.OneMore.{seen_of}
+
+module _ (vars : List Variable) (x : ℕ) (k : Kinds) (inside : x < length vars) where
+  abbrev here_now : Variable
+  here_now = record (var_at vars x) { kinds = both (var_at vars x).kinds k }
+
+  -- the definition and the other facts stay
+  limited_definition : (i : ℕ) → (var_at (limited vars x k) i).definition ≡ (var_at vars i).definition
+  limited_definition i = elim (nat_cases i x) [
+    | inl e ↦ rw (e, get_or-set_same) refl
+    | inr n ↦ rw get_or-set_other refl
+  ]
+
+  limited_fence : (i : ℕ) → (var_at (limited vars x k) i).fence ≡ (var_at vars i).fence
+  limited_fence i = elim (nat_cases i x) [
+    | inl e ↦ rw (e, get_or-set_same) refl
+    | inr n ↦ rw get_or-set_other refl
+  ]
+
+  limited_kinds : (i : ℕ) (q : Kind) → IsTrue (has (var_at (limited vars x k) i).kinds q) → IsTrue (has (var_at vars i).kinds q)
+  limited_kinds i q h = elim (nat_cases i x) [
+    | inl e ↦ rw e (and_both (has (var_at vars x).kinds q) (has k q) (rw (e, get_or-set_same, has_both) at h)).0
+    | inr n ↦ rw get_or-set_other at h
+  ]
+
+  pub limited_fits : (g : Valuation) → AllFit (limited vars x k) g → AllFit vars g × IsTrue (has k (kind_of (value_of_variable g x)))
+  limited_fits g h =
+      let longer : x < length (limited vars x k) = rw length-set inside in
+      let here : Fits g x here_now = rw get_or-set_same at (h x longer) in
+      let parts = and_both (has (var_at vars x).kinds (kind_of (value_of_variable g x))) (has k (kind_of (value_of_variable g x))) (rw has_both at here.kind) in (
+        λ i w. elim (nat_cases i x) [
+          | inl e ↦ rw e (record { is = here.is; kind = parts.0; fenced = here.fenced; filled = here.filled })
+          | inr n ↦ let w' : i < length (limited vars x k) = rw length-set w in rw get_or-set_other at (h i w')
+        ],
+        parts.1,
+      )
+
+  pub fits_limited : (g : Valuation) → AllFit vars g → IsTrue (has k (kind_of (value_of_variable g x))) → AllFit (limited vars x k) g
+  fits_limited g h fit i w' =
+      let w : i < length vars = rw length-set at w' in
+      elim (nat_cases i x) [
+        | inl e ↦
+            let here = h x inside in
+            rw e (rw get_or-set_same (record { is = here.is; kind = rw has_both (both_and (has (var_at vars x).kinds (kind_of (value_of_variable g x))) (has k (kind_of (value_of_variable g x))) here.kind fit); fenced = here.fenced; filled = here.filled }))
+        | inr n ↦ rw get_or-set_other (h i w)
+      ]
+
+  pub limited_only : (i : ℕ) → OnlyDir vars i → OnlyDir (limited vars x k) i
+  limited_only i h q w = h q (limited_kinds i q w)
+
+  pub limited_always : (i : ℕ) → AlwaysDir vars i → AlwaysDir (limited vars x k) i
+  limited_always i h g l s f = h g (rw length-set at l) s (limited_fits g f).0
+
+  earlier_by : (i : ℕ) (d : Definition) → Earlier vars i d → Earlier (limited vars x k) i d
+  earlier_by i Start q = q
+  earlier_by i (Child p f) q = (q.0, rw (limited_definition p) q.1, q.2)
+  earlier_by i (Derived a f b) q = q
+  earlier_by i (Ensured a) q = q
+  earlier_by i (Made m) q = q
+
+  pub limited_order : Ordered vars → Ordered (limited vars x k)
+  limited_order order = record {
+    some = rw length-set order.some;
+    first = limited_definition 0 ∙ order.first;
+    earlier = λ i w. rw (limited_definition i) (earlier_by i (var_at vars i).definition (order.earlier i (rw length-set at w)));
+    single = λ i j p f h w at_i at_j. order.single i j p f h (rw length-set at w) (sym (limited_definition i) ∙ at_i) (sym (limited_definition j) ∙ at_j);
+    known = λ i names f w fence listed.
+        let m = order.known i names f (rw length-set at w) (sym (limited_fence i) ∙ fence) listed in
+        (m.0, rw length-set m.1, limited_definition m.0 ∙ m.2);
+    nodes = λ i w node. limited_fence i ∙ order.nodes i (rw length-set at w) (ap is_node (sym (limited_definition i)) ∙ node);
+  }
+
+  pub limited_exact : (now : ℕ) → Ordered vars → (t : Value) (g : Valuation) → Stands (seen_of (limited vars x k) now) t g ↔ (Stands (seen_of vars now) t g × IsTrue (has k (kind_of (value_of_variable g x))))
+  limited_exact now order t g = (
+    λ h.
+        let parts = limited_fits g (fits_from (limited vars x k) g (limited_order order) h.values h.met) in
+        (record { counted = rw length-set at h.counted; starts = h.starts; tree = h.tree; ends = h.ends; met = fits_to vars g h.values parts.0; values = h.values }, parts.1),
+    λ (h, fit).
+        record { counted = rw length-set h.counted; starts = h.starts; tree = h.tree; ends = h.ends; met = fits_to (limited vars x k) g h.values (fits_limited g (fits_from vars g order h.values h.met) fit); values = h.values },
+  )

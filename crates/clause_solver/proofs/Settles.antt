@@ -1,0 +1,65 @@
+-- A store with one more variable is settled.
+use Rattle.std.proofs.Common.{◌≡◌, ℕ, ◌+◌, ◌<◌, ◌≤◌, List, [], ◌∷◌, ◌++◌, length, IsTrue, Result, Ok, Err, OnErr, IfOk, refl, sym, ap, ◌∙◌, arith}
+use Rattle.std.proofs.lemmas.List.{length-append}
+use Rattle.script_names.specs.Names.{is_name}
+use Rattle.script_names.specs.declared.memory.Memory.{Memory}
+use Rattle.feature_trees.specs.Kinds.{all}
+use Rattle.clause_solver.specs.declared.variable.MadeValue.TheVariants as made
+use Rattle.clause_solver.specs.declared.variable.Definition.{Definition}
+use Rattle.clause_solver.specs.declared.variable.Definition.TheVariants.{Start, Child, Derived, Ensured, Made}
+use Rattle.clause_solver.specs.declared.variable.Variable.{Variable}
+use Rattle.clause_solver.specs.declared.appended.Found.TheVariants.{Known, Nothing, At}
+use Rattle.clause_solver.specs.declared.store.Store.TheInside.{Inside}
+use Rattle.clause_solver.specs.Stands.{Extends, HasEntry}
+use Rattle.clause_solver.specs.Variables.{Ordered, Earlier, IsChild, is_node, var_at}
+use Rattle.clause_solver.specs.Greatest.{best_by}
+use Rattle.clause_solver.specs.Fresh.{fresh}
+use Rattle.clause_solver.specs.Appends.{IsAppended, LeadsTo}
+use Rattle.clause_solver.specs.View.{seen, IsSettled}
+use Rattle.clause_solver.proofs.OneMore.{longer, append_order, append_best, append_only, append_always, append_extends}
+use Rattle.clause_solver.proofs.Leads.{absent_entry, child_entry}
+
+-- no child is the same entry
+abbrev pub IsSingle : List Variable → Definition → Type 0
+IsSingle vars d = (x : ℕ) (f : List ℕ) (i : ℕ) → d ≡ Child x f → ¬ (IsChild vars x f i)
+
+module _ (a b : Inside) (y : ℕ) (d : Definition) (inv : IsSettled a) (before : Earlier a.vars.items (length a.vars.items) d) (none : IsSingle a.vars.items d) (now : b.current ≡ a.current) (is : IsAppended a.vars.items a.best.items d b.vars.items b.best.items y) where
+  new_order : Ordered (a.vars.items ++ fresh d ∷ [])
+  new_order = append_order a.vars.items inv.order d before none
+
+  pub appended_settled : IsSettled b
+  appended_settled =
+      let long = longer a.vars.items inv.order d before in
+      record {
+        order = rw is.variable new_order;
+        same = rw (is.variable, is.kind, length-append, length-append) (ap (λ n. n + 1) inv.same);
+        best = rw (is.variable, is.kind) (append_best a.vars.items inv.order d before a.best.items _ inv.same inv.best refl);
+        small = rw (is.variable, long) (let r = is.room in omega arith);
+        now_known = rw (is.variable, long, now) (let r = inv.now_known in omega arith);
+        now_tree = rw (is.variable, now) (append_always a.vars.items inv.order d before a.current inv.now_known inv.now_tree);
+        start_tree = rw is.variable (append_only a.vars.items inv.order d before 0 inv.order.some inv.start_tree);
+      }
+
+  pub appended_extends : Extends (seen a) (seen b)
+  appended_extends = rw (is.variable, now) (append_extends a.vars.items inv.order d before a.current inv.now_known new_order)
+
+pub made_single : (vars : List Variable) → IsSingle vars (Made made.Absent)
+made_single vars x f i e = let bad : Made made.Absent ≡ Child x f = e in cc
+
+pub child_single : (vars : List Variable) (n : ℕ) (f : List ℕ) → ((i : ℕ) → ¬ (IsChild vars n f i)) → IsSingle vars (Child n f)
+child_single vars n f none x g i e h =
+    let ex : n ≡ x = cc in
+    let eg : f ≡ g = cc in
+    none i (rw (ex, eg) h)
+
+pub absent_is_entry : (a b : Inside) (y x : ℕ) (f : List ℕ) → IsSettled a → x < length a.vars.items → b.current ≡ a.current → IsAppended a.vars.items a.best.items (Made made.Absent) b.vars.items b.best.items y → LeadsTo a.vars.items x f Nothing → HasEntry (seen b) x f y
+absent_is_entry a b y x f inv inside now is leads =
+    rw (is.variable, now, is.at) (absent_entry a.vars.items a.current x f inv.order inside (append_order a.vars.items inv.order (Made made.Absent) tt (made_single a.vars.items)) leads)
+
+pub child_before : (vars : List Variable) (x n : ℕ) (f : List ℕ) → IsTrue (is_name f) → LeadsTo vars x f (At n) → Earlier vars (length vars) (Child n f)
+child_before vars x n f name leads = (leads.0, leads.1, name)
+
+pub child_is_entry : (a b : Inside) (y x n : ℕ) (f : List ℕ) → IsSettled a → x < length a.vars.items → IsTrue (is_name f) → ((i : ℕ) → ¬ (IsChild a.vars.items n f i)) → b.current ≡ a.current → IsAppended a.vars.items a.best.items (Child n f) b.vars.items b.best.items y → LeadsTo a.vars.items x f (At n) → HasEntry (seen b) x f y
+child_is_entry a b y x n f inv inside name none now is leads =
+    let before = child_before a.vars.items x n f name leads in
+    rw (is.variable, now, is.at) (child_entry a.vars.items a.current x f inv.order inside n before (append_order a.vars.items inv.order (Child n f) before (child_single a.vars.items n f none)) leads)

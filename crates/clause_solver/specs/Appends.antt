@@ -1,0 +1,40 @@
+-- One more variable, and where an entry of a variable is found.
+use Rattle.std.specs.Prelude.{◌≡◌, ℕ, ◌<◌, List, [], ◌∷◌, ◌++◌, length, None, false, IsTrue}
+use Rattle.feature_trees.specs.declared.kind.Kind.{Kind}
+use Rattle.feature_trees.specs.declared.value.Value.TheVariants as value
+use Rattle.feature_trees.specs.Kinds.{all}
+use Rattle.feature_trees.specs.Tree.{entry}
+use Rattle.clause_solver.specs.declared.variable.Definition.{Definition}
+use Rattle.clause_solver.specs.declared.variable.Definition.TheVariants.{Start, Child, Derived, Ensured, Made}
+use Rattle.clause_solver.specs.declared.variable.Variable.{Variable}
+use Rattle.clause_solver.specs.declared.appended.Found.{Found}
+use Rattle.clause_solver.specs.declared.appended.Found.TheVariants.{Known, Nothing, At}
+use Rattle.clause_solver.specs.Literals.{Valuation, value_of_variable, IsSound}
+use Rattle.clause_solver.specs.Variables.{var_at, is_node, AllFit}
+use Rattle.clause_solver.specs.Greatest.{best_by}
+use Rattle.clause_solver.specs.Fresh.{fresh}
+
+-- the variable y was added, with its greatest kind
+pub record IsAppended (vars : List Variable) (best : List Kind) (d : Definition) (new_vars : List Variable) (new_best : List Kind) (y : ℕ) : Type 0 where
+  pub at : y ≡ length vars
+  pub room : length vars < 4294967295
+  pub variable : new_vars ≡ vars ++ fresh d ∷ []
+  pub kind : new_best ≡ best ++ best_by vars best all d ∷ []
+
+-- a definition names known variables
+abbrev pub Within : List Variable → Definition → Type 0
+Within vars Start = Unit {0}
+Within vars (Child p f) = p < length vars
+Within vars (Derived x f y) = Unit {0}
+Within vars (Ensured x) = Unit {0}
+Within vars (Made m) = Unit {0}
+
+-- the entry f of x is the entry f of another variable, in every valuation that is left
+abbrev pub SameEntry : List Variable → ℕ → List ℕ → ℕ → Type 0
+SameEntry vars x f n = (g : Valuation) → IsSound g → AllFit vars g → entry (value_of_variable g x) f ≡ entry (value_of_variable g n) f
+
+-- the entry f of x is an older variable, nothing, or the entry f of a place of the start tree, in every valuation that is left
+abbrev pub LeadsTo : List Variable → ℕ → List ℕ → Found → Type 0
+LeadsTo vars x f (Known y) = (y < length vars) × ((g : Valuation) → IsSound g → AllFit vars g → entry (value_of_variable g x) f ≡ value_of_variable g y)
+LeadsTo vars x f Nothing = (g : Valuation) → IsSound g → AllFit vars g → entry (value_of_variable g x) f ≡ value.Absent
+LeadsTo vars x f (At n) = (n < length vars) × IsTrue (is_node (var_at vars n).definition) × SameEntry vars x f n

@@ -1,0 +1,14 @@
+pub mod Literals
+pub mod ClauseText
+pub mod Stands
+pub mod Variables
+pub mod Greatest
+pub mod Written
+pub mod Solved
+pub mod Shades
+pub mod Fresh
+pub mod Appends
+pub mod View
+pub mod Grown
+pub mod NewNames
+pub mod Pairs

@@ -1,0 +1,39 @@
+-- What a store stands for: pairs of a start tree and a valuation of the store's variables.
+use Rattle.std.specs.Prelude.{◌≡◌, ℕ, ◌<◌, ◌≤◌, List, length, take}
+use Rattle.feature_trees.specs.declared.value.Value.{Value}
+use Rattle.feature_trees.specs.declared.kind.Kind.TheVariants as kind
+use Rattle.feature_trees.specs.Tree.{entry, kind_of}
+use Rattle.clause_solver.specs.declared.clause.Literal.{Literal}
+use Rattle.clause_solver.specs.Literals.{Valuation, value_of_variable, MeetsAll, IsSound}
+
+-- a store is seen as the count of its variables, their literals, and the variable of the tree now; variable 0 is the start
+pub record Seen : Type 0 where
+  pub count : ℕ
+  pub literals : List Literal
+  pub current : ℕ
+
+-- the store stands for a start tree and a valuation: one value of the file tree for each variable, the start tree for
+-- variable 0, a directory there and for the tree now, and all literals met
+pub record Stands (s : Seen) (t : Value) (g : Valuation) : Type 0 where
+  pub counted : length g ≡ s.count
+  pub starts : value_of_variable g 0 ≡ t
+  pub tree : kind_of t ≡ kind.Dir
+  pub ends : kind_of (value_of_variable g s.current) ≡ kind.Dir
+  pub met : MeetsAll g s.literals
+  pub values : IsSound g
+
+-- some pair is left
+abbrev pub Alive : Seen → Type 0
+Alive s = (t : Value) × (g : Valuation) × Stands s t g
+
+-- the new store has the pairs of the old one, each valuation extended by values for the new variables
+pub record Extends (old new : Seen) : Type 0 where
+  pub more : old.count ≤ new.count
+  pub same : new.current ≡ old.current
+  pub down : (t : Value) (g : Valuation) → Stands new t g → Stands old t (take old.count g)
+  pub up : (t : Value) (g : Valuation) → Stands old t g → (h : Valuation) × Stands new t h × (take old.count h ≡ g)
+
+-- the variable y is the entry f of x, in every pair
+pub record HasEntry (s : Seen) (x : ℕ) (f : List ℕ) (y : ℕ) : Type 0 where
+  pub known : y < s.count
+  pub is : (t : Value) (g : Valuation) → Stands s t g → value_of_variable g y ≡ entry (value_of_variable g x) f

@@ -1,0 +1,21 @@
+-- How callers see a store, and what is true of every store.
+use Rattle.std.specs.Prelude.{◌≡◌, ℕ, ◌<◌, ◌≤◌, List, length}
+use Rattle.clause_solver.specs.declared.store.Store.TheInside.{Inside}
+use Rattle.clause_solver.specs.Stands.{Seen}
+use Rattle.clause_solver.specs.Variables.{Ordered, AlwaysDir, OnlyDir}
+use Rattle.clause_solver.specs.Greatest.{IsBest}
+use Rattle.clause_solver.specs.Written.{literals_from}
+
+-- the count of the variables, their literals, and the variable of the tree now
+abbrev pub seen : Inside → Seen
+seen a = record { count = length a.vars.items; literals = literals_from 0 a.vars.items; current = a.current }
+
+-- the variables stand in order, each with its greatest kind, and both the start and the tree now are directories
+pub record IsSettled (a : Inside) : Type 0 where
+  pub order : Ordered a.vars.items
+  pub same : length a.best.items ≡ length a.vars.items
+  pub best : IsBest a.vars.items a.best.items
+  pub small : length a.vars.items ≤ 4294967295
+  pub now_known : a.current < length a.vars.items
+  pub now_tree : AlwaysDir a.vars.items a.current
+  pub start_tree : OnlyDir a.vars.items 0

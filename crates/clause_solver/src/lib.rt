@@ -1,0 +1,19 @@
+//! Clauses over the variables of feature trees, what a clause covers, and stores of start trees.
+//! It stands on feature_trees and script_names. Begin with `clause`, and with specs/Literals.antt for what a literal says;
+//! then `store`, and specs/Stands.antt for what a store stands for.
+#![tactic(auto)]
+
+mod appended;
+mod clause;
+mod greatest;
+mod literals;
+mod store;
+mod text;
+mod variable;
+
+pub use clause::{Clause, Literal, Var};
+pub use store::Store;
+pub use text::{print_clause, put_clause};
+
+#[cfg(test)]
+mod text_tests;

@@ -1,0 +1,163 @@
+ghost use Rattle.std.specs.Prelude.{◌≡◌, ℕ, ◌+◌, ◌<◌, ◌≤◌, ◌↔◌, List, [], ◌∷◌, length, take, IsTrue, IfOk, OnErr};
+ghost use Rattle.feature_trees.specs.declared.value.Value.{Value};
+ghost use Rattle.feature_trees.specs.Kinds.{has};
+ghost use Rattle.feature_trees.specs.Tree.{entry, kind_of};
+ghost use Rattle.feature_trees.specs.Sound.{IsTree};
+ghost use Rattle.clause_solver.specs.Literals.{Valuation, value_of_variable, Covers};
+ghost use Rattle.clause_solver.specs.Solved.{IsSolved};
+ghost use Rattle.clause_solver.specs.Stands.{Seen, Stands, Alive, Extends, HasEntry};
+ghost use Rattle.clause_solver.specs.Variables.{limited};
+
+use crate::appended::{Found, append, find, resolve};
+use crate::clause::{Clause, Var};
+use crate::greatest::decide;
+use crate::literals::write_literals;
+use crate::variable::{Definition, MadeValue, Variable};
+use feature_trees::{Kind, Kinds};
+use script_names::{Copied, Memory, Name};
+use std::alloc::Global;
+use std::marker::Model;
+
+/// A set of pairs of a start tree and a tree now, by values for variables: each variable is defined from earlier ones,
+/// so that a start tree decides the values of all.
+#[derive(Debug, Drop)]
+pub struct Store {
+    vars: Vec<Variable>,
+    best: Vec<Kind>,
+    current: u32,
+}
+
+impl Model for Store {
+    ghost use Rattle.clause_solver.specs.Stands.{Seen};
+
+    ghost Value = { Seen };
+
+    ghost use Rattle.clause_solver.specs.View.{seen, IsSettled};
+
+    ghost view = { seen };
+
+    ghost invariant = { IsSettled };
+}
+
+impl Store {
+    /// All start trees, each with itself as the tree now, which is variable 0.
+    pub fn start(alloc: Global) -> Result<Store, Memory>
+        ensures seen { IfOk result (λ s. (s.count ≡ 1) × (s.current ≡ 0)) }
+        ensures pairs { IfOk result (λ s. (t : Value) (g : Valuation) → Stands s t g ↔ ((g ≡ t ∷ []) × IsTree t)) }
+    {
+        let mut vars = Vec::new(alloc);
+        vars.push(Variable {
+            definition: Definition::Start,
+            kinds: Kinds::of(Kind::Dir),
+            fence: None,
+            not_empty: false,
+        })?;
+        let mut best = Vec::new(alloc);
+        best.push(Kind::Dir)?;
+        Ok(Store {
+            vars,
+            best,
+            current: 0,
+        })
+    }
+
+    /// The variable of the tree now. For each start tree the store has one valuation at most.
+    pub fn now(&self) -> Var
+        ensures now { result.0 ≡ self.now.current }
+        ensures known { result.0 < self.now.count }
+        ensures unique { (t : Value) (g h : Valuation) → Stands self.now t g → Stands self.now t h → g ≡ h }
+    {
+        Var(self.current)
+    }
+
+    /// Limits a variable to a set of kinds, and says whether a pair is left. It takes no memory.
+    pub fn limit(&mut self, x: Var, k: Kinds) -> bool
+        requires { x.0 < self.old.count }
+        ensures kept { (self.new.count ≡ self.old.count) × (self.new.current ≡ self.old.current) }
+        ensures exact { (t : Value) (g : Valuation) → Stands self.new t g ↔ (Stands self.old t g × IsTrue (has k (kind_of (value_of_variable g x.0)))) }
+        ensures alive { IsTrue result ↔ Alive self.new }
+    {
+        narrow(&mut self.vars, x.0 as usize, k);
+        decide(&self.vars, &mut self.best)
+    }
+
+    /// The variable of an entry; it may be an older one. For want of memory the store is as before.
+    pub fn child(&mut self, x: Var, f: &Name) -> Result<Var, Memory>
+        requires { x.0 < self.old.count }
+        ensures extends { Extends self.old self.new }
+        ensures entry { IfOk result (λ y. HasEntry self.new x.0 f.now y.0) }
+        ensures kept { OnErr result (self.new ≡ self.old) }
+        ensures count { self.new.count ≤ self.old.count + 1 }
+    {
+        f.known();
+        match resolve(&self.vars, x.0, f) {
+            Found::Known(y) => Ok(Var(y)),
+            Found::Nothing => {
+                let made = Definition::Made(MadeValue::Absent);
+                let y = match append(&mut self.vars, &mut self.best, made) {
+                    Ok(y) => y,
+                    Err(e) => return Err(e),
+                };
+                Ok(Var(y))
+            }
+            Found::At(n) => {
+                if let Some(y) = find(&self.vars, n, f) {
+                    return Ok(Var(y));
+                }
+                let alloc = *self.vars.allocator();
+                let name = f.copy(alloc)?;
+                let y = match append(&mut self.vars, &mut self.best, Definition::Child(n, name)) {
+                    Ok(y) => y,
+                    Err(e) => return Err(e),
+                };
+                Ok(Var(y))
+            }
+        }
+    }
+
+    /// A clause in solved order with the same pairs: variable 0 is its start, and the tree now its `now`.
+    pub fn clause(&self) -> Result<Clause, Memory>
+        ensures seen { IfOk result (λ c. (c.literals ≡ self.now.literals) × (c.start.0 ≡ 0) × (c.now.0 ≡ self.now.current)) }
+        ensures covers { IfOk result (λ c. (t u : Value) → Covers c t u ↔ ((g : Valuation) × Stands self.now t g × (value_of_variable g self.now.current ≡ u))) }
+        ensures solved { IfOk result IsSolved }
+    {
+        let alloc = *self.vars.allocator();
+        let literals = match write_literals(alloc, &self.vars) {
+            Ok(literals) => literals,
+            Err(e) => return Err(e),
+        };
+        Ok(Clause {
+            literals,
+            start: Var(0),
+            now: Var(self.current),
+        })
+    }
+}
+
+// Limits the variable at a place to a set of kinds.
+fn narrow(vars: &mut [Variable], x: usize, k: Kinds)
+    requires { x < length vars.old }
+    ensures { vars.new ≡ limited vars.old x k }
+{
+    let both = Kinds::both(vars[x].kinds, k);
+    vars[x].kinds = both;
+}
+
+impl Copied for Store {
+    fn copy(&self, alloc: Global) -> Result<Store, Memory> {
+        let mut vars = Vec::new(alloc);
+        for v in &self.vars {
+            let twin = v.copy(alloc)?;
+            vars.push(twin)?;
+        }
+        let mut best = Vec::new(alloc);
+        for k in &self.best {
+            best.push(*k)?;
+        }
+        Ok(Store {
+            vars,
+            best,
+            current: self.current,
+        })
+    }
+}

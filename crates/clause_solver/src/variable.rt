@@ -1,0 +1,76 @@
+ghost use Rattle.std.specs.Prelude.{◌≡◌};
+
+use feature_trees::Kinds;
+use script_names::{Bytes, Copied, List, Memory, Name};
+use std::alloc::Global;
+
+/// A value that a program makes.
+#[derive(Debug, Drop)]
+pub(crate) enum MadeValue {
+    Absent,
+    Reg,
+    Link(Bytes),
+    /// The directory without entries.
+    Dir,
+}
+
+/// How a variable is defined from earlier ones, which are given by their numbers.
+#[derive(Debug, Drop)]
+pub(crate) enum Definition {
+    /// The start tree.
+    Start,
+    /// The entry of that name of a place of the start tree.
+    Child(u32, Name),
+    /// The directory with the entries of the first variable, but under that name the value of the second.
+    Derived(u32, Name, u32),
+    /// The directory with the entries of a variable.
+    Ensured(u32),
+    Made(MadeValue),
+}
+
+/// A variable of a store: its definition, and what is known of its value.
+#[derive(Debug, Drop)]
+pub(crate) struct Variable {
+    pub(crate) definition: Definition,
+    pub(crate) kinds: Kinds,
+    /// The only names that its entries may have. Places of the start tree alone have a fence.
+    pub(crate) fence: Option<List<Name>>,
+    /// Whether it has an entry.
+    pub(crate) not_empty: bool,
+}
+
+impl Copied for MadeValue {
+    fn copy(&self, alloc: Global) -> Result<MadeValue, Memory> {
+        match self {
+            MadeValue::Absent => Ok(MadeValue::Absent),
+            MadeValue::Reg => Ok(MadeValue::Reg),
+            MadeValue::Link(target) => Ok(MadeValue::Link(target.copy(alloc)?)),
+            MadeValue::Dir => Ok(MadeValue::Dir),
+        }
+    }
+}
+
+impl Copied for Definition {
+    fn copy(&self, alloc: Global) -> Result<Definition, Memory> {
+        match self {
+            Definition::Start => Ok(Definition::Start),
+            Definition::Child(of, name) => Ok(Definition::Child(*of, name.copy(alloc)?)),
+            Definition::Derived(of, name, value) => Ok(Definition::Derived(*of, name.copy(alloc)?, *value)),
+            Definition::Ensured(of) => Ok(Definition::Ensured(*of)),
+            Definition::Made(value) => Ok(Definition::Made(value.copy(alloc)?)),
+        }
+    }
+}
+
+impl Copied for Variable {
+    fn copy(&self, alloc: Global) -> Result<Variable, Memory> {
+        let definition = self.definition.copy(alloc)?;
+        let fence = self.fence.copy(alloc)?;
+        Ok(Variable {
+            definition,
+            kinds: self.kinds,
+            fence,
+            not_empty: self.not_empty,
+        })
+    }
+}

@@ -1,0 +1,37 @@
+-- Sets of kinds.
+use Rattle.std.specs.Prelude.{Bool, true, false, ◌&&◌, ◌||◌}
+use Rattle.feature_trees.specs.declared.kind.Kind.{Kind}
+use Rattle.feature_trees.specs.declared.kind.Kind.TheVariants.{Absent, Reg, Link, Other, Dir}
+use Rattle.feature_trees.specs.declared.kind.Kinds.{Kinds}
+
+-- whether a kind is in a set
+abbrev pub has : Kinds → Kind → Bool
+has s Absent = s.absent
+has s Reg = s.reg
+has s Link = s.link
+has s Other = s.other
+has s Dir = s.dir
+
+-- the empty set
+abbrev pub none : Kinds
+none = record { absent = false; reg = false; link = false; other = false; dir = false }
+
+-- the set of one kind alone
+abbrev pub of : Kind → Kinds
+of Absent = record none { absent = true }
+of Reg = record none { reg = true }
+of Link = record none { link = true }
+of Other = record none { other = true }
+of Dir = record none { dir = true }
+
+-- the set of all kinds
+abbrev pub all : Kinds
+all = record { absent = true; reg = true; link = true; other = true; dir = true }
+
+-- the kinds that are in both sets
+abbrev pub both : Kinds → Kinds → Kinds
+both a b = record { absent = a.absent && b.absent; reg = a.reg && b.reg; link = a.link && b.link; other = a.other && b.other; dir = a.dir && b.dir }
+
+-- the kinds that are in one of two sets, or in both
+abbrev pub either : Kinds → Kinds → Kinds
+either a b = record { absent = a.absent || b.absent; reg = a.reg || b.reg; link = a.link || b.link; other = a.other || b.other; dir = a.dir || b.dir }

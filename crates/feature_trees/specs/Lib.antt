@@ -1,0 +1,10 @@
+pub mod Kinds
+pub mod Shape
+pub mod View
+pub mod Tree
+pub mod Place
+pub mod Sound
+pub mod Falls
+pub mod Laws
+pub mod Show
+pub mod TreeText
