@@ -1,4 +1,4 @@
-use Rattle.std.proofs.Common.{◌≡◌, ◌≤◌, ◌-◌, length, arith}
+use Rattle.std.proofs.Common.{arith}
 use Rattle.shell_words.proofs.Trims.{trim-more, trim-end}
 use Rattle.shell_words.proofs.trim.trimmed_len.Goals as goal
 
