@@ -1,4 +1,4 @@
-ghost use Rattle.std.specs.Prelude.{◌≡◌, [], ◌∷◌, ◌++◌, ◌↔◌, length, IfOk, OnOk, OnErr, IsTrue};
+ghost use Rattle.std.specs.Prelude.{◌≡◌, [], ◌∷◌, ◌++◌, ◌↔◌, length, take, IfOk, OnOk, OnErr, IsTrue};
 
 use crate::copied::Copied;
 use crate::memory::Memory;
@@ -75,6 +75,13 @@ impl Bytes {
     {
         self.bytes.extend_from_slice(more)?;
         Ok(())
+    }
+
+    /// The first `len` bytes alone; all of them, where there are no more.
+    pub fn truncate(&mut self, len: usize)
+        ensures { self.new ≡ take len self.old }
+    {
+        self.bytes.truncate(len);
     }
 
     /// Whether the bytes are the same.

@@ -3,4 +3,5 @@ pub mod Named
 pub mod Patterns
 pub mod Pieces
 pub mod Runs
+pub mod Trimmed
 pub mod Words

@@ -9,12 +9,14 @@ mod letter;
 mod pattern;
 mod piece;
 mod run;
+mod trim;
 
 pub use env::Env;
 pub use fault::WordFault;
 pub use field::{a_run_cuts_once, fields, join};
 pub use pattern::matches;
 pub use piece::Piece;
+pub use trim::trim_newlines;
 
 #[cfg(test)]
 mod tests;

@@ -2,7 +2,7 @@
 //! In a row `<..>` is a split piece, `".."` a quoted one and anything else plain; `_` is a newline, `~` a tab,
 //! `%` a carriage return, and `#` stands for 65,535 times `a`. `|` ends a column.
 
-use crate::{Env, Piece, WordFault, fields, join, matches};
+use crate::{Env, Piece, WordFault, fields, join, matches, trim_newlines};
 use script_names::{Bytes, Copied, List, Memory};
 use std::alloc::Global;
 use std::test::Fail;
@@ -294,6 +294,23 @@ a<\\*>|a*|pattern
 [a-c][c-a]|zz|pattern
 ";
 
+// What a command substitution wrote, and what is left of it.
+const OUTPUTS: &str = "\
+|
+a|a
+a_|a
+a__|a
+_|
+___|
+_a|_a
+_a_|_a
+a_b|a_b
+a_b__|a_b
+a_ _|a_ 
+a %_|a %
+a~_|a~
+";
+
 // The columns of a row.
 fn columns(alloc: Global, row: &str) -> Result<Vec<&str>, Memory> {
     let mut out = Vec::new(alloc);
@@ -440,6 +457,20 @@ fn patterns_match(rt: HostRuntime) -> Result<(), Fail> {
             Err(fault) => fault_text(fault),
         };
         assert!(rt; got == columns[2].as_bytes(), "{row}");
+    }
+    Ok(())
+}
+
+#[test]
+fn newlines_at_the_end_are_trimmed(rt: HostRuntime) -> Result<(), Fail> {
+    let alloc = rt.alloc();
+    for row in OUTPUTS.lines() {
+        let columns = columns(alloc, row)?;
+        assert_eq!(rt; columns.len(), 2);
+        let mut got = bytes_of(alloc, columns[0])?;
+        let want = bytes_of(alloc, columns[1])?;
+        trim_newlines(&mut got);
+        assert!(rt; got.equal(&want), "{row}");
     }
     Ok(())
 }
