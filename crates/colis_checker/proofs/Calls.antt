@@ -1,0 +1,217 @@
+-- The clauses of a call, from what it has to say and how that was written.
+use Rattle.std.proofs.Common.{◌≡◌, ◌⊎◌, ℕ, zero, suc, ◌<◌, ◌≤◌, List, [], ◌∷◌, Option, Some, None, Result, Ok, Err, IfSome, refl, sym, ◌∙◌, subst, inl, inr, arith}
+use Rattle.checker_io.specs.Faults.{Rose}
+use Rattle.checker_io.specs.Shelf.{Files, ShelfState}
+use Rattle.checker_io.specs.Sink.{SinkState, Took, TookPrefix}
+use Rattle.colis_checker.specs.declared.faults.InputFile.{InputFile}
+use Rattle.colis_checker.specs.declared.faults.Refusal.{Refusal}
+use Rattle.colis_checker.specs.declared.faults.Refusal.TheVariants.{Usage}
+use Rattle.colis_checker.specs.declared.request.Request.{Request}
+use Rattle.colis_checker.specs.declared.package_files.Job.{Job}
+use Rattle.colis_checker.specs.declared.deliver.Reply.{Reply}
+use Rattle.colis_checker.specs.declared.deliver.Reply.TheVariants.{Text, Refused, ReadFailed, NoMemory}
+use Rattle.checker_io.specs.Reading.{Asking, answer, Answers}
+use Rattle.colis_checker.specs.Input.{input, file_name}
+use Rattle.colis_checker.specs.ErrorLines.{refusal_line, write_failed_line, no_memory_line}
+use Rattle.colis_checker.specs.Delivery.{LineEnds, NoMemoryEnds, Delivers}
+use Rattle.colis_checker.specs.Top.{IsReportText, IsRefusal, IsRefusalLine, IsReadFailedLine, Replies, IsLine, Reported, SaidRefusal, SaidReadFailed, TextFailed, LineFailed, FailedToWrite, RanOut, NoneRose, Completes}
+use Rattle.colis_checker.proofs.Took.{took_none}
+
+-- words that fit no form
+pub usage_said : (given : Result Request ℕ) (holds : Option Files) (word : ℕ) (line : List ℕ) → given ≡ Err word
+    → line ≡ refusal_line (λ _. []) (Usage word) → IsRefusalLine given holds line
+usage_said given holds word line e is =
+    let P : Result Request ℕ → Type 0 = λ r. IsRefusalLine r holds line in
+    subst P (sym e) (record { refusal = Usage word; is_refusal = refl; line_is = is })
+
+text_small : {given : Result Request ℕ} {holds : Option Files} {text : List ℕ} {status : ℕ} → IsReportText given holds text status → status ≤ 2
+text_small is = is.of_job.small
+
+same_none : (old new : SinkState) → new ≡ old → Took old.taken new.taken []
+same_none old new e = let P : SinkState → Type 0 = λ s. Took old.taken s.taken [] in subst P (sym e) (took_none old.taken)
+
+-- the status after a line is the given one, or 5 or 6
+line_status : (old new : SinkState) (line : List ℕ) (given status : ℕ) → LineEnds old new line given status
+    → (status ≡ given) ⊎ ((status ≡ 5) ⊎ (status ≡ 6))
+line_status old new line given status (inl ends) = inl ends.0
+line_status old new line given status (inr (inl ends)) = inr (inl ends.0)
+line_status old new line given status (inr (inr ends)) = inr (inr ends.0)
+
+line_high : (old new : SinkState) (line : List ℕ) (given status : ℕ) → LineEnds old new line given status → 3 ≤ given → given ≤ 6
+    → (3 ≤ status) × (status ≤ 6)
+line_high old new line given status ends low high =
+    elim (line_status old new line given status ends) [ inl a ↦ (omega arith, omega arith) | inr b ↦ elim b [ inl c ↦ (omega arith, omega arith) | inr d ↦ (omega arith, omega arith) ] ]
+
+-- below 5, the line was taken
+line_taken : (old new : SinkState) (line : List ℕ) (given status : ℕ) → LineEnds old new line given status → status < 5 → Took old.taken new.taken line
+line_taken old new line given status (inl ends) lt = ends.1
+line_taken old new line given status (inr (inl ends)) lt = absurd (omega arith)
+line_taken old new line given status (inr (inr ends)) lt = absurd (omega arith)
+
+-- at 6, a part of it was
+line_part : (old new : SinkState) (line : List ℕ) (given status : ℕ) → LineEnds old new line given status → status ≡ 6 → given ≤ 5 → TookPrefix old.taken new.taken line
+line_part old new line given status (inl ends) is le = absurd (omega arith)
+line_part old new line given status (inr (inl ends)) is le = absurd (omega arith)
+line_part old new line given status (inr (inr ends)) is le = ends.1
+
+-- at 5, where the line's own status is another, the sink failed
+line_failed : (old new : SinkState) (line : List ℕ) (given status : ℕ) → LineEnds old new line given status → status ≡ 5 → given < 5
+    → Rose old.faults new.faults × TookPrefix old.taken new.taken line
+line_failed old new line given status (inl ends) is lt = absurd (omega arith)
+line_failed old new line given status (inr (inl ends)) is lt = (ends.1, ends.2)
+line_failed old new line given status (inr (inr ends)) is lt = absurd (omega arith)
+
+-- at 5, for the line that says so
+said_failed : (old new : SinkState) (line : List ℕ) (status : ℕ) → LineEnds old new line 5 status → status ≡ 5
+    → Took old.taken new.taken line ⊎ (Rose old.faults new.faults × TookPrefix old.taken new.taken line)
+said_failed old new line status (inl ends) is = inl ends.1
+said_failed old new line status (inr (inl ends)) is = inr (ends.1, ends.2)
+said_failed old new line status (inr (inr ends)) is = absurd (omega arith)
+
+module _ (given : Result Request ℕ) (s0 s1 : ShelfState) (o0 o1 e0 e1 : SinkState) (status : ℕ) where
+  pub call_statuses : (reply : Reply) → Replies given s0 s1 reply → Delivers reply o0 o1 e0 e1 status → status ≤ 6
+  call_statuses (Text text verdict) says (inl ends) = omega (arith, text_small says.1)
+  call_statuses (Text text verdict) says (inr (inl ends)) = (line_high e0 e1 write_failed_line 5 status ends.2 (omega arith) (omega arith)).1
+  call_statuses (Text text verdict) says (inr (inr ends)) = omega arith
+  call_statuses (Refused line) says ends = (line_high e0 e1 line 3 status ends.1 (omega arith) (omega arith)).1
+  call_statuses (ReadFailed line) says ends = (line_high e0 e1 line 4 status ends.1 (omega arith) (omega arith)).1
+  call_statuses NoMemory says ends = omega arith
+
+  pub call_reported : (reply : Reply) → Replies given s0 s1 reply → Delivers reply o0 o1 e0 e1 status → status ≤ 2 → Reported given s0 o0 o1 e0 e1 status
+  call_reported (Text text verdict) says (inl ends) le =
+      let P : ℕ → Type 0 = λ n. IsReportText given s0.holds text n in
+      record { text = text; is_text = subst P (sym ends.0) says.1; taken = ends.1; silent = same_none e0 e1 ends.2 }
+  call_reported (Text text verdict) says (inr (inl ends)) le = let high = line_high e0 e1 write_failed_line 5 status ends.2 (omega arith) (omega arith) in absurd (omega arith)
+  call_reported (Text text verdict) says (inr (inr ends)) le = absurd (omega arith)
+  call_reported (Refused line) says ends le = let high = line_high e0 e1 line 3 status ends.1 (omega arith) (omega arith) in absurd (omega arith)
+  call_reported (ReadFailed line) says ends le = let high = line_high e0 e1 line 4 status ends.1 (omega arith) (omega arith) in absurd (omega arith)
+  call_reported NoMemory says ends le = absurd (omega arith)
+
+  -- a report's status is none of 3, 4, 5 and 6
+  not_reported : (n : ℕ) (text : List ℕ) (verdict : ℕ) → IsReportText given s0.holds text verdict → status ≡ verdict → status ≡ n → 2 < n → ⊥
+  not_reported n text verdict is e f lt = let small = text_small is in omega arith
+
+  not_line : (n k : ℕ) (line : List ℕ) → LineEnds e0 e1 line k status → status ≡ n → n < 5 → (k ≡ n → ⊥) → ⊥
+  not_line n k line ends is lt ne = elim (line_status e0 e1 line k status ends) [ inl a ↦ ne (sym a ∙ is) | inr b ↦ elim b [ inl c ↦ omega arith | inr d ↦ omega arith ] ]
+
+  pub call_refused : (reply : Reply) → Replies given s0 s1 reply → Delivers reply o0 o1 e0 e1 status → status ≡ 3 → SaidRefusal given s0 o0 o1 e0 e1
+  call_refused (Text text verdict) says (inl ends) is = absurd (not_reported 3 text verdict says.1 ends.0 is (omega arith))
+  call_refused (Text text verdict) says (inr (inl ends)) is = absurd (not_line 3 5 write_failed_line ends.2 is (omega arith) (λ e. omega arith))
+  call_refused (Text text verdict) says (inr (inr ends)) is = absurd (omega arith)
+  call_refused (Refused line) says ends is =
+      record { line = line; is_line = says.1; nothing = same_none o0 o1 ends.0; taken = line_taken e0 e1 line 3 status ends.1 (omega arith) }
+  call_refused (ReadFailed line) says ends is = absurd (not_line 3 4 line ends.1 is (omega arith) (λ e. omega arith))
+  call_refused NoMemory says ends is = absurd (omega arith)
+
+  pub call_read_failed : (reply : Reply) → Replies given s0 s1 reply → Delivers reply o0 o1 e0 e1 status → status ≡ 4 → SaidReadFailed given s0 s1 o0 o1 e0 e1
+  call_read_failed (Text text verdict) says (inl ends) is = absurd (not_reported 4 text verdict says.1 ends.0 is (omega arith))
+  call_read_failed (Text text verdict) says (inr (inl ends)) is = absurd (not_line 4 5 write_failed_line ends.2 is (omega arith) (λ e. omega arith))
+  call_read_failed (Text text verdict) says (inr (inr ends)) is = absurd (omega arith)
+  call_read_failed (Refused line) says ends is = absurd (not_line 4 3 line ends.1 is (omega arith) (λ e. omega arith))
+  call_read_failed (ReadFailed line) says ends is =
+      record { rose = says.0; line = line; is_line = says.1; nothing = same_none o0 o1 ends.0; taken = line_taken e0 e1 line 4 status ends.1 (omega arith) }
+  call_read_failed NoMemory says ends is = absurd (omega arith)
+
+  pub call_write_failed : (reply : Reply) → Replies given s0 s1 reply → Delivers reply o0 o1 e0 e1 status → status ≡ 5 → FailedToWrite given s0 s1 o0 o1 e0 e1
+  call_write_failed (Text text verdict) says (inl ends) is = absurd (not_reported 5 text verdict says.1 ends.0 is (omega arith))
+  call_write_failed (Text text verdict) says (inr (inl ends)) is =
+      inl (record { rose = ends.0; text = text; verdict = verdict; is_text = says.1; part = ends.1; said = said_failed e0 e1 _ status ends.2 is })
+  call_write_failed (Text text verdict) says (inr (inr ends)) is = absurd (omega arith)
+  call_write_failed (Refused line) says ends is =
+      let failed = line_failed e0 e1 line 3 status ends.1 is (omega arith) in
+      inr (record { rose = failed.0; line = line; is_line = inl says.1; nothing = same_none o0 o1 ends.0; part = failed.1 })
+  call_write_failed (ReadFailed line) says ends is =
+      let failed = line_failed e0 e1 line 4 status ends.1 is (omega arith) in
+      inr (record { rose = failed.0; line = line; is_line = inr (says.0, says.1); nothing = same_none o0 o1 ends.0; part = failed.1 })
+  call_write_failed NoMemory says ends is = absurd (omega arith)
+
+  pub call_ran_out : (reply : Reply) → Replies given s0 s1 reply → Delivers reply o0 o1 e0 e1 status → status ≡ 6 → RanOut given s0 s1 o0 o1 e0 e1
+  call_ran_out (Text text verdict) says (inl ends) is = absurd (not_reported 6 text verdict says.1 ends.0 is (omega arith))
+  call_ran_out (Text text verdict) says (inr (inl ends)) is = record {
+    text_part = inr (text, verdict, says.1, ends.1);
+    line = write_failed_line;
+    is_line = inr (inr (inl refl));
+    line_part = line_part e0 e1 _ 5 status ends.2 is (omega arith);
+  }
+  call_ran_out (Text text verdict) says (inr (inr ends)) is = record {
+    text_part = inr (text, verdict, says.1, ends.0);
+    line = no_memory_line;
+    is_line = inr (inr (inr refl));
+    line_part = ends.1.1;
+  }
+  call_ran_out (Refused line) says ends is = record {
+    text_part = inl (same_none o0 o1 ends.0);
+    line = line;
+    is_line = inl says.1;
+    line_part = line_part e0 e1 line 3 status ends.1 is (omega arith);
+  }
+  call_ran_out (ReadFailed line) says ends is = record {
+    text_part = inl (same_none o0 o1 ends.0);
+    line = line;
+    is_line = inr (inl (says.0, says.1));
+    line_part = line_part e0 e1 line 4 status ends.1 is (omega arith);
+  }
+  call_ran_out NoMemory says ends is = record {
+    text_part = inl (same_none o0 o1 ends.0);
+    line = no_memory_line;
+    is_line = inr (inr (inr refl));
+    line_part = ends.1.1;
+  }
+
+-- the seven statuses
+status_cases : (n : ℕ) → n ≤ 6 → (n ≤ 2) ⊎ ((n ≡ 3) ⊎ ((n ≡ 4) ⊎ ((n ≡ 5) ⊎ (n ≡ 6))))
+status_cases zero le = inl (omega arith)
+status_cases (suc zero) le = inl (omega arith)
+status_cases (suc (suc zero)) le = inl (omega arith)
+status_cases (suc (suc (suc zero))) le = inr (inl refl)
+status_cases (suc (suc (suc (suc zero)))) le = inr (inr (inl refl))
+status_cases (suc (suc (suc (suc (suc zero))))) le = inr (inr (inr (inl refl)))
+status_cases (suc (suc (suc (suc (suc (suc n)))))) le = inr (inr (inr (inr (omega arith))))
+
+-- an answer is not also a refusal
+told_ok : (holds : Option Files) (names : InputFile → List ℕ) (plan : Asking InputFile Refusal Job) (job : Job) (refusal : Refusal) (Q : Type 0)
+    → IfSome holds (λ files. answer (λ file. files (names file)) plan ≡ Err refusal)
+    → IfSome holds (λ files. answer (λ file. files (names file)) plan ≡ Ok job → Q)
+told_ok None names plan job refusal Q told = tt
+told_ok (Some files) names plan job refusal Q told = λ other. absurd (cc)
+
+told_err : (holds : Option Files) (names : InputFile → List ℕ) (plan : Asking InputFile Refusal Job) (job : Job) (refusal : Refusal) (Q : Type 0)
+    → IfSome holds (λ files. answer (λ file. files (names file)) plan ≡ Ok job)
+    → IfSome holds (λ files. answer (λ file. files (names file)) plan ≡ Err refusal → Q)
+told_err None names plan job refusal Q told = tt
+told_err (Some files) names plan job refusal Q told = λ other. absurd (cc)
+
+told_any : (holds : Option Files) (P Q : Files → Type 0) → ((files : Files) → Q files) → IfSome holds (λ files. P files → Q files)
+told_any None P Q q = tt
+told_any (Some files) P Q q = λ _. q files
+
+module _ (given : Result Request ℕ) (s0 s1 : ShelfState) (o0 o1 e0 e1 : SinkState) (status : ℕ)
+    (none : NoneRose s0 s1 o0 o1 e0 e1) (le : status ≤ 6)
+    (reported : status ≤ 2 → Reported given s0 o0 o1 e0 e1 status)
+    (refused : status ≡ 3 → SaidRefusal given s0 o0 o1 e0 e1)
+    (read_failed : status ≡ 4 → SaidReadFailed given s0 s1 o0 o1 e0 e1)
+    (write_failed : status ≡ 5 → FailedToWrite given s0 s1 o0 o1 e0 e1) where
+  not_failed : FailedToWrite given s0 s1 o0 o1 e0 e1 → ⊥
+  not_failed (inl text) = none.out text.rose
+  not_failed (inr line) = none.err line.rose
+
+  -- a refusal of a request was by its files
+  by_files : (request : Request) (refusal : Refusal) → given ≡ Ok request → IsRefusal given s0.holds refusal
+      → Answers (file_name request) s0.holds (input request) (Err refusal)
+  by_files request refusal e is = let P : Result Request ℕ → Type 0 = λ r. IsRefusal r s0.holds refusal in subst P e is
+
+  pub call_complete : Completes given s0 status
+  call_complete request job e = elim (status_cases status le) [
+    | inl a ↦ told_any s0.holds (λ _. _) (λ _. (status ≤ 2) ⊎ (status ≡ 6)) (λ _. inl a)
+    | inr b ↦ elim b [
+      | inl c ↦ told_ok s0.holds (file_name request) (input request) job (refused c).is_line.refusal _
+          (by_files request (refused c).is_line.refusal e (refused c).is_line.is_refusal).told
+      | inr d ↦ elim d [
+        | inl f ↦ absurd (none.shelf (read_failed f).rose)
+        | inr g ↦ elim g [
+          | inl h ↦ absurd (not_failed (write_failed h))
+          | inr i ↦ told_any s0.holds (λ _. _) (λ _. (status ≤ 2) ⊎ (status ≡ 6)) (λ _. inr i)
+        ]
+      ]
+    ]
+  ]

@@ -1,0 +1,29 @@
+-- What is written of a reply, and the status that it ends with.
+use Rattle.std.specs.Prelude.{◌≡◌, ◌⊎◌, ℕ, List}
+use Rattle.checker_io.specs.Faults.{Rose}
+use Rattle.checker_io.specs.Sink.{SinkState, Took, TookPrefix}
+use Rattle.colis_checker.specs.declared.deliver.Reply.{Reply}
+use Rattle.colis_checker.specs.declared.deliver.Reply.TheVariants.{Text, Refused, ReadFailed, NoMemory}
+use Rattle.checker_io.specs.Pieces.{TakesAll}
+use Rattle.colis_checker.specs.ErrorLines.{write_failed_line, no_memory_line}
+
+-- a line was written and the status is the given one, or a write failed, or memory was missing
+abbrev pub LineEnds : SinkState → SinkState → List ℕ → ℕ → ℕ → Type 0
+LineEnds old new line given status =
+    ((status ≡ given) × Took old.taken new.taken line)
+    ⊎ (((status ≡ 5) × Rose old.faults new.faults × TookPrefix old.taken new.taken line)
+    ⊎ ((status ≡ 6) × TookPrefix old.taken new.taken line))
+
+-- memory was missing, and the line that says so was written as far as it went
+abbrev pub NoMemoryEnds : SinkState → SinkState → ℕ → Type 0
+NoMemoryEnds old new status = (status ≡ 6) × TookPrefix old.taken new.taken no_memory_line
+
+-- what each reply leaves in the two sinks
+abbrev pub Delivers : Reply → SinkState → SinkState → SinkState → SinkState → ℕ → Type 0
+Delivers (Text text verdict) out0 out1 err0 err1 status =
+    ((status ≡ verdict) × Took out0.taken out1.taken text × (err1 ≡ err0))
+    ⊎ ((Rose out0.faults out1.faults × TookPrefix out0.taken out1.taken text × LineEnds err0 err1 write_failed_line 5 status)
+    ⊎ (TookPrefix out0.taken out1.taken text × NoMemoryEnds err0 err1 status))
+Delivers (Refused line) out0 out1 err0 err1 status = (out1 ≡ out0) × LineEnds err0 err1 line 3 status
+Delivers (ReadFailed line) out0 out1 err0 err1 status = (out1 ≡ out0) × LineEnds err0 err1 line 4 status
+Delivers NoMemory out0 out1 err0 err1 status = (out1 ≡ out0) × NoMemoryEnds err0 err1 status

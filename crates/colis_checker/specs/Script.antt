@@ -1,0 +1,92 @@
+-- A script of one command a line: the first line names the shell, the second sets the strict flag.
+use Rattle.std.specs.Prelude.{◌≡◌, ℕ, ◌+◌, List, [], ◌∷◌, length, take, drop, Bool, ◌&&◌, ◌||◌, Option, Some, None, option_map, Result, Ok, Err, codes, ◌==◌, true, false, nat_le, if◌then◌else◌}
+use Rattle.std.specs.List.{list_all}
+use Rattle.std.specs.Str.{bytes_eq}
+use Rattle.script_names.specs.Names.{is_name}
+use Rattle.script_names.specs.Paths.{PathParts}
+use Rattle.utility_calls.specs.declared.act.Act.TheVariants.{Exists, IsDir}
+use Rattle.utility_calls.specs.declared.act.Planned.{Planned}
+use Rattle.utility_calls.specs.declared.act.Planned.TheVariants.{Known, Ask}
+use Rattle.shell_rules.specs.declared.command.Command.{Command}
+use Rattle.colis_checker.specs.declared.script.ScriptFault.{ScriptFault}
+use Rattle.colis_checker.specs.declared.script.ScriptFault.TheVariants.{Line, Memory}
+
+-- a byte in front of the first of these
+abbrev pub onto_first : ℕ → List (List ℕ) → List (List ℕ)
+onto_first b [] = (b ∷ []) ∷ []
+onto_first b (line ∷ lines) = (b ∷ line) ∷ lines
+
+-- the lines of a text, of which the last may lack its newline
+abbrev pub lines_of : List ℕ → List (List ℕ)
+lines_of [] = []
+lines_of (b ∷ bs) = if b == 10 then [] ∷ lines_of bs else onto_first b (lines_of bs)
+
+-- what stands between the slashes of a word, before the first and after the last too
+abbrev pub components_of : List ℕ → List (List ℕ)
+components_of [] = [] ∷ []
+components_of (b ∷ bs) = if b == 47 then [] ∷ components_of bs else onto_first b (components_of bs)
+
+-- a letter, a digit, `.`, `_` or `-`
+abbrev pub is_portable_byte : ℕ → Bool
+is_portable_byte b =
+    (nat_le 97 b && nat_le b 122) || (nat_le 65 b && nat_le b 90) || (nat_le 48 b && nat_le b 57) || (b == 46) || (b == 95) || (b == 45)
+
+-- a name of these bytes alone (POSIX.1-2017, Base Definitions, 3.282 Portable Filename Character Set)
+abbrev pub is_portable_name : List ℕ → Bool
+is_portable_name name = is_name name && list_all is_portable_byte name
+
+-- 1 to 64 such names
+abbrev pub are_path_names : List (List ℕ) → Bool
+are_path_names names = nat_le 1 (length names) && nat_le (length names) 64 && list_all is_portable_name names
+
+-- these names, where they are those of a path
+abbrev pub path_names : List (List ℕ) → Option (List (List ℕ))
+path_names names = if are_path_names names then Some names else None
+
+-- the names of a path, given the components of its word: nothing stands before the first slash
+abbrev pub names_of_components : List (List ℕ) → Option (List (List ℕ))
+names_of_components [] = None
+names_of_components ([] ∷ names) = path_names names
+names_of_components ((b ∷ bs) ∷ names) = None
+
+-- the path that a word spells: a slash and 1 to 64 names joined by slashes
+abbrev pub path_of_word : List ℕ → Option PathParts
+path_of_word word = option_map (λ names. record { names = names; slash = false }) (names_of_components (components_of word))
+
+-- The call of a line: `true` succeeds, `false` fails, `test -e P` and `test -d P` ask the tree, and no other line is one.
+abbrev pub call_of : List ℕ → Option Planned
+call_of line =
+    if bytes_eq line (codes "true") then Some (Known true)
+    else (if bytes_eq line (codes "false") then Some (Known false)
+    else (if bytes_eq (take 8 line) (codes "test -e ") then option_map (λ path. Ask (Exists path) false) (path_of_word (drop 8 line))
+    else (if bytes_eq (take 8 line) (codes "test -d ") then option_map (λ path. Ask (IsDir path) false) (path_of_word (drop 8 line))
+    else None)))
+
+-- the command of a line that begins at a place, in front of those of the later lines; the first line without one decides
+abbrev pub command_then : ℕ → Option Planned → Result (List Command) ℕ → Result (List Command) ℕ
+command_then place None rest = Err place
+command_then place (Some call) (Ok commands) = Ok (record { at = place; call = call } ∷ commands)
+command_then place (Some call) (Err later) = Err later
+
+-- the commands of lines, of which the first begins at a place; or the place of the first line that is no command
+abbrev pub commands_of : ℕ → List (List ℕ) → Result (List Command) ℕ
+commands_of place [] = Ok []
+commands_of place (line ∷ lines) = command_then place (call_of line) (commands_of (place + length line + 1) lines)
+
+-- the commands of a script with these lines and so many bytes, or the place of the first line that is not of the form;
+-- a line that is missing stands at the end; the first line has 10 bytes with its newline, the first two have 17
+abbrev pub script_lines : ℕ → List (List ℕ) → Result (List Command) ℕ
+script_lines end [] = Err end
+script_lines end (first ∷ []) = if bytes_eq first (codes "#!/bin/sh") then Err end else Err 0
+script_lines end (first ∷ second ∷ lines) =
+    if bytes_eq first (codes "#!/bin/sh") then (if bytes_eq second (codes "set -e") then commands_of 17 lines else Err 10) else Err 0
+
+-- the commands of a script, or the place of the first line that is not of the form
+abbrev pub script_of : List ℕ → Result (List Command) ℕ
+script_of text = script_lines (length text) (lines_of text)
+
+-- what reading a script answers: its commands, or the place of that line, or want of memory
+abbrev pub ScriptGives : Result (List Command) ℕ → Result (List Command) ScriptFault → Type 0
+ScriptGives wanted (Ok commands) = wanted ≡ Ok commands
+ScriptGives wanted (Err (Line place)) = wanted ≡ Err place
+ScriptGives wanted (Err Memory) = Unit {0}

@@ -1,0 +1,144 @@
+-- What a call answers, by its words, the shelf and the two sinks.
+use Rattle.std.specs.Prelude.{◌≡◌, ◌⊎◌, ℕ, ◌≤◌, List, [], ◌∷◌, Option, Result, Ok, Err, IfSome}
+use Rattle.checker_io.specs.Faults.{Rose}
+use Rattle.checker_io.specs.Shelf.{Files, ShelfState, IsQuiet}
+use Rattle.checker_io.specs.Sink.{SinkState, Took, TookPrefix}
+use Rattle.colis_checker.specs.declared.faults.InputFile.{InputFile}
+use Rattle.colis_checker.specs.declared.faults.Refusal.{Refusal}
+use Rattle.colis_checker.specs.declared.faults.Refusal.TheVariants.{Usage}
+use Rattle.colis_checker.specs.declared.request.Request.{Request}
+use Rattle.colis_checker.specs.declared.package_files.Job.{Job}
+use Rattle.colis_checker.specs.declared.outcome_report.Report.{Report}
+use Rattle.colis_checker.specs.declared.deliver.Reply.{Reply}
+use Rattle.colis_checker.specs.declared.deliver.Reply.TheVariants.{Text, Refused, ReadFailed, NoMemory}
+use Rattle.checker_io.specs.Reading.{Answers, Asks, answer}
+use Rattle.colis_checker.specs.Input.{input, file_name}
+use Rattle.colis_checker.specs.OutcomeReport.{AllParts, verdict_of}
+use Rattle.colis_checker.specs.ReportText.{report_text}
+use Rattle.colis_checker.specs.ErrorLines.{refusal_line, read_failed_line, write_failed_line, no_memory_line}
+
+-- the text is that of a report that is exact for the job, and the status is its verdict
+pub record IsTextOf (job : Job) (text : List ℕ) (status : ℕ) : Type 0 where
+  pub report : Report
+  pub parts : AllParts (job ∷ []) report.parts
+  pub text_is : text ≡ report_text report
+  pub status_is : status ≡ verdict_of report
+  pub small : status ≤ 2
+
+-- In what follows the words were understood as given: a request, or the number of the word at which they are no command line.
+
+-- the same of the job that the request reads
+pub record IsReportText (given : Result Request ℕ) (holds : Option Files) (text : List ℕ) (status : ℕ) : Type 0 where
+  pub request : Request
+  pub spelled : given ≡ Ok request
+  pub job : Job
+  pub read : Answers (file_name request) holds (input request) (Ok job)
+  pub of_job : IsTextOf job text status
+
+-- the refusal that the words, or else the files, are answered with
+abbrev pub IsRefusal : Result Request ℕ → Option Files → Refusal → Type 0
+IsRefusal (Err word) holds refusal = refusal ≡ Usage word
+IsRefusal (Ok request) holds refusal = Answers (file_name request) holds (input request) (Err refusal)
+
+-- the names of the files that are read
+abbrev pub names_of : Result Request ℕ → InputFile → List ℕ
+names_of (Err word) file = []
+names_of (Ok request) file = file_name request file
+
+-- the line says why the words or the files are refused
+pub record IsRefusalLine (given : Result Request ℕ) (holds : Option Files) (line : List ℕ) : Type 0 where
+  pub refusal : Refusal
+  pub is_refusal : IsRefusal given holds refusal
+  pub line_is : line ≡ refusal_line (names_of given) refusal
+
+-- the line says that a file which the words ask for was not read
+pub record IsReadFailedLine (given : Result Request ℕ) (holds : Option Files) (failed line : List ℕ) : Type 0 where
+  pub request : Request
+  pub spelled : given ≡ Ok request
+  pub file : InputFile
+  pub asked : Asks (file_name request) holds (input request) file
+  pub failed_is : failed ≡ file_name request file
+  pub line_is : line ≡ read_failed_line (file_name request) file
+
+-- what a call has to say
+abbrev pub Replies : Result Request ℕ → ShelfState → ShelfState → Reply → Type 0
+Replies given old new (Text text verdict) = IsQuiet old new × IsReportText given old.holds text verdict
+Replies given old new (Refused line) = IsQuiet old new × IsRefusalLine given old.holds line
+Replies given old new (ReadFailed line) = Rose old.faults new.faults × IsReadFailedLine given old.holds new.failed line
+Replies given old new NoMemory = Unit {0}
+
+-- a line that may be written in this call
+abbrev pub IsLine : Result Request ℕ → ShelfState → ShelfState → List ℕ → Type 0
+IsLine given old new line =
+    IsRefusalLine given old.holds line
+    ⊎ ((Rose old.faults new.faults × IsReadFailedLine given old.holds new.failed line)
+    ⊎ ((line ≡ write_failed_line) ⊎ (line ≡ no_memory_line)))
+
+-- Status 0, 1 or 2: the whole text was taken, and nothing else was written.
+pub record Reported (given : Result Request ℕ) (shelf : ShelfState) (out0 out1 err0 err1 : SinkState) (status : ℕ) : Type 0 where
+  pub text : List ℕ
+  pub is_text : IsReportText given shelf.holds text status
+  pub taken : Took out0.taken out1.taken text
+  pub silent : Took err0.taken err1.taken []
+
+-- Status 3: the one line of the first refusal was taken.
+pub record SaidRefusal (given : Result Request ℕ) (shelf : ShelfState) (out0 out1 err0 err1 : SinkState) : Type 0 where
+  pub line : List ℕ
+  pub is_line : IsRefusalLine given shelf.holds line
+  pub nothing : Took out0.taken out1.taken []
+  pub taken : Took err0.taken err1.taken line
+
+-- Status 4: the shelf's count rose by a file that the words ask for, and its line was taken.
+pub record SaidReadFailed (given : Result Request ℕ) (shelf0 shelf1 : ShelfState) (out0 out1 err0 err1 : SinkState) : Type 0 where
+  pub rose : Rose shelf0.faults shelf1.faults
+  pub line : List ℕ
+  pub is_line : IsReadFailedLine given shelf0.holds shelf1.failed line
+  pub nothing : Took out0.taken out1.taken []
+  pub taken : Took err0.taken err1.taken line
+
+-- Status 5, first case: the sink of the text failed, and no refusal applies.
+pub record TextFailed (given : Result Request ℕ) (shelf : ShelfState) (out0 out1 err0 err1 : SinkState) : Type 0 where
+  pub rose : Rose out0.faults out1.faults
+  pub text : List ℕ
+  pub verdict : ℕ
+  pub is_text : IsReportText given shelf.holds text verdict
+  pub part : TookPrefix out0.taken out1.taken text
+  pub said : Took err0.taken err1.taken write_failed_line ⊎ (Rose err0.faults err1.faults × TookPrefix err0.taken err1.taken write_failed_line)
+
+-- Status 5, second case: the sink of the lines failed, at the line of a refusal or of a read that failed.
+pub record LineFailed (given : Result Request ℕ) (shelf0 shelf1 : ShelfState) (out0 out1 err0 err1 : SinkState) : Type 0 where
+  pub rose : Rose err0.faults err1.faults
+  pub line : List ℕ
+  pub is_line : IsRefusalLine given shelf0.holds line ⊎ (Rose shelf0.faults shelf1.faults × IsReadFailedLine given shelf0.holds shelf1.failed line)
+  pub nothing : Took out0.taken out1.taken []
+  pub part : TookPrefix err0.taken err1.taken line
+
+-- Status 5: one of the two
+abbrev pub FailedToWrite : Result Request ℕ → ShelfState → ShelfState → SinkState → SinkState → SinkState → SinkState → Type 0
+FailedToWrite given shelf0 shelf1 out0 out1 err0 err1 =
+    TextFailed given shelf0 out0 out1 err0 err1 ⊎ LineFailed given shelf0 shelf1 out0 out1 err0 err1
+
+-- Status 6: parts of a text and of a line were taken, perhaps nothing.
+pub record RanOut (given : Result Request ℕ) (shelf0 shelf1 : ShelfState) (out0 out1 err0 err1 : SinkState) : Type 0 where
+  pub text_part : Took out0.taken out1.taken [] ⊎ ((text : List ℕ) × (verdict : ℕ) × IsReportText given shelf0.holds text verdict × TookPrefix out0.taken out1.taken text)
+  pub line : List ℕ
+  pub is_line : IsLine given shelf0 shelf1 line
+  pub line_part : TookPrefix err0.taken err1.taken line
+
+-- no count rose
+pub record NoneRose (shelf0 shelf1 : ShelfState) (out0 out1 err0 err1 : SinkState) : Type 0 where
+  pub shelf : Rose shelf0.faults shelf1.faults → ⊥
+  pub out : Rose out0.faults out1.faults → ⊥
+  pub err : Rose err0.faults err1.faults → ⊥
+
+-- Where no count rose and the words and the files give a job, the report is written, or memory is missing.
+abbrev pub Completes : Result Request ℕ → ShelfState → ℕ → Type 0
+Completes given shelf status = (request : Request) (job : Job) → given ≡ Ok request
+    → IfSome shelf.holds (λ files. answer (λ file. files (file_name request file)) (input request) ≡ Ok job → (status ≤ 2) ⊎ (status ≡ 6))
+
+-- Where no count rose and a refusal applies, it is answered, or memory is missing.
+abbrev pub Refuses : Result Request ℕ → ShelfState → ℕ → Type 0
+Refuses given shelf status =
+    ((word : ℕ) → given ≡ Err word → (status ≡ 3) ⊎ (status ≡ 6))
+    × ((request : Request) (refusal : Refusal) → given ≡ Ok request
+    → IfSome shelf.holds (λ files. answer (λ file. files (file_name request file)) (input request) ≡ Err refusal → (status ≡ 3) ⊎ (status ≡ 6)))

@@ -1,0 +1,49 @@
+ghost use Rattle.std.specs.Prelude.{◌≡◌};
+ghost use Rattle.colis_checker.specs.Delivery.{LineEnds, Delivers, NoMemoryEnds};
+
+use checker_io::{Sink, SinkFault, write_text};
+use script_names::Bytes;
+
+/// What a call has to say.
+#[derive(Drop)]
+pub enum Reply {
+    Text { text: Bytes, verdict: u8 },
+    Refused { line: Bytes },
+    ReadFailed { line: Bytes },
+    NoMemory,
+}
+
+// Writes a line, and answers the status that is left.
+fn write_line<E: Sink>(err: &mut E, line: &[u8], status: u8) -> u8
+    ensures { LineEnds (E.state err.old) (E.state err.new) line.now status result }
+{
+    match write_text(err, line) {
+        Ok(()) => status,
+        Err(SinkFault::Failed) => 5,
+        Err(SinkFault::Memory) => 6,
+    }
+}
+
+// Says that memory is missing, where it can.
+fn write_no_memory<E: Sink>(err: &mut E) -> u8
+    ensures { NoMemoryEnds (E.state err.old) (E.state err.new) result }
+{
+    let _ = write_text(err, b"colis: out of memory\n");
+    6
+}
+
+/// Writes the reply, and answers the status.
+pub fn deliver<O: Sink, E: Sink>(reply: &Reply, out: &mut O, err: &mut E) -> u8
+    ensures { Delivers reply.now (O.state out.old) (O.state out.new) (E.state err.old) (E.state err.new) result }
+{
+    match reply {
+        Reply::Text { text, verdict } => match write_text(out, text.as_slice()) {
+            Ok(()) => *verdict,
+            Err(SinkFault::Failed) => write_line(err, b"colis: write failed\n", 5),
+            Err(SinkFault::Memory) => write_no_memory(err),
+        },
+        Reply::Refused { line } => write_line(err, line.as_slice(), 3),
+        Reply::ReadFailed { line } => write_line(err, line.as_slice(), 4),
+        Reply::NoMemory => write_no_memory(err),
+    }
+}

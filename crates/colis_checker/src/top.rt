@@ -1,0 +1,108 @@
+ghost use Rattle.std.specs.Prelude.{◌≡◌, ◌≤◌, IfOk, Ok};
+ghost use Rattle.colis_checker.specs.Words.{form};
+ghost use Rattle.colis_checker.specs.Top.{IsTextOf, Replies, Reported, SaidRefusal, SaidReadFailed, FailedToWrite, RanOut, NoneRose, Completes, Refuses};
+
+use crate::deliver::{Reply, deliver};
+use crate::error_lines::{read_failed_line, refusal_line, usage_line};
+use crate::input::read_job;
+use crate::outcome_report::{make_report, verdict};
+use crate::package_files::Job;
+use crate::report_text::render_text;
+use crate::request::{Request, WordsFault, read_words};
+use checker_io::{Shelf, Sink, Stop};
+use script_names::{Bytes, List, Memory, Text};
+use std::alloc::Global;
+
+#[derive(Drop)]
+struct Written {
+    text: Bytes,
+    verdict: u8,
+}
+
+// The text and the verdict of a job.
+fn write_report(alloc: Global, job: &Job) -> Result<Written, Memory>
+    ensures { IfOk result (λ written. IsTextOf job.now written.text written.verdict) }
+{
+    let report = make_report(alloc, job)?;
+    let text = render_text(alloc, &report)?;
+    let verdict = verdict(&report);
+    Ok(Written { text, verdict })
+}
+
+// What the check of a folder has to say.
+fn check<S: Shelf>(alloc: Global, request: &Request, shelf: &mut S) -> Reply
+    ensures kept { (S.state shelf.new).holds ≡ (S.state shelf.old).holds }
+    ensures replies { Replies (Ok request.now) (S.state shelf.old) (S.state shelf.new) result }
+{
+    match read_job(alloc, request, shelf) {
+        Ok(job) => match write_report(alloc, &job) {
+            Ok(Written { text, verdict }) => Reply::Text { text, verdict },
+            Err(_) => Reply::NoMemory,
+        },
+        Err(Stop::Refused(refusal)) => match refusal_line(alloc, request, refusal) {
+            Ok(line) => Reply::Refused { line },
+            Err(_) => Reply::NoMemory,
+        },
+        Err(Stop::ReadFailed(file)) => match read_failed_line(alloc, request, file) {
+            Ok(line) => Reply::ReadFailed { line },
+            Err(_) => Reply::NoMemory,
+        },
+        Err(Stop::NoMemory) => Reply::NoMemory,
+    }
+}
+
+// What a call has to say.
+fn answer<S: Shelf>(alloc: Global, words: &List<Text>, shelf: &mut S) -> Reply
+    ensures kept { (S.state shelf.new).holds ≡ (S.state shelf.old).holds }
+    ensures replies { Replies (form words.now) (S.state shelf.old) (S.state shelf.new) result }
+{
+    match read_words(alloc, words) {
+        Ok(request) => check(alloc, &request, shelf),
+        Err(WordsFault::Usage { word }) => match usage_line(alloc, word) {
+            Ok(line) => Reply::Refused { line },
+            Err(_) => Reply::NoMemory,
+        },
+        Err(WordsFault::Memory) => Reply::NoMemory,
+    }
+}
+
+/// Does what the words ask for, and answers the status.
+pub fn run_words<S: Shelf, O: Sink, E: Sink>(
+    alloc: Global,
+    words: &List<Text>,
+    shelf: &mut S,
+    out: &mut O,
+    err: &mut E,
+) -> u8
+    ensures statuses { result ≤ 6 }
+    ensures kept { (S.state shelf.new).holds ≡ (S.state shelf.old).holds }
+
+    // 0, 1, 2: a report that is exact for the job of the words was written, and the status is its verdict.
+    ensures reported { result ≤ 2 → Reported (form words.now) (S.state shelf.old)
+        (O.state out.old) (O.state out.new) (E.state err.old) (E.state err.new) result }
+
+    // 3: the first refusal was named.
+    ensures refused { result ≡ 3 → SaidRefusal (form words.now) (S.state shelf.old)
+        (O.state out.old) (O.state out.new) (E.state err.old) (E.state err.new) }
+
+    // 4: the shelf failed at a file that the words ask for, which was named.
+    ensures read_failed { result ≡ 4 → SaidReadFailed (form words.now) (S.state shelf.old) (S.state shelf.new)
+        (O.state out.old) (O.state out.new) (E.state err.old) (E.state err.new) }
+
+    // 5: a sink failed.
+    ensures write_failed { result ≡ 5 → FailedToWrite (form words.now) (S.state shelf.old) (S.state shelf.new)
+        (O.state out.old) (O.state out.new) (E.state err.old) (E.state err.new) }
+
+    // 6: memory is missing.
+    ensures ran_out { result ≡ 6 → RanOut (form words.now) (S.state shelf.old) (S.state shelf.new)
+        (O.state out.old) (O.state out.new) (E.state err.old) (E.state err.new) }
+
+    // Where no count rose, a job is reported and a refusal is named, unless memory is missing.
+    ensures complete { NoneRose (S.state shelf.old) (S.state shelf.new) (O.state out.old) (O.state out.new) (E.state err.old) (E.state err.new)
+        → Completes (form words.now) (S.state shelf.old) result }
+    ensures refuses { NoneRose (S.state shelf.old) (S.state shelf.new) (O.state out.old) (O.state out.new) (E.state err.old) (E.state err.new)
+        → Refuses (form words.now) (S.state shelf.old) result }
+{
+    let reply = answer(alloc, words, shelf);
+    deliver(&reply, out, err)
+}
