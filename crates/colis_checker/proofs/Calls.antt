@@ -77,10 +77,10 @@ module _ (given : Result Request ℕ) (s0 s1 : ShelfState) (o0 o1 e0 e1 : SinkSt
   call_statuses (ReadFailed line) says ends = (line_high e0 e1 line 4 status ends.1 (omega arith) (omega arith)).1
   call_statuses NoMemory says ends = omega arith
 
-  pub call_reported : (reply : Reply) → Replies given s0 s1 reply → Delivers reply o0 o1 e0 e1 status → status ≤ 2 → Reported given s0 o0 o1 e0 e1 status
+  pub call_reported : (reply : Reply) → Replies given s0 s1 reply → Delivers reply o0 o1 e0 e1 status → status ≤ 2 → Reported given s0 s1 o0 o1 e0 e1 status
   call_reported (Text text verdict) says (inl ends) le =
       let P : ℕ → Type 0 = λ n. IsReportText given s0.holds text n in
-      record { text = text; is_text = subst P (sym ends.0) says.1; taken = ends.1; silent = same_none e0 e1 ends.2 }
+      record { quiet = says.0; text = text; is_text = subst P (sym ends.0) says.1; taken = ends.1; silent = same_none e0 e1 ends.2 }
   call_reported (Text text verdict) says (inr (inl ends)) le = let high = line_high e0 e1 write_failed_line 5 status ends.2 (omega arith) (omega arith) in absurd (omega arith)
   call_reported (Text text verdict) says (inr (inr ends)) le = absurd (omega arith)
   call_reported (Refused line) says ends le = let high = line_high e0 e1 line 3 status ends.1 (omega arith) (omega arith) in absurd (omega arith)
@@ -94,12 +94,12 @@ module _ (given : Result Request ℕ) (s0 s1 : ShelfState) (o0 o1 e0 e1 : SinkSt
   not_line : (n k : ℕ) (line : List ℕ) → LineEnds e0 e1 line k status → status ≡ n → n < 5 → (k ≡ n → ⊥) → ⊥
   not_line n k line ends is lt ne = elim (line_status e0 e1 line k status ends) [ inl a ↦ ne (sym a ∙ is) | inr b ↦ elim b [ inl c ↦ omega arith | inr d ↦ omega arith ] ]
 
-  pub call_refused : (reply : Reply) → Replies given s0 s1 reply → Delivers reply o0 o1 e0 e1 status → status ≡ 3 → SaidRefusal given s0 o0 o1 e0 e1
+  pub call_refused : (reply : Reply) → Replies given s0 s1 reply → Delivers reply o0 o1 e0 e1 status → status ≡ 3 → SaidRefusal given s0 s1 o0 o1 e0 e1
   call_refused (Text text verdict) says (inl ends) is = absurd (not_reported 3 text verdict says.1 ends.0 is (omega arith))
   call_refused (Text text verdict) says (inr (inl ends)) is = absurd (not_line 3 5 write_failed_line ends.2 is (omega arith) (λ e. omega arith))
   call_refused (Text text verdict) says (inr (inr ends)) is = absurd (omega arith)
   call_refused (Refused line) says ends is =
-      record { line = line; is_line = says.1; nothing = same_none o0 o1 ends.0; taken = line_taken e0 e1 line 3 status ends.1 (omega arith) }
+      record { quiet = says.0; line = line; is_line = says.1; nothing = same_none o0 o1 ends.0; taken = line_taken e0 e1 line 3 status ends.1 (omega arith) }
   call_refused (ReadFailed line) says ends is = absurd (not_line 3 4 line ends.1 is (omega arith) (λ e. omega arith))
   call_refused NoMemory says ends is = absurd (omega arith)
 
@@ -115,11 +115,11 @@ module _ (given : Result Request ℕ) (s0 s1 : ShelfState) (o0 o1 e0 e1 : SinkSt
   pub call_write_failed : (reply : Reply) → Replies given s0 s1 reply → Delivers reply o0 o1 e0 e1 status → status ≡ 5 → FailedToWrite given s0 s1 o0 o1 e0 e1
   call_write_failed (Text text verdict) says (inl ends) is = absurd (not_reported 5 text verdict says.1 ends.0 is (omega arith))
   call_write_failed (Text text verdict) says (inr (inl ends)) is =
-      inl (record { rose = ends.0; text = text; verdict = verdict; is_text = says.1; part = ends.1; said = said_failed e0 e1 _ status ends.2 is })
+      inl (record { rose = ends.0; quiet = says.0; text = text; verdict = verdict; is_text = says.1; part = ends.1; said = said_failed e0 e1 _ status ends.2 is })
   call_write_failed (Text text verdict) says (inr (inr ends)) is = absurd (omega arith)
   call_write_failed (Refused line) says ends is =
       let failed = line_failed e0 e1 line 3 status ends.1 is (omega arith) in
-      inr (record { rose = failed.0; line = line; is_line = inl says.1; nothing = same_none o0 o1 ends.0; part = failed.1 })
+      inr (record { rose = failed.0; line = line; is_line = inl (says.0, says.1); nothing = same_none o0 o1 ends.0; part = failed.1 })
   call_write_failed (ReadFailed line) says ends is =
       let failed = line_failed e0 e1 line 4 status ends.1 is (omega arith) in
       inr (record { rose = failed.0; line = line; is_line = inr (says.0, says.1); nothing = same_none o0 o1 ends.0; part = failed.1 })
@@ -128,33 +128,33 @@ module _ (given : Result Request ℕ) (s0 s1 : ShelfState) (o0 o1 e0 e1 : SinkSt
   pub call_ran_out : (reply : Reply) → Replies given s0 s1 reply → Delivers reply o0 o1 e0 e1 status → status ≡ 6 → RanOut given s0 s1 o0 o1 e0 e1
   call_ran_out (Text text verdict) says (inl ends) is = absurd (not_reported 6 text verdict says.1 ends.0 is (omega arith))
   call_ran_out (Text text verdict) says (inr (inl ends)) is = record {
-    text_part = inr (text, verdict, says.1, ends.1);
+    text_part = inr (record { quiet = says.0; text = text; verdict = verdict; is_text = says.1; part = ends.1 });
     line = write_failed_line;
-    is_line = inr (inr (inl refl));
+    is_line = inr (inl (ends.0, refl));
     line_part = line_part e0 e1 _ 5 status ends.2 is (omega arith);
   }
   call_ran_out (Text text verdict) says (inr (inr ends)) is = record {
-    text_part = inr (text, verdict, says.1, ends.0);
+    text_part = inr (record { quiet = says.0; text = text; verdict = verdict; is_text = says.1; part = ends.0 });
     line = no_memory_line;
-    is_line = inr (inr (inr refl));
+    is_line = inr (inr refl);
     line_part = ends.1.1;
   }
   call_ran_out (Refused line) says ends is = record {
     text_part = inl (same_none o0 o1 ends.0);
     line = line;
-    is_line = inl says.1;
+    is_line = inl (inl (says.0, says.1));
     line_part = line_part e0 e1 line 3 status ends.1 is (omega arith);
   }
   call_ran_out (ReadFailed line) says ends is = record {
     text_part = inl (same_none o0 o1 ends.0);
     line = line;
-    is_line = inr (inl (says.0, says.1));
+    is_line = inl (inr (says.0, says.1));
     line_part = line_part e0 e1 line 4 status ends.1 is (omega arith);
   }
   call_ran_out NoMemory says ends is = record {
     text_part = inl (same_none o0 o1 ends.0);
     line = no_memory_line;
-    is_line = inr (inr (inr refl));
+    is_line = inr (inr refl);
     line_part = ends.1.1;
   }
 
@@ -187,8 +187,8 @@ told_any (Some files) P Q q = λ _. q files
 
 module _ (given : Result Request ℕ) (s0 s1 : ShelfState) (o0 o1 e0 e1 : SinkState) (status : ℕ)
     (none : NoneRose s0 s1 o0 o1 e0 e1) (le : status ≤ 6)
-    (reported : status ≤ 2 → Reported given s0 o0 o1 e0 e1 status)
-    (refused : status ≡ 3 → SaidRefusal given s0 o0 o1 e0 e1)
+    (reported : status ≤ 2 → Reported given s0 s1 o0 o1 e0 e1 status)
+    (refused : status ≡ 3 → SaidRefusal given s0 s1 o0 o1 e0 e1)
     (read_failed : status ≡ 4 → SaidReadFailed given s0 s1 o0 o1 e0 e1)
     (write_failed : status ≡ 5 → FailedToWrite given s0 s1 o0 o1 e0 e1) where
   not_failed : FailedToWrite given s0 s1 o0 o1 e0 e1 → ⊥

@@ -67,24 +67,29 @@ Replies given old new (Refused line) = IsQuiet old new × IsRefusalLine given ol
 Replies given old new (ReadFailed line) = Rose old.faults new.faults × IsReadFailedLine given old.holds new.failed line
 Replies given old new NoMemory = Unit {0}
 
--- a line that may be written in this call
-abbrev pub IsLine : Result Request ℕ → ShelfState → ShelfState → List ℕ → Type 0
-IsLine given old new line =
-    IsRefusalLine given old.holds line
-    ⊎ ((Rose old.faults new.faults × IsReadFailedLine given old.holds new.failed line)
-    ⊎ ((line ≡ write_failed_line) ⊎ (line ≡ no_memory_line)))
+-- the line of a refusal, where no read failed, or of a read that failed
+abbrev pub IsReplyLine : Result Request ℕ → ShelfState → ShelfState → List ℕ → Type 0
+IsReplyLine given old new line =
+    (IsQuiet old new × IsRefusalLine given old.holds line) ⊎ (Rose old.faults new.faults × IsReadFailedLine given old.holds new.failed line)
 
--- Status 0, 1 or 2: the whole text was taken, and nothing else was written.
-pub record Reported (given : Result Request ℕ) (shelf : ShelfState) (out0 out1 err0 err1 : SinkState) (status : ℕ) : Type 0 where
+-- a line that may be written in this call: such a line, or that of a write that failed, or of want of memory
+abbrev pub IsLine : Result Request ℕ → ShelfState → ShelfState → SinkState → SinkState → List ℕ → Type 0
+IsLine given old new out0 out1 line =
+    IsReplyLine given old new line ⊎ ((Rose out0.faults out1.faults × (line ≡ write_failed_line)) ⊎ (line ≡ no_memory_line))
+
+-- Status 0, 1 or 2: no read failed, the whole text was taken, and nothing else was written.
+pub record Reported (given : Result Request ℕ) (shelf0 shelf1 : ShelfState) (out0 out1 err0 err1 : SinkState) (status : ℕ) : Type 0 where
+  pub quiet : IsQuiet shelf0 shelf1
   pub text : List ℕ
-  pub is_text : IsReportText given shelf.holds text status
+  pub is_text : IsReportText given shelf0.holds text status
   pub taken : Took out0.taken out1.taken text
   pub silent : Took err0.taken err1.taken []
 
--- Status 3: the one line of the first refusal was taken.
-pub record SaidRefusal (given : Result Request ℕ) (shelf : ShelfState) (out0 out1 err0 err1 : SinkState) : Type 0 where
+-- Status 3: no read failed, and the one line of the first refusal was taken.
+pub record SaidRefusal (given : Result Request ℕ) (shelf0 shelf1 : ShelfState) (out0 out1 err0 err1 : SinkState) : Type 0 where
+  pub quiet : IsQuiet shelf0 shelf1
   pub line : List ℕ
-  pub is_line : IsRefusalLine given shelf.holds line
+  pub is_line : IsRefusalLine given shelf0.holds line
   pub nothing : Took out0.taken out1.taken []
   pub taken : Took err0.taken err1.taken line
 
@@ -96,12 +101,13 @@ pub record SaidReadFailed (given : Result Request ℕ) (shelf0 shelf1 : ShelfSta
   pub nothing : Took out0.taken out1.taken []
   pub taken : Took err0.taken err1.taken line
 
--- Status 5, first case: the sink of the text failed, and no refusal applies.
-pub record TextFailed (given : Result Request ℕ) (shelf : ShelfState) (out0 out1 err0 err1 : SinkState) : Type 0 where
+-- Status 5, first case: the sink of the text failed, no refusal applies, and no read failed.
+pub record TextFailed (given : Result Request ℕ) (shelf0 shelf1 : ShelfState) (out0 out1 err0 err1 : SinkState) : Type 0 where
   pub rose : Rose out0.faults out1.faults
+  pub quiet : IsQuiet shelf0 shelf1
   pub text : List ℕ
   pub verdict : ℕ
-  pub is_text : IsReportText given shelf.holds text verdict
+  pub is_text : IsReportText given shelf0.holds text verdict
   pub part : TookPrefix out0.taken out1.taken text
   pub said : Took err0.taken err1.taken write_failed_line ⊎ (Rose err0.faults err1.faults × TookPrefix err0.taken err1.taken write_failed_line)
 
@@ -109,20 +115,28 @@ pub record TextFailed (given : Result Request ℕ) (shelf : ShelfState) (out0 ou
 pub record LineFailed (given : Result Request ℕ) (shelf0 shelf1 : ShelfState) (out0 out1 err0 err1 : SinkState) : Type 0 where
   pub rose : Rose err0.faults err1.faults
   pub line : List ℕ
-  pub is_line : IsRefusalLine given shelf0.holds line ⊎ (Rose shelf0.faults shelf1.faults × IsReadFailedLine given shelf0.holds shelf1.failed line)
+  pub is_line : IsReplyLine given shelf0 shelf1 line
   pub nothing : Took out0.taken out1.taken []
   pub part : TookPrefix err0.taken err1.taken line
 
 -- Status 5: one of the two
 abbrev pub FailedToWrite : Result Request ℕ → ShelfState → ShelfState → SinkState → SinkState → SinkState → SinkState → Type 0
 FailedToWrite given shelf0 shelf1 out0 out1 err0 err1 =
-    TextFailed given shelf0 out0 out1 err0 err1 ⊎ LineFailed given shelf0 shelf1 out0 out1 err0 err1
+    TextFailed given shelf0 shelf1 out0 out1 err0 err1 ⊎ LineFailed given shelf0 shelf1 out0 out1 err0 err1
+
+-- part of the report's text was taken, and no read failed
+pub record TookText (given : Result Request ℕ) (shelf0 shelf1 : ShelfState) (out0 out1 : SinkState) : Type 0 where
+  pub quiet : IsQuiet shelf0 shelf1
+  pub text : List ℕ
+  pub verdict : ℕ
+  pub is_text : IsReportText given shelf0.holds text verdict
+  pub part : TookPrefix out0.taken out1.taken text
 
 -- Status 6: parts of a text and of a line were taken, perhaps nothing.
 pub record RanOut (given : Result Request ℕ) (shelf0 shelf1 : ShelfState) (out0 out1 err0 err1 : SinkState) : Type 0 where
-  pub text_part : Took out0.taken out1.taken [] ⊎ ((text : List ℕ) × (verdict : ℕ) × IsReportText given shelf0.holds text verdict × TookPrefix out0.taken out1.taken text)
+  pub text_part : Took out0.taken out1.taken [] ⊎ TookText given shelf0 shelf1 out0 out1
   pub line : List ℕ
-  pub is_line : IsLine given shelf0 shelf1 line
+  pub is_line : IsLine given shelf0 shelf1 out0 out1 line
   pub line_part : TookPrefix err0.taken err1.taken line
 
 -- no count rose
