@@ -1,7 +1,7 @@
 use crate::clause::{Clause, Literal, Var};
 use crate::text::{print_clause, put_clause};
 use feature_trees::{Kind, Kinds};
-use script_names::{Bytes, List, Name};
+use script_names::{Bytes, Copied, List, Name};
 use std::process::Abort;
 use std::test::Fail;
 
@@ -38,12 +38,14 @@ fn more<R: Abort + AllocGlobal>(rt: &R) -> Result<List<Literal>, Fail> {
     Ok(literals)
 }
 
+// A copy of the clause prints so.
 fn expect<R: Abort + AllocGlobal>(rt: &R, literals: List<Literal>, text: &str) -> Result<(), Fail> {
-    let clause = Clause {
+    let original = Clause {
         literals,
         start: Var(0),
         now: Var(2),
     };
+    let clause = original.copy(rt.alloc())?;
     let mut printed = print_clause(rt.alloc(), &clause)?;
     assert_eq!(rt; printed.as_slice(), text.as_bytes());
     put_clause(rt.alloc(), &mut printed, &clause)?;
