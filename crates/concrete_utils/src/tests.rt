@@ -1,6 +1,6 @@
 use crate::acts::act;
 use feature_trees::{Entries, Kind, Value};
-use script_names::{Bytes, Done, List, Name, Path, Reason};
+use script_names::{Bytes, Copied, Done, List, Name, Path, Reason};
 use std::process::Abort;
 use std::test::Fail;
 use utility_calls::Act;
@@ -61,9 +61,16 @@ fn sample<R: Abort + AllocGlobal>(rt: &R) -> Result<Value, Fail> {
     Ok(tree)
 }
 
-// The act takes this row on the tree, and answers so.
-fn expect<R: Abort>(rt: &R, tree: &Value, a: &Act, taken: (u8, Done)) {
-    assert_eq!(rt; act(a, tree), taken);
+// A copy of the act takes this row on the tree, and answers so.
+fn expect<R: Abort + AllocGlobal>(
+    rt: &R,
+    tree: &Value,
+    a: &Act,
+    taken: (u8, Done),
+) -> Result<(), Fail> {
+    let twin = a.copy(rt.alloc())?;
+    assert_eq!(rt; act(&twin, tree), taken);
+    Ok(())
 }
 
 #[test]
@@ -96,8 +103,8 @@ fn takes_each_row(rt: HostRuntime) -> Result<(), Fail> {
         ),
     ];
     for (words, slash, exists, is_dir) in rows {
-        expect(&rt, &tree, &Act::Exists(path(&rt, words, slash)?), exists);
-        expect(&rt, &tree, &Act::IsDir(path(&rt, words, slash)?), is_dir);
+        expect(&rt, &tree, &Act::Exists(path(&rt, words, slash)?), exists)?;
+        expect(&rt, &tree, &Act::IsDir(path(&rt, words, slash)?), is_dir)?;
     }
     Ok(())
 }
