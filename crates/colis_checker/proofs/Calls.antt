@@ -1,5 +1,5 @@
 -- The clauses of a call, from what it has to say and how that was written.
-use Rattle.std.proofs.Common.{◌≡◌, ◌⊎◌, ℕ, zero, suc, ◌<◌, ◌≤◌, List, [], ◌∷◌, Option, Some, None, Result, Ok, Err, IfSome, refl, sym, ◌∙◌, subst, inl, inr, arith}
+use Rattle.std.proofs.Common.{◌≡◌, ◌⊎◌, ℕ, zero, suc, ◌<◌, ◌≤◌, List, [], ◌∷◌, Option, Some, None, Result, Ok, Err, IfSome, refl, sym, ◌∙◌, subst, ap, inl, inr, arith}
 use Rattle.checker_io.specs.Faults.{Rose}
 use Rattle.checker_io.specs.Shelf.{Files, ShelfState}
 use Rattle.checker_io.specs.Sink.{SinkState, Took, TookPrefix}
@@ -14,7 +14,7 @@ use Rattle.checker_io.specs.Reading.{Asking, answer, Answers}
 use Rattle.colis_checker.specs.Input.{input, file_name}
 use Rattle.colis_checker.specs.ErrorLines.{refusal_line, write_failed_line, no_memory_line}
 use Rattle.colis_checker.specs.Delivery.{LineEnds, NoMemoryEnds, Delivers}
-use Rattle.colis_checker.specs.Top.{IsReportText, IsRefusal, IsRefusalLine, IsReadFailedLine, Replies, IsLine, Reported, SaidRefusal, SaidReadFailed, TextFailed, LineFailed, FailedToWrite, RanOut, NoneRose, Completes}
+use Rattle.colis_checker.specs.Top.{IsReportText, IsRefusal, IsRefusalLine, IsReadFailedLine, Replies, IsLine, Reported, SaidRefusal, SaidReadFailed, TextFailed, LineFailed, FailedToWrite, RanOut, NoneFailed, NoneRose, Completes}
 use Rattle.colis_checker.proofs.Took.{took_none}
 
 -- words that fit no form
@@ -42,9 +42,18 @@ line_high : (old new : SinkState) (line : List ℕ) (given status : ℕ) → Lin
 line_high old new line given status ends low high =
     elim (line_status old new line given status ends) [ inl a ↦ (omega arith, omega arith) | inr b ↦ elim b [ inl c ↦ (omega arith, omega arith) | inr d ↦ (omega arith, omega arith) ] ]
 
+same_count : (old new : SinkState) → new ≡ old → new.faults ≡ old.faults
+same_count old new e = ap (λ s. s.faults) e
+
+-- below 5, no write failed
+line_quiet : (old new : SinkState) (line : List ℕ) (given status : ℕ) → LineEnds old new line given status → status < 5 → new.faults ≡ old.faults
+line_quiet old new line given status (inl ends) lt = ends.1
+line_quiet old new line given status (inr (inl ends)) lt = absurd (omega arith)
+line_quiet old new line given status (inr (inr ends)) lt = absurd (omega arith)
+
 -- below 5, the line was taken
 line_taken : (old new : SinkState) (line : List ℕ) (given status : ℕ) → LineEnds old new line given status → status < 5 → Took old.taken new.taken line
-line_taken old new line given status (inl ends) lt = ends.1
+line_taken old new line given status (inl ends) lt = ends.2
 line_taken old new line given status (inr (inl ends)) lt = absurd (omega arith)
 line_taken old new line given status (inr (inr ends)) lt = absurd (omega arith)
 
@@ -64,7 +73,7 @@ line_failed old new line given status (inr (inr ends)) is lt = absurd (omega ari
 -- at 5, for the line that says so
 said_failed : (old new : SinkState) (line : List ℕ) (status : ℕ) → LineEnds old new line 5 status → status ≡ 5
     → Took old.taken new.taken line ⊎ (Rose old.faults new.faults × TookPrefix old.taken new.taken line)
-said_failed old new line status (inl ends) is = inl ends.1
+said_failed old new line status (inl ends) is = inl ends.2
 said_failed old new line status (inr (inl ends)) is = inr (ends.1, ends.2)
 said_failed old new line status (inr (inr ends)) is = absurd (omega arith)
 
@@ -80,7 +89,7 @@ module _ (given : Result Request ℕ) (s0 s1 : ShelfState) (o0 o1 e0 e1 : SinkSt
   pub call_reported : (reply : Reply) → Replies given s0 s1 reply → Delivers reply o0 o1 e0 e1 status → status ≤ 2 → Reported given s0 s1 o0 o1 e0 e1 status
   call_reported (Text text verdict) says (inl ends) le =
       let P : ℕ → Type 0 = λ n. IsReportText given s0.holds text n in
-      record { quiet = says.0; text = text; is_text = subst P (sym ends.0) says.1; taken = ends.1; silent = same_none e0 e1 ends.2 }
+      record { quiet = says.0; written = record { out = ends.1; err = same_count e0 e1 ends.3 }; text = text; is_text = subst P (sym ends.0) says.1; taken = ends.2; silent = same_none e0 e1 ends.3 }
   call_reported (Text text verdict) says (inr (inl ends)) le = let high = line_high e0 e1 write_failed_line 5 status ends.2 (omega arith) (omega arith) in absurd (omega arith)
   call_reported (Text text verdict) says (inr (inr ends)) le = absurd (omega arith)
   call_reported (Refused line) says ends le = let high = line_high e0 e1 line 3 status ends.1 (omega arith) (omega arith) in absurd (omega arith)
@@ -99,7 +108,7 @@ module _ (given : Result Request ℕ) (s0 s1 : ShelfState) (o0 o1 e0 e1 : SinkSt
   call_refused (Text text verdict) says (inr (inl ends)) is = absurd (not_line 3 5 write_failed_line ends.2 is (omega arith) (λ e. omega arith))
   call_refused (Text text verdict) says (inr (inr ends)) is = absurd (omega arith)
   call_refused (Refused line) says ends is =
-      record { quiet = says.0; line = line; is_line = says.1; nothing = same_none o0 o1 ends.0; taken = line_taken e0 e1 line 3 status ends.1 (omega arith) }
+      record { quiet = says.0; written = record { out = same_count o0 o1 ends.0; err = line_quiet e0 e1 line 3 status ends.1 (omega arith) }; line = line; is_line = says.1; nothing = same_none o0 o1 ends.0; taken = line_taken e0 e1 line 3 status ends.1 (omega arith) }
   call_refused (ReadFailed line) says ends is = absurd (not_line 3 4 line ends.1 is (omega arith) (λ e. omega arith))
   call_refused NoMemory says ends is = absurd (omega arith)
 
@@ -109,7 +118,7 @@ module _ (given : Result Request ℕ) (s0 s1 : ShelfState) (o0 o1 e0 e1 : SinkSt
   call_read_failed (Text text verdict) says (inr (inr ends)) is = absurd (omega arith)
   call_read_failed (Refused line) says ends is = absurd (not_line 4 3 line ends.1 is (omega arith) (λ e. omega arith))
   call_read_failed (ReadFailed line) says ends is =
-      record { rose = says.0; line = line; is_line = says.1; nothing = same_none o0 o1 ends.0; taken = line_taken e0 e1 line 4 status ends.1 (omega arith) }
+      record { rose = says.0; written = record { out = same_count o0 o1 ends.0; err = line_quiet e0 e1 line 4 status ends.1 (omega arith) }; line = line; is_line = says.1; nothing = same_none o0 o1 ends.0; taken = line_taken e0 e1 line 4 status ends.1 (omega arith) }
   call_read_failed NoMemory says ends is = absurd (omega arith)
 
   pub call_write_failed : (reply : Reply) → Replies given s0 s1 reply → Delivers reply o0 o1 e0 e1 status → status ≡ 5 → FailedToWrite given s0 s1 o0 o1 e0 e1

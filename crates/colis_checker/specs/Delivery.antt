@@ -7,10 +7,10 @@ use Rattle.colis_checker.specs.declared.deliver.Reply.TheVariants.{Text, Refused
 use Rattle.checker_io.specs.Pieces.{TakesAll}
 use Rattle.colis_checker.specs.ErrorLines.{write_failed_line, no_memory_line}
 
--- a line was written and the status is the given one, or a write failed, or memory was missing
+-- a line was written, no write failed and the status is the given one; or a write failed, or memory was missing
 abbrev pub LineEnds : SinkState → SinkState → List ℕ → ℕ → ℕ → Type 0
 LineEnds old new line given status =
-    ((status ≡ given) × Took old.taken new.taken line)
+    ((status ≡ given) × (new.faults ≡ old.faults) × Took old.taken new.taken line)
     ⊎ (((status ≡ 5) × Rose old.faults new.faults × TookPrefix old.taken new.taken line)
     ⊎ ((status ≡ 6) × TookPrefix old.taken new.taken line))
 
@@ -21,7 +21,7 @@ NoMemoryEnds old new status = (status ≡ 6) × TookPrefix old.taken new.taken n
 -- what each reply leaves in the two sinks
 abbrev pub Delivers : Reply → SinkState → SinkState → SinkState → SinkState → ℕ → Type 0
 Delivers (Text text verdict) out0 out1 err0 err1 status =
-    ((status ≡ verdict) × Took out0.taken out1.taken text × (err1 ≡ err0))
+    ((status ≡ verdict) × (out1.faults ≡ out0.faults) × Took out0.taken out1.taken text × (err1 ≡ err0))
     ⊎ ((Rose out0.faults out1.faults × TookPrefix out0.taken out1.taken text × LineEnds err0 err1 write_failed_line 5 status)
     ⊎ (TookPrefix out0.taken out1.taken text × NoMemoryEnds err0 err1 status))
 Delivers (Refused line) out0 out1 err0 err1 status = (out1 ≡ out0) × LineEnds err0 err1 line 3 status

@@ -77,25 +77,33 @@ abbrev pub IsLine : Result Request ℕ → ShelfState → ShelfState → SinkSta
 IsLine given old new out0 out1 line =
     IsReplyLine given old new line ⊎ ((Rose out0.faults out1.faults × (line ≡ write_failed_line)) ⊎ (line ≡ no_memory_line))
 
--- Status 0, 1 or 2: no read failed, the whole text was taken, and nothing else was written.
+-- no write failed
+pub record NoneFailed (out0 out1 err0 err1 : SinkState) : Type 0 where
+  pub out : out1.faults ≡ out0.faults
+  pub err : err1.faults ≡ err0.faults
+
+-- Status 0, 1 or 2: no read and no write failed, the whole text was taken, and nothing else was written.
 pub record Reported (given : Result Request ℕ) (shelf0 shelf1 : ShelfState) (out0 out1 err0 err1 : SinkState) (status : ℕ) : Type 0 where
   pub quiet : IsQuiet shelf0 shelf1
+  pub written : NoneFailed out0 out1 err0 err1
   pub text : List ℕ
   pub is_text : IsReportText given shelf0.holds text status
   pub taken : Took out0.taken out1.taken text
   pub silent : Took err0.taken err1.taken []
 
--- Status 3: no read failed, and the one line of the first refusal was taken.
+-- Status 3: no read and no write failed, and the one line of the first refusal was taken.
 pub record SaidRefusal (given : Result Request ℕ) (shelf0 shelf1 : ShelfState) (out0 out1 err0 err1 : SinkState) : Type 0 where
   pub quiet : IsQuiet shelf0 shelf1
+  pub written : NoneFailed out0 out1 err0 err1
   pub line : List ℕ
   pub is_line : IsRefusalLine given shelf0.holds line
   pub nothing : Took out0.taken out1.taken []
   pub taken : Took err0.taken err1.taken line
 
--- Status 4: the shelf's count rose by a file that the words ask for, and its line was taken.
+-- Status 4: the shelf's count rose by a file that the words ask for, its line was taken, and no write failed.
 pub record SaidReadFailed (given : Result Request ℕ) (shelf0 shelf1 : ShelfState) (out0 out1 err0 err1 : SinkState) : Type 0 where
   pub rose : Rose shelf0.faults shelf1.faults
+  pub written : NoneFailed out0 out1 err0 err1
   pub line : List ℕ
   pub is_line : IsReadFailedLine given shelf0.holds shelf1.failed line
   pub nothing : Took out0.taken out1.taken []

@@ -77,15 +77,15 @@ pub fn run_words<S: Shelf, O: Sink, E: Sink>(
     ensures statuses { result ≤ 6 }
     ensures kept { (S.state shelf.new).holds ≡ (S.state shelf.old).holds }
 
-    // 0, 1, 2: no read failed, a report that is exact for the job of the words was written, and the status is its verdict.
+    // 0, 1, 2: no read and no write failed, a report that is exact for the job of the words was written, and the status is its verdict.
     ensures reported { result ≤ 2 → Reported (form words.now) (S.state shelf.old) (S.state shelf.new)
         (O.state out.old) (O.state out.new) (E.state err.old) (E.state err.new) result }
 
-    // 3: no read failed, and the first refusal was named.
+    // 3: no read and no write failed, and the first refusal was named.
     ensures refused { result ≡ 3 → SaidRefusal (form words.now) (S.state shelf.old) (S.state shelf.new)
         (O.state out.old) (O.state out.new) (E.state err.old) (E.state err.new) }
 
-    // 4: the shelf failed at a file that the words ask for, which was named.
+    // 4: the shelf failed at a file that the words ask for, which was named, and no write failed.
     ensures read_failed { result ≡ 4 → SaidReadFailed (form words.now) (S.state shelf.old) (S.state shelf.new)
         (O.state out.old) (O.state out.new) (E.state err.old) (E.state err.new) }
 
