@@ -1,0 +1,11 @@
+//! The syntax of shell scripts, as POSIX.1-2017, Shell and Utilities (XCU), chapter 2, has it: what a lexer and a parser give, and what
+//! later layers take a meaning of. It stands on script_names alone. Begin with `key`.
+#![tactic(auto)]
+
+mod form;
+mod key;
+mod redirect;
+
+pub use form::Form;
+pub use key::Key;
+pub use redirect::Redirect;
