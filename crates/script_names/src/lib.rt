@@ -5,6 +5,7 @@
 
 mod boxed;
 mod bytes;
+mod component;
 mod copied;
 mod list;
 mod mark;
@@ -23,6 +24,6 @@ pub use list::List;
 pub use mark::{Mark, Site};
 pub use memory::Memory;
 pub use name::{Name, NameFault};
-pub use path::Path;
+pub use path::{Path, PathFault};
 pub use reason::{Done, Reason};
 pub use text::Text;
