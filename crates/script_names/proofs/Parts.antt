@@ -1,7 +1,8 @@
 -- The components of a word that spells a path: those that lead on are names.
 use Rattle.std.specs.Prelude.{nat_le, nat_lt, if◌then◌else◌, not, ◌||◌, filter}
 use Rattle.std.proofs.Common.{◌≡◌, ℕ, zero, suc, ◌+◌, ◌<◌, ◌≤◌, ◌==◌, List, [], ◌∷◌, ◌++◌, length, get_or, take, Option, Some, None, map, Bool, true, false, ◌&&◌, refl, ap, sym, ◌∙◌, arith}
-use Rattle.std.specs.List.{list_all, list_any, last_or, slice_split, onto_first}
+use Rattle.script_names.specs.Laws.{HasNoSlash, SpellsNames}
+use Rattle.std.specs.List.{All, list_all, list_any, last_or, slice_split, onto_first}
 use Rattle.std.specs.Option.{option_map}
 use Rattle.std.specs.Iterator.{Drains}
 use Rattle.std.proofs.lemmas.Iterator.{YieldsList, items_from_drains}
@@ -166,3 +167,32 @@ pub more_names : (parts : List (Bor (List ℕ))) (i : ℕ) (d : Bor (List ℕ)) 
     → longer ≡ map (λ part. part.now) (take (i + 1) parts)
 more_names parts i d names longer name lt so_far is new =
     rw (new, so_far, is, take_more parts i d lt, map-append (λ (part : Bor (List ℕ)). part.now) (take i parts) (get_or parts i d ∷ [])) refl
+
+-- one byte more in the first component that is no slash
+onto_no_slash : (b : ℕ) (parts : List (List ℕ)) → is_slash b ≡ false → list_all (list_all (λ b. not (is_slash b))) parts ≡ true
+    → list_all (list_all (λ b. not (is_slash b))) (onto_first b parts) ≡ true
+onto_no_slash b [] other e = rw other refl
+onto_no_slash b (part ∷ parts) other e = rw other e
+
+split_no_slash : (slash : Bool) (b : ℕ) (parts : List (List ℕ)) → is_slash b ≡ slash → list_all (list_all (λ b. not (is_slash b))) parts ≡ true
+    → list_all (list_all (λ b. not (is_slash b))) (if slash then [] ∷ parts else onto_first b parts) ≡ true
+split_no_slash true b parts is e = e
+split_no_slash false b parts is e = onto_no_slash b parts is e
+
+no_slashes : (word : List ℕ) → list_all (list_all (λ b. not (is_slash b))) (components word) ≡ true
+no_slashes [] = refl
+no_slashes (b ∷ bs) = split_no_slash (is_slash b) b (components bs) refl (no_slashes bs)
+
+-- a test that all items pass
+pub all_of : {X : Type 0} (p : X → Bool) (xs : List X) → list_all p xs ≡ true → All (λ x. p x ≡ true) xs
+all_of p [] e k d lt = absurd (omega arith)
+all_of p (x ∷ xs) e zero d lt = (and_parts (p x) (list_all p xs) e).0
+all_of p (x ∷ xs) e (suc k) d lt = all_of p xs (and_parts (p x) (list_all p xs) e).1 k d (omega arith)
+
+pub has_no_slash : HasNoSlash
+has_no_slash word k d lt i b lt' =
+    not_false (is_slash (get_or (get_or (components word) k d) i b))
+    (all_of (λ b. not (is_slash b)) (get_or (components word) k d) (all_of (list_all (λ b. not (is_slash b))) (components word) (no_slashes word) k d lt) i b lt')
+
+pub names_spelled : SpellsNames
+names_spelled word e k d lt = all_of is_name (spelled_names word) (spells_names word e) k d lt

@@ -16,6 +16,7 @@ mod reason;
 #[cfg(test)]
 mod tests;
 mod text;
+pub mod theorems;
 
 pub use boxed::Boxed;
 pub use bytes::Bytes;
