@@ -12,6 +12,8 @@ mod mark;
 mod memory;
 mod name;
 mod path;
+#[cfg(test)]
+mod path_tests;
 mod reason;
 #[cfg(test)]
 mod tests;
