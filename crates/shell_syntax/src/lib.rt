@@ -3,11 +3,14 @@
 #![tactic(auto)]
 
 mod copies;
+mod equality;
 mod form;
 mod key;
 mod redirect;
 mod script;
 mod syntax;
+#[cfg(test)]
+mod tests;
 
 pub use form::Form;
 pub use key::Key;
