@@ -1,7 +1,9 @@
 ghost use Rattle.std.specs.Prelude.{◌≡◌, IfOk};
+ghost use Rattle.shell_syntax.specs.declared.syntax.Command.TheVariants.{Simple, Redirected, Pipe, Not, Chain, If, For, While, Case, Sub, Define};
 
+use crate::redirect::Redirect;
 use crate::syntax::{Assign, CaseArm, Command, IfArm, Link, Part, Word};
-use script_names::{Boxed as Box, Copied, List, Memory};
+use script_names::{Boxed as Box, Bytes, Copied, List, Memory};
 use std::alloc::Global;
 
 impl Copied for Command {
@@ -61,115 +63,190 @@ fn copy_command(alloc: Global, command: &Command) -> Result<Command, Memory>
     ensures { IfOk result (λ twin. twin ≡ command.now) }
 {
     match command {
-        Command::Simple { at, assigns, words } => {
-            let assigns = copy_assigns(alloc, assigns.as_slice())?;
-            let words = copy_words(alloc, words.as_slice())?;
-            Ok(Command::Simple {
-                at: *at,
-                assigns,
-                words,
-            })
-        }
+        Command::Simple { at, assigns, words } => copy_simple(alloc, *at, assigns, words),
         Command::Redirected {
             at,
             body,
             redirects,
-        } => {
-            let body = copy_boxed(alloc, body)?;
-            let redirects = redirects.copy(alloc)?;
-            Ok(Command::Redirected {
-                at: *at,
-                body,
-                redirects,
-            })
-        }
-        Command::Pipe { at, parts } => {
-            let parts = copy_commands(alloc, parts.as_slice())?;
-            Ok(Command::Pipe { at: *at, parts })
-        }
-        Command::Not { at, body } => {
-            let body = copy_boxed(alloc, body)?;
-            Ok(Command::Not { at: *at, body })
-        }
-        Command::Chain { first, rest } => {
-            let first = copy_boxed(alloc, first)?;
-            let rest = copy_links(alloc, rest.as_slice())?;
-            Ok(Command::Chain { first, rest })
-        }
+        } => copy_redirected(alloc, *at, body, redirects),
+        Command::Pipe { at, parts } => copy_pipe(alloc, *at, parts),
+        Command::Not { at, body } => copy_not(alloc, *at, body),
+        Command::Chain { first, rest } => copy_chain(alloc, first, rest),
         Command::Seq(parts) => Ok(Command::Seq(copy_commands(alloc, parts.as_slice())?)),
         Command::If {
             at,
             arms,
             otherwise,
-        } => {
-            let arms = copy_arms(alloc, arms.as_slice())?;
-            let otherwise = match otherwise {
-                None => None,
-                Some(last) => Some(copy_boxed(alloc, last)?),
-            };
-            Ok(Command::If {
-                at: *at,
-                arms,
-                otherwise,
-            })
-        }
+        } => copy_if(alloc, *at, arms, otherwise),
         Command::For {
             at,
             name,
             words,
             body,
-        } => {
-            let name = name.copy(alloc)?;
-            let words = match words {
-                None => None,
-                Some(words) => Some(copy_words(alloc, words.as_slice())?),
-            };
-            let body = copy_boxed(alloc, body)?;
-            Ok(Command::For {
-                at: *at,
-                name,
-                words,
-                body,
-            })
-        }
+        } => copy_for(alloc, *at, name, words, body),
         Command::While {
             at,
             until,
             cond,
             body,
-        } => {
-            let cond = copy_boxed(alloc, cond)?;
-            let body = copy_boxed(alloc, body)?;
-            Ok(Command::While {
-                at: *at,
-                until: *until,
-                cond,
-                body,
-            })
-        }
-        Command::Case { at, subject, arms } => {
-            let subject = copy_word(alloc, subject)?;
-            let arms = copy_case_arms(alloc, arms.as_slice())?;
-            Ok(Command::Case {
-                at: *at,
-                subject,
-                arms,
-            })
-        }
-        Command::Sub { at, body } => {
-            let body = copy_boxed(alloc, body)?;
-            Ok(Command::Sub { at: *at, body })
-        }
-        Command::Define { at, name, body } => {
-            let name = name.copy(alloc)?;
-            let body = copy_boxed(alloc, body)?;
-            Ok(Command::Define {
-                at: *at,
-                name,
-                body,
-            })
-        }
+        } => copy_while(alloc, *at, *until, cond, body),
+        Command::Case { at, subject, arms } => copy_case(alloc, *at, subject, arms),
+        Command::Sub { at, body } => copy_sub(alloc, *at, body),
+        Command::Define { at, name, body } => copy_define(alloc, *at, name, body),
     }
+}
+
+#[cycle(copying)]
+fn copy_simple(
+    alloc: Global,
+    at: u32,
+    assigns: &List<Assign>,
+    words: &List<Word>,
+) -> Result<Command, Memory>
+    ensures { IfOk result (λ twin. twin ≡ Simple at assigns.now words.now) }
+{
+    let assigns = copy_assigns(alloc, assigns.as_slice())?;
+    let words = copy_words(alloc, words.as_slice())?;
+    Ok(Command::Simple { at, assigns, words })
+}
+
+#[cycle(copying)]
+fn copy_redirected(
+    alloc: Global,
+    at: u32,
+    body: &Box<Command>,
+    redirects: &List<Redirect>,
+) -> Result<Command, Memory>
+    ensures { IfOk result (λ twin. twin ≡ Redirected at body.now redirects.now) }
+{
+    let body = copy_boxed(alloc, body)?;
+    let redirects = redirects.copy(alloc)?;
+    Ok(Command::Redirected {
+        at,
+        body,
+        redirects,
+    })
+}
+
+#[cycle(copying)]
+fn copy_pipe(alloc: Global, at: u32, parts: &List<Command>) -> Result<Command, Memory>
+    ensures { IfOk result (λ twin. twin ≡ Pipe at parts.now) }
+{
+    let parts = copy_commands(alloc, parts.as_slice())?;
+    Ok(Command::Pipe { at, parts })
+}
+
+#[cycle(copying)]
+fn copy_not(alloc: Global, at: u32, body: &Box<Command>) -> Result<Command, Memory>
+    ensures { IfOk result (λ twin. twin ≡ Not at body.now) }
+{
+    let body = copy_boxed(alloc, body)?;
+    Ok(Command::Not { at, body })
+}
+
+#[cycle(copying)]
+fn copy_chain(alloc: Global, first: &Box<Command>, rest: &List<Link>) -> Result<Command, Memory>
+    ensures { IfOk result (λ twin. twin ≡ Chain first.now rest.now) }
+{
+    let first = copy_boxed(alloc, first)?;
+    let rest = copy_links(alloc, rest.as_slice())?;
+    Ok(Command::Chain { first, rest })
+}
+
+#[cycle(copying)]
+fn copy_if(
+    alloc: Global,
+    at: u32,
+    arms: &List<IfArm>,
+    otherwise: &Option<Box<Command>>,
+) -> Result<Command, Memory>
+    ensures { IfOk result (λ twin. twin ≡ If at arms.now otherwise.now) }
+{
+    let arms = copy_arms(alloc, arms.as_slice())?;
+    let otherwise = match otherwise {
+        None => None,
+        Some(last) => Some(copy_boxed(alloc, last)?),
+    };
+    Ok(Command::If {
+        at,
+        arms,
+        otherwise,
+    })
+}
+
+#[cycle(copying)]
+fn copy_for(
+    alloc: Global,
+    at: u32,
+    name: &Bytes,
+    words: &Option<List<Word>>,
+    body: &Box<Command>,
+) -> Result<Command, Memory>
+    ensures { IfOk result (λ twin. twin ≡ For at name.now words.now body.now) }
+{
+    let name = name.copy(alloc)?;
+    let words = match words {
+        None => None,
+        Some(words) => Some(copy_words(alloc, words.as_slice())?),
+    };
+    let body = copy_boxed(alloc, body)?;
+    Ok(Command::For {
+        at,
+        name,
+        words,
+        body,
+    })
+}
+
+#[cycle(copying)]
+fn copy_while(
+    alloc: Global,
+    at: u32,
+    until: bool,
+    cond: &Box<Command>,
+    body: &Box<Command>,
+) -> Result<Command, Memory>
+    ensures { IfOk result (λ twin. twin ≡ While at until cond.now body.now) }
+{
+    let cond = copy_boxed(alloc, cond)?;
+    let body = copy_boxed(alloc, body)?;
+    Ok(Command::While {
+        at,
+        until,
+        cond,
+        body,
+    })
+}
+
+#[cycle(copying)]
+fn copy_case(
+    alloc: Global,
+    at: u32,
+    subject: &Word,
+    arms: &List<CaseArm>,
+) -> Result<Command, Memory>
+    ensures { IfOk result (λ twin. twin ≡ Case at subject.now arms.now) }
+{
+    let subject = copy_word(alloc, subject)?;
+    let arms = copy_case_arms(alloc, arms.as_slice())?;
+    Ok(Command::Case { at, subject, arms })
+}
+
+#[cycle(copying)]
+fn copy_sub(alloc: Global, at: u32, body: &Box<Command>) -> Result<Command, Memory>
+    ensures { IfOk result (λ twin. twin ≡ Sub at body.now) }
+{
+    let body = copy_boxed(alloc, body)?;
+    Ok(Command::Sub { at, body })
+}
+
+#[cycle(copying)]
+fn copy_define(alloc: Global, at: u32, name: &Bytes, body: &Box<Command>) -> Result<Command, Memory>
+    ensures { IfOk result (λ twin. twin ≡ Define at name.now body.now) }
+{
+    let name = name.copy(alloc)?;
+    let body = copy_boxed(alloc, body)?;
+    Ok(Command::Define { at, name, body })
 }
 
 #[cycle(copying)]

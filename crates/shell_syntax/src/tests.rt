@@ -5,6 +5,14 @@ use script_names::{Boxed as Box, Bytes, Copied, List, Memory};
 use std::alloc::Global;
 use std::test::Fail;
 
+const REDIRECTS: &[Redirect] = &[
+    Redirect::OutNull,
+    Redirect::ErrNull,
+    Redirect::InNull,
+    Redirect::OutToErr,
+    Redirect::ErrToOut,
+];
+
 // A word of one part.
 fn word(alloc: Global, at: u32, part: Part) -> Result<Word, Memory> {
     let mut parts = List::new(alloc);
@@ -41,73 +49,99 @@ fn boxed(alloc: Global, at: u32, name: &[u8]) -> Result<Box<Command>, Memory> {
     Box::new(alloc, command)
 }
 
-// A parameter of each kind, the first with a default.
-fn add_params(alloc: Global, parts: &mut List<Part>) -> Result<(), Memory> {
+// A variable with a default.
+fn named(alloc: Global) -> Result<Part, Memory> {
     let name = Bytes::from_slice(alloc, b"name")?;
     let default = Bytes::from_slice(alloc, b"default")?;
-    parts.add(Part::Param {
+    Ok(Part::Param {
         key: Key::Named(name),
         default: Some(default),
         quoted: true,
-    })?;
-    parts.add(Part::Param {
-        key: Key::Arg(1),
-        default: None,
-        quoted: false,
-    })?;
-    parts.add(Part::Param {
-        key: Key::Count,
-        default: None,
+    })
+}
+
+// A command substitution.
+fn run(alloc: Global) -> Result<Part, Memory> {
+    let body = boxed(alloc, 7, b"run")?;
+    Ok(Part::Run {
+        at: 5,
+        body,
         quoted: true,
     })
+}
+
+// A parameter without a default.
+fn bare(key: Key) -> Part {
+    Part::Param {
+        key,
+        default: None,
+        quoted: false,
+    }
+}
+
+// The part at a place of the word.
+fn part(alloc: Global, place: u32) -> Result<Part, Memory> {
+    match place {
+        0 => Ok(Part::Plain(Bytes::from_slice(alloc, b"plain")?)),
+        1 => Ok(Part::Quoted(Bytes::from_slice(alloc, b"quoted")?)),
+        2 => named(alloc),
+        3 => Ok(bare(Key::Arg(1))),
+        4 => Ok(bare(Key::Count)),
+        5 => Ok(Part::All),
+        _ => run(alloc),
+    }
 }
 
 // A word with each kind of part.
 fn every_part(alloc: Global) -> Result<Word, Memory> {
     let mut parts = List::new(alloc);
-    parts.add(Part::Plain(Bytes::from_slice(alloc, b"plain")?))?;
-    parts.add(Part::Quoted(Bytes::from_slice(alloc, b"quoted")?))?;
-    add_params(alloc, &mut parts)?;
-    parts.add(Part::All)?;
-    let body = boxed(alloc, 7, b"run")?;
-    parts.add(Part::Run {
-        at: 5,
-        body,
-        quoted: true,
-    })?;
+    for place in 0u32..7 {
+        let next = part(alloc, place)?;
+        parts.add(next)?;
+    }
     Ok(Word { at: 4, parts })
 }
 
-// A simple command with an assignment and a word of each kind of part, redirected in each way.
-fn redirected(alloc: Global) -> Result<Command, Memory> {
-    let mut assigns = List::new(alloc);
+// Each redirection.
+fn redirects(alloc: Global) -> Result<List<Redirect>, Memory> {
+    let mut redirects = List::new(alloc);
+    for redirect in REDIRECTS {
+        redirects.add(*redirect)?;
+    }
+    Ok(redirects)
+}
+
+// A simple command with an assignment and a word with each kind of part.
+fn assigned(alloc: Global) -> Result<Command, Memory> {
     let name = Bytes::from_slice(alloc, b"name")?;
     let value = plain(alloc, 2, b"value")?;
+    let mut assigns = List::new(alloc);
     assigns.add(Assign { name, value })?;
-    let words = words(alloc, every_part(alloc)?)?;
-    let body = Command::Simple {
+    let argument = every_part(alloc)?;
+    Ok(Command::Simple {
         at: 1,
         assigns,
-        words,
-    };
-    let mut redirects = List::new(alloc);
-    redirects.add(Redirect::OutNull)?;
-    redirects.add(Redirect::ErrNull)?;
-    redirects.add(Redirect::InNull)?;
-    redirects.add(Redirect::OutToErr)?;
-    redirects.add(Redirect::ErrToOut)?;
+        words: words(alloc, argument)?,
+    })
+}
+
+// The same under each redirection.
+fn redirected(alloc: Global) -> Result<Command, Memory> {
+    let body = assigned(alloc)?;
     Ok(Command::Redirected {
         at: 1,
         body: Box::new(alloc, body)?,
-        redirects,
+        redirects: redirects(alloc)?,
     })
 }
 
 // A pipeline, turned round.
 fn not_pipe(alloc: Global) -> Result<Command, Memory> {
     let mut parts = List::new(alloc);
-    parts.add(simple(alloc, 11, b"first")?)?;
-    parts.add(simple(alloc, 17, b"second")?)?;
+    for at in [11u32, 17] {
+        let next = simple(alloc, at, b"part")?;
+        parts.add(next)?;
+    }
     let pipe = Command::Pipe { at: 11, parts };
     Ok(Command::Not {
         at: 10,
@@ -118,13 +152,10 @@ fn not_pipe(alloc: Global) -> Result<Command, Memory> {
 // A chain with both kinds of link.
 fn chain(alloc: Global) -> Result<Command, Memory> {
     let mut rest = List::new(alloc);
-    let command = simple(alloc, 24, b"second")?;
-    rest.add(Link { and: true, command })?;
-    let command = simple(alloc, 30, b"third")?;
-    rest.add(Link {
-        and: false,
-        command,
-    })?;
+    for and in [true, false] {
+        let command = simple(alloc, 24, b"next")?;
+        rest.add(Link { and, command })?;
+    }
     Ok(Command::Chain {
         first: boxed(alloc, 20, b"first")?,
         rest,
@@ -190,21 +221,44 @@ fn define(alloc: Global) -> Result<Command, Memory> {
     })
 }
 
+// A loop over one word.
+fn over_words(alloc: Global) -> Result<Command, Memory> {
+    let item = plain(alloc, 43, b"item")?;
+    let items = words(alloc, item)?;
+    over(alloc, Some(items))
+}
+
+// A conditional with `else`.
+fn with_else(alloc: Global) -> Result<Command, Memory> {
+    let last = boxed(alloc, 39, b"last")?;
+    conditional(alloc, Some(last))
+}
+
+// The command at a place of the script, of which the last stands at an offset.
+fn command(alloc: Global, place: u32, last: u32) -> Result<Command, Memory> {
+    match place {
+        0 => redirected(alloc),
+        1 => not_pipe(alloc),
+        2 => chain(alloc),
+        3 => with_else(alloc),
+        4 => conditional(alloc, None),
+        5 => over(alloc, None),
+        6 => over_words(alloc),
+        7 => while_loop(alloc, true),
+        8 => while_loop(alloc, false),
+        9 => case(alloc),
+        10 => define(alloc),
+        _ => simple(alloc, last, b"last"),
+    }
+}
+
 // The commands of the script.
 fn commands(alloc: Global, last: u32) -> Result<List<Command>, Memory> {
     let mut commands = List::new(alloc);
-    commands.add(redirected(alloc)?)?;
-    commands.add(not_pipe(alloc)?)?;
-    commands.add(chain(alloc)?)?;
-    commands.add(conditional(alloc, Some(boxed(alloc, 39, b"last")?))?)?;
-    commands.add(over(alloc, None)?)?;
-    commands.add(while_loop(alloc, true)?)?;
-    commands.add(case(alloc)?)?;
-    commands.add(define(alloc)?)?;
-    commands.add(conditional(alloc, None)?)?;
-    commands.add(over(alloc, Some(words(alloc, plain(alloc, 43, b"item")?)?))?)?;
-    commands.add(while_loop(alloc, false)?)?;
-    commands.add(simple(alloc, last, b"last")?)?;
+    for place in 0u32..12 {
+        let next = command(alloc, place, last)?;
+        commands.add(next)?;
+    }
     Ok(commands)
 }
 
