@@ -1,0 +1,9 @@
+pub mod FirstLine
+pub mod Late
+pub mod Lexed
+pub mod Operators
+pub mod Parts
+pub mod Reading
+pub mod Reads
+pub mod Seen
+pub mod Text
