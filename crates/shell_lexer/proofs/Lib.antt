@@ -1,0 +1,4 @@
+pub mod Cells
+pub mod Fronts
+pub mod Numbers
+pub mod Skips
