@@ -1,8 +1,12 @@
 mod Begun
 mod Causes
+mod Cells
 mod CutOnce
+mod Fronts
 mod Insides
+mod Numbers
 mod Places
+mod Skips
 mod SoFar
 mod Steps
 mod Unique

@@ -1,11 +1,7 @@
 -- The place behind joined lines.
 use Rattle.std.proofs.Common.{◌≡◌, ℕ, ◌+◌, ◌-◌, ◌≤◌, List, drop, length, length-drop, sym, ap, ◌∙◌, subst, arith}
 use Rattle.shell_lexer.specs.Text.{Bytes, skip, place}
-
-pub record Here (text : Bytes) (p here : ℕ) : Type 0 where
-  pub within : here ≤ length text
-  pub on : p ≤ here
-  pub skips : drop here text ≡ skip (drop p text)
+use Rattle.shell_lexer.proofs.Fronts.{Here}
 
 pub place_of : (text : Bytes) (p here : ℕ) → Here text p here → place (length text) (skip (drop p text)) ≡ here
 place_of text p here h =
