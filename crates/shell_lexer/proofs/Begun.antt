@@ -18,8 +18,7 @@ use Rattle.shell_lexer.specs.Operators as operators
 use Rattle.shell_lexer.specs.Operators.{sight_at, sight_by}
 use Rattle.shell_lexer.specs.Parts as parts
 use Rattle.shell_lexer.specs.Parts.{look, look_at, look_by}
-use Rattle.shell_lexer.proofs.Fronts.{Here}
-use Rattle.shell_lexer.proofs.Places.{at_here}
+use Rattle.shell_lexer.proofs.Fronts.{Here, at_here}
 
 -- not the end of a word
 abbrev NotEnd : parts.Look → Type 0

@@ -5,7 +5,6 @@ mod CutOnce
 mod Fronts
 mod Insides
 mod Numbers
-mod Places
 mod Skips
 mod SoFar
 mod Steps

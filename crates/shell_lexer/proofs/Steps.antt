@@ -20,8 +20,8 @@ use Rattle.shell_lexer.specs.Late.{late}
 use Rattle.shell_lexer.specs.Reading.{Out, Whole, Stop, Read, behind, grown, ended, closes, opened, token_at, kind_of_sign, plain_run, quoted_run, last_run, IsItems, items_end, items_pass, items_wrong, items_close, items_sign, items_word, items_late, items_bad, IsWord, word_ends, word_byte, word_piece, word_all, word_double, word_run, word_wrong, word_bad_double, word_bad_run, IsInner, inner_open, inner_ends, inner_byte, inner_piece, inner_all, inner_run, inner_wrong, inner_bad_run, IsSub, sub_deep, sub_items}
 use Rattle.shell_lexer.specs.Reads.{ItemsRead, TokenRead, WordFails, WordRead, InnerRead, SubRead}
 use Rattle.shell_lexer.proofs.Causes.{caused, caused_map}
-use Rattle.shell_lexer.proofs.Fronts.{Here}
-use Rattle.shell_lexer.proofs.Places.{place_of, at_here}
+use Rattle.shell_lexer.proofs.Fronts.{Here, place_of, at_here}
+
 use Rattle.shell_lexer.proofs.SoFar.{ItemsSoFar, WordSoFar, InnerSoFar}
 
 -- ---- pieces

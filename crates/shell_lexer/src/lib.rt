@@ -4,6 +4,7 @@
 
 mod byte_kind;
 mod bytes;
+mod copies;
 mod fault;
 mod first_line;
 mod late;
