@@ -5,6 +5,8 @@ mod CutOnce
 mod Fronts
 mod Insides
 mod Numbers
+mod Pieces
+mod Quotes
 mod Skips
 mod SoFar
 mod Steps
