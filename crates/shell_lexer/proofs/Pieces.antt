@@ -4,12 +4,12 @@ use Rattle.std.proofs.lemmas.Bool.{false≢true}
 use Rattle.shell_syntax.specs.declared.key.Key.{Key}
 use Rattle.shell_lexer.specs.declared.token.RawPart.TheVariants.{Quoted}
 use Rattle.shell_lexer.specs.declared.byte_kind.ByteKind.{ByteKind}
-use Rattle.shell_lexer.specs.declared.byte_kind.ByteKind.TheVariants.{Blank, Newline, Semi, Amp, Bar, Open, Close, Less, Greater, Single, Double, Back, Tick, Dollar}
+use Rattle.shell_lexer.specs.declared.byte_kind.ByteKind.TheVariants.{Blank, Newline, Semi, Amp, Bar, Open, Close, Less, Greater, Single, Double, Back, Tick, Dollar, Hash, Brace, At, Special, Digit, Name}
 use Rattle.shell_lexer.specs.declared.sight.Look.{Look}
 use Rattle.shell_lexer.specs.Seen.{seen_look}
 use Rattle.shell_lexer.specs.Text.{Bytes, kind, skip, head_is, tail}
 use Rattle.shell_lexer.specs.Parts as table
-use Rattle.shell_lexer.proofs.Fronts.{front}
+use Rattle.shell_lexer.proofs.Fronts.{Here, front, skip_front}
 
 pub key_colon : (quoted : Bool) (dollar : ℕ) (key : Key) (t u : Bytes) → head_is 58 t ≡ true → u ≡ tail t → table.behind_colon quoted dollar key (skip u) ≡ table.behind_key quoted dollar key t
 key_colon quoted dollar key t u e r = ap (λ u. table.behind_colon quoted dollar key (skip u)) r ∙ colon t e where
@@ -47,6 +47,43 @@ other_byte at b rest Back _ _ _ _ _ _ _ _ _ _ _ n _ _ = absurd (n refl)
 other_byte at b rest Tick _ _ _ _ _ _ _ _ _ _ _ _ n _ = absurd (n refl)
 other_byte at b rest Dollar _ _ _ _ _ _ _ _ _ _ _ _ _ n = absurd (n refl)
 other_byte at b rest _ _ _ _ _ _ _ _ _ _ _ _ _ _ _ = refl
+
+-- ---- the same in double quotes, behind `$` and behind `${`
+
+pub inner_front : (s : Bytes) (at : ℕ) (k : ByteKind) → at < length s → k ≡ kind (get_or s at 0) → table.inner_by at (get_or s at 0) k (drop (at + 1) s) ≡ table.inner_at at (drop at s)
+inner_front s at k lt e = ap (λ k. table.inner_by at (get_or s at 0) k (drop (at + 1) s)) e ∙ sym (ap (table.inner_at at) (front s at lt))
+
+pub other_inner : (at b : ℕ) (rest : Bytes) (k : ByteKind) → (k ≡ Double → ⊥) → (k ≡ Back → ⊥) → (k ≡ Tick → ⊥) → (k ≡ Dollar → ⊥) → table.Byte b rest ≡ table.inner_by at b k rest
+other_inner at b rest Double n _ _ _ = absurd (n refl)
+other_inner at b rest Back _ n _ _ = absurd (n refl)
+other_inner at b rest Tick _ _ n _ = absurd (n refl)
+other_inner at b rest Dollar _ _ _ n = absurd (n refl)
+other_inner at b rest _ _ _ _ _ = refl
+
+pub dollar_front : (s : Bytes) (quoted : Bool) (dollar p here : ℕ) (k : ByteKind) → Here s p here → here < length s → k ≡ kind (get_or s here 0) → table.dollar_by quoted dollar (drop p s) (get_or s here 0) k (drop (here + 1) s) ≡ table.dollar quoted dollar (drop p s) (skip (drop p s))
+dollar_front s quoted dollar p here k h lt e = ap (λ k. table.dollar_by quoted dollar (drop p s) (get_or s here 0) k (drop (here + 1) s)) e ∙ sym (ap (table.dollar quoted dollar (drop p s)) (skip_front s p here h lt))
+
+pub other_dollar : (quoted : Bool) (at : ℕ) (rest : Bytes) (b : ℕ) (more : Bytes) (k : ByteKind) → (k ≡ Open → ⊥) → (k ≡ Brace → ⊥) → (k ≡ Name → ⊥) → (k ≡ Digit → ⊥) → (k ≡ Hash → ⊥) → (k ≡ At → ⊥) → (k ≡ Special → ⊥) → (k ≡ Dollar → ⊥) → (k ≡ Single → ⊥) → (k ≡ Double → ⊥) → table.Byte 36 rest ≡ table.dollar_by quoted at rest b k more
+other_dollar quoted at rest b more Open n _ _ _ _ _ _ _ _ _ = absurd (n refl)
+other_dollar quoted at rest b more Brace _ n _ _ _ _ _ _ _ _ = absurd (n refl)
+other_dollar quoted at rest b more Name _ _ n _ _ _ _ _ _ _ = absurd (n refl)
+other_dollar quoted at rest b more Digit _ _ _ n _ _ _ _ _ _ = absurd (n refl)
+other_dollar quoted at rest b more Hash _ _ _ _ n _ _ _ _ _ = absurd (n refl)
+other_dollar quoted at rest b more At _ _ _ _ _ n _ _ _ _ = absurd (n refl)
+other_dollar quoted at rest b more Special _ _ _ _ _ _ n _ _ _ = absurd (n refl)
+other_dollar quoted at rest b more Dollar _ _ _ _ _ _ _ n _ _ = absurd (n refl)
+other_dollar quoted at rest b more Single _ _ _ _ _ _ _ _ n _ = absurd (n refl)
+other_dollar quoted at rest b more Double _ _ _ _ _ _ _ _ _ n = absurd (n refl)
+other_dollar quoted at rest b more _ _ _ _ _ _ _ _ _ _ _ = refl
+
+pub braced_front : (s : Bytes) (quoted : Bool) (dollar p here : ℕ) (k : ByteKind) → Here s p here → here < length s → k ≡ kind (get_or s here 0) → table.braced_by quoted dollar (get_or s here 0) k (drop (here + 1) s) ≡ table.braced quoted dollar (skip (drop p s))
+braced_front s quoted dollar p here k h lt e = ap (λ k. table.braced_by quoted dollar (get_or s here 0) k (drop (here + 1) s)) e ∙ sym (ap (table.braced quoted dollar) (skip_front s p here h lt))
+
+pub other_braced : (quoted : Bool) (at b : ℕ) (rest : Bytes) (k : ByteKind) → (k ≡ Name → ⊥) → (k ≡ Digit → ⊥) → (k ≡ Hash → ⊥) → table.bad_param at ≡ table.braced_by quoted at b k rest
+other_braced quoted at b rest Name n _ _ = absurd (n refl)
+other_braced quoted at b rest Digit _ n _ = absurd (n refl)
+other_braced quoted at b rest Hash _ _ n = absurd (n refl)
+other_braced quoted at b rest _ _ _ _ = refl
 
 -- ---- what is seen where memory suffices
 
