@@ -11,7 +11,10 @@ use Rattle.shell_lexer.specs.declared.token.RawPart.{RawPart}
 use Rattle.shell_lexer.specs.declared.token.RawPart.TheVariants as part
 use Rattle.shell_lexer.specs.declared.token.TokenKind.{TokenKind}
 use Rattle.shell_lexer.specs.declared.token.TokenKind.TheVariants as token
+use Rattle.shell_lexer.specs.declared.sight.Sight as shown
+use Rattle.shell_lexer.specs.declared.sight.Look as shown_look
 use Rattle.shell_lexer.specs.Text.{Bytes, skip, place}
+use Rattle.shell_lexer.specs.Seen.{seen, Further, seen_look, FurtherLook}
 use Rattle.shell_lexer.specs.Operators as operators
 use Rattle.shell_lexer.specs.Operators.{sight, sight_at}
 use Rattle.shell_lexer.specs.Parts as parts
@@ -23,6 +26,20 @@ use Rattle.shell_lexer.proofs.Causes.{caused, caused_map}
 use Rattle.shell_lexer.proofs.Fronts.{Here, place_of, at_here}
 
 use Rattle.shell_lexer.proofs.SoFar.{ItemsSoFar, WordSoFar, InnerSoFar}
+
+-- ---- what was seen, in an arm of a match
+
+pub sees_as : (text : Bytes) {v w : shown.Sight} {t : operators.Sight} → v ≡ w → seen text v ≡ t → seen text w ≡ t
+sees_as text e g = ap (seen text) (sym e) ∙ g
+
+pub further_as : (at len : ℕ) {v w : shown.Sight} → v ≡ w → Further at len v → Further at len w
+further_as at len e f = subst (Further at len) e f
+
+pub looks_as : (text : Bytes) {v w : shown_look.Look} {t : parts.Look} → v ≡ w → seen_look text v ≡ t → seen_look text w ≡ t
+looks_as text e g = ap (seen_look text) (sym e) ∙ g
+
+pub further_look : (at len : ℕ) {v w : shown_look.Look} → v ≡ w → FurtherLook at len v → FurtherLook at len w
+further_look at len e f = subst (FurtherLook at len) e f
 
 -- ---- pieces
 
