@@ -111,7 +111,7 @@ less_no at number t e = if_sight (head_is 60 (skip t)) _ _ (wrong_no (Unsupporte
 greater_no : (at : ℕ) (number t : Bytes) → NotWord (operators.greater at number t)
 greater_no at number t e =
     if_sight (head_is 62 (skip t)) _ _ (redirected_no at (operators.out_to number) (operators.null_word (tail (skip t))))
-      (if_sight (head_is 38 (skip t)) _ _ (copied_no at number (skip (tail (skip t)))) (redirected_no at (operators.out_to number) (operators.null_word t))) e
+    (if_sight (head_is 38 (skip t)) _ _ (copied_no at number (skip (tail (skip t)))) (redirected_no at (operators.out_to number) (operators.null_word t))) e
 
 by_begun : (len at b : ℕ) (k : ByteKind) (t : Bytes) → sight_by len at b k t ≡ operators.Word → NotEnd (look_by at b k t)
 by_begun len at b kinds.Blank t e f = cc

@@ -113,3 +113,17 @@ module _ (text : Bytes) (strict : Bool) (begin : ℕ) (n : nul_of text ≡ None)
   pub fault_read : (f : LexFault) → ItemsRead text 0 0 begin (Err f) → Caused (Faulty text) f
   fault_read f r = caused_map (λ g. IsItems (length text) 0 0 0 (drop begin text) (Stop g)) (Faulty text) f
       (λ g x. body_faulty text g (record { no_nul = n; strict = strict; first = i }) (subst (λ t. IsItems (length text) 0 0 0 t (Stop g)) b x)) r
+
+-- ---- the clauses of an answer
+
+pub only_cut : (text : Bytes) (l : Lexed) → Cut text l → (other : Lexed) → Cut text other → other ≡ l
+only_cut text l c other d = cut_once text other l d c
+
+pub no_fault : (text : Bytes) (l : Lexed) → Cut text l → (f : LexFault) → Faulty text f → ⊥
+no_fault text l c f h = fault_or_cut text f l h c
+
+pub no_other : (text : Bytes) (f : LexFault) → Caused (Faulty text) f → Caused (λ fault. (other : LexFault) → Faulty text other → other ≡ fault) f
+no_other text f h = caused_map (Faulty text) (λ fault. (other : LexFault) → Faulty text other → other ≡ fault) f (λ g x other y. fault_once text g other x y) h
+
+pub no_cut : (text : Bytes) (f : LexFault) → Caused (Faulty text) f → Caused (λ fault. (l : Lexed) → Cut text l → ⊥) f
+no_cut text f h = caused_map (Faulty text) (λ fault. (l : Lexed) → Cut text l → ⊥) f (λ g x l c. fault_or_cut text g l x c) h

@@ -57,7 +57,7 @@ less_in at number t = if_sight (head_is 60 (skip t)) _ _ tt (redirected_in at (o
 greater_in : (at : ℕ) (number t : Bytes) → SightIn (operators.greater at number t)
 greater_in at number t =
     if_sight (head_is 62 (skip t)) _ _ (redirected_in at (operators.out_to number) (operators.null_word (tail (skip t))))
-      (if_sight (head_is 38 (skip t)) _ _ (copied_in at number (skip (tail (skip t)))) (redirected_in at (operators.out_to number) (operators.null_word t)))
+    (if_sight (head_is 38 (skip t)) _ _ (copied_in at number (skip (tail (skip t)))) (redirected_in at (operators.out_to number) (operators.null_word t)))
 
 numbered_by_in : (at : ℕ) (number : Bytes) (k : ByteKind) (t : Bytes) → SightIn (operators.numbered_by at number k t)
 numbered_by_in at number kinds.Less t = less_in at number t
@@ -198,7 +198,6 @@ behind_in xs (Stop f) h = h
 grown_in : (ps : List RawPart) (ms : List Mark) (q : Out Read) → OutIn q → OutIn (grown ps ms q)
 grown_in ps ms (Whole v rest) h = tt
 grown_in ps ms (Stop f) h = h
-
 
 mutual
   pub items_in : {len depth from parens : ℕ} {text : Bytes} {q : Out (List Token)} → IsItems len depth from parens text q → OutIn q

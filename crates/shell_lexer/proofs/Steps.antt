@@ -24,7 +24,6 @@ use Rattle.shell_lexer.specs.Reading.{Out, Whole, Stop, Read, behind, grown, end
 use Rattle.shell_lexer.specs.Reads.{ItemsRead, TokenRead, WordFails, WordRead, InnerRead, SubRead}
 use Rattle.shell_lexer.proofs.Causes.{caused, caused_map}
 use Rattle.shell_lexer.proofs.Fronts.{Here, place_of, at_here}
-
 use Rattle.shell_lexer.proofs.SoFar.{ItemsSoFar, WordSoFar, InnerSoFar}
 
 -- ---- what was seen, in an arm of a match
@@ -81,9 +80,14 @@ module _ (text : Bytes) (depth «from» at : ℕ) where
         let tok : List Token = token_at here k ∷ [] in
         let tok' : List Token = token_at (place (length text) (skip (drop p text))) (kind_of_sign sign) ∷ [] in
         let same : tok ≡ tok' = ap (λ k. token_at here k ∷ []) ek ∙ ap (λ n. token_at n (kind_of_sign sign) ∷ []) (sym (place_of text p here h)) in
-        record { on = omega arith; within = le; few = omega arith; goes_on = λ q x.
-          subst (IsItems (length text) depth «from» 0 (drop at text)) (sym (ap (λ l. behind l q) is ∙ behind_append out tok q))
-            (s.goes_on (behind tok q) (items_sign sign (drop rest text) q (sees _ e) c (subst (λ n. IsItems (length text) depth «from» n (drop rest text) q) o x) (ap (λ l. behind l q) same))) }
+        record {
+          on = omega arith;
+          within = le;
+          few = omega arith;
+          goes_on = λ q x.
+              subst (IsItems (length text) depth «from» 0 (drop at text)) (sym (ap (λ l. behind l q) is ∙ behind_append out tok q))
+              (s.goes_on (behind tok q) (items_sign sign (drop rest text) q (sees _ e) c (subst (λ n. IsItems (length text) depth «from» n (drop rest text) q) o x) (ap (λ l. behind l q) same)));
+        }
 
     pub items_worded : (rest : ℕ) (tok : Token) (out' : List Token) → operators.Word ≡ sight_at (length text) here (drop here text) → TokenRead text depth p here (Ok (tok, rest))
         → p < rest → out' ≡ out ++ tok ∷ [] → ItemsSoFar text depth «from» at parens rest out'
@@ -92,15 +96,20 @@ module _ (text : Bytes) (depth «from» at : ℕ) where
         let w : Read = r.2.0 in
         let begin : place (length text) (skip (drop p text)) ≡ here = place_of text p here h in
         let same : tok ≡ token_at (place (length text) (skip (drop p text))) (token.Word w.0) = r.2.1 ∙ ap (λ n. token_at n (token.Word w.0)) (sym begin) in
-        record { on = omega arith; within = r.0; few = omega arith; goes_on = λ q x.
-          subst (IsItems (length text) depth «from» 0 (drop at text)) (sym (ap (λ l. behind l q) is ∙ behind_append out (tok ∷ []) q))
-            (s.goes_on (behind (tok ∷ []) q) (items_word w (drop rest text) q (sees _ e) r.2.2 (subst (λ n. late depth n w.1 ≡ None) (sym begin) r.2.3) x (ap (λ t. behind (t ∷ []) q) same))) }
+        record {
+          on = omega arith;
+          within = r.0;
+          few = omega arith;
+          goes_on = λ q x.
+              subst (IsItems (length text) depth «from» 0 (drop at text)) (sym (ap (λ l. behind l q) is ∙ behind_append out (tok ∷ []) q))
+              (s.goes_on (behind (tok ∷ []) q) (items_word w (drop rest text) q (sees _ e) r.2.2 (subst (λ n. late depth n w.1 ≡ None) (sym begin) r.2.3) x (ap (λ t. behind (t ∷ []) q) same)));
+        }
 
     pub items_whole : (end : ℕ) → operators.End ≡ sight_at (length text) here (drop here text) → depth ≡ 0 → end ≡ length text → ItemsRead text depth «from» at (Ok (out, end))
     items_whole end e z is =
         let a : at ≤ p = s.on in let b : p ≤ length text = s.within in
         let goal : behind out (ended depth «from») ≡ Whole out (drop end text) =
-          ap (λ d. behind out (ended d «from»)) z ∙ ap (λ l. Whole l []) (append-nil out) ∙ ap (Whole out) (sym (drop_of_length-le text (omega arith))) in
+        ap (λ d. behind out (ended d «from»)) z ∙ ap (λ l. Whole l []) (append-nil out) ∙ ap (Whole out) (sym (drop_of_length-le text (omega arith))) in
         (omega arith, omega arith, subst (IsItems (length text) depth «from» 0 (drop at text)) goal (s.goes_on (ended depth «from») (items_end (sees _ e) refl)))
 
     pub items_unclosed : operators.End ≡ sight_at (length text) here (drop here text) → (depth ≡ 0 → ⊥) → ItemsRead text depth «from» at (Err (OpenSubstitution «from»))
@@ -154,14 +163,18 @@ module _ (text : Bytes) (depth at : ℕ) where
         → ((q : Out Read) → IsWord (length text) depth run' (drop rest text) q → IsWord (length text) depth run (drop p text) (grown new more q)) → ps' ≡ ps ++ new → ms' ≡ ms ++ more → WordSoFar text depth at rest run' ps' ms'
     word_grown rest run' new ps' more ms' lt le step ep em =
         let a : at ≤ p = s.on in let w : p ≤ here = h.on in
-        record { on = omega arith; within = le; goes_on = λ q x.
-          subst (IsWord (length text) depth [] (drop at text)) (sym (ap (λ l. grown l ms' q) ep ∙ ap (λ l. grown (ps ++ new) l q) em ∙ grown_append ps new ms more q))
-            (s.goes_on (grown new more q) (step q x)) }
+        record {
+          on = omega arith;
+          within = le;
+          goes_on = λ q x.
+              subst (IsWord (length text) depth [] (drop at text)) (sym (ap (λ l. grown l ms' q) ep ∙ ap (λ l. grown (ps ++ new) l q) em ∙ grown_append ps new ms more q))
+              (s.goes_on (grown new more q) (step q x));
+        }
 
     pub word_byted : (rest b : ℕ) (run' : Bytes) (ms' : List Mark) → parts.Byte b (drop rest text) ≡ look_at here (drop here text) → here < rest → rest ≤ length text → run' ≡ run ++ b ∷ [] → ms' ≡ ms ++ mark.Plain b here ∷ [] → WordSoFar text depth at rest run' ps ms'
     word_byted rest b run' ms' e lt le er em =
         word_grown rest run' [] ps (mark.Plain b here ∷ []) ms' lt le
-          (λ q x. word_byte b (drop rest text) q (looks _ e) (subst (λ r. IsWord (length text) depth r (drop rest text) q) er x) (ap (λ n. grown [] (mark.Plain b n ∷ []) q) (sym (place_of text p here h)))) (sym (append-nil ps)) em
+        (λ q x. word_byte b (drop rest text) q (looks _ e) (subst (λ r. IsWord (length text) depth r (drop rest text) q) er x) (ap (λ n. grown [] (mark.Plain b n ∷ []) q) (sym (place_of text p here h)))) (sym (append-nil ps)) em
 
     pub word_pieced : (rest : ℕ) (piece : RawPart) (ps' : List RawPart) (ms' : List Mark) → parts.Piece piece (drop rest text) ≡ look_at here (drop here text) → here < rest → rest ≤ length text
         → ps' ≡ ps ++ (plain_run run ++ piece ∷ []) → ms' ≡ ms ++ mark.Gap ∷ [] → WordSoFar text depth at rest [] ps' ms'
@@ -172,7 +185,7 @@ module _ (text : Bytes) (depth at : ℕ) where
         → ps' ≡ ps ++ (plain_run run ++ part.All ∷ []) → ms' ≡ ms ++ mark.All here false ∷ [] → WordSoFar text depth at rest [] ps' ms'
     word_alled rest ps' ms' e lt le ep em =
         word_grown rest [] (plain_run run ++ part.All ∷ []) ps' (mark.All here false ∷ []) ms' lt le
-          (λ q x. word_all (drop rest text) q (looks _ e) x (ap (λ n. grown (plain_run run ++ part.All ∷ []) (mark.All n false ∷ []) q) (sym (place_of text p here h)))) ep em
+        (λ q x. word_all (drop rest text) q (looks _ e) x (ap (λ n. grown (plain_run run ++ part.All ∷ []) (mark.All n false ∷ []) q) (sym (place_of text p here h)))) ep em
 
     pub word_doubled : (begin rest : ℕ) (flushed ps' : List RawPart) (between ms' : List Mark) → parts.DoubleQuote (drop begin text) ≡ look_at here (drop here text) → here < begin → flushed ≡ ps ++ plain_run run
         → InnerRead text depth here begin flushed ps' ms between (Ok rest) → ms' ≡ between ++ mark.Gap ∷ [] → WordSoFar text depth at rest [] ps' ms'
@@ -180,24 +193,27 @@ module _ (text : Bytes) (depth at : ℕ) where
         let on : begin ≤ rest = i.0 in
         let v : Read = i.2.0 in
         word_grown rest [] (plain_run run ++ v.0) ps' (v.1 ++ mark.Gap ∷ []) ms' (omega arith) i.1
-          (λ q x. word_double (drop begin text) v (drop rest text) q (looks _ e) (subst (λ n. IsInner (length text) depth n true [] (drop begin text) (Whole v (drop rest text))) (sym (place_of text p here h)) i.2.3) x refl)
-          (i.2.1 ∙ ap (λ l. l ++ v.0) ef ∙ append_assoc ps (plain_run run) v.0)
-          (em ∙ ap (λ l. l ++ mark.Gap ∷ []) i.2.2 ∙ append_assoc ms v.1 (mark.Gap ∷ []))
+        (λ q x. word_double (drop begin text) v (drop rest text) q (looks _ e) (subst (λ n. IsInner (length text) depth n true [] (drop begin text) (Whole v (drop rest text))) (sym (place_of text p here h)) i.2.3) x refl)
+        (i.2.1 ∙ ap (λ l. l ++ v.0) ef ∙ append_assoc ps (plain_run run) v.0)
+        (em ∙ ap (λ l. l ++ mark.Gap ∷ []) i.2.2 ∙ append_assoc ms v.1 (mark.Gap ∷ []))
 
     pub word_ran : (begin rest : ℕ) (ts : List Token) (piece : RawPart) (ps' : List RawPart) (ms' : List Mark) → parts.Substitution (drop begin text) ≡ look_at here (drop here text) → here < begin → SubRead text depth here begin (Ok (ts, rest))
         → piece ≡ part.Run here ts false → ps' ≡ ps ++ (plain_run run ++ piece ∷ []) → ms' ≡ ms ++ mark.Gap ∷ [] → WordSoFar text depth at rest [] ps' ms'
     word_ran begin rest ts piece ps' ms' e lt i er ep em =
         let on : begin ≤ rest = i.0 in
         word_grown rest [] (plain_run run ++ part.Run here ts false ∷ []) ps' (mark.Gap ∷ []) ms' (omega arith) i.1
-          (λ q x. word_run (drop begin text) ts (drop rest text) q (looks _ e) (subst (λ n. IsSub (length text) depth n (drop begin text) (Whole ts (drop rest text))) (sym (place_of text p here h)) i.2) x
-            (ap (λ n. grown (plain_run run ++ part.Run n ts false ∷ []) (mark.Gap ∷ []) q) (sym (place_of text p here h))))
-          (ep ∙ ap (λ r. ps ++ (plain_run run ++ r ∷ [])) er) em
+        (λ q x. word_run (drop begin text) ts (drop rest text) q (looks _ e) (subst (λ n. IsSub (length text) depth n (drop begin text) (Whole ts (drop rest text))) (sym (place_of text p here h)) i.2) x
+        (ap (λ n. grown (plain_run run ++ part.Run n ts false ∷ []) (mark.Gap ∷ []) q) (sym (place_of text p here h))))
+        (ep ∙ ap (λ r. ps ++ (plain_run run ++ r ∷ [])) er) em
 
     pub word_whole : (ps' : List RawPart) → parts.Ends ≡ look_at here (drop here text) → ps' ≡ ps ++ plain_run run → WordRead text depth at (Ok (ps', ms, p))
-    word_whole ps' e ep =
-        (s.on, s.within, subst (IsWord (length text) depth [] (drop at text)) (ap (λ m. Whole (ps ++ plain_run run, m) (drop p text)) (append-nil ms) ∙ ap (λ l. Whole (l, ms) (drop p text)) (sym ep))
+    word_whole ps' e ep = (
+      s.on,
+      s.within,
+      subst (IsWord (length text) depth [] (drop at text)) (ap (λ m. Whole (ps ++ plain_run run, m) (drop p text)) (append-nil ms) ∙ ap (λ l. Whole (l, ms) (drop p text)) (sym ep))
           (s.goes_on (Whole (plain_run run, []) (drop p text)) (word_ends (looks _ e) refl)),
-          λ begun. elim (same_or_less at p s.on) [ inl same ↦ absurd (begun (subst (λ p. look (length text) (drop p text) ≡ parts.Ends) same (looks _ e))) | inr less ↦ less ])
+      λ begun. elim (same_or_less at p s.on) [ inl same ↦ absurd (begun (subst (λ p. look (length text) (drop p text) ≡ parts.Ends) same (looks _ e))) | inr less ↦ less ],
+    )
 
     pub word_fault : (f : LexFault) → parts.Bad f ≡ look_at here (drop here text) → WordRead text depth at (Err f)
     word_fault f e = caused (λ g. IsWord (length text) depth [] (drop at text) (Stop g)) f (s.goes_on (Stop f) (word_wrong f (looks _ e) refl))
@@ -224,13 +240,21 @@ module _ (text : Bytes) (depth «from» at : ℕ) (old : List RawPart) (before :
         → ((q : Out Read) → IsInner (length text) depth «from» fresh' run' (drop rest text) q → IsInner (length text) depth «from» fresh run (drop p text) (grown new more q)) → ps' ≡ ps ++ new → ms' ≡ ms ++ more → InnerSoFar text depth «from» at rest fresh' run' old ps' before ms'
     inner_grown rest fresh' run' new ps' more ms' lt le step ep em =
         let a : at ≤ p = s.on in let w : p ≤ here = h.on in
-        record { on = omega arith; within = le; new = s.new ++ new; after = s.after ++ more; parts_are = ep ∙ ap (λ l. l ++ new) s.parts_are ∙ append_assoc old s.new new; marks_are = em ∙ ap (λ l. l ++ more) s.marks_are ∙ append_assoc before s.after more; goes_on = λ q x.
-          subst (IsInner (length text) depth «from» true [] (drop at text)) (sym (grown_append s.new new s.after more q)) (s.goes_on (grown new more q) (step q x)) }
+        record {
+          on = omega arith;
+          within = le;
+          new = s.new ++ new;
+          after = s.after ++ more;
+          parts_are = ep ∙ ap (λ l. l ++ new) s.parts_are ∙ append_assoc old s.new new;
+          marks_are = em ∙ ap (λ l. l ++ more) s.marks_are ∙ append_assoc before s.after more;
+          goes_on = λ q x.
+              subst (IsInner (length text) depth «from» true [] (drop at text)) (sym (grown_append s.new new s.after more q)) (s.goes_on (grown new more q) (step q x));
+        }
 
     pub inner_byted : (rest b : ℕ) (run' : Bytes) (ms' : List Mark) → parts.Byte b (drop rest text) ≡ inner_at here (drop here text) → here < rest → rest ≤ length text → run' ≡ run ++ b ∷ [] → ms' ≡ ms ++ mark.Gap ∷ [] → InnerSoFar text depth «from» at rest fresh run' old ps before ms'
     inner_byted rest b run' ms' e lt le er em =
         inner_grown rest fresh run' [] ps (mark.Gap ∷ []) ms' lt le
-          (λ q x. inner_byte b (drop rest text) q (insides _ e) (subst (λ r. IsInner (length text) depth «from» fresh r (drop rest text) q) er x) refl) (sym (append-nil ps)) em
+        (λ q x. inner_byte b (drop rest text) q (insides _ e) (subst (λ r. IsInner (length text) depth «from» fresh r (drop rest text) q) er x) refl) (sym (append-nil ps)) em
 
     pub inner_pieced : (rest : ℕ) (piece : RawPart) (ps' : List RawPart) (ms' : List Mark) → parts.Piece piece (drop rest text) ≡ inner_at here (drop here text) → here < rest → rest ≤ length text
         → ps' ≡ ps ++ (quoted_run run ++ piece ∷ []) → ms' ≡ ms ++ mark.Gap ∷ [] → InnerSoFar text depth «from» at rest false [] old ps' before ms'
@@ -241,22 +265,29 @@ module _ (text : Bytes) (depth «from» at : ℕ) (old : List RawPart) (before :
         → ps' ≡ ps ++ (quoted_run run ++ part.All ∷ []) → ms' ≡ ms ++ mark.All here true ∷ [] → InnerSoFar text depth «from» at rest false [] old ps' before ms'
     inner_alled rest ps' ms' e lt le ep em =
         inner_grown rest false [] (quoted_run run ++ part.All ∷ []) ps' (mark.All here true ∷ []) ms' lt le
-          (λ q x. inner_all (drop rest text) q (insides _ e) x (ap (λ n. grown (quoted_run run ++ part.All ∷ []) (mark.All n true ∷ []) q) (sym (place_of text p here h)))) ep em
+        (λ q x. inner_all (drop rest text) q (insides _ e) x (ap (λ n. grown (quoted_run run ++ part.All ∷ []) (mark.All n true ∷ []) q) (sym (place_of text p here h)))) ep em
 
     pub inner_ran : (begin rest : ℕ) (ts : List Token) (piece : RawPart) (ps' : List RawPart) (ms' : List Mark) → parts.Substitution (drop begin text) ≡ inner_at here (drop here text) → here < begin → SubRead text depth here begin (Ok (ts, rest))
         → piece ≡ part.Run here ts true → ps' ≡ ps ++ (quoted_run run ++ piece ∷ []) → ms' ≡ ms ++ mark.Gap ∷ [] → InnerSoFar text depth «from» at rest false [] old ps' before ms'
     inner_ran begin rest ts piece ps' ms' e lt i er ep em =
         let on : begin ≤ rest = i.0 in
         inner_grown rest false [] (quoted_run run ++ part.Run here ts true ∷ []) ps' (mark.Gap ∷ []) ms' (omega arith) i.1
-          (λ q x. inner_run (drop begin text) ts (drop rest text) q (insides _ e) (subst (λ n. IsSub (length text) depth n (drop begin text) (Whole ts (drop rest text))) (sym (place_of text p here h)) i.2) x
-            (ap (λ n. grown (quoted_run run ++ part.Run n ts true ∷ []) (mark.Gap ∷ []) q) (sym (place_of text p here h))))
-          (ep ∙ ap (λ r. ps ++ (quoted_run run ++ r ∷ [])) er) em
+        (λ q x. inner_run (drop begin text) ts (drop rest text) q (insides _ e) (subst (λ n. IsSub (length text) depth n (drop begin text) (Whole ts (drop rest text))) (sym (place_of text p here h)) i.2) x
+        (ap (λ n. grown (quoted_run run ++ part.Run n ts true ∷ []) (mark.Gap ∷ []) q) (sym (place_of text p here h))))
+        (ep ∙ ap (λ r. ps ++ (quoted_run run ++ r ∷ [])) er) em
 
     pub inner_whole : (rest : ℕ) (ps' : List RawPart) → parts.DoubleQuote (drop rest text) ≡ inner_at here (drop here text) → here < rest → rest ≤ length text → ps' ≡ ps ++ last_run fresh run → InnerRead text depth «from» at old ps' before ms (Ok rest)
     inner_whole rest ps' e lt le ep =
-        let a : at ≤ p = s.on in let w : p ≤ here = h.on in
-        (omega arith, le, ((s.new ++ last_run fresh run, s.after), ep ∙ ap (λ l. l ++ last_run fresh run) s.parts_are ∙ append_assoc old s.new (last_run fresh run), s.marks_are,
-          subst (IsInner (length text) depth «from» true [] (drop at text)) (ap (λ l. Whole (s.new ++ last_run fresh run, l) (drop rest text)) (append-nil s.after)) (s.goes_on (Whole (last_run fresh run, []) (drop rest text)) (inner_ends (drop rest text) (insides _ e) refl))))
+        let a : at ≤ p = s.on in let w : p ≤ here = h.on in (
+          omega arith,
+          le,
+          (
+            (s.new ++ last_run fresh run, s.after),
+            ep ∙ ap (λ l. l ++ last_run fresh run) s.parts_are ∙ append_assoc old s.new (last_run fresh run),
+            s.marks_are,
+            subst (IsInner (length text) depth «from» true [] (drop at text)) (ap (λ l. Whole (s.new ++ last_run fresh run, l) (drop rest text)) (append-nil s.after)) (s.goes_on (Whole (last_run fresh run, []) (drop rest text)) (inner_ends (drop rest text) (insides _ e) refl)),
+          ),
+        )
 
     pub inner_fault : (f : LexFault) (new : List RawPart) (after : List Mark) → parts.Bad f ≡ inner_at here (drop here text) → InnerRead text depth «from» at old new before after (Err f)
     inner_fault f new after e = caused (λ g. IsInner (length text) depth «from» true [] (drop at text) (Stop g)) f (s.goes_on (Stop f) (inner_wrong f (insides _ e) refl))
