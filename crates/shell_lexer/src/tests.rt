@@ -29,16 +29,16 @@ fn form_name(form: Form) -> &'static str {
     }
 }
 
-// A fault's name, and its offset where it has one.
-fn fault_parts(fault: LexFault) -> (&'static str, Option<u32>) {
+// A fault's name and its offset. Want of memory is no fault of a text, and comes out of each test as it is.
+fn fault_parts(fault: LexFault) -> Result<(&'static str, u32), Memory> {
     match fault {
-        LexFault::Nul { at } => ("nul", Some(at)),
-        LexFault::Interpreter { at } => ("interpreter", Some(at)),
-        LexFault::OpenQuote { at } => ("open-quote", Some(at)),
-        LexFault::OpenSubstitution { at } => ("open-substitution", Some(at)),
-        LexFault::Unsupported { form, at } => (form_name(form), Some(at)),
-        LexFault::Deep { at } => ("deep", Some(at)),
-        LexFault::Memory => ("memory", None),
+        LexFault::Nul { at } => Ok(("nul", at)),
+        LexFault::Interpreter { at } => Ok(("interpreter", at)),
+        LexFault::OpenQuote { at } => Ok(("open-quote", at)),
+        LexFault::OpenSubstitution { at } => Ok(("open-substitution", at)),
+        LexFault::Unsupported { form, at } => Ok((form_name(form), at)),
+        LexFault::Deep { at } => Ok(("deep", at)),
+        LexFault::Memory => Err(Memory),
     }
 }
 
@@ -49,15 +49,10 @@ fn show_number(alloc: Global, out: &mut Bytes, number: u32) -> Result<(), Memory
 }
 
 fn show_fault(alloc: Global, out: &mut Bytes, fault: LexFault) -> Result<(), Memory> {
-    let (name, at) = fault_parts(fault);
+    let (name, at) = fault_parts(fault)?;
     out.extend(name.as_bytes())?;
-    match at {
-        Some(at) => {
-            out.push(b' ')?;
-            show_number(alloc, out, at)
-        }
-        None => Ok(()),
-    }
+    out.push(b' ')?;
+    show_number(alloc, out, at)
 }
 
 // Bytes between two marks.
@@ -286,23 +281,22 @@ fn substitutions_nest_to_64(rt: HostRuntime) -> Result<(), Fail> {
     Ok(())
 }
 
-// Whether what `lex` gives says nothing of a place behind a text's end.
-fn within(alloc: Global, text: &[u8]) -> bool {
+// The place of a text's fault, or its end.
+fn last_place(alloc: Global, text: &[u8]) -> Result<u32, Memory> {
     match lex(alloc, text) {
-        Ok(lexed) => lexed.end as usize == text.len(),
-        Err(fault) => match fault_parts(fault).1 {
-            Some(at) => at as usize <= text.len(),
-            None => false,
-        },
+        Ok(lexed) => Ok(lexed.end),
+        Err(fault) => Ok(fault_parts(fault)?.1),
     }
 }
 
 #[test]
 fn prefixes_are_answered(rt: HostRuntime) -> Result<(), Fail> {
     let alloc = rt.alloc();
-    for len in 0..=TEMPLATE.len() {
-        let prefix = TEMPLATE.as_bytes().get(..len);
-        assert!(rt; prefix.is_some_and(|text| within(alloc, text)), "{len}");
+    let mut text = Bytes::new(alloc);
+    for byte in TEMPLATE.as_bytes() {
+        text.push(*byte)?;
+        let place = last_place(alloc, text.as_slice())?;
+        assert!(rt; place as usize <= text.len(), "{place} in {}", text.len());
     }
     Ok(())
 }
