@@ -20,3 +20,6 @@ mod token;
 pub use fault::LexFault;
 pub use lexer::lex;
 pub use token::{Lexed, RawPart, Token, TokenKind};
+
+#[cfg(test)]
+mod tests;
