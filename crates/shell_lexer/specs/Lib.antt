@@ -6,4 +6,5 @@ pub mod Parts
 pub mod Reading
 pub mod Reads
 pub mod Seen
+pub mod Spelling
 pub mod Text
