@@ -1,19 +1,10 @@
 -- What a byte's kind says of the byte, and what bytes have a kind.
-use Rattle.std.proofs.Common.{◌≡◌, ℕ, Bool, true, false, if◌then◌else◌, nat_eq, refl, sym, ap, ◌∙◌, arith}
+use Rattle.std.proofs.Common.{◌≡◌, ℕ, true, false, nat_eq, refl, sym, ap, ◌∙◌, arith}
 use Rattle.std.proofs.lemmas.Grind.{common_steps}
 use Rattle.shell_lexer.specs.declared.byte_kind.ByteKind.{ByteKind}
 use Rattle.shell_lexer.specs.declared.byte_kind.ByteKind.TheVariants as k
 use Rattle.shell_lexer.specs.Text.{kind, word_kind, is_blank, is_digit, is_letter, is_special}
-
-pub if_case : {A : Type 0} (Q : A → Type 0) (b : Bool) (x y : A) → (b ≡ true → Q x) → (b ≡ false → Q y) → Q (if b then x else y)
-if_case Q true x y h g = h refl
-if_case Q false x y h g = g refl
-
-pub eq_of : (a b : ℕ) → nat_eq a b ≡ true → a ≡ b
-eq_of a b e = grind (arith, common_steps)
-
-pub eq_same : (a : ℕ) → nat_eq a a ≡ true
-eq_same a = grind (arith, common_steps)
+use Rattle.shell_lexer.proofs.SpelledCases.{if_case, eq_of}
 
 abbrev pub KindOf : ℕ → ByteKind → Type 0
 KindOf b k.Blank = is_blank b ≡ true
@@ -64,6 +55,9 @@ kind_of b =
     if_case (KindOf b) (nat_eq b 62) _ _ (eq_of b 62) (λ e.
     if_case (KindOf b) (nat_eq b 35) _ _ (eq_of b 35) (λ e. word_kind_of b))))))))))
 
+no_digit : (b : ℕ) → is_letter b ≡ true → is_digit b ≡ true → ⊥
+no_digit b h e = grind (arith, common_steps)
+
 -- a digit's kind, a letter's
 digit_by : (b : ℕ) (it : ByteKind) → KindOf b it → is_digit b ≡ true → it ≡ k.Digit
 digit_by b k.Digit h e = refl
@@ -96,3 +90,33 @@ digit_by b k.At h e = absurd (cc (sym (ap is_digit h) ∙ e))
 
 pub digit_kind : (b : ℕ) → is_digit b ≡ true → kind b ≡ k.Digit
 digit_kind b e = digit_by b (kind b) (kind_of b) e
+
+letter_by : (b : ℕ) (it : ByteKind) → KindOf b it → is_letter b ≡ true → it ≡ k.Name
+letter_by b k.Name h e = refl
+letter_by b k.Blank h e = absurd (blank b h e) where
+  blank : (b : ℕ) → is_blank b ≡ true → is_letter b ≡ true → ⊥
+  blank b h e = grind (arith, common_steps)
+letter_by b k.Special h e = absurd (special b h e) where
+  special : (b : ℕ) → is_special b ≡ true → is_letter b ≡ true → ⊥
+  special b h e = grind (arith, common_steps)
+letter_by b k.Digit h e = absurd (no_digit b e h)
+letter_by b k.Other h e = absurd (cc (sym h.1 ∙ e))
+letter_by b k.Newline h e = absurd (cc (sym (ap is_letter h) ∙ e))
+letter_by b k.Semi h e = absurd (cc (sym (ap is_letter h) ∙ e))
+letter_by b k.Amp h e = absurd (cc (sym (ap is_letter h) ∙ e))
+letter_by b k.Bar h e = absurd (cc (sym (ap is_letter h) ∙ e))
+letter_by b k.Open h e = absurd (cc (sym (ap is_letter h) ∙ e))
+letter_by b k.Close h e = absurd (cc (sym (ap is_letter h) ∙ e))
+letter_by b k.Less h e = absurd (cc (sym (ap is_letter h) ∙ e))
+letter_by b k.Greater h e = absurd (cc (sym (ap is_letter h) ∙ e))
+letter_by b k.Hash h e = absurd (cc (sym (ap is_letter h) ∙ e))
+letter_by b k.Single h e = absurd (cc (sym (ap is_letter h) ∙ e))
+letter_by b k.Double h e = absurd (cc (sym (ap is_letter h) ∙ e))
+letter_by b k.Back h e = absurd (cc (sym (ap is_letter h) ∙ e))
+letter_by b k.Tick h e = absurd (cc (sym (ap is_letter h) ∙ e))
+letter_by b k.Dollar h e = absurd (cc (sym (ap is_letter h) ∙ e))
+letter_by b k.Brace h e = absurd (cc (sym (ap is_letter h) ∙ e))
+letter_by b k.At h e = absurd (cc (sym (ap is_letter h) ∙ e))
+
+pub letter_kind : (b : ℕ) → is_letter b ≡ true → kind b ≡ k.Name
+letter_kind b e = letter_by b (kind b) (kind_of b) e

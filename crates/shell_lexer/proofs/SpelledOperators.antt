@@ -1,5 +1,5 @@
 -- An operator is seen exactly where its spelling stands and no longer one does.
-use Rattle.std.proofs.Common.{◌≡◌, ℕ, Bool, true, false, nat_eq, [], ◌∷◌, refl, sym, ap, ◌∙◌, subst}
+use Rattle.std.proofs.Common.{◌≡◌, ℕ, true, false, nat_eq, [], ◌∷◌, refl, sym, ap, ◌∙◌, subst}
 use Rattle.shell_lexer.specs.declared.byte_kind.ByteKind.{ByteKind}
 use Rattle.shell_lexer.specs.declared.byte_kind.ByteKind.TheVariants as k
 use Rattle.shell_lexer.specs.declared.sight.Sign.{Sign}
@@ -7,24 +7,13 @@ use Rattle.shell_lexer.specs.declared.sight.Sign.TheVariants as s
 use Rattle.shell_lexer.specs.Text.{Bytes, kind, skip, place, tail, head_is, is_digit, cells, run_of, behind_run}
 use Rattle.shell_lexer.specs.Operators.{Sight, Operator, sight, sight_at, sight_by, twice}
 use Rattle.shell_lexer.specs.Spelling.{Stands, IsNotNext, IsOperator}
-use Rattle.shell_lexer.proofs.SpelledKinds.{if_case, KindOf, kind_of}
+use Rattle.shell_lexer.proofs.SpelledKinds.{KindOf, kind_of}
 use Rattle.shell_lexer.proofs.SpelledRuns.{run_stands}
-use Rattle.shell_lexer.proofs.SpelledFronts.{shown, head_of, head_back}
+use Rattle.shell_lexer.proofs.SpelledFronts.{shown, head_of, head_back, is_not, not_next}
 use Rattle.shell_lexer.proofs.SpelledRedirects.{sees_redirected, greater_seen, less_seen, numbered_seen}
+use Rattle.shell_lexer.proofs.SpelledCases.{if_case}
 
 -- ---- what is spelled is seen
-
--- the next byte is another: as a test, and back
-pub is_not : (b : ℕ) (t : Bytes) → ((more : Bytes) → t ≡ b ∷ more → ⊥) → head_is b t ≡ false
-is_not b t h = by (head_is b t) refl where
-  by : (it : Bool) → head_is b t ≡ it → it ≡ false
-  by true e = absurd (h (tail t) (head_back b t e))
-  by false e = refl
-
-pub not_next : (b : ℕ) (text : Bytes) → nat_eq b b ≡ true → head_is b (skip text) ≡ false → IsNotNext b text
-not_next b text r e more h = clash (sym ((head_of b (skip text) more h r).0) ∙ e) where
-  clash : true ≡ false → ⊥
-  clash e = cc
 
 twice_longer : (b : ℕ) (next : Bytes) (x y : Sight) → head_is b next ≡ true → twice b next x y ≡ x
 twice_longer b next x y e = rw e

@@ -14,24 +14,10 @@ use Rattle.shell_lexer.specs.declared.sight.Sign.TheVariants as s
 use Rattle.shell_lexer.specs.Text.{Bytes, kind, skip, place, tail, head_is, is_blank, is_digit, cells, run_of, behind, behind_bytes, ends_word}
 use Rattle.shell_lexer.specs.Operators.{Operator, Wrong, Word, sight, sight_by, numbered, numbered_by, less, greater, copied, redirected, out_to, in_from, copy_of, whole_word, null_word}
 use Rattle.shell_lexer.specs.Spelling.{Stands, begins, IsToNull, IsRedirected, output, output_one, append, append_one, error, append_error, input, input_zero, output_to_error, output_one_to_error, error_to_output, IsOperator}
-use Rattle.shell_lexer.proofs.SpelledKinds.{if_case, eq_of, KindOf, kind_of, digit_kind}
+use Rattle.shell_lexer.proofs.SpelledKinds.{KindOf, kind_of, digit_kind}
 use Rattle.shell_lexer.proofs.SpelledRuns.{skip_again, stands_then, stands_parts, stands_skip, bytes_stand, bytes_found, IsRun, run_is, behind_is, run_stands}
 use Rattle.shell_lexer.proofs.SpelledFronts.{shown, head_of, head_back}
-
-if_true : {A : Type 0} (b : Bool) (x y : A) → b ≡ true → (if b then x else y) ≡ x
-if_true b x y e = rw e
-
-if_false : {A : Type 0} (b : Bool) (x y : A) → b ≡ false → (if b then x else y) ≡ y
-if_false b x y e = rw e
-
-some_same : {A : Type 0} {x y : A} → Some x ≡ Some y → x ≡ y
-some_same e = cc
-
-none_some : {A : Type 0} {x : A} → None ≡ Some x → ⊥
-none_some e = cc
-
-false_true : false ≡ true → ⊥
-false_true e = cc
+use Rattle.shell_lexer.proofs.SpelledCases.{if_case, if_true, if_false, eq_of, false_true, and_left, and_right, and_true, or_case, some_same, none_some}
 
 wrong_operator : {fault : LexFault} {which : Sign} {rest : Bytes} → Wrong fault ≡ Operator which rest → ⊥
 wrong_operator e = cc
@@ -102,10 +88,6 @@ null_first b text rest not_blank not_slash h = by h.blanks h.blank h.stands wher
 same_bytes : (xs ys : Bytes) → bytes_eq xs ys ≡ true → xs ≡ ys
 same_bytes xs ys e = (bytes_eq-Decides xs ys).0 e
 
-or_case : (a b : Bool) {A : Type 0} → (a || b) ≡ true → (a ≡ true → A) → (b ≡ true → A) → A
-or_case true b e h g = h refl
-or_case false b e h g = g e
-
 out_number : (P : Redirect → Bytes → Type 0) → P r.OutNull [] → P r.OutNull (codes "1") → P r.ErrNull (codes "2") → (number : Bytes) (which : Redirect) → out_to number ≡ Some which → P which number
 out_number P none one two number which =
     if_case (λ x. x ≡ Some which → P which number) (bytes_eq number [] || bytes_eq number (codes "1")) (Some r.OutNull) (if bytes_eq number (codes "2") then Some r.ErrNull else None)
@@ -122,14 +104,6 @@ in_number P none zero' number which =
     (or_case (bytes_eq number []) (bytes_eq number (codes "0")) is
     (λ is. subst (P r.InNull) (sym (same_bytes number [] is)) none) (λ is. subst (P r.InNull) (sym (same_bytes number (codes "0") is)) zero')))
     (λ is e. absurd (none_some e))
-
-and_left : (a b : Bool) → (a && b) ≡ true → a ≡ true
-and_left true b h = refl
-and_left false b h = h
-
-and_right : (a b : Bool) → (a && b) ≡ true → b ≡ true
-and_right true b h = h
-and_right false b h = absurd (false_true h)
 
 copy_number : (P : Redirect → Bytes → ℕ → Type 0) → P r.OutToErr [] 50 → P r.OutToErr (codes "1") 50 → P r.ErrToOut (codes "2") 49
     → (number : Bytes) (b : ℕ) (which : Redirect) → copy_of number b ≡ Some which → P which number b
@@ -225,14 +199,10 @@ plain_greater len text x h = (place len (62 ∷ h.0), shown len 62 text h.0 h.1 
 plain_less : (len : ℕ) (text x : Bytes) → Stands (codes "<") text x → (at : ℕ) × (sight len text ≡ less at [] x)
 plain_less len text x h = (place len (60 ∷ h.0), shown len 60 text h.0 h.1 ∙ ap (less (place len (60 ∷ h.0)) []) h.2)
 
-and_true : (a : Bool) → a ≡ true → (a && true) ≡ true
-and_true true h = refl
-and_true false h = h
-
 -- one digit, and another byte behind it
 digit_sight : (len d : ℕ) (text more : Bytes) → is_digit d ≡ true → skip text ≡ d ∷ more → begins is_digit (skip more) ≡ false → sight len text ≡ numbered len (d ∷ []) (skip more)
 digit_sight len d text more is e other =
-    let one : IsRun is_digit (d ∷ []) (d ∷ more) more = record { stands = (more, sym (ap skip e) ∙ skip_again text ∙ e, refl); pass = and_true (is_digit d) is; longest = other } in
+    let one : IsRun is_digit (d ∷ []) (d ∷ more) more = record { stands = (more, sym (ap skip e) ∙ skip_again text ∙ e, refl); pass = and_true (is_digit d) true is refl; longest = other } in
     shown len d text more e ∙ ap (λ it. sight_by len (place len (d ∷ more)) d it more) (digit_kind d is)
     ∙ ap (λ number. numbered len number (skip (behind Digits (d ∷ more)))) (run_is is_digit (d ∷ []) (d ∷ more) more one)
     ∙ ap (λ t. numbered len (d ∷ []) (skip t)) (behind_is is_digit (d ∷ []) (d ∷ more) more one)

@@ -3,7 +3,7 @@ use Rattle.std.proofs.Common.{◌≡◌, ℕ, Bool, true, false, if◌then◌els
 use Rattle.std.specs.List.{list_all}
 use Rattle.shell_lexer.specs.Text.{Bytes, skip, behind_next, behind_bytes, cells, run_of, behind_run}
 use Rattle.shell_lexer.specs.Spelling.{Stands, begins}
-use Rattle.shell_lexer.proofs.SpelledKinds.{if_case, eq_of, eq_same}
+use Rattle.shell_lexer.proofs.SpelledCases.{if_case, eq_of, eq_same, and_left, and_right, and_true, some_same, none_some}
 
 -- ---- joined lines
 
@@ -51,12 +51,6 @@ stands_skip b bytes text rest h = (h.0, sym (skip_again text) ∙ h.1, h.2)
 pub skip_stands : (b : ℕ) (bytes text rest : Bytes) → Stands (b ∷ bytes) text rest → Stands (b ∷ bytes) (skip text) rest
 skip_stands b bytes text rest h = (h.0, skip_again text ∙ h.1, h.2)
 
-some_same : {A : Type 0} {x y : A} → Some x ≡ Some y → x ≡ y
-some_same e = cc
-
-none_some : {A : Type 0} {x : A} → None ≡ Some x → ⊥
-none_some e = cc
-
 next_stands : (b : ℕ) (bytes text rest t : Bytes) → ((u : Bytes) → behind_bytes bytes u ≡ Some rest → Stands bytes u rest) → skip text ≡ t
     → behind_next b (behind_bytes bytes) t ≡ Some rest → (more : Bytes) × (skip text ≡ b ∷ more) × Stands bytes more rest
 next_stands b bytes text rest [] again s e = absurd (none_some e)
@@ -82,20 +76,6 @@ pub record IsRun (test : ℕ → Bool) (run text rest : Bytes) : Type 0 where
   pub stands : Stands run text rest
   pub pass : list_all test run ≡ true
   pub longest : begins test (skip rest) ≡ false
-
-and_true : (a b : Bool) → a ≡ true → b ≡ true → (a && b) ≡ true
-and_true true b h g = g
-and_true false b h g = h
-
-and_left : (a b : Bool) → (a && b) ≡ true → a ≡ true
-and_left true b h = refl
-and_left false b h = h
-
-and_right : (a b : Bool) → (a && b) ≡ true → b ≡ true
-and_right true b h = h
-and_right false b h = absurd (clash h) where
-  clash : false ≡ true → ⊥
-  clash e = cc
 
 empty_cons : {A : Type 0} {x : A} {xs : List A} → [] ≡ x ∷ xs → ⊥
 empty_cons e = cc

@@ -1,5 +1,6 @@
 -- How operators and redirections are spelled (POSIX.1-2017, XCU 2.2.1 Escape Character (Backslash), 2.3 Token Recognition, 2.7 Redirection,
--- 2.10.2 Shell Grammar Rules): by their bytes, where joined lines are left out. No table of the lexer is cited but `skip` and `ends_word`.
+-- 2.10.2 Shell Grammar Rules): by their bytes, where joined lines are left out. src/theorems.rt proves that the tables of specs/Operators.antt
+-- see exactly what is spelled so.
 use Rattle.std.specs.Prelude.{◌≡◌, ℕ, Bool, true, false, [], ◌∷◌, ◌++◌, codes}
 use Rattle.std.specs.List.{list_all}
 use Rattle.shell_syntax.specs.declared.redirect.Redirect.{Redirect}
@@ -24,15 +25,16 @@ IsNotNext b text = (more : Bytes) → skip text ≡ b ∷ more → ⊥
 
 -- ---- redirections (XCU 2.7)
 
--- An operator with the number directly before it, if it has one, blanks, perhaps none, and the word `/dev/null`, which ends there (2.7.1 Redirecting Input, 2.7.2
--- Redirecting Output, 2.7.3 Appending Redirected Output).
+-- An operator with the number directly before it, if it has one; blanks, perhaps none; and the word `/dev/null`, which ends there
+-- (2.7.1 Redirecting Input, 2.7.2 Redirecting Output, 2.7.3 Appending Redirected Output).
 pub record IsToNull (operator text rest : Bytes) : Type 0 where
   pub blanks : Bytes
   pub blank : list_all is_blank blanks ≡ true
   pub stands : Stands (operator ++ (blanks ++ codes "/dev/null")) text rest
   pub ends : ends_word (skip rest) ≡ true
 
--- An operator with the number directly before it, if it has one, and the number behind it, which is a whole word (2.7.6 Duplicating an Output File Descriptor).
+-- An operator with the number directly before it, if it has one, and the number directly behind it, which is a whole word
+-- (2.7.6 Duplicating an Output File Descriptor).
 pub record IsCopy (operator text rest : Bytes) : Type 0 where
   pub stands : Stands operator text rest
   pub ends : ends_word (skip rest) ≡ true
