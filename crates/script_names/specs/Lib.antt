@@ -1,3 +1,4 @@
 pub mod formers
 pub mod Names
 pub mod Paths
+pub mod Laws

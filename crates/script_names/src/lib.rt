@@ -5,16 +5,20 @@
 
 mod boxed;
 mod bytes;
+mod component;
 mod copied;
 mod list;
 mod mark;
 mod memory;
 mod name;
 mod path;
+#[cfg(test)]
+mod path_tests;
 mod reason;
 #[cfg(test)]
 mod tests;
 mod text;
+pub mod theorems;
 
 pub use boxed::Boxed;
 pub use bytes::Bytes;
@@ -23,6 +27,6 @@ pub use list::List;
 pub use mark::{Mark, Site};
 pub use memory::Memory;
 pub use name::{Name, NameFault};
-pub use path::Path;
+pub use path::{Path, PathFault};
 pub use reason::{Done, Reason};
 pub use text::Text;

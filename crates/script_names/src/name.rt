@@ -54,6 +54,15 @@ impl Name {
         }
     }
 
+    // The name that the bytes are, which are known to be one.
+    pub(crate) fn of(alloc: Global, bytes: &[u8]) -> Result<Name, Memory>
+        requires { IsTrue (is_name bytes.now) }
+        ensures { IfOk result (λ name. name ≡ bytes.now) }
+    {
+        let bytes = Bytes::from_slice(alloc, bytes)?;
+        Ok(Name { bytes })
+    }
+
     /// The bytes, which are a name.
     pub fn as_slice(&self) -> &[u8]
         ensures bytes { result.now ≡ self.now }

@@ -1,11 +1,32 @@
-ghost use Rattle.std.specs.Prelude.{◌≡◌, ◌≤◌, length};
+ghost use Rattle.std.specs.Prelude.{◌≡◌, ◌≤◌, ◌-◌, ◌↔◌, [], ◌∷◌, ◌++◌, length, take, slice_get, IfOk, IsTrue};
+ghost use Rattle.std.specs.Option.{option_copied};
+ghost use Rattle.script_names.specs.Paths.{PathGives, path_fault, path_of, IsStrictPrefix, parent_of, join_fault, joined};
 
+use crate::component::{path_fault, read_names};
 use crate::copied::Copied;
 use crate::list::List;
 use crate::memory::Memory;
 use crate::name::Name;
 use std::alloc::Global;
 use std::marker::Model;
+
+/// Why a word spells no path, or a path can't be made. Where several apply, the first of this order is answered.
+#[derive(Clone, Copy, Debug, PartialEq, Eq)]
+pub enum PathFault {
+    /// The word has no bytes.
+    Empty,
+    /// The word has a NUL byte.
+    Nul,
+    /// A component is `..`.
+    DotDot,
+    /// The last component that is not empty is `.`.
+    Dot,
+    /// A component has more than 255 bytes.
+    LongName,
+    /// There are more than 64 names.
+    Many,
+    Memory,
+}
 
 /// A path of the file tree: at most 64 names from the root on, and whether the word that spelled it ends in `/`
 /// (POSIX.1-2017, Base Definitions, 3.271 Pathname).
@@ -27,6 +48,24 @@ impl Model for Path {
 }
 
 impl Path {
+    /// The path that a word spells (POSIX.1-2017, Base Definitions, 4.13 Pathname Resolution), read from the root on whether or not it
+    /// begins with `/`. The word is cut into components at each `/`; those that are empty or `.` are dropped. Want of memory is answered
+    /// only for words that spell a path.
+    pub fn read(alloc: Global, word: &[u8]) -> Result<Path, PathFault>
+        ensures { PathGives (path_fault word.now) (path_of word.now) result }
+    {
+        match path_fault(word) {
+            Some(fault) => return Err(fault),
+            None => {}
+        }
+        let names = match read_names(alloc, word) {
+            Ok(names) => names,
+            Err(_) => return Err(PathFault::Memory),
+        };
+        let slash = names.len() > 0 && word.ends_with(b"/");
+        Ok(Path { names, slash })
+    }
+
     /// The path of these names, of which there are at most 64.
     pub fn new(names: List<Name>, slash: bool) -> Path
         requires { length names ≤ 64 }
@@ -49,6 +88,96 @@ impl Path {
     {
         self.slash
     }
+
+    /// Whether the names of two paths are the same.
+    pub fn same_names(&self, other: &Path) -> bool
+        ensures { IsTrue result ↔ (self.now.names ≡ other.now.names) }
+    {
+        self.names.len() == other.names.len() && begins(other.names(), self.names())
+    }
+
+    /// Whether the names of another path are this one's with at least one more behind them.
+    pub fn is_strict_prefix(&self, of: &Path) -> bool
+        ensures { IsTrue result ↔ IsStrictPrefix self.now.names of.now.names }
+    {
+        self.names.len() < of.names.len() && begins(of.names(), self.names())
+    }
+
+    /// The last name, where there is one.
+    pub fn last(&self) -> Option<&Name>
+        ensures { option_copied result ≡ slice_get self.now.names (length self.now.names - 1) }
+    {
+        self.names().last()
+    }
+
+    /// The path of all names but the last, without a slash behind them; None exactly where there are no names.
+    pub fn parent(&self, alloc: Global) -> Result<Option<Path>, Memory>
+        ensures { IfOk result (λ parent. parent ≡ parent_of self.now) }
+    {
+        let names = self.names();
+        if names.is_empty() {
+            return Ok(None);
+        }
+        let names = copy_names(alloc, &names[..names.len() - 1])?;
+        Ok(Some(Path {
+            names,
+            slash: false,
+        }))
+    }
+
+    /// The path with one name more, without a slash behind it; Many exactly where there are 64 names.
+    pub fn join(&self, alloc: Global, name: &Name) -> Result<Path, PathFault>
+        ensures { PathGives (join_fault self.now) (joined self.now name.now) result }
+    {
+        let names = self.names();
+        if names.len() >= 64 {
+            return Err(PathFault::Many);
+        }
+        match join_names(alloc, names, name) {
+            Ok(names) => Ok(Path {
+                names,
+                slash: false,
+            }),
+            Err(_) => Err(PathFault::Memory),
+        }
+    }
+}
+
+// Whether the names of `longer` begin with `names`.
+fn begins(longer: &[Name], names: &[Name]) -> bool
+    ensures { IsTrue result ↔ (take (length names.now) longer.now ≡ names.now) }
+{
+    if longer.len() < names.len() {
+        return false;
+    }
+    for i in 0..names.len() {
+        if !names[i].equal(&longer[i]) {
+            return false;
+        }
+    }
+    true
+}
+
+// A copy of names.
+fn copy_names(alloc: Global, names: &[Name]) -> Result<List<Name>, Memory>
+    ensures { IfOk result (λ twins. twins ≡ names.now) }
+{
+    let mut twins = List::new(alloc);
+    for name in names {
+        let twin = name.copy(alloc)?;
+        twins.add(twin)?;
+    }
+    Ok(twins)
+}
+
+// A copy of names, and one more.
+fn join_names(alloc: Global, names: &[Name], name: &Name) -> Result<List<Name>, Memory>
+    ensures { IfOk result (λ longer. longer ≡ names.now ++ name.now ∷ []) }
+{
+    let mut longer = copy_names(alloc, names)?;
+    let twin = name.copy(alloc)?;
+    longer.add(twin)?;
+    Ok(longer)
 }
 
 impl Copied for Path {

@@ -1,8 +1,21 @@
-pub mod SpelledCases
-pub mod SpelledFronts
-pub mod SpelledKinds
-pub mod SpelledLine
-pub mod SpelledOperators
-pub mod SpelledParts
-pub mod SpelledRedirects
-pub mod SpelledRuns
+mod Begun
+mod Causes
+mod Cells
+mod CutOnce
+mod Fronts
+mod Insides
+mod Numbers
+mod Pieces
+mod Quotes
+mod Skips
+mod SoFar
+mod SpelledCases
+mod SpelledFronts
+mod SpelledKinds
+mod SpelledLine
+mod SpelledOperators
+mod SpelledParts
+mod SpelledRedirects
+mod SpelledRuns
+mod Steps
+mod Unique

@@ -98,13 +98,7 @@ fn option_of(rest: &[u8]) -> Option<bool>
     }
     match after(b"-e", after_blanks(rest)) {
         None => None,
-        Some(end) => {
-            if are_blanks(end) {
-                Some(true)
-            } else {
-                None
-            }
-        }
+        Some(end) => { if are_blanks(end) { Some(true) } else { None } }
     }
 }
 

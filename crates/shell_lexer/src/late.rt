@@ -92,7 +92,11 @@ fn brace(marks: &[Mark]) -> Option<u32>
             Mark::All(_, _) => (),
             Mark::Plain(byte, at) => {
                 if byte == b'{' {
-                    return if has_list(&marks[i + 1..]) { Some(at) } else { None };
+                    return if has_list(&marks[i + 1..]) {
+                        Some(at)
+                    } else {
+                        None
+                    };
                 }
             }
         }

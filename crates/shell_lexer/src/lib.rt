@@ -4,6 +4,7 @@
 
 mod byte_kind;
 mod bytes;
+mod copies;
 mod fault;
 mod first_line;
 mod late;
@@ -19,3 +20,6 @@ mod token;
 pub use fault::LexFault;
 pub use lexer::lex;
 pub use token::{Lexed, RawPart, Token, TokenKind};
+
+#[cfg(test)]
+mod tests;

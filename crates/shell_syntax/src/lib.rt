@@ -1,11 +1,19 @@
 //! The syntax of shell scripts, as POSIX.1-2017, Shell and Utilities (XCU), chapter 2, has it: what a lexer and a parser give, and what
-//! later layers take a meaning of. It stands on script_names alone. Begin with `key`.
+//! later layers take a meaning of. It stands on script_names alone. Begin with `syntax`.
 #![tactic(auto)]
 
+mod copies;
+mod equality;
 mod form;
 mod key;
 mod redirect;
+mod script;
+mod syntax;
+#[cfg(test)]
+mod tests;
 
 pub use form::Form;
 pub use key::Key;
 pub use redirect::Redirect;
+pub use script::Script;
+pub use syntax::{Assign, CaseArm, Command, IfArm, Link, Part, Word};

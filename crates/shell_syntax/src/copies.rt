@@ -1,0 +1,303 @@
+ghost use Rattle.std.specs.Prelude.{◌≡◌, IfOk};
+
+use crate::syntax::{Assign, CaseArm, Command, IfArm, Link, Part, Word};
+use script_names::{Boxed as Box, Copied, List, Memory};
+use std::alloc::Global;
+
+impl Copied for Command {
+    fn copy(&self, alloc: Global) -> Result<Command, Memory> {
+        copy_command(alloc, self)
+    }
+}
+
+impl Copied for Word {
+    fn copy(&self, alloc: Global) -> Result<Word, Memory> {
+        copy_word(alloc, self)
+    }
+}
+
+impl Copied for Part {
+    fn copy(&self, alloc: Global) -> Result<Part, Memory> {
+        copy_part(alloc, self)
+    }
+}
+
+impl Copied for Assign {
+    fn copy(&self, alloc: Global) -> Result<Assign, Memory> {
+        let name = self.name.copy(alloc)?;
+        let value = self.value.copy(alloc)?;
+        Ok(Assign { name, value })
+    }
+}
+
+impl Copied for Link {
+    fn copy(&self, alloc: Global) -> Result<Link, Memory> {
+        let command = self.command.copy(alloc)?;
+        Ok(Link {
+            and: self.and,
+            command,
+        })
+    }
+}
+
+impl Copied for IfArm {
+    fn copy(&self, alloc: Global) -> Result<IfArm, Memory> {
+        let cond = self.cond.copy(alloc)?;
+        let body = self.body.copy(alloc)?;
+        Ok(IfArm { cond, body })
+    }
+}
+
+impl Copied for CaseArm {
+    fn copy(&self, alloc: Global) -> Result<CaseArm, Memory> {
+        let patterns = self.patterns.copy(alloc)?;
+        let body = self.body.copy(alloc)?;
+        Ok(CaseArm { patterns, body })
+    }
+}
+
+#[cycle(copying)]
+fn copy_command(alloc: Global, command: &Command) -> Result<Command, Memory>
+    ensures { IfOk result (λ twin. twin ≡ command.now) }
+{
+    match command {
+        Command::Simple { at, assigns, words } => {
+            let assigns = copy_assigns(alloc, assigns.as_slice())?;
+            let words = copy_words(alloc, words.as_slice())?;
+            Ok(Command::Simple {
+                at: *at,
+                assigns,
+                words,
+            })
+        }
+        Command::Redirected {
+            at,
+            body,
+            redirects,
+        } => {
+            let body = copy_boxed(alloc, body)?;
+            let redirects = redirects.copy(alloc)?;
+            Ok(Command::Redirected {
+                at: *at,
+                body,
+                redirects,
+            })
+        }
+        Command::Pipe { at, parts } => {
+            let parts = copy_commands(alloc, parts.as_slice())?;
+            Ok(Command::Pipe { at: *at, parts })
+        }
+        Command::Not { at, body } => {
+            let body = copy_boxed(alloc, body)?;
+            Ok(Command::Not { at: *at, body })
+        }
+        Command::Chain { first, rest } => {
+            let first = copy_boxed(alloc, first)?;
+            let rest = copy_links(alloc, rest.as_slice())?;
+            Ok(Command::Chain { first, rest })
+        }
+        Command::Seq(parts) => Ok(Command::Seq(copy_commands(alloc, parts.as_slice())?)),
+        Command::If {
+            at,
+            arms,
+            otherwise,
+        } => {
+            let arms = copy_arms(alloc, arms.as_slice())?;
+            let otherwise = match otherwise {
+                None => None,
+                Some(last) => Some(copy_boxed(alloc, last)?),
+            };
+            Ok(Command::If {
+                at: *at,
+                arms,
+                otherwise,
+            })
+        }
+        Command::For {
+            at,
+            name,
+            words,
+            body,
+        } => {
+            let name = name.copy(alloc)?;
+            let words = match words {
+                None => None,
+                Some(words) => Some(copy_words(alloc, words.as_slice())?),
+            };
+            let body = copy_boxed(alloc, body)?;
+            Ok(Command::For {
+                at: *at,
+                name,
+                words,
+                body,
+            })
+        }
+        Command::While {
+            at,
+            until,
+            cond,
+            body,
+        } => {
+            let cond = copy_boxed(alloc, cond)?;
+            let body = copy_boxed(alloc, body)?;
+            Ok(Command::While {
+                at: *at,
+                until: *until,
+                cond,
+                body,
+            })
+        }
+        Command::Case { at, subject, arms } => {
+            let subject = copy_word(alloc, subject)?;
+            let arms = copy_case_arms(alloc, arms.as_slice())?;
+            Ok(Command::Case {
+                at: *at,
+                subject,
+                arms,
+            })
+        }
+        Command::Sub { at, body } => {
+            let body = copy_boxed(alloc, body)?;
+            Ok(Command::Sub { at: *at, body })
+        }
+        Command::Define { at, name, body } => {
+            let name = name.copy(alloc)?;
+            let body = copy_boxed(alloc, body)?;
+            Ok(Command::Define {
+                at: *at,
+                name,
+                body,
+            })
+        }
+    }
+}
+
+#[cycle(copying)]
+fn copy_boxed(alloc: Global, inner: &Box<Command>) -> Result<Box<Command>, Memory>
+    ensures { IfOk result (λ twin. twin ≡ inner.now) }
+{
+    let twin = copy_command(alloc, inner.get())?;
+    Box::new(alloc, twin)
+}
+
+#[cycle(copying)]
+fn copy_part(alloc: Global, part: &Part) -> Result<Part, Memory>
+    ensures { IfOk result (λ twin. twin ≡ part.now) }
+{
+    match part {
+        Part::Plain(text) => Ok(Part::Plain(text.copy(alloc)?)),
+        Part::Quoted(text) => Ok(Part::Quoted(text.copy(alloc)?)),
+        Part::Param {
+            key,
+            default,
+            quoted,
+        } => {
+            let key = key.copy(alloc)?;
+            let default = default.copy(alloc)?;
+            Ok(Part::Param {
+                key,
+                default,
+                quoted: *quoted,
+            })
+        }
+        Part::All => Ok(Part::All),
+        Part::Run { at, body, quoted } => {
+            let body = copy_boxed(alloc, body)?;
+            Ok(Part::Run {
+                at: *at,
+                body,
+                quoted: *quoted,
+            })
+        }
+    }
+}
+
+#[cycle(copying)]
+fn copy_word(alloc: Global, word: &Word) -> Result<Word, Memory>
+    ensures { IfOk result (λ twin. twin ≡ word.now) }
+{
+    let mut parts = List::new(alloc);
+    for part in word.parts.as_slice() {
+        let twin = copy_part(alloc, part)?;
+        parts.add(twin)?;
+    }
+    Ok(Word { at: word.at, parts })
+}
+
+#[cycle(copying)]
+fn copy_words(alloc: Global, words: &[Word]) -> Result<List<Word>, Memory>
+    ensures { IfOk result (λ twins. twins ≡ words.now) }
+{
+    let mut twins = List::new(alloc);
+    for word in words {
+        let twin = copy_word(alloc, word)?;
+        twins.add(twin)?;
+    }
+    Ok(twins)
+}
+
+#[cycle(copying)]
+fn copy_assigns(alloc: Global, assigns: &[Assign]) -> Result<List<Assign>, Memory>
+    ensures { IfOk result (λ twins. twins ≡ assigns.now) }
+{
+    let mut twins = List::new(alloc);
+    for assign in assigns {
+        let name = assign.name.copy(alloc)?;
+        let value = copy_word(alloc, &assign.value)?;
+        twins.add(Assign { name, value })?;
+    }
+    Ok(twins)
+}
+
+#[cycle(copying)]
+fn copy_commands(alloc: Global, commands: &[Command]) -> Result<List<Command>, Memory>
+    ensures { IfOk result (λ twins. twins ≡ commands.now) }
+{
+    let mut twins = List::new(alloc);
+    for command in commands {
+        let twin = copy_command(alloc, command)?;
+        twins.add(twin)?;
+    }
+    Ok(twins)
+}
+
+#[cycle(copying)]
+fn copy_links(alloc: Global, links: &[Link]) -> Result<List<Link>, Memory>
+    ensures { IfOk result (λ twins. twins ≡ links.now) }
+{
+    let mut twins = List::new(alloc);
+    for link in links {
+        let command = copy_command(alloc, &link.command)?;
+        twins.add(Link {
+            and: link.and,
+            command,
+        })?;
+    }
+    Ok(twins)
+}
+
+#[cycle(copying)]
+fn copy_arms(alloc: Global, arms: &[IfArm]) -> Result<List<IfArm>, Memory>
+    ensures { IfOk result (λ twins. twins ≡ arms.now) }
+{
+    let mut twins = List::new(alloc);
+    for arm in arms {
+        let cond = copy_command(alloc, &arm.cond)?;
+        let body = copy_command(alloc, &arm.body)?;
+        twins.add(IfArm { cond, body })?;
+    }
+    Ok(twins)
+}
+
+#[cycle(copying)]
+fn copy_case_arms(alloc: Global, arms: &[CaseArm]) -> Result<List<CaseArm>, Memory>
+    ensures { IfOk result (λ twins. twins ≡ arms.now) }
+{
+    let mut twins = List::new(alloc);
+    for arm in arms {
+        let patterns = copy_words(alloc, arm.patterns.as_slice())?;
+        let body = copy_command(alloc, &arm.body)?;
+        twins.add(CaseArm { patterns, body })?;
+    }
+    Ok(twins)
+}
