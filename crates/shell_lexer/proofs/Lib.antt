@@ -9,5 +9,13 @@ mod Pieces
 mod Quotes
 mod Skips
 mod SoFar
+mod SpelledCases
+mod SpelledFronts
+mod SpelledKinds
+mod SpelledLine
+mod SpelledOperators
+mod SpelledParts
+mod SpelledRedirects
+mod SpelledRuns
 mod Steps
 mod Unique

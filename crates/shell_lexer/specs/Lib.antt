@@ -6,4 +6,7 @@ pub mod Parts
 pub mod Reading
 pub mod Reads
 pub mod Seen
+pub mod SpelledLine
+pub mod SpelledParts
+pub mod Spelling
 pub mod Text
