@@ -1,0 +1,352 @@
+-- A part that holds no others is seen exactly where it is spelled.
+use Rattle.std.proofs.Common.{◌≡◌, ℕ, ◌+◌, ◌-◌, ◌≤◌, Bool, true, false, not, if◌then◌else◌, ◌||◌, nat_eq, [], ◌∷◌, ◌++◌, Option, Some, None, refl, sym, ap, ◌∙◌, subst, codes, arith}
+use Rattle.std.proofs.lemmas.Grind.{common_steps}
+use Rattle.std.specs.List.{list_all}
+use Rattle.shell_syntax.specs.declared.key.Key.{Key}
+use Rattle.shell_syntax.specs.declared.key.Key.TheVariants.{Named, Arg, Count}
+use Rattle.shell_lexer.specs.declared.byte_kind.ByteKind.{ByteKind}
+use Rattle.shell_lexer.specs.declared.byte_kind.ByteKind.TheVariants as k
+use Rattle.shell_lexer.specs.declared.byte_kind.RunKind.TheVariants.{Names, Defaults}
+use Rattle.shell_lexer.specs.declared.token.RawPart.{RawPart}
+use Rattle.shell_lexer.specs.declared.token.RawPart.TheVariants as part
+use Rattle.shell_lexer.specs.Text.{Bytes, kind, skip, place, head_is, is_letter, is_digit, is_name_byte, is_default_byte, run, behind}
+use Rattle.shell_lexer.specs.Parts.{Look, Byte, Piece, AllArgs, DoubleQuote, Substitution, bad_param, closed, behind_colon, behind_key, braced_by, braced, parenthesis, before_quote, dollar_by, dollar, has_quote, quote_body, behind_quote, look_by, look_at, look, is_escapable, inner_escaped, inner_by, inner_at, inner}
+use Rattle.shell_lexer.specs.Spelling.{Stands, begins}
+use Rattle.shell_lexer.specs.SpelledParts.{is_variable, is_default, IsDigitOf, IsParam, name as by_name, name_braced, name_default, number as by_number, number_braced, number_default, count, count_braced, IsQuoted, single, escaped, IsPiece, IsSubstitution}
+use Rattle.shell_lexer.proofs.SpelledKinds.{KindOf, kind_of, digit_kind, letter_kind}
+use Rattle.shell_lexer.proofs.SpelledRuns.{skip_again, stands_then, stands_parts, stands_skip, skip_stands, IsRun, run_is, behind_is, run_stands}
+use Rattle.shell_lexer.proofs.SpelledFronts.{is_not, not_next}
+use Rattle.shell_lexer.proofs.SpelledCases.{if_case, if_true, if_false, eq_of, false_true, true_false, and_left, and_right, and_true}
+
+-- ---- bytes of names
+
+letter_passes : (b : ℕ) → is_letter b ≡ true → is_name_byte b ≡ true
+letter_passes b e = by (is_letter b) e where
+  by : (it : Bool) → it ≡ true → (it || is_digit b) ≡ true
+  by true e = refl
+  by false e = absurd (false_true e)
+
+variable_pass : (b : ℕ) (name : Bytes) → is_variable (b ∷ name) ≡ true → list_all is_name_byte (b ∷ name) ≡ true
+variable_pass b name e = and_true (is_name_byte b) (list_all is_name_byte name) (letter_passes b (and_left (is_letter b) (list_all is_name_byte name) e)) (and_right (is_letter b) (list_all is_name_byte name) e)
+
+digit_passes : {number digit : ℕ} → IsDigitOf number digit → is_digit digit ≡ true
+digit_passes {number} {digit} h = subst (λ d. is_digit d ≡ true) (sym h.digit_is) (by number h.least h.most) where
+  by : (number : ℕ) → 1 ≤ number → number ≤ 9 → is_digit (48 + number) ≡ true
+  by number h g = grind (arith, common_steps)
+
+digit_no_zero : {number digit : ℕ} → IsDigitOf number digit → nat_eq digit 48 ≡ false
+digit_no_zero {number} {digit} h = subst (λ d. nat_eq d 48 ≡ false) (sym h.digit_is) (by number h.least) where
+  by : (number : ℕ) → 1 ≤ number → nat_eq (48 + number) 48 ≡ false
+  by number h = grind (arith, common_steps)
+
+digit_number : {number digit : ℕ} → IsDigitOf number digit → digit - 48 ≡ number
+digit_number {number} {digit} h = omega (arith, h.digit_is)
+
+digit_of : (b : ℕ) → is_digit b ≡ true → nat_eq b 48 ≡ false → IsDigitOf (b - 48) b
+digit_of b e n = record { least = low b e n; most = high b e; digit_is = same b e } where
+  low : (b : ℕ) → is_digit b ≡ true → nat_eq b 48 ≡ false → 1 ≤ b - 48
+  low b e n = grind (arith, common_steps)
+
+  high : (b : ℕ) → is_digit b ≡ true → b - 48 ≤ 9
+  high b e = grind (arith, common_steps)
+
+  same : (b : ℕ) → is_digit b ≡ true → b ≡ 48 + (b - 48)
+  same b e = grind (arith, common_steps)
+
+-- ---- what is spelled is seen
+
+-- a longest name, at the next byte that counts
+name_run : (b : ℕ) (more text middle : Bytes) (name : Bytes) → is_variable (b ∷ name) ≡ true → Stands (b ∷ name) text middle → skip text ≡ b ∷ more → begins is_name_byte (skip middle) ≡ false
+    → IsRun is_name_byte (b ∷ name) (b ∷ more) middle
+name_run b more text middle name is h e ends = record { stands = subst (λ t. Stands (b ∷ name) t middle) e (skip_stands b name text middle h); pass = variable_pass b name is; longest = ends }
+
+key_closed : (quoted : Bool) (at : ℕ) (key : Key) (middle rest : Bytes) → Stands (codes "}") middle rest → behind_key quoted at key (skip middle) ≡ Piece (part.Param key None quoted) rest
+key_closed quoted at key middle rest h = ap (behind_key quoted at key) h.1 ∙ ap (Piece (part.Param key None quoted)) h.2
+
+key_default : (quoted : Bool) (at : ℕ) (key : Key) (default middle rest : Bytes) → is_default default ≡ true → Stands (codes ":-" ++ (default ++ codes "}")) middle rest
+    → behind_key quoted at key (skip middle) ≡ Piece (part.Param key (Some default) quoted) rest
+key_default quoted at key default middle rest is h =
+    let from = h.2.0 in
+    let p = stands_parts default (codes "}") from rest h.2.2 in
+    let all : IsRun is_default_byte default from p.0 = record { stands = p.1; pass = is; longest = ap (begins is_default_byte) p.2.1 } in
+    ap (behind_key quoted at key) h.1 ∙ ap (behind_colon quoted at key) h.2.1
+    ∙ ap (λ d. closed quoted at key (Some d) (skip (behind Defaults from))) (run_is is_default_byte default from p.0 all)
+    ∙ ap (λ t. closed quoted at key (Some default) (skip t)) (behind_is is_default_byte default from p.0 all)
+    ∙ ap (closed quoted at key (Some default)) p.2.1 ∙ ap (Piece (part.Param key (Some default) quoted)) p.2.2
+
+-- behind `${`
+name_key : (quoted : Bool) (at : ℕ) (name text middle : Bytes) → is_variable name ≡ true → Stands name text middle → begins is_name_byte (skip middle) ≡ false
+    → braced quoted at (skip text) ≡ behind_key quoted at (Named name) (skip middle)
+name_key quoted at [] text middle is h ends = absurd (false_true is)
+name_key quoted at (b ∷ name) text middle is h ends =
+    let all = name_run b h.0 text middle name is h h.1 ends in
+    ap (braced quoted at) h.1 ∙ ap (λ it. braced_by quoted at b it h.0) (letter_kind b (and_left (is_letter b) (list_all is_name_byte name) is))
+    ∙ ap (λ n. behind_key quoted at (Named n) (skip (behind Names (b ∷ h.0)))) (run_is is_name_byte (b ∷ name) (b ∷ h.0) middle all)
+    ∙ ap (λ t. behind_key quoted at (Named (b ∷ name)) (skip t)) (behind_is is_name_byte (b ∷ name) (b ∷ h.0) middle all)
+
+digit_key : (quoted : Bool) (at number digit : ℕ) (text more : Bytes) → IsDigitOf number digit → skip text ≡ digit ∷ more → braced quoted at (skip text) ≡ behind_key quoted at (Arg number) (skip more)
+digit_key quoted at number digit text more is e =
+    ap (braced quoted at) e ∙ ap (λ it. braced_by quoted at digit it more) (digit_kind digit (digit_passes is))
+    ∙ if_false (nat_eq digit 48) _ _ (digit_no_zero is) ∙ ap (λ n. behind_key quoted at (Arg n) (skip more)) (digit_number is)
+
+-- behind `$`
+name_part : (quoted : Bool) (at : ℕ) (name text rest : Bytes) → is_variable name ≡ true → Stands name text rest → begins is_name_byte (skip rest) ≡ false
+    → dollar quoted at text (skip text) ≡ Piece (part.Param (Named name) None quoted) rest
+name_part quoted at [] text rest is h ends = absurd (false_true is)
+name_part quoted at (b ∷ name) text rest is h ends =
+    let all = name_run b h.0 text rest name is h h.1 ends in
+    ap (dollar quoted at text) h.1 ∙ ap (λ it. dollar_by quoted at text b it h.0) (letter_kind b (and_left (is_letter b) (list_all is_name_byte name) is))
+    ∙ ap (λ n. Piece (part.Param (Named n) None quoted) (behind Names (b ∷ h.0))) (run_is is_name_byte (b ∷ name) (b ∷ h.0) rest all)
+    ∙ ap (Piece (part.Param (Named (b ∷ name)) None quoted)) (behind_is is_name_byte (b ∷ name) (b ∷ h.0) rest all)
+
+digit_part : (quoted : Bool) (at number digit : ℕ) (text more : Bytes) → IsDigitOf number digit → skip text ≡ digit ∷ more → dollar quoted at text (skip text) ≡ Piece (part.Param (Arg number) None quoted) more
+digit_part quoted at number digit text more is e =
+    ap (dollar quoted at text) e ∙ ap (λ it. dollar_by quoted at text digit it more) (digit_kind digit (digit_passes is))
+    ∙ if_false (nat_eq digit 48) _ _ (digit_no_zero is) ∙ ap (λ n. Piece (part.Param (Arg n) None quoted) more) (digit_number is)
+
+-- a `$`, and behind it what the dollar's table gives whatever the place
+record IsDollar (quoted : Bool) (seen : Look) (text : Bytes) : Type 0 where
+  pub behind : Bytes
+  pub is : skip text ≡ 36 ∷ behind
+  pub gives : (at : ℕ) → dollar quoted at behind (skip behind) ≡ seen
+
+param_dollar : (quoted : Bool) (key : Key) (default : Option Bytes) (text rest : Bytes) → IsParam key default text rest → IsDollar quoted (Piece (part.Param key default quoted) rest) text
+param_dollar quoted key default text rest (by_name {name = n} is h ends) = record { behind = h.0; is = h.1; gives = λ at. name_part quoted at n h.0 rest is h.2 ends }
+param_dollar quoted key default text rest (name_braced {name = n} is h) =
+    let p = stands_parts n (codes "}") h.2.0 rest h.2.2 in
+    record { behind = h.0; is = h.1; gives = λ at. ap (dollar quoted at h.0) h.2.1 ∙ name_key quoted at n h.2.0 p.0 is p.1 (ap (begins is_name_byte) p.2.1) ∙ key_closed quoted at (Named n) p.0 rest p.2 }
+param_dollar quoted key default text rest (name_default {name = n} {default = d} is fine h) =
+    let p = stands_parts n (codes ":-" ++ (d ++ codes "}")) h.2.0 rest h.2.2 in
+    record { behind = h.0; is = h.1; gives = λ at. ap (dollar quoted at h.0) h.2.1 ∙ name_key quoted at n h.2.0 p.0 is p.1 (ap (begins is_name_byte) p.2.1) ∙ key_default quoted at (Named n) d p.0 rest fine p.2 }
+param_dollar quoted key default text rest (by_number {number = n} {digit = d} is h) =
+    record { behind = h.0; is = h.1; gives = λ at. digit_part quoted at n d h.0 h.2.0 is h.2.1 ∙ ap (Piece (part.Param (Arg n) None quoted)) h.2.2 }
+param_dollar quoted key default text rest (number_braced {number = n} {digit = d} is h) =
+    record { behind = h.0; is = h.1; gives = λ at. ap (dollar quoted at h.0) h.2.1 ∙ digit_key quoted at n d h.2.0 h.2.2.0 is h.2.2.1 ∙ key_closed quoted at (Arg n) h.2.2.0 rest h.2.2.2 }
+param_dollar quoted key default text rest (number_default {number = n} {digit = d} {default = b} is fine h) =
+    record { behind = h.0; is = h.1; gives = λ at. ap (dollar quoted at h.0) h.2.1 ∙ digit_key quoted at n d h.2.0 h.2.2.0 is h.2.2.1 ∙ key_default quoted at (Arg n) b h.2.2.0 rest fine h.2.2.2 }
+param_dollar quoted key default text rest (count h) =
+    record { behind = h.0; is = h.1; gives = λ at. ap (dollar quoted at h.0) h.2.1 ∙ ap (Piece (part.Param Count None quoted)) h.2.2 }
+param_dollar quoted key default text rest (count_braced h) =
+    record { behind = h.0; is = h.1; gives = λ at. ap (dollar quoted at h.0) h.2.1 ∙ ap (braced quoted at) h.2.2.1 ∙ ap (closed quoted at Count None) h.2.2.2.1 ∙ ap (Piece (part.Param Count None quoted)) h.2.2.2.2 }
+
+all_dollar : (quoted : Bool) (text rest : Bytes) → Stands (codes "$@") text rest → IsDollar quoted (AllArgs rest) text
+all_dollar quoted text rest h = record { behind = h.0; is = h.1; gives = λ at. ap (dollar quoted at h.0) h.2.1 ∙ ap AllArgs h.2.2 }
+
+substitution_dollar : (quoted : Bool) (text rest : Bytes) → IsSubstitution text rest → IsDollar quoted (Substitution rest) text
+substitution_dollar quoted text rest h =
+    let g = h.stands in
+    record { behind = g.0; is = g.1; gives = λ at. ap (dollar quoted at g.0) g.2.1 ∙ ap (parenthesis at) g.2.2 ∙ if_false (head_is 40 (skip rest)) _ _ (is_not 40 (skip rest) h.single) }
+
+look_dollar : (len : ℕ) (seen : Look) (text : Bytes) → IsDollar false seen text → look len text ≡ seen
+look_dollar len seen text h = ap (λ t. look_at (place len t) t) h.is ∙ h.gives (place len (36 ∷ h.behind))
+
+inner_dollar : (len : ℕ) (seen : Look) (text : Bytes) → IsDollar true seen text → inner len text ≡ seen
+inner_dollar len seen text h = ap (λ t. inner_at (place len t) t) h.is ∙ h.gives (place len (36 ∷ h.behind))
+
+-- quotes
+quote_found : (bytes rest : Bytes) → list_all (λ b. not (nat_eq b 39)) bytes ≡ true → (has_quote (bytes ++ 39 ∷ rest) ≡ true) × (quote_body (bytes ++ 39 ∷ rest) ≡ bytes) × (behind_quote (bytes ++ 39 ∷ rest) ≡ rest)
+quote_found [] rest e = (refl, refl, refl)
+quote_found (b ∷ bytes) rest e =
+    let more = quote_found bytes rest (and_right (not (nat_eq b 39)) (list_all (λ b. not (nat_eq b 39)) bytes) e) in
+    let other = flip (nat_eq b 39) (and_left (not (nat_eq b 39)) (list_all (λ b. not (nat_eq b 39)) bytes) e) in
+    (or_right (nat_eq b 39) _ more.0, if_false (nat_eq b 39) _ _ other ∙ ap (λ t. b ∷ t) more.1, if_false (nat_eq b 39) _ _ other ∙ more.2) where
+      flip : (a : Bool) → not a ≡ true → a ≡ false
+      flip true e = sym e
+      flip false e = refl
+
+      or_right : (a b : Bool) → b ≡ true → (a || b) ≡ true
+      or_right true b e = refl
+      or_right false b e = e
+
+quoted_seen : (len : ℕ) (bytes text rest : Bytes) → IsQuoted bytes text rest → look len text ≡ Piece (part.Quoted bytes) rest
+quoted_seen len bytes text rest (single all h) =
+    let q = quote_found bytes rest all in
+    ap (λ t. look_at (place len t) t) (h.1 ∙ ap (λ t. 39 ∷ t) h.2) ∙ if_true (has_quote (bytes ++ 39 ∷ rest)) _ _ q.0
+    ∙ ap (λ b. Piece (part.Quoted b) (behind_quote (bytes ++ 39 ∷ rest))) q.1 ∙ ap (Piece (part.Quoted bytes)) q.2
+quoted_seen len bytes text rest (escaped h) = ap (λ t. look_at (place len t) t) (h.1 ∙ ap (λ t. 92 ∷ t) h.2)
+
+pub look_piece : (len : ℕ) (text rest : Bytes) (it : RawPart) → IsPiece false it text rest → look len text ≡ Piece it rest
+look_piece len text rest (part.Param key default quoted) h = look_dollar len _ text (param_dollar false key default text rest h.1) ∙ ap (λ q. Piece (part.Param key default q) rest) (sym h.0)
+look_piece len text rest (part.Quoted bytes) h = quoted_seen len bytes text rest h.1
+look_piece len text rest _ h = absurd h
+
+pub inner_piece : (len : ℕ) (text rest : Bytes) (it : RawPart) → IsPiece true it text rest → inner len text ≡ Piece it rest
+inner_piece len text rest (part.Param key default quoted) h = inner_dollar len _ text (param_dollar true key default text rest h.1) ∙ ap (λ q. Piece (part.Param key default q) rest) (sym h.0)
+inner_piece len text rest (part.Quoted bytes) h = absurd (true_false h.0)
+inner_piece len text rest _ h = absurd h
+
+pub look_all : (len : ℕ) (text rest : Bytes) → Stands (codes "$@") text rest → look len text ≡ AllArgs rest
+look_all len text rest h = look_dollar len (AllArgs rest) text (all_dollar false text rest h)
+
+pub inner_all : (len : ℕ) (text rest : Bytes) → Stands (codes "$@") text rest → inner len text ≡ AllArgs rest
+inner_all len text rest h = inner_dollar len (AllArgs rest) text (all_dollar true text rest h)
+
+pub look_substitution : (len : ℕ) (text rest : Bytes) → IsSubstitution text rest → look len text ≡ Substitution rest
+look_substitution len text rest h = look_dollar len (Substitution rest) text (substitution_dollar false text rest h)
+
+pub inner_substitution : (len : ℕ) (text rest : Bytes) → IsSubstitution text rest → inner len text ≡ Substitution rest
+inner_substitution len text rest h = inner_dollar len (Substitution rest) text (substitution_dollar true text rest h)
+
+pub look_double : (len : ℕ) (text rest : Bytes) → Stands (codes "\"") text rest → look len text ≡ DoubleQuote rest
+look_double len text rest h = ap (λ t. look_at (place len t) t) (h.1 ∙ ap (λ t. 34 ∷ t) h.2)
+
+pub inner_double : (len : ℕ) (text rest : Bytes) → Stands (codes "\"") text rest → inner len text ≡ DoubleQuote rest
+inner_double len text rest h = ap (λ t. inner_at (place len t) t) (h.1 ∙ ap (λ t. 34 ∷ t) h.2)
+
+-- ---- what is seen is spelled
+
+-- what is seen says what stands
+abbrev pub IsSeen : Bool → Look → Bytes → Type 0
+IsSeen inside (Piece it rest) text = IsPiece inside it text rest
+IsSeen inside (AllArgs rest) text = Stands (codes "$@") text rest
+IsSeen inside (Substitution rest) text = IsSubstitution text rest
+IsSeen inside (DoubleQuote rest) text = Stands (codes "\"") text rest
+IsSeen inside _ text = Unit {0}
+
+-- what stands behind `${`, as what stands from `$` on
+record IsOpened (text from : Bytes) : Type 0 where
+  pub behind : Bytes
+  pub is : skip text ≡ 36 ∷ behind
+  pub brace : skip behind ≡ 123 ∷ from
+
+opened_stands : (text from bytes rest : Bytes) → IsOpened text from → Stands bytes from rest → Stands (codes "${" ++ bytes) text rest
+opened_stands text from bytes rest o h = (o.behind, o.is, (from, o.brace, h))
+
+closed_seen : (quoted : Bool) (at : ℕ) (key : Key) (default : Option Bytes) (text middle t : Bytes) → skip middle ≡ t → ((rest : Bytes) → Stands (codes "}") middle rest → IsParam key default text rest)
+    → IsSeen quoted (closed quoted at key default t) text
+closed_seen quoted at key default text middle [] e make = tt
+closed_seen quoted at key default text middle (b ∷ u) e make =
+    if_case (λ l. IsSeen quoted l text) (nat_eq b 125) (Piece (part.Param key default quoted) u) (bad_param at)
+    (λ is. (refl, make u (u, e ∙ ap (λ b. b ∷ u) (eq_of b 125 is), refl))) (λ _. tt)
+
+colon_seen : (quoted : Bool) (at : ℕ) (key : Key) (text middle t : Bytes) → skip middle ≡ t
+    → ((default rest : Bytes) → is_default default ≡ true → Stands (codes "-" ++ (default ++ codes "}")) middle rest → IsParam key (Some default) text rest) → IsSeen quoted (behind_colon quoted at key t) text
+colon_seen quoted at key text middle [] e make = tt
+colon_seen quoted at key text middle (b ∷ u) e make =
+    if_case (λ l. IsSeen quoted l text) (nat_eq b 45) (closed quoted at key (Some (run Defaults u)) (skip (behind Defaults u))) (bad_param at)
+    (λ is.
+    let all = run_stands is_default_byte (run Defaults u) u refl in
+    closed_seen quoted at key (Some (run Defaults u)) text (behind Defaults u) (skip (behind Defaults u)) refl
+    (λ rest h. make (run Defaults u) rest all.pass (u, e ∙ ap (λ b. b ∷ u) (eq_of b 45 is), stands_then (run Defaults u) (codes "}") u (behind Defaults u) rest all.stands h)))
+    (λ _. tt)
+
+key_seen : (quoted : Bool) (at : ℕ) (key : Key) (text middle t : Bytes) → skip middle ≡ t → ((rest : Bytes) → Stands (codes "}") middle rest → IsParam key None text rest)
+    → ((default rest : Bytes) → is_default default ≡ true → Stands (codes ":-" ++ (default ++ codes "}")) middle rest → IsParam key (Some default) text rest) → IsSeen quoted (behind_key quoted at key t) text
+key_seen quoted at key text middle [] e make make_default = tt
+key_seen quoted at key text middle (b ∷ u) e make make_default =
+    if_case (λ l. IsSeen quoted l text) (nat_eq b 58) (behind_colon quoted at key (skip u)) (closed quoted at key None (b ∷ u))
+    (λ is. colon_seen quoted at key text u (skip u) refl (λ default rest fine h. make_default default rest fine (u, e ∙ ap (λ b. b ∷ u) (eq_of b 58 is), h)))
+    (λ _. closed_seen quoted at key None text middle (b ∷ u) e make)
+
+-- the run of a name that begins with a letter
+name_stands : (b : ℕ) (more text : Bytes) → skip text ≡ b ∷ more → is_letter b ≡ true
+    → (is_variable (run Names (b ∷ more)) ≡ true) × Stands (run Names (b ∷ more)) text (behind Names (b ∷ more)) × (begins is_name_byte (skip (behind Names (b ∷ more))) ≡ false)
+name_stands b more text e is = by (run Names (b ∷ more)) (run_stands is_name_byte (run Names (b ∷ more)) (b ∷ more) refl) where
+  by : (found : Bytes) → IsRun is_name_byte found (b ∷ more) (behind Names (b ∷ more))
+      → (is_variable found ≡ true) × Stands found text (behind Names (b ∷ more)) × (begins is_name_byte (skip (behind Names (b ∷ more))) ≡ false)
+  by [] all = absurd (empty (sym (ap (begins is_name_byte) again) ∙ ap (λ t. begins is_name_byte (skip t)) all.stands ∙ all.longest)) where
+    again : skip (b ∷ more) ≡ b ∷ more
+    again = sym (ap skip e) ∙ skip_again text ∙ e
+
+    empty : is_name_byte b ≡ false → ⊥
+    empty n = true_false (sym (letter_passes b is) ∙ n)
+  by (c ∷ found) all = (
+    and_true (is_letter c) (list_all is_name_byte found) (ap is_letter (first (again ∙ all.stands.1)) ∙ is) (and_right (is_name_byte c) (list_all is_name_byte found) all.pass),
+    stands_skip c found text (behind Names (b ∷ more)) (subst (λ t. Stands (c ∷ found) t (behind Names (b ∷ more))) (sym e) all.stands),
+    all.longest,
+  ) where
+    again : b ∷ more ≡ skip (b ∷ more)
+    again = sym (sym (ap skip e) ∙ skip_again text ∙ e)
+
+    first : {t : Bytes} → b ∷ more ≡ c ∷ t → c ≡ b
+    first e = cc
+
+braced_by_seen : (quoted : Bool) (at b : ℕ) (text from more : Bytes) (it : ByteKind) → IsOpened text from → skip from ≡ b ∷ more → KindOf b it → IsSeen quoted (braced_by quoted at b it more) text
+braced_by_seen quoted at b text from more k.Name o e is =
+    let n = name_stands b more from e is in
+    let found = run Names (b ∷ more) in
+    let middle = behind Names (b ∷ more) in
+    key_seen quoted at (Named found) text middle (skip middle) refl
+    (λ rest h. name_braced n.0 (opened_stands text from (found ++ codes "}") rest o (stands_then found (codes "}") from middle rest n.1 h)))
+    (λ default rest fine h. name_default n.0 fine
+    (opened_stands text from (found ++ (codes ":-" ++ (default ++ codes "}"))) rest o (stands_then found (codes ":-" ++ (default ++ codes "}")) from middle rest n.1 h)))
+braced_by_seen quoted at b text from more k.Digit o e is =
+    if_case (λ l. IsSeen quoted l text) (nat_eq b 48) (bad_param at) (behind_key quoted at (Arg (b - 48)) (skip more)) (λ _. tt)
+    (λ other. key_seen quoted at (Arg (b - 48)) text more (skip more) refl
+    (λ rest h. number_braced (digit_of b is other) (opened_stands text from (b ∷ codes "}") rest o (more, e, h)))
+    (λ default rest fine h. number_default (digit_of b is other) fine (opened_stands text from (b ∷ (codes ":-" ++ (default ++ codes "}"))) rest o (more, e, h))))
+braced_by_seen quoted at b text from more k.Hash o e is =
+    closed_seen quoted at Count None text more (skip more) refl (λ rest h. count_braced (opened_stands text from (codes "#}") rest o (more, e ∙ ap (λ b. b ∷ more) is, h)))
+braced_by_seen quoted at b text from more _ o e is = tt
+
+braced_seen : (quoted : Bool) (at : ℕ) (text from t : Bytes) → IsOpened text from → skip from ≡ t → IsSeen quoted (braced quoted at t) text
+braced_seen quoted at text from [] o e = tt
+braced_seen quoted at text from (b ∷ more) o e = braced_by_seen quoted at b text from more (kind b) o e (kind_of b)
+
+quote_byte : (quoted : Bool) (at : ℕ) (behind text : Bytes) → IsSeen quoted (before_quote quoted at behind) text
+quote_byte true at behind text = tt
+quote_byte false at behind text = tt
+
+dollar_by_seen : (quoted : Bool) (at b : ℕ) (text behind more : Bytes) (it : ByteKind) → skip text ≡ 36 ∷ behind → skip behind ≡ b ∷ more → KindOf b it → IsSeen quoted (dollar_by quoted at behind b it more) text
+dollar_by_seen quoted at b text after more k.Open d e is =
+    if_case (λ l. IsSeen quoted l text) (head_is 40 (skip more)) _ (Substitution more) (λ _. tt)
+    (λ one. record { stands = (after, d, (more, e ∙ ap (λ b. b ∷ more) is, refl)); single = not_next 40 more refl one })
+dollar_by_seen quoted at b text after more k.Brace d e is = braced_seen quoted at text more (skip more) (record { behind = after; is = d; brace = e ∙ ap (λ b. b ∷ more) is }) refl
+dollar_by_seen quoted at b text after more k.Name d e is = let n = name_stands b more after e is in (refl, by_name n.0 (after, d, n.1) n.2)
+dollar_by_seen quoted at b text after more k.Digit d e is =
+    if_case (λ l. IsSeen quoted l text) (nat_eq b 48) (bad_param at) (Piece (part.Param (Arg (b - 48)) None quoted) more) (λ _. tt)
+    (λ other. (refl, by_number (digit_of b is other) (after, d, (more, e, refl))))
+dollar_by_seen quoted at b text after more k.Hash d e is = (refl, count (after, d, (more, e ∙ ap (λ b. b ∷ more) is, refl)))
+dollar_by_seen quoted at b text after more k.At d e is = (after, d, (more, e ∙ ap (λ b. b ∷ more) is, refl))
+dollar_by_seen quoted at b text after more k.Single d e is = quote_byte quoted at after text
+dollar_by_seen quoted at b text after more k.Double d e is = quote_byte quoted at after text
+dollar_by_seen quoted at b text after more _ d e is = tt
+
+dollar_seen : (quoted : Bool) (at : ℕ) (text behind t : Bytes) → skip text ≡ 36 ∷ behind → skip behind ≡ t → IsSeen quoted (dollar quoted at behind t) text
+dollar_seen quoted at text after [] d e = tt
+dollar_seen quoted at text after (b ∷ more) d e = dollar_by_seen quoted at b text after more (kind b) d e (kind_of b)
+
+-- up to the quote
+quote_splits_by : (b : ℕ) (t : Bytes) (it : Bool) → nat_eq b 39 ≡ it → (it || has_quote t) ≡ true
+    → (has_quote t ≡ true → (t ≡ quote_body t ++ 39 ∷ behind_quote t) × (list_all (λ b. not (nat_eq b 39)) (quote_body t) ≡ true))
+    → (b ∷ t ≡ (if it then [] else b ∷ quote_body t) ++ 39 ∷ (if it then t else behind_quote t)) × (list_all (λ b. not (nat_eq b 39)) (if it then [] else b ∷ quote_body t) ≡ true)
+quote_splits_by b t true is e again = (ap (λ b. b ∷ t) (eq_of b 39 is), refl)
+quote_splits_by b t false is e again = let more = again e in (ap (λ t. b ∷ t) more.0, and_true (not (nat_eq b 39)) (list_all (λ b. not (nat_eq b 39)) (quote_body t)) (ap not is) more.1)
+
+quote_splits : (t : Bytes) → has_quote t ≡ true → (t ≡ quote_body t ++ 39 ∷ behind_quote t) × (list_all (λ b. not (nat_eq b 39)) (quote_body t) ≡ true)
+quote_splits [] e = absurd (false_true e)
+quote_splits (b ∷ t) e = quote_splits_by b t (nat_eq b 39) refl e (λ h. quote_splits t h)
+
+look_by_seen : (at c : ℕ) (text more : Bytes) (it : ByteKind) → skip text ≡ c ∷ more → KindOf c it → IsSeen false (look_by at c it more) text
+look_by_seen at c text more k.Single e is =
+    if_case (λ l. IsSeen false l text) (has_quote more) (Piece (part.Quoted (quote_body more)) (behind_quote more)) _
+    (λ has. let q = quote_splits more has in (refl, single q.1 (more, e ∙ ap (λ c. c ∷ more) is, q.0))) (λ _. tt)
+look_by_seen at c text more k.Double e is = (more, e ∙ ap (λ c. c ∷ more) is, refl)
+look_by_seen at c text [] k.Back e is = tt
+look_by_seen at c text (b ∷ more) k.Back e is = (refl, escaped (b ∷ more, e ∙ ap (λ c. c ∷ b ∷ more) is, refl))
+look_by_seen at c text more k.Dollar e is = dollar_seen false at text more (skip more) (e ∙ ap (λ c. c ∷ more) is) refl
+look_by_seen at c text more _ e is = tt
+
+look_at_seen : (at : ℕ) (text t : Bytes) → skip text ≡ t → IsSeen false (look_at at t) text
+look_at_seen at text [] e = tt
+look_at_seen at text (c ∷ more) e = look_by_seen at c text more (kind c) e (kind_of c)
+
+pub look_seen : (len : ℕ) (text : Bytes) (it : Look) → look len text ≡ it → IsSeen false it text
+look_seen len text it e = subst (λ l. IsSeen false l text) e (look_at_seen (place len (skip text)) text (skip text) refl)
+
+escaped_byte : (b : ℕ) (more text : Bytes) → IsSeen true (inner_escaped b more) text
+escaped_byte b [] text = tt
+escaped_byte b (c ∷ more) text = if_case (λ l. IsSeen true l text) (is_escapable (kind c)) (Byte c more) (Byte b (c ∷ more)) (λ _. tt) (λ _. tt)
+
+inner_by_seen : (at c : ℕ) (text more : Bytes) (it : ByteKind) → skip text ≡ c ∷ more → KindOf c it → IsSeen true (inner_by at c it more) text
+inner_by_seen at c text more k.Double e is = (more, e ∙ ap (λ c. c ∷ more) is, refl)
+inner_by_seen at c text more k.Back e is = escaped_byte c more text
+inner_by_seen at c text more k.Dollar e is = dollar_seen true at text more (skip more) (e ∙ ap (λ c. c ∷ more) is) refl
+inner_by_seen at c text more _ e is = tt
+
+inner_at_seen : (at : ℕ) (text t : Bytes) → skip text ≡ t → IsSeen true (inner_at at t) text
+inner_at_seen at text [] e = tt
+inner_at_seen at text (c ∷ more) e = inner_by_seen at c text more (kind c) e (kind_of c)
+
+pub inner_seen : (len : ℕ) (text : Bytes) (it : Look) → inner len text ≡ it → IsSeen true it text
+inner_seen len text it e = subst (λ l. IsSeen true l text) e (inner_at_seen (place len (skip text)) text (skip text) refl)

@@ -1,0 +1,12 @@
+pub mod FirstLine
+pub mod Late
+pub mod Lexed
+pub mod Operators
+pub mod Parts
+pub mod Reading
+pub mod Reads
+pub mod Seen
+pub mod SpelledLine
+pub mod SpelledParts
+pub mod Spelling
+pub mod Text
