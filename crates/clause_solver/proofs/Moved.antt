@@ -1,5 +1,5 @@
 -- Another variable for the tree now.
-use Rattle.std.proofs.Common.{◌≡◌, ℕ, ◌<◌, ◌↔◌, List, length}
+use Rattle.std.proofs.Common.{ℕ, ◌↔◌, List}
 use Rattle.feature_trees.specs.declared.value.Value.{Value}
 use Rattle.clause_solver.specs.declared.variable.Variable.{Variable}
 use Rattle.clause_solver.specs.Literals.{Valuation}

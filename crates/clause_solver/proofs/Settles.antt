@@ -10,7 +10,7 @@ use Rattle.clause_solver.specs.declared.variable.Variable.{Variable}
 use Rattle.clause_solver.specs.declared.appended.Found.TheVariants.{Nothing, At}
 use Rattle.clause_solver.specs.declared.store.Store.TheInside.{Inside}
 use Rattle.clause_solver.specs.Literals.{value_of_variable}
-use Rattle.clause_solver.specs.Stands.{Seen, Stands, Extends, HasEntry, HasPut, HasValue}
+use Rattle.clause_solver.specs.Stands.{Stands, Extends, HasEntry, HasPut, HasValue}
 use Rattle.clause_solver.specs.Variables.{Ordered, Earlier, IsChild, defined, made_value}
 use Rattle.clause_solver.specs.Fresh.{fresh}
 use Rattle.clause_solver.specs.Appends.{IsAppended, LeadsTo}

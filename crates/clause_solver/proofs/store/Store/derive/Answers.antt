@@ -1,4 +1,4 @@
-use Rattle.std.proofs.Common.{◌≡◌, ◌<◌, length, refl}
+use Rattle.std.proofs.Common.{◌<◌, length, refl}
 use Rattle.clause_solver.specs.declared.store.Store.TheInside.{Inside}
 use Rattle.clause_solver.specs.declared.variable.Definition.TheVariants.{Derived}
 use Rattle.clause_solver.specs.Variables.{Earlier}

@@ -1,4 +1,4 @@
-use Rattle.std.proofs.Common.{◌≡◌, ◌<◌, length}
+use Rattle.std.proofs.Common.{◌<◌, length}
 use Rattle.clause_solver.specs.Stands.{IsDirectory}
 use Rattle.clause_solver.specs.Variables.{AlwaysDir}
 use Rattle.clause_solver.proofs.OneMore.{seen_of}
