@@ -16,3 +16,4 @@ pub mod InOrder
 pub mod Covering
 pub mod Opens
 pub mod Built
+pub mod Moved

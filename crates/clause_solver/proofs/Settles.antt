@@ -2,18 +2,20 @@
 use Rattle.std.proofs.Common.{◌≡◌, ℕ, ◌+◌, ◌<◌, List, [], ◌∷◌, ◌++◌, length, IsTrue, refl, ap, arith}
 use Rattle.std.proofs.lemmas.List.{length-append}
 use Rattle.script_names.specs.Names.{is_name}
+use Rattle.clause_solver.specs.declared.variable.MadeValue.{MadeValue}
 use Rattle.clause_solver.specs.declared.variable.MadeValue.TheVariants as made
 use Rattle.clause_solver.specs.declared.variable.Definition.{Definition}
-use Rattle.clause_solver.specs.declared.variable.Definition.TheVariants.{Child, Made}
+use Rattle.clause_solver.specs.declared.variable.Definition.TheVariants.{Child, Derived, Made}
 use Rattle.clause_solver.specs.declared.variable.Variable.{Variable}
 use Rattle.clause_solver.specs.declared.appended.Found.TheVariants.{Nothing, At}
 use Rattle.clause_solver.specs.declared.store.Store.TheInside.{Inside}
-use Rattle.clause_solver.specs.Stands.{Extends, HasEntry}
-use Rattle.clause_solver.specs.Variables.{Ordered, Earlier, IsChild}
+use Rattle.clause_solver.specs.Literals.{value_of_variable}
+use Rattle.clause_solver.specs.Stands.{Stands, Extends, HasEntry, HasPut, HasValue}
+use Rattle.clause_solver.specs.Variables.{Ordered, Earlier, IsChild, defined, made_value}
 use Rattle.clause_solver.specs.Fresh.{fresh}
 use Rattle.clause_solver.specs.Appends.{IsAppended, LeadsTo}
 use Rattle.clause_solver.specs.View.{seen, IsSettled}
-use Rattle.clause_solver.proofs.OneMore.{longer, append_order, append_best, append_only, append_always, append_extends}
+use Rattle.clause_solver.proofs.OneMore.{seen_of, longer, append_order, append_best, append_only, append_always, append_extends, append_is}
 use Rattle.clause_solver.proofs.Leads.{absent_entry, child_entry}
 
 -- no child is the same entry
@@ -40,8 +42,20 @@ module _ (a b : Inside) (y : ℕ) (d : Definition) (inv : IsSettled a) (before :
   pub appended_extends : Extends (seen a) (seen b)
   appended_extends = rw (is.variable, now) (append_extends a.vars.items inv.order d before a.current inv.now_known new_order)
 
-pub made_single : (vars : List Variable) → IsSingle vars (Made made.Absent)
-made_single vars x f i e = let bad : Made made.Absent ≡ Child x f = e in cc
+  -- the new variable has its defined value
+  pub appended_is : (t : _) (g : _) → Stands (seen b) t g → value_of_variable g y ≡ defined g d
+  appended_is t g h =
+      let h' : Stands (seen_of (a.vars.items ++ fresh d ∷ []) a.current) t g = rw (is.variable, now) at h in
+      rw is.at (append_is a.vars.items inv.order d before a.current inv.now_known new_order t g h')
+
+  pub appended_known : y < (seen b).count
+  appended_known = rw (is.variable, is.at, longer a.vars.items inv.order d before) (omega arith)
+
+pub made_single : (vars : List Variable) (m : MadeValue) → IsSingle vars (Made m)
+made_single vars m x f i e = let bad : Made m ≡ Child x f = e in cc
+
+pub derived_single : (vars : List Variable) (x y : ℕ) (f : List ℕ) → IsSingle vars (Derived x f y)
+derived_single vars x y f p g i e = let bad : Derived x f y ≡ Child p g = e in cc
 
 pub child_single : (vars : List Variable) (n : ℕ) (f : List ℕ) → ((i : ℕ) → ¬ (IsChild vars n f i)) → IsSingle vars (Child n f)
 child_single vars n f none x g i e h =
@@ -51,7 +65,7 @@ child_single vars n f none x g i e h =
 
 pub absent_is_entry : (a b : Inside) (y x : ℕ) (f : List ℕ) → IsSettled a → x < length a.vars.items → b.current ≡ a.current → IsAppended a.vars.items a.best.items (Made made.Absent) b.vars.items b.best.items y → LeadsTo a.vars.items x f Nothing → HasEntry (seen b) x f y
 absent_is_entry a b y x f inv inside now is leads =
-    rw (is.variable, now, is.at) (absent_entry a.vars.items a.current x f inv.order inside (append_order a.vars.items inv.order (Made made.Absent) tt (made_single a.vars.items)) leads)
+    rw (is.variable, now, is.at) (absent_entry a.vars.items a.current x f inv.order inside (append_order a.vars.items inv.order (Made made.Absent) tt (made_single a.vars.items made.Absent)) leads)
 
 pub child_before : (vars : List Variable) (x n : ℕ) (f : List ℕ) → IsTrue (is_name f) → LeadsTo vars x f (At n) → Earlier vars (length vars) (Child n f)
 child_before vars x n f name leads = (leads.0, leads.1, name)
@@ -60,3 +74,21 @@ pub child_is_entry : (a b : Inside) (y x n : ℕ) (f : List ℕ) → IsSettled a
 child_is_entry a b y x n f inv inside name none now is leads =
     let before = child_before a.vars.items x n f name leads in
     rw (is.variable, now, is.at) (child_entry a.vars.items a.current x f inv.order inside n before (append_order a.vars.items inv.order (Child n f) before (child_single a.vars.items n f none)) leads)
+
+pub derived_before : (vars : List Variable) (x y : ℕ) (f : List ℕ) → x < length vars → y < length vars → IsTrue (is_name f) → Earlier vars (length vars) (Derived x f y)
+derived_before vars x y f known value name = (known, value, name)
+
+pub derived_is_put : (a b : Inside) (z x y : ℕ) (f : List ℕ) → IsSettled a → x < length a.vars.items → y < length a.vars.items → IsTrue (is_name f) → b.current ≡ a.current → IsAppended a.vars.items a.best.items (Derived x f y) b.vars.items b.best.items z → HasPut (seen b) x f y z
+derived_is_put a b z x y f inv inside known name now is =
+    let before = derived_before a.vars.items x y f inside known name in
+    let single = derived_single a.vars.items x y f in
+    record {
+      known = appended_known a b z (Derived x f y) inv before single now is;
+      is = appended_is a b z (Derived x f y) inv before single now is;
+    }
+
+pub made_is_value : (a b : Inside) (y : ℕ) (m : MadeValue) → IsSettled a → b.current ≡ a.current → IsAppended a.vars.items a.best.items (Made m) b.vars.items b.best.items y → HasValue (seen b) y (made_value m)
+made_is_value a b y m inv now is = record {
+  known = appended_known a b y (Made m) inv tt (made_single a.vars.items m) now is;
+  is = appended_is a b y (Made m) inv tt (made_single a.vars.items m) now is;
+}

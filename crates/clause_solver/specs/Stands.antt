@@ -1,8 +1,8 @@
 -- What a store stands for: pairs of a start tree and a valuation of the store's variables.
-use Rattle.std.specs.Prelude.{◌≡◌, ℕ, ◌<◌, ◌≤◌, List, length, take}
+use Rattle.std.specs.Prelude.{◌≡◌, ℕ, ◌<◌, ◌≤◌, List, [], ◌∷◌, length, take}
 use Rattle.feature_trees.specs.declared.value.Value.{Value}
 use Rattle.feature_trees.specs.declared.kind.Kind.TheVariants as kind
-use Rattle.feature_trees.specs.Tree.{entry, kind_of}
+use Rattle.feature_trees.specs.Tree.{entry, kind_of, put}
 use Rattle.clause_solver.specs.declared.clause.Literal.{Literal}
 use Rattle.clause_solver.specs.Literals.{Valuation, value_of_variable, MeetsAll, IsSound}
 
@@ -37,3 +37,17 @@ pub record Extends (old new : Seen) : Type 0 where
 pub record HasEntry (s : Seen) (x : ℕ) (f : List ℕ) (y : ℕ) : Type 0 where
   pub known : y < s.count
   pub is : (t : Value) (g : Valuation) → Stands s t g → value_of_variable g y ≡ entry (value_of_variable g x) f
+
+-- the variable x is a directory, in every pair
+abbrev pub IsDirectory : Seen → ℕ → Type 0
+IsDirectory s x = (t : Value) (g : Valuation) → Stands s t g → kind_of (value_of_variable g x) ≡ kind.Dir
+
+-- the variable y is x with the value of z put under the name f, in every pair
+pub record HasPut (s : Seen) (x : ℕ) (f : List ℕ) (z y : ℕ) : Type 0 where
+  pub known : y < s.count
+  pub is : (t : Value) (g : Valuation) → Stands s t g → value_of_variable g y ≡ put (value_of_variable g x) (f ∷ []) (value_of_variable g z)
+
+-- the variable y is this value, in every pair
+pub record HasValue (s : Seen) (y : ℕ) (v : Value) : Type 0 where
+  pub known : y < s.count
+  pub is : (t : Value) (g : Valuation) → Stands s t g → value_of_variable g y ≡ v

@@ -5,8 +5,9 @@ ghost use Rattle.feature_trees.specs.Tree.{entry, kind_of};
 ghost use Rattle.feature_trees.specs.Sound.{IsTree};
 ghost use Rattle.clause_solver.specs.Literals.{Valuation, value_of_variable, Covers};
 ghost use Rattle.clause_solver.specs.Solved.{IsSolved};
-ghost use Rattle.clause_solver.specs.Stands.{Seen, Stands, Alive, Extends, HasEntry};
-ghost use Rattle.clause_solver.specs.Variables.{limited};
+ghost use Rattle.clause_solver.specs.Stands.{Seen, Stands, Alive, Extends, HasEntry, IsDirectory, HasPut, HasValue};
+ghost use Rattle.clause_solver.specs.Variables.{limited, made_value};
+ghost use Rattle.feature_trees.specs.declared.value.Value.TheVariants as value;
 
 use crate::appended::{Found, append, find, resolve};
 use crate::clause::{Clause, Var};
@@ -115,6 +116,79 @@ impl Store {
                 Ok(Var(y))
             }
         }
+    }
+
+    /// The variable of a directory with the value of y under a name, and its other entries as before; where y is absent
+    /// the entry is gone. For want of memory the store is as before.
+    pub fn derive(&mut self, x: Var, f: &Name, y: Var) -> Result<Var, Memory>
+        requires known { (x.0 < self.old.count) × (y.0 < self.old.count) }
+        requires directory { IsDirectory self.old x.0 }
+        ensures extends { Extends self.old self.new }
+        ensures put { IfOk result (λ z. HasPut self.new x.0 f.now y.0 z.0) }
+        ensures kept { OnErr result (self.new ≡ self.old) }
+        ensures count { self.new.count ≤ self.old.count + 1 }
+    {
+        f.known();
+        let alloc = *self.vars.allocator();
+        let name = f.copy(alloc)?;
+        let derived = Definition::Derived(x.0, name, y.0);
+        let z = match append(&mut self.vars, &mut self.best, derived) {
+            Ok(z) => z,
+            Err(e) => return Err(e),
+        };
+        Ok(Var(z))
+    }
+
+    /// The variable of the directory without entries. For want of memory the store is as before.
+    pub fn made_dir(&mut self) -> Result<Var, Memory>
+        ensures extends { Extends self.old self.new }
+        ensures empty { IfOk result (λ y. HasValue self.new y.0 (value.Dir [])) }
+        ensures kept { OnErr result (self.new ≡ self.old) }
+        ensures count { self.new.count ≤ self.old.count + 1 }
+    {
+        let y = match self.made(MadeValue::Dir) {
+            Ok(y) => y,
+            Err(e) => return Err(e),
+        };
+        Ok(y)
+    }
+
+    /// The variable of nothing. For want of memory the store is as before.
+    pub fn made_absent(&mut self) -> Result<Var, Memory>
+        ensures extends { Extends self.old self.new }
+        ensures absent { IfOk result (λ y. HasValue self.new y.0 value.Absent) }
+        ensures kept { OnErr result (self.new ≡ self.old) }
+        ensures count { self.new.count ≤ self.old.count + 1 }
+    {
+        let y = match self.made(MadeValue::Absent) {
+            Ok(y) => y,
+            Err(e) => return Err(e),
+        };
+        Ok(y)
+    }
+
+    // The variable of a made value.
+    fn made(&mut self, value: MadeValue) -> Result<Var, Memory>
+        ensures extends { Extends self.old self.new }
+        ensures value { IfOk result (λ y. HasValue self.new y.0 (made_value value)) }
+        ensures kept { OnErr result (self.new ≡ self.old) }
+        ensures count { self.new.count ≤ self.old.count + 1 }
+    {
+        let y = match append(&mut self.vars, &mut self.best, Definition::Made(value)) {
+            Ok(y) => y,
+            Err(e) => return Err(e),
+        };
+        Ok(Var(y))
+    }
+
+    /// Makes a variable the tree now. It takes no memory.
+    pub fn set_now(&mut self, x: Var)
+        requires known { x.0 < self.old.count }
+        requires directory { IsDirectory self.old x.0 }
+        ensures now { self.new ≡ record self.old { current = x.0 } }
+        ensures same { (t : Value) (g : Valuation) → Stands self.new t g ↔ Stands self.old t g }
+    {
+        self.current = x.0;
     }
 
     /// A start tree of some pair, the same at each run. A directory of it has an entry that no variable stands for

@@ -1,4 +1,4 @@
-ghost use Rattle.std.specs.Prelude.{◌<◌, ◌≤◌, IfOk};
+ghost use Rattle.std.specs.Prelude.{◌≡◌, ◌<◌, ◌≤◌, IfOk};
 
 use crate::clause::Var;
 use crate::store::Store;
@@ -111,5 +111,78 @@ fn takes_many(rt: HostRuntime) -> Result<(), Fail> {
         Value::Dir(entries) => assert_eq!(rt; entries.len(), 2000),
         _ => assert!(rt; false),
     }
+    Ok(())
+}
+
+// The empty directory, or nothing.
+fn make(s: &mut Store, dir: bool) -> Result<Var, Fail>
+    ensures known { IfOk result (λ y. y.0 < s.new.count) }
+    ensures now { IfOk result (λ y. s.new.current ≡ s.old.current) }
+    ensures more { IfOk result (λ y. s.old.count ≤ s.new.count) }
+{
+    if dir {
+        return Ok(s.made_dir()?);
+    }
+    Ok(s.made_absent()?)
+}
+
+// Puts a value under a name of the tree now.
+fn put_under<R: Abort + AllocGlobal>(rt: &R, s: &mut Store, word: &[u8], y: Var) -> Result<(), Fail>
+    requires { y.0 < s.old.count }
+{
+    let name = Name::read(rt.alloc(), word)?;
+    let now = s.now();
+    let z = s.derive(now, &name, y)?;
+    s.set_now(z);
+    Ok(())
+}
+
+#[test]
+fn derives(rt: HostRuntime) -> Result<(), Fail> {
+    let mut s = Store::start(rt.alloc())?;
+    let a = walk(&rt, &mut s, &[b"a"])?;
+    assert!(rt; s.limit(a, Kinds::of(Kind::Absent)));
+    let dir = make(&mut s, true)?;
+    put_under(&rt, &mut s, b"a", dir)?;
+    expect_clause(&rt, &s, ONE_MADE)?;
+    expect_tree(&rt, &mut s, "")?;
+    let below = walk(&rt, &mut s, &[b"a", b"b"])?;
+    let c = walk(&rt, &mut s, &[b"c"])?;
+    assert_eq!(rt; (below, c), (Var(4), Var(5)));
+    assert!(rt; s.limit(c, Kinds::of(Kind::Reg)));
+    let gone = make(&mut s, false)?;
+    put_under(&rt, &mut s, b"c", gone)?;
+    expect_clause(&rt, &s, ONE_GONE)?;
+    expect_tree(&rt, &mut s, "f /c\n")?;
+    let mut copy = s.copy(rt.alloc())?;
+    let again = walk(&rt, &mut copy, &[b"c"])?;
+    assert_eq!(rt; again, Var(6));
+    assert!(rt; !copy.limit(again, Kinds::of(Kind::Reg)));
+    expect_tree(&rt, &mut s, "f /c\n")
+}
+
+// An empty directory where nothing stood.
+const ONE_MADE: &str =
+    "clause start v0 now v3\nkind v0 dir\nentry v0 a v1\nkind v1 absent\nkind v2 dir\nfence v2 {}\nsimilar v3 {a} v0\nentry v3 a v2\n";
+
+// And nothing where a file stood.
+const ONE_GONE: &str =
+    "clause start v0 now v7\nkind v0 dir\nentry v0 a v1\nkind v1 absent\nkind v2 dir\nfence v2 {}\nsimilar v3 {a} v0\nentry v3 a v2\nkind v4 absent\nentry v0 c v5\nkind v5 reg\nkind v6 absent\nsimilar v7 {c} v3\nentry v7 c v6\n";
+
+#[test]
+fn derives_made_ones(rt: HostRuntime) -> Result<(), Fail> {
+    let mut s = Store::start(rt.alloc())?;
+    let outer = s.made_dir()?;
+    let inner = s.made_dir()?;
+    let name = Name::read(rt.alloc(), b"b")?;
+    let filled = s.derive(outer, &name, inner)?;
+    put_under(&rt, &mut s, b"etc", filled)?;
+    let text =
+        "clause start v0 now v4\nkind v0 dir\nkind v1 dir\nfence v1 {}\nkind v2 dir\nfence v2 {}\nsimilar v3 {b} v1\nentry v3 b v2\nsimilar v4 {etc} v0\nentry v4 etc v3\n";
+    expect_clause(&rt, &s, text)?;
+    let b = walk(&rt, &mut s, &[b"etc", b"b"])?;
+    assert_eq!(rt; b, Var(2));
+    let old = walk(&rt, &mut s, &[b"etc", b"c"])?;
+    assert!(rt; !s.limit(old, Kinds::of(Kind::Dir)));
     Ok(())
 }

@@ -1,5 +1,5 @@
 -- The store of the start trees: a walk down a path, and the directories of the base one after another.
-use Rattle.std.proofs.Common.{◌≡◌, ◌↔◌, ℕ, zero, suc, ◌<◌, ◌≤◌, ◌+◌, List, [], ◌∷◌, ◌++◌, length, map, take, get_or, IsTrue, true, false, refl, sym, ◌∙◌, ap, subst, arith, add-one}
+use Rattle.std.proofs.Common.{◌≡◌, ◌↔◌, ℕ, zero, suc, ◌<◌, ◌≤◌, ◌+◌, List, [], ◌∷◌, ◌++◌, length, map, take, get_or, IsTrue, refl, sym, ◌∙◌, ap, subst, arith, add-one}
 use Rattle.std.proofs.lemmas.Grind.{common_steps}
 use Rattle.feature_trees.specs.declared.value.Value.{Value}
 use Rattle.feature_trees.specs.declared.value.Value.TheVariants as value
@@ -10,7 +10,6 @@ use Rattle.feature_trees.specs.Kinds.{has, of}
 use Rattle.clause_solver.specs.Literals.{Valuation, value_of_variable}
 use Rattle.clause_solver.specs.Stands.{Seen, Stands, Extends, HasEntry}
 use Rattle.clause_solver.specs.Pairs.{HasPair}
-use Rattle.script_names.specs.Paths.{PathParts}
 use Rattle.feature_trees.specs.Sound.{IsTree}
 use Rattle.colis_checker.specs.PackageFiles.{AreDirectories, IsStart, usual_directories}
 

@@ -1,5 +1,5 @@
 -- The clauses of a call, from what it has to say and how that was written.
-use Rattle.std.proofs.Common.{◌≡◌, ◌⊎◌, ℕ, zero, suc, ◌<◌, ◌≤◌, List, [], ◌∷◌, Option, Some, None, Result, Ok, Err, IfSome, refl, sym, ◌∙◌, subst, ap, inl, inr, arith}
+use Rattle.std.proofs.Common.{◌≡◌, ◌⊎◌, ℕ, zero, suc, ◌<◌, ◌≤◌, List, [], Option, Some, None, Result, Ok, Err, IfSome, refl, sym, ◌∙◌, subst, ap, inl, inr, arith}
 use Rattle.checker_io.specs.Faults.{Rose}
 use Rattle.checker_io.specs.Shelf.{Files, ShelfState}
 use Rattle.checker_io.specs.Sink.{SinkState, Took, TookPrefix}
@@ -13,8 +13,8 @@ use Rattle.colis_checker.specs.declared.deliver.Reply.TheVariants.{Text, Refused
 use Rattle.checker_io.specs.Reading.{Asking, answer, Answers}
 use Rattle.colis_checker.specs.Input.{input, file_name}
 use Rattle.colis_checker.specs.ErrorLines.{refusal_line, write_failed_line, no_memory_line}
-use Rattle.colis_checker.specs.Delivery.{LineEnds, NoMemoryEnds, Delivers}
-use Rattle.colis_checker.specs.Top.{IsReportText, IsRefusal, IsRefusalLine, IsReadFailedLine, Replies, IsLine, Reported, SaidRefusal, SaidReadFailed, TextFailed, LineFailed, FailedToWrite, RanOut, NoneFailed, NoneRose, Completes}
+use Rattle.colis_checker.specs.Delivery.{LineEnds, Delivers}
+use Rattle.colis_checker.specs.Top.{IsReportText, IsRefusal, IsRefusalLine, Replies, Reported, SaidRefusal, SaidReadFailed, FailedToWrite, RanOut, NoneRose, Completes}
 use Rattle.colis_checker.proofs.Took.{took_none}
 
 -- words that fit no form

@@ -1,5 +1,5 @@
 -- The entries of outcomes that are exact: each replay ends as its outcome says.
-use Rattle.std.proofs.Common.{◌≡◌, ◌+◌, ℕ, zero, suc, List, [], ◌∷◌, ◌++◌, Option, Some, None, slice_get, map, Bool, true, false, IsTrue, refl, sym, ◌∙◌, ap, subst}
+use Rattle.std.proofs.Common.{◌≡◌, ℕ, suc, List, [], ◌∷◌, ◌++◌, Option, Some, None, slice_get, map, true, false, IsTrue, refl, sym, ◌∙◌, ap, subst}
 use Rattle.script_names.specs.declared.mark.Mark.{Mark}
 use Rattle.feature_trees.specs.declared.value.Value.{Value}
 use Rattle.feature_trees.specs.declared.kind.Kind.TheVariants.{Dir}
@@ -8,11 +8,9 @@ use Rattle.script_names.specs.declared.mark.Site.{Site}
 use Rattle.shell_rules.specs.declared.run.End.{End}
 use Rattle.shell_rules.specs.declared.run.End.TheVariants.{Status, Stopped, Bound}
 use Rattle.shell_rules.specs.declared.run.Run.{Run}
-use Rattle.utility_calls.specs.declared.act.Act.{Act}
-use Rattle.utility_calls.specs.declared.act.Act.TheVariants.{Exists, IsDir}
-use Rattle.utility_calls.specs.Rows.{tree_after}
+use Rattle.utility_calls.specs.Changes.{DirsStayDirs}
 use Rattle.utility_calls.specs.declared.act.Planned.{Planned}
-use Rattle.utility_calls.specs.declared.act.Planned.TheVariants.{Known, Ask}
+use Rattle.utility_calls.specs.declared.act.Planned.TheVariants.{Known, Ask, Change}
 use Rattle.shell_rules.specs.declared.command.Command.{Command}
 use Rattle.colis_checker.specs.declared.package_files.Script.{Script}
 use Rattle.colis_checker.specs.declared.package_files.Job.{Job}
@@ -25,13 +23,10 @@ use Rattle.colis_checker.specs.OutcomeReport.{Agrees, IsEntryOf, AllEntries, Sho
 
 -- a run from a directory leaves a directory
 
-tree_after_dir : (act : Act) (tree : Value) → kind_of tree ≡ Dir → kind_of (tree_after act tree) ≡ Dir
-tree_after_dir (Exists p) tree dir = dir
-tree_after_dir (IsDir p) tree dir = dir
-
-call_dir : (call : Planned) (site : Site) (trace : List Mark) (tree : Value) → kind_of tree ≡ Dir → kind_of (call_run call site trace tree).tree ≡ Dir
-call_dir (Known ok) site trace tree dir = dir
-call_dir (Ask act negate) site trace tree dir = tree_after_dir act tree dir
+call_dir : DirsStayDirs → (call : Planned) (site : Site) (trace : List Mark) (tree : Value) → kind_of tree ≡ Dir → kind_of (call_run call site trace tree).tree ≡ Dir
+call_dir law (Known ok) site trace tree dir = dir
+call_dir law (Ask act negate) site trace tree dir = law act tree dir
+call_dir law (Change act) site trace tree dir = law act tree dir
 
 after_dir : (end : End) (first next : Run) → kind_of first.tree ≡ Dir → kind_of next.tree ≡ Dir → kind_of (after_strict end first next).tree ≡ Dir
 after_dir (Status true) first next one two = two
@@ -39,16 +34,16 @@ after_dir (Status false) first next one two = one
 after_dir (Stopped reason site) first next one two = one
 after_dir (Bound site) first next one two = one
 
-strict_dir : (step : ℕ) (commands : List Command) (trace : List Mark) (tree : Value) → kind_of tree ≡ Dir → kind_of (strict_run step commands trace tree).tree ≡ Dir
-strict_dir step [] trace tree dir = dir
-strict_dir step (command ∷ commands) trace tree dir =
+strict_dir : DirsStayDirs → (step : ℕ) (commands : List Command) (trace : List Mark) (tree : Value) → kind_of tree ≡ Dir → kind_of (strict_run step commands trace tree).tree ≡ Dir
+strict_dir law step [] trace tree dir = dir
+strict_dir law step (command ∷ commands) trace tree dir =
     let first = command_run step command trace tree in
-    let one = call_dir command.call (record { step = step; at = command.at }) trace tree dir in
-    after_dir first.end first (strict_run step commands first.trace first.tree) one (strict_dir step commands first.trace first.tree one)
+    let one = call_dir law command.call (record { step = step; at = command.at }) trace tree dir in
+    after_dir first.end first (strict_run step commands first.trace first.tree) one (strict_dir law step commands first.trace first.tree one)
 
-script_dir : (script : Option Script) (tree : Value) → kind_of tree ≡ Dir → kind_of (script_run script tree).after ≡ Dir
-script_dir None tree dir = dir
-script_dir (Some script) tree dir = strict_dir 3 script.commands [] tree dir
+script_dir : DirsStayDirs → (script : Option Script) (tree : Value) → kind_of tree ≡ Dir → kind_of (script_run script tree).after ≡ Dir
+script_dir law None tree dir = dir
+script_dir law (Some script) tree dir = strict_dir law 3 script.commands [] tree dir
 
 -- the run from the shown tree ends as the outcome says, and both trees are directories
 pub record Replays (job : Job) (outcome : Outcome) : Type 0 where
@@ -69,8 +64,8 @@ each_replays job (outcome ∷ outcomes) each = (each 0 outcome refl, each_replay
 same_outcome : (o : Option Outcome) (a b : Outcome) → o ≡ Some a → o ≡ Some b → a ≡ b
 same_outcome o a b p q = cc
 
-replays_at : (job : Job) (outcomes : List Outcome) → IsExact job outcomes → (place : ℕ) (outcome : Outcome) → slice_get outcomes place ≡ Some outcome → Replays job outcome
-replays_at job outcomes exact place outcome at =
+replays_at : DirsStayDirs → (job : Job) (outcomes : List Outcome) → IsExact job outcomes → (place : ℕ) (outcome : Outcome) → slice_get outcomes place ≡ Some outcome → Replays job outcome
+replays_at law job outcomes exact place outcome at =
     let found : CoversAt outcomes place outcome.shown = exact.shown place outcome at in
     let same : found.outcome ≡ outcome = same_outcome (slice_get outcomes place) found.outcome outcome found.at at in
     let both = exact.runs place found.outcome outcome.shown found.now found.at found.covers in
@@ -78,11 +73,11 @@ replays_at job outcomes exact place outcome at =
       ending = both.1.ending ∙ ap (λ (o : Outcome). o.ending) same;
       trace = both.1.trace ∙ ap (λ (o : Outcome). o.trace) same;
       shown = both.0.is_tree.dir;
-      after = script_dir job.postinst outcome.shown both.0.is_tree.dir;
+      after = script_dir law job.postinst outcome.shown both.0.is_tree.dir;
     }
 
-pub all_replay : (job : Job) (outcomes : List Outcome) → IsExact job outcomes → AllReplay job outcomes
-all_replay job outcomes exact = each_replays job outcomes (replays_at job outcomes exact)
+pub all_replay : DirsStayDirs → (job : Job) (outcomes : List Outcome) → IsExact job outcomes → AllReplay job outcomes
+all_replay law job outcomes exact = each_replays job outcomes (replays_at law job outcomes exact)
 
 -- one more entry
 

@@ -1,28 +1,26 @@
 -- From the paths of a job to its outcomes.
-use Rattle.std.proofs.Common.{◌≡◌, ◌⊎◌, ◌↔◌, ◌+◌, ◌<◌, ℕ, zero, suc, List, [], ◌∷◌, ◌++◌, Option, Some, None, slice_get, length, refl, sym, ◌∙◌, ap, subst, inl, inr, arith, append_assoc, length-append}
+use Rattle.std.proofs.Common.{◌≡◌, ◌↔◌, ◌+◌, ◌<◌, ℕ, zero, suc, List, [], ◌∷◌, ◌++◌, Option, Some, None, slice_get, length, refl, sym, ◌∙◌, ap, subst, inl, inr, arith, append_assoc, length-append}
 use Rattle.script_names.specs.declared.mark.Mark.{Mark}
 use Rattle.feature_trees.specs.declared.value.Value.{Value}
 use Rattle.clause_solver.specs.Literals.{Covers}
-use Rattle.clause_solver.specs.Stands.{Seen}
-use Rattle.shell_rules.specs.declared.command.Command.{Command}
 use Rattle.shell_rules.specs.declared.run.End.{End}
 use Rattle.shell_rules.specs.declared.run.Run.{Run}
 use Rattle.shell_rules.specs.Strict.{strict_run}
 use Rattle.symbolic_exec.specs.declared.state.PathState.{PathState}
 use Rattle.symbolic_exec.specs.declared.state.Ended.{Ended}
 use Rattle.clause_solver.specs.Pairs.{HasPair}
-use Rattle.symbolic_exec.specs.State.{State, RunOf, at_tree, run_at}
+use Rattle.symbolic_exec.specs.State.{RunOf, at_tree, run_at}
 use Rattle.symbolic_exec.specs.Traces as traces
 use Rattle.symbolic_exec.specs.Points.{traces as traces_of, AllAlive}
 use Rattle.symbolic_exec.specs.Script.{script_run}
-use Rattle.symbolic_exec.specs.Exact.{IsAt, Once, AreThePaths}
+use Rattle.symbolic_exec.specs.Exact.{IsAt, AreThePaths}
 use Rattle.colis_checker.specs.declared.package_files.Script.{Script}
 use Rattle.colis_checker.specs.declared.package_files.Job.{Job}
 use Rattle.colis_checker.specs.declared.scenario_paths.Outcome.{Outcome}
 use Rattle.colis_checker.specs.PackageFiles.{IsStart}
-use Rattle.colis_checker.specs.TreeReplay.{ending_of, run, script_run as job_run}
+use Rattle.colis_checker.specs.TreeReplay.{ending_of, run}
 use Rattle.colis_checker.specs.OutcomeOf.{IsOutcomeOf, AreOutcomes}
-use Rattle.colis_checker.specs.ScenarioPaths.{CoversAt, CoversOnce, EndsAs, IsExact, MarkBelow, TraceBelow, Rising, commands_of_job}
+use Rattle.colis_checker.specs.ScenarioPaths.{CoversOnce, EndsAs, IsExact, TraceBelow, Rising, commands_of_job}
 
 -- one more
 pub outcomes_more : (place at : ℕ) (paths : List (Ended End)) (outcomes : List Outcome) (path : Ended End) (outcome : Outcome)

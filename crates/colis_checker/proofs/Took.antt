@@ -1,5 +1,5 @@
 -- What a sink took that took nothing, or all.
-use Rattle.std.proofs.Common.{◌++◌, List, [], length, take, ℕ, Option, Some, None, Result, Ok, Err, sym, ap, ◌∙◌, append-nil}
+use Rattle.std.proofs.Common.{◌++◌, List, [], length, ℕ, Option, Some, None, Result, Ok, Err, sym, ap, ◌∙◌, append-nil}
 use Rattle.std.proofs.lemmas.Grind.{common_steps}
 use Rattle.std.proofs.Common.{arith}
 use Rattle.checker_io.specs.declared.sink.SinkFault.{SinkFault}

@@ -4,7 +4,6 @@ use Rattle.checker_io.specs.Faults.{Rose}
 use Rattle.checker_io.specs.Sink.{SinkState, Took, TookPrefix}
 use Rattle.colis_checker.specs.declared.deliver.Reply.{Reply}
 use Rattle.colis_checker.specs.declared.deliver.Reply.TheVariants.{Text, Refused, ReadFailed, NoMemory}
-use Rattle.checker_io.specs.Pieces.{TakesAll}
 use Rattle.colis_checker.specs.ErrorLines.{write_failed_line, no_memory_line}
 
 -- a line was written, no write failed and the status is the given one; or a write failed, or memory was missing

@@ -4,9 +4,9 @@ use Rattle.std.specs.List.{list_all}
 use Rattle.std.specs.Str.{bytes_eq}
 use Rattle.script_names.specs.Names.{is_name}
 use Rattle.script_names.specs.Paths.{PathParts}
-use Rattle.utility_calls.specs.declared.act.Act.TheVariants.{Exists, IsDir}
+use Rattle.utility_calls.specs.declared.act.Act.TheVariants.{Exists, IsDir, MakeDir, Remove}
 use Rattle.utility_calls.specs.declared.act.Planned.{Planned}
-use Rattle.utility_calls.specs.declared.act.Planned.TheVariants.{Known, Ask}
+use Rattle.utility_calls.specs.declared.act.Planned.TheVariants.{Known, Ask, Change}
 use Rattle.shell_rules.specs.declared.command.Command.{Command}
 use Rattle.colis_checker.specs.declared.script.ScriptFault.{ScriptFault}
 use Rattle.colis_checker.specs.declared.script.ScriptFault.TheVariants.{Line, Memory}
@@ -53,14 +53,17 @@ names_of_components ((b ∷ bs) ∷ names) = None
 abbrev pub path_of_word : List ℕ → Option PathParts
 path_of_word word = option_map (λ names. record { names = names; slash = false }) (names_of_components (components_of word))
 
--- The call of a line: `true` succeeds, `false` fails, `test -e P` and `test -d P` ask the tree, and no other line is one.
+-- The call of a line: `true` succeeds, `false` fails, `test -e P` and `test -d P` ask the tree, `mkdir P` and `rm -f P` change it,
+-- and no other line is one.
 abbrev pub call_of : List ℕ → Option Planned
 call_of line =
     if bytes_eq line (codes "true") then Some (Known true)
     else (if bytes_eq line (codes "false") then Some (Known false)
     else (if bytes_eq (take 8 line) (codes "test -e ") then option_map (λ path. Ask (Exists path) false) (path_of_word (drop 8 line))
     else (if bytes_eq (take 8 line) (codes "test -d ") then option_map (λ path. Ask (IsDir path) false) (path_of_word (drop 8 line))
-    else None)))
+    else (if bytes_eq (take 6 line) (codes "mkdir ") then option_map (λ path. Change (MakeDir path)) (path_of_word (drop 6 line))
+    else (if bytes_eq (take 6 line) (codes "rm -f ") then option_map (λ path. Change (Remove path)) (path_of_word (drop 6 line))
+    else None)))))
 
 -- the command of a line that begins at a place, in front of those of the later lines; the first line without one decides
 abbrev pub command_then : ℕ → Option Planned → Result (List Command) ℕ → Result (List Command) ℕ

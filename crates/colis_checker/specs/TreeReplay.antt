@@ -1,6 +1,6 @@
 -- The run of a job from one tree: the step of an installation that configures the package
 -- (Debian Policy, 6.5 and 6.7: `postinst configure`, where nothing was configured before with an empty second word).
-use Rattle.std.specs.Prelude.{ℕ, List, [], ◌∷◌, true, false, Option, Some, None, codes}
+use Rattle.std.specs.Prelude.{[], ◌∷◌, true, false, Option, Some, None, codes}
 use Rattle.feature_trees.specs.declared.value.Value.{Value}
 use Rattle.shell_rules.specs.declared.run.End.{End}
 use Rattle.shell_rules.specs.declared.run.End.TheVariants.{Status, Stopped, Bound as EndBound}

@@ -9,6 +9,7 @@ use crate::scenario_paths::{Outcome, outcomes};
 use crate::tree_replay::{Replayed, replay};
 use script_names::{List, Mark, Memory};
 use std::alloc::Global;
+use utility_calls::theorems::trees_stay_trees;
 
 /// An outcome, the run from the tree that it shows, and whether that run ends as the outcome says.
 #[derive(Drop)]
@@ -71,6 +72,7 @@ fn make_entries(
     ensures entries { IfOk result (AllEntries job.now) }
     ensures trees { IfOk result AllShowTrees }
 {
+    trees_stay_trees();
     let mut entries = List::new(alloc);
     for outcome in outcomes.into_vec() {
         let replayed = replay(alloc, job, &outcome.shown)?;

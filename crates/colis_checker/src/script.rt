@@ -1,7 +1,7 @@
 ghost use Rattle.std.specs.Prelude.{◌≡◌, ◌<◌, ◌+◌, ◌∷◌, [], length, take, drop, ◌⊎◌, ◌^◌, IfOk, MatchOption, option_map, if◌then◌else◌, false};
 ghost use Rattle.std.specs.List.{list_all};
-ghost use Rattle.utility_calls.specs.declared.act.Act.TheVariants.{Exists, IsDir};
-ghost use Rattle.utility_calls.specs.declared.act.Planned.TheVariants.{Ask};
+ghost use Rattle.utility_calls.specs.declared.act.Act.TheVariants.{Exists, IsDir, MakeDir, Remove};
+ghost use Rattle.utility_calls.specs.declared.act.Planned.TheVariants.{Ask, Change};
 ghost use Rattle.colis_checker.specs.Script.{lines_of, components_of, is_portable_byte, is_portable_name, path_names, path_of_word, call_of, script_of, commands_of, ScriptGives};
 
 use script_names::{List, Memory, Name, NameFault, Path};
@@ -102,15 +102,15 @@ pub fn read_path(alloc: Global, word: &[u8]) -> Result<Option<Path>, Memory>
     }
 }
 
-// The first 8 bytes of a line, or all of a shorter one, and what follows them.
-fn split_head(line: &[u8]) -> (&[u8], &[u8])
-    ensures head { result.0.now ≡ take 8 line.now }
-    ensures word { result.1.now ≡ drop 8 line.now }
+// The first so many bytes of a line, or all of a shorter one, and what follows them.
+fn split_head(line: &[u8], count: usize) -> (&[u8], &[u8])
+    ensures head { result.0.now ≡ take count line.now }
+    ensures word { result.1.now ≡ drop count line.now }
 {
-    if line.len() < 8 {
+    if line.len() < count {
         (line, &[])
     } else {
-        (&line[..8], &line[8..])
+        (&line[..count], &line[count..])
     }
 }
 
@@ -140,6 +140,26 @@ fn read_is_dir(alloc: Global, word: &[u8]) -> Result<Option<Planned>, Memory>
     }
 }
 
+// The call that makes a directory at the path that a word spells.
+fn read_make_dir(alloc: Global, word: &[u8]) -> Result<Option<Planned>, Memory>
+    ensures { IfOk result (λ call. call ≡ option_map (λ path. Change (MakeDir path)) (path_of_word word.now)) }
+{
+    match read_path(alloc, word)? {
+        Some(path) => Ok(Some(Planned::Change(Act::MakeDir(path)))),
+        None => Ok(None),
+    }
+}
+
+// The call that takes away what stands at the path that a word spells.
+fn read_remove(alloc: Global, word: &[u8]) -> Result<Option<Planned>, Memory>
+    ensures { IfOk result (λ call. call ≡ option_map (λ path. Change (Remove path)) (path_of_word word.now)) }
+{
+    match read_path(alloc, word)? {
+        Some(path) => Ok(Some(Planned::Change(Act::Remove(path)))),
+        None => Ok(None),
+    }
+}
+
 // The call of a line, where the line is one.
 fn read_call(alloc: Global, line: &[u8]) -> Result<Option<Planned>, Memory>
     ensures { IfOk result (λ call. call ≡ call_of line.now) }
@@ -150,12 +170,19 @@ fn read_call(alloc: Global, line: &[u8]) -> Result<Option<Planned>, Memory>
     if line == b"false".as_slice() {
         return Ok(Some(Planned::Known(false)));
     }
-    let (head, word) = split_head(line);
+    let (head, word) = split_head(line, 8);
     if head == b"test -e ".as_slice() {
         return read_exists(alloc, word);
     }
     if head == b"test -d ".as_slice() {
         return read_is_dir(alloc, word);
+    }
+    let (head, word) = split_head(line, 6);
+    if head == b"mkdir ".as_slice() {
+        return read_make_dir(alloc, word);
+    }
+    if head == b"rm -f ".as_slice() {
+        return read_remove(alloc, word);
     }
     Ok(None)
 }
@@ -184,9 +211,9 @@ fn read_commands(alloc: Global, text: &[u8], start: u32) -> Result<List<Command>
 }
 
 /// The commands of a script, or the byte offset of the first line that isn't of the form: `#!/bin/sh`, then `set -e`,
-/// then lines `true`, `false`, `test -e P` and `test -d P`, where P is `/` and 1 to 64 names joined by `/`, each of bytes
-/// of the portable filename character set (POSIX.1-2017, Base Definitions, 3.282). The last line may lack its newline;
-/// a first or second line that is missing is one at the end.
+/// then lines `true`, `false`, `test -e P`, `test -d P`, `mkdir P` and `rm -f P`, where P is `/` and 1 to 64 names joined by
+/// `/`, each of bytes of the portable filename character set (POSIX.1-2017, Base Definitions, 3.282). The last line may
+/// lack its newline; a first or second line that is missing is one at the end.
 pub fn read_script(alloc: Global, text: &[u8]) -> Result<List<Command>, ScriptFault>
     requires { length text.now < 2 ^ 31 }
     ensures { ScriptGives (script_of text.now) result }

@@ -90,10 +90,17 @@ fn brief(alloc: Global, text: &[u8]) -> Result<Vec<u8>, AllocError> {
 const NOTHING: &[u8] =
     b"colis report 1\nscenario install outcomes 1\noutcome 1 done Installed\ntrace\nconfirmed yes\ncall new postinst configure \\e ok\nclause start v0 now v0\nkind v0 dir\nentry v0 etc v1\nkind v1 dir\nentry v0 usr v2\nkind v2 dir\nentry v2 bin v3\nkind v3 dir\nentry v2 sbin v4\nkind v4 dir\nentry v2 lib v5\nkind v5 dir\nentry v2 share v6\nkind v6 dir\nentry v6 doc v7\nkind v7 dir\nentry v0 var v8\nkind v8 dir\nentry v8 lib v9\nkind v9 dir\nentry v8 log v10\nkind v10 dir\nentry v8 cache v11\nkind v11 dir\nentry v0 srv v12\nkind v12 dir\nentry v0 tmp v13\nkind v13 dir\nshown\nd /etc\nd /srv\nd /tmp\nd /usr\nd /usr/bin\nd /usr/lib\nd /usr/sbin\nd /usr/share\nd /usr/share/doc\nd /var\nd /var/cache\nd /var/lib\nd /var/log\nafter\nd /etc\nd /srv\nd /tmp\nd /usr\nd /usr/bin\nd /usr/lib\nd /usr/sbin\nd /usr/share\nd /usr/share/doc\nd /var\nd /var/cache\nd /var/lib\nd /var/log\nverdict 0\n";
 
+// `mkdir /srv/a`: it fails where something stands there, and is done where nothing does; then it stands there after.
+const MADE: &[u8] =
+    b"colis report 1\nscenario install outcomes 2\noutcome 1 failed Half-Configured\ntrace 3:17:67\nconfirmed yes\ncall new postinst configure \\e failed\nclause start v0 now v0\nkind v0 dir\nentry v0 etc v1\nkind v1 dir\nentry v0 usr v2\nkind v2 dir\nentry v2 bin v3\nkind v3 dir\nentry v2 sbin v4\nkind v4 dir\nentry v2 lib v5\nkind v5 dir\nentry v2 share v6\nkind v6 dir\nentry v6 doc v7\nkind v7 dir\nentry v0 var v8\nkind v8 dir\nentry v8 lib v9\nkind v9 dir\nentry v8 log v10\nkind v10 dir\nentry v8 cache v11\nkind v11 dir\nentry v0 srv v12\nkind v12 dir\nentry v0 tmp v13\nkind v13 dir\nentry v12 a v14\nkind v14 reg,link,other,dir\nshown\nd /etc\nd /srv\nd /srv/a\nd /tmp\nd /usr\nd /usr/bin\nd /usr/lib\nd /usr/sbin\nd /usr/share\nd /usr/share/doc\nd /var\nd /var/cache\nd /var/lib\nd /var/log\nafter\nd /etc\nd /srv\nd /srv/a\nd /tmp\nd /usr\nd /usr/bin\nd /usr/lib\nd /usr/sbin\nd /usr/share\nd /usr/share/doc\nd /var\nd /var/cache\nd /var/lib\nd /var/log\noutcome 2 done Installed\ntrace 3:17:68\nconfirmed yes\ncall new postinst configure \\e ok\nclause start v0 now v17\nkind v0 dir\nentry v0 etc v1\nkind v1 dir\nentry v0 usr v2\nkind v2 dir\nentry v2 bin v3\nkind v3 dir\nentry v2 sbin v4\nkind v4 dir\nentry v2 lib v5\nkind v5 dir\nentry v2 share v6\nkind v6 dir\nentry v6 doc v7\nkind v7 dir\nentry v0 var v8\nkind v8 dir\nentry v8 lib v9\nkind v9 dir\nentry v8 log v10\nkind v10 dir\nentry v8 cache v11\nkind v11 dir\nentry v0 srv v12\nkind v12 dir\nentry v0 tmp v13\nkind v13 dir\nentry v12 a v14\nkind v14 absent\nkind v15 dir\nfence v15 {}\nsimilar v16 {a} v12\nentry v16 a v15\nsimilar v17 {srv} v0\nentry v17 srv v16\nshown\nd /etc\nd /srv\nd /tmp\nd /usr\nd /usr/bin\nd /usr/lib\nd /usr/sbin\nd /usr/share\nd /usr/share/doc\nd /var\nd /var/cache\nd /var/lib\nd /var/log\nafter\nd /etc\nd /srv\nd /srv/a\nd /tmp\nd /usr\nd /usr/bin\nd /usr/lib\nd /usr/sbin\nd /usr/share\nd /usr/share/doc\nd /var\nd /var/cache\nd /var/lib\nd /var/log\nverdict 1\n";
+
 #[test]
 fn a_report_byte_for_byte(rt: HostRuntime) -> Result<(), Fail> {
     let out = written(&rt, &quiet_row(Some(b"#!/bin/sh\nset -e"), 0, b""))?;
     assert_eq!(rt; out.as_slice(), NOTHING);
+    let script = b"#!/bin/sh\nset -e\nmkdir /srv/a\n".as_slice();
+    let out = written(&rt, &quiet_row(Some(script), 1, b""))?;
+    assert_eq!(rt; out.as_slice(), MADE);
     Ok(())
 }
 
@@ -173,9 +180,73 @@ const OUTCOMES: &[(Option<&[u8]>, u8, &[u8])] = &[
     ),
 ];
 
+// The same of scripts that change the tree.
+const CHANGES: &[(Option<&[u8]>, u8, &[u8])] = &[
+    (
+        Some(b"#!/bin/sh\nset -e\nmkdir /srv/a/b\n"),
+        1,
+        b"scenario install outcomes 4\noutcome 1 incomplete link 3:17\ntrace 3:17:2\noutcome 2 failed Half-Configured\ntrace 3:17:66\noutcome 3 failed Half-Configured\ntrace 3:17:67\noutcome 4 done Installed\ntrace 3:17:68\nverdict 1\n",
+    ),
+    (
+        Some(b"#!/bin/sh\nset -e\nrm -f /srv/a\ntest -e /srv/a\n"),
+        1,
+        b"scenario install outcomes 2\noutcome 1 failed Half-Configured\ntrace 3:17:67\noutcome 2 failed Half-Configured\ntrace 3:17:71 3:30:66\nverdict 1\n",
+    ),
+    (
+        Some(b"#!/bin/sh\nset -e\nmkdir /srv/a\ntest -d /srv/a\n"),
+        1,
+        b"scenario install outcomes 2\noutcome 1 failed Half-Configured\ntrace 3:17:67\noutcome 2 done Installed\ntrace 3:17:68 3:30:67\nverdict 1\n",
+    ),
+    (
+        Some(b"#!/bin/sh\nset -e\nmkdir /srv/a\nmkdir /srv/a\n"),
+        1,
+        b"scenario install outcomes 2\noutcome 1 failed Half-Configured\ntrace 3:17:67\noutcome 2 failed Half-Configured\ntrace 3:17:68 3:30:67\nverdict 1\n",
+    ),
+    (
+        Some(b"#!/bin/sh\nset -e\nrm -f /srv/a\nmkdir /srv/a\n"),
+        1,
+        b"scenario install outcomes 2\noutcome 1 failed Half-Configured\ntrace 3:17:67\noutcome 2 done Installed\ntrace 3:17:71 3:30:68\nverdict 1\n",
+    ),
+    (
+        Some(b"#!/bin/sh\nset -e\nrm -f /srv/a/b\ntest -d /srv/a\n"),
+        1,
+        b"scenario install outcomes 4\noutcome 1 incomplete link 3:17\ntrace 3:17:2\noutcome 2 failed Half-Configured\ntrace 3:17:67\noutcome 3 failed Half-Configured\ntrace 3:17:70 3:32:66\noutcome 4 done Installed\ntrace 3:17:71 3:32:67\nverdict 1\n",
+    ),
+    (
+        Some(b"#!/bin/sh\nset -e\nrm -f /srv/a\nrm -f /srv/a/b\n"),
+        1,
+        b"scenario install outcomes 2\noutcome 1 failed Half-Configured\ntrace 3:17:67\noutcome 2 done Installed\ntrace 3:17:71 3:30:70\nverdict 1\n",
+    ),
+    (
+        Some(b"#!/bin/sh\nset -e\nmkdir /srv/a\nmkdir /srv/a/b\ntest -d /srv/a/b\n"),
+        1,
+        b"scenario install outcomes 2\noutcome 1 failed Half-Configured\ntrace 3:17:67\noutcome 2 done Installed\ntrace 3:17:68 3:30:68 3:45:67\nverdict 1\n",
+    ),
+    (
+        Some(b"#!/bin/sh\nset -e\nmkdir /etc\n"),
+        1,
+        b"scenario install outcomes 1\noutcome 1 failed Half-Configured\ntrace 3:17:67\nverdict 1\n",
+    ),
+    (
+        Some(b"#!/bin/sh\nset -e\nrm -f /etc\n"),
+        1,
+        b"scenario install outcomes 1\noutcome 1 failed Half-Configured\ntrace 3:17:67\nverdict 1\n",
+    ),
+];
+
 #[test]
 fn outcomes_of_scripts(rt: HostRuntime) -> Result<(), Fail> {
     for row in OUTCOMES {
+        let out = written(&rt, &quiet_row(row.0, row.1, b""))?;
+        let lines = brief(rt.alloc(), out.as_slice())?;
+        assert_eq!(rt; lines.as_slice(), row.2);
+    }
+    Ok(())
+}
+
+#[test]
+fn outcomes_of_changes(rt: HostRuntime) -> Result<(), Fail> {
+    for row in CHANGES {
         let out = written(&rt, &quiet_row(row.0, row.1, b""))?;
         let lines = brief(rt.alloc(), out.as_slice())?;
         assert_eq!(rt; lines.as_slice(), row.2);
@@ -311,6 +382,66 @@ const REFUSED: &[(&[&str], &[u8], &[u8])] = &[
     (
         &["check", "p"],
         b"#!/bin/sh\nset -e\ntest -e /a/a/a/a/a/a/a/a/a/a/a/a/a/a/a/a/a/a/a/a/a/a/a/a/a/a/a/a/a/a/a/a/a/a/a/a/a/a/a/a/a/a/a/a/a/a/a/a/a/a/a/a/a/a/a/a/a/a/a/a/a/a/a/a/a\n",
+        b"colis: p/postinst: unsupported line at 17\n",
+    ),
+    (
+        &["check", "p"],
+        b"#!/bin/sh\nset -e\nmkdir\n",
+        b"colis: p/postinst: unsupported line at 17\n",
+    ),
+    (
+        &["check", "p"],
+        b"#!/bin/sh\nset -e\nmkdir /\n",
+        b"colis: p/postinst: unsupported line at 17\n",
+    ),
+    (
+        &["check", "p"],
+        b"#!/bin/sh\nset -e\nmkdir /srv/a/\n",
+        b"colis: p/postinst: unsupported line at 17\n",
+    ),
+    (
+        &["check", "p"],
+        b"#!/bin/sh\nset -e\nmkdir  /srv/a\n",
+        b"colis: p/postinst: unsupported line at 17\n",
+    ),
+    (
+        &["check", "p"],
+        b"#!/bin/sh\nset -e\nmkdir -p /srv/a\n",
+        b"colis: p/postinst: unsupported line at 17\n",
+    ),
+    (
+        &["check", "p"],
+        b"#!/bin/sh\nset -e\nmkdir /srv/a /srv/b\n",
+        b"colis: p/postinst: unsupported line at 17\n",
+    ),
+    (
+        &["check", "p"],
+        b"#!/bin/sh\nset -e\nrm -f\n",
+        b"colis: p/postinst: unsupported line at 17\n",
+    ),
+    (
+        &["check", "p"],
+        b"#!/bin/sh\nset -e\nrm -f /\n",
+        b"colis: p/postinst: unsupported line at 17\n",
+    ),
+    (
+        &["check", "p"],
+        b"#!/bin/sh\nset -e\nrm /srv/a\n",
+        b"colis: p/postinst: unsupported line at 17\n",
+    ),
+    (
+        &["check", "p"],
+        b"#!/bin/sh\nset -e\nrm -rf /srv/a\n",
+        b"colis: p/postinst: unsupported line at 17\n",
+    ),
+    (
+        &["check", "p"],
+        b"#!/bin/sh\nset -e\nrm -f /srv/a/\n",
+        b"colis: p/postinst: unsupported line at 17\n",
+    ),
+    (
+        &["check", "p"],
+        b"#!/bin/sh\nset -e\nrmdir /srv/a\n",
         b"colis: p/postinst: unsupported line at 17\n",
     ),
     (

@@ -90,7 +90,13 @@ pub fn replay(alloc: Global, job: &Job, tree: &Value) -> Result<Replayed, Memory
         }),
         Some(script) => {
             let commands = script.commands.as_slice();
-            let Run { end, trace, tree } = run_strict(CONFIGURE, commands, List::new(alloc), tree)?;
+            let Run { end, trace, tree } = run_strict(
+                alloc,
+                CONFIGURE,
+                commands,
+                List::new(alloc),
+                tree,
+            )?;
             let call = make_call(alloc, end)?;
             calls.add(call)?;
             Ok(Replayed {

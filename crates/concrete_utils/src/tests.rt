@@ -61,15 +61,18 @@ fn sample<R: Abort + AllocGlobal>(rt: &R) -> Result<Value, Fail> {
     Ok(tree)
 }
 
-// A copy of the act takes this row on the tree, and answers so.
+// A copy of the act takes this row on a copy of the tree, answers so, and leaves this tree.
 fn expect<R: Abort + AllocGlobal>(
     rt: &R,
     tree: &Value,
     a: &Act,
     taken: (u8, Done),
+    left: &Value,
 ) -> Result<(), Fail> {
     let twin = a.copy(rt.alloc())?;
-    assert_eq!(rt; act(&twin, tree), taken);
+    let mut changed = tree.copy(rt.alloc())?;
+    assert_eq!(rt; act(rt.alloc(), &twin, &mut changed)?, taken);
+    assert!(rt; changed.equal(left));
     Ok(())
 }
 
@@ -103,26 +106,97 @@ fn takes_each_row(rt: HostRuntime) -> Result<(), Fail> {
         ),
     ];
     for (words, slash, exists, is_dir) in rows {
-        expect(&rt, &tree, &Act::Exists(path(&rt, words, slash)?), exists)?;
-        expect(&rt, &tree, &Act::IsDir(path(&rt, words, slash)?), is_dir)?;
+        let question = Act::Exists(path(&rt, words, slash)?);
+        expect(&rt, &tree, &question, exists, &tree)?;
+        let question = Act::IsDir(path(&rt, words, slash)?);
+        expect(&rt, &tree, &question, is_dir, &tree)?;
     }
     Ok(())
+}
+
+// The path's names, whether it ends in a slash, the row that is taken and its answer, and what is put at the path, if anything.
+type Change = (&'static [&'static [u8]], bool, (u8, Done), Option<Kind>);
+
+const MAKES: &[Change] = &[
+    (&[], false, (66, Done::Failed), None),
+    (&[b"none", b"x"], false, (66, Done::Failed), None),
+    (&[b"r", b"x"], false, (66, Done::Failed), None),
+    (&[b"d", b"none", b"x"], true, (66, Done::Failed), None),
+    (&[b"d"], false, (67, Done::Failed), None),
+    (&[b"d", b"d"], true, (67, Done::Failed), None),
+    (&[b"r"], false, (67, Done::Failed), None),
+    (&[b"l"], false, (67, Done::Failed), None),
+    (&[b"d", b"o"], false, (67, Done::Failed), None),
+    (&[b"r"], true, (64, SLASH), None),
+    (&[b"l"], true, (64, SLASH), None),
+    (&[b"l", b"x"], false, (1, LINK), None),
+    (&[b"d", b"l", b"x"], true, (2, LINK), None),
+    (&[b"none"], false, (68, Done::Ok), Some(Kind::Dir)),
+    (&[b"d", b"none"], true, (68, Done::Ok), Some(Kind::Dir)),
+    (&[b"d", b"d", b"x"], false, (68, Done::Ok), Some(Kind::Dir)),
+];
+
+const REMOVES: &[Change] = &[
+    (&[], false, (67, Done::Failed), None),
+    (&[b"d"], false, (67, Done::Failed), None),
+    (&[b"d", b"d"], true, (67, Done::Failed), None),
+    (&[b"none", b"x"], false, (70, Done::Ok), None),
+    (&[b"r", b"x"], false, (70, Done::Ok), None),
+    (&[b"d", b"none", b"x"], true, (70, Done::Ok), None),
+    (&[b"none"], false, (71, Done::Ok), None),
+    (&[b"d", b"none"], true, (71, Done::Ok), None),
+    (&[b"r"], false, (71, Done::Ok), Some(Kind::Absent)),
+    (&[b"l"], false, (71, Done::Ok), Some(Kind::Absent)),
+    (&[b"d", b"o"], false, (71, Done::Ok), Some(Kind::Absent)),
+    (&[b"d", b"l"], false, (71, Done::Ok), Some(Kind::Absent)),
+    (&[b"r"], true, (64, SLASH), None),
+    (&[b"d", b"l"], true, (64, SLASH), None),
+    (&[b"l", b"x"], false, (1, LINK), None),
+    (&[b"d", b"l", b"x"], true, (2, LINK), None),
+];
+
+// The act takes the row of the table on the tree of the tests, and leaves that tree with what is put.
+fn expect_change<R: Abort + AllocGlobal>(rt: &R, a: &Act, row: &Change) -> Result<(), Fail> {
+    let tree = sample(rt)?;
+    let mut left = sample(rt)?;
+    if let Some(kind) = row.3 {
+        put(rt, &mut left, a.path(), kind)?;
+    }
+    expect(rt, &tree, a, row.2, &left)
+}
+
+#[test]
+fn changes_by_each_row(rt: HostRuntime) -> Result<(), Fail> {
+    for row in MAKES {
+        let made = Act::MakeDir(path(&rt, row.0, row.1)?);
+        expect_change(&rt, &made, row)?;
+    }
+    for row in REMOVES {
+        let removed = Act::Remove(path(&rt, row.0, row.1)?);
+        expect_change(&rt, &removed, row)?;
+    }
+    Ok(())
+}
+
+// The row that the act takes on the tree, and its answer.
+fn taken<R: AllocGlobal>(rt: &R, a: &Act, tree: &mut Value) -> Result<(u8, Done), Fail> {
+    Ok(act(rt.alloc(), a, tree)?)
 }
 
 #[test]
 fn takes_rows_of_the_longest_path(rt: HostRuntime) -> Result<(), Fail> {
     let exists = Act::Exists(deep(&rt, 64)?);
     let mut tree = Value::Dir(Entries::new(rt.alloc()));
-    assert_eq!(rt; act(&exists, &tree), (66, Done::Failed));
+    assert_eq!(rt; taken(&rt, &exists, &mut tree)?, (66, Done::Failed));
     for count in 1..65 {
         put(&rt, &mut tree, &deep(&rt, count)?, Kind::Dir)?;
     }
-    assert_eq!(rt; act(&exists, &tree), (67, Done::Ok));
+    assert_eq!(rt; taken(&rt, &exists, &mut tree)?, (67, Done::Ok));
     put(&rt, &mut tree, &deep(&rt, 64)?, Kind::Link)?;
-    assert_eq!(rt; act(&exists, &tree), (65, LINK));
+    assert_eq!(rt; taken(&rt, &exists, &mut tree)?, (65, LINK));
     for count in [63, 32, 1] {
         put(&rt, &mut tree, &deep(&rt, count)?, Kind::Link)?;
-        assert_eq!(rt; act(&exists, &tree), (count as u8, LINK));
+        assert_eq!(rt; taken(&rt, &exists, &mut tree)?, (count as u8, LINK));
     }
     Ok(())
 }

@@ -8,14 +8,14 @@ use Rattle.script_names.specs.declared.reason.Done.TheVariants as done
 use Rattle.feature_trees.specs.declared.value.Value.{Value}
 use Rattle.utility_calls.specs.declared.act.Act.{Act}
 use Rattle.utility_calls.specs.declared.act.Planned.{Planned}
-use Rattle.utility_calls.specs.declared.act.Planned.TheVariants.{Known, Ask}
+use Rattle.utility_calls.specs.declared.act.Planned.TheVariants.{Known, Ask, Change}
 use Rattle.utility_calls.specs.Rows.{row, answer, tree_after}
 use Rattle.shell_rules.specs.declared.run.End.{End}
 use Rattle.shell_rules.specs.declared.run.End.TheVariants.{Status, Stopped, Bound}
 use Rattle.shell_rules.specs.declared.run.Run.{Run}
 use Rattle.shell_rules.specs.declared.command.Command.{Command}
 
--- how a question ends the command that asks it: yes is success, or where it is negated failure; a stop ends it at its site
+-- how an act ends its command: a success or a yes is success, or where it is negated failure; a stop ends it at its site
 abbrev pub asked : Bool → Site → Done → End
 asked negate site done.Ok = Status (not negate)
 asked negate site done.Failed = Status negate
@@ -29,10 +29,11 @@ act_run act negate site trace tree = record {
   tree = tree_after act tree;
 }
 
--- a planned call: a known status needs no act
+-- a planned call: a known status needs no act, and what changes the tree is never negated
 abbrev pub call_run : Planned → Site → List Mark → Value → Run
 call_run (Known ok) site trace tree = record { end = Status ok; trace = trace; tree = tree }
 call_run (Ask act negate) site trace tree = act_run act negate site trace tree
+call_run (Change act) site trace tree = act_run act false site trace tree
 
 -- after a success there follows what comes next; every other end ends the script too
 abbrev pub after_strict : End → Run → Run → Run

@@ -6,7 +6,7 @@ use Rattle.script_names.specs.declared.mark.Site.{Site}
 use Rattle.feature_trees.specs.declared.value.Value.{Value}
 use Rattle.utility_calls.specs.declared.act.Act.{Act}
 use Rattle.utility_calls.specs.declared.act.Planned.{Planned}
-use Rattle.utility_calls.specs.declared.act.Planned.TheVariants.{Known, Ask}
+use Rattle.utility_calls.specs.declared.act.Planned.TheVariants.{Known, Ask, Change}
 use Rattle.utility_calls.specs.Rows.{row}
 use Rattle.shell_rules.specs.declared.run.End.{End}
 use Rattle.shell_rules.specs.declared.run.End.TheVariants.{Status, Stopped, Bound}
@@ -85,6 +85,7 @@ strict_grows m h e s = if_begins (goes_on e) s.trace (m s) (ends e s) (h s) (beg
 call_begins : (call : Planned) (site : Site) (trace : List Mark) (tree : Value) → Begins trace (call_run call site trace tree).trace
 call_begins (Known ok) site trace tree = begins_refl trace
 call_begins (Ask act negate) site trace tree = record { more = record { site = site; row = row act tree } ∷ []; is = refl }
+call_begins (Change act) site trace tree = record { more = record { site = site; row = row act tree } ∷ []; is = refl }
 
 pub one_grows : (step : ℕ) (command : Command) → Grows (strictly (one_run step command))
 one_grows step command = strict_grows (one_run step command) (λ s. call_begins command.call (record { step = step; at = command.at }) s.trace s.tree)
@@ -106,8 +107,12 @@ pub known_run : (step : ℕ) (command : Command) (ok : Bool) → command.call �
 known_run step command ok is s = ap (λ call. of_run (call_run call (record { step = step; at = command.at }) s.trace s.tree)) is
 
 pub ask_run : (step : ℕ) (command : Command) (act : Act) (negate : Bool) → command.call ≡ Ask act negate → (s : State)
-    → one_run step command s ≡ fork_run act (record { step = step; at = command.at }) (row_end negate (record { step = step; at = command.at })) s
+    → one_run step command s ≡ fork_run act (record { step = step; at = command.at }) (row_end act negate (record { step = step; at = command.at })) s
 ask_run step command act negate is s = ap (λ call. of_run (call_run call (record { step = step; at = command.at }) s.trace s.tree)) is
+
+pub change_run : (step : ℕ) (command : Command) (act : Act) → command.call ≡ Change act → (s : State)
+    → one_run step command s ≡ fork_run act (record { step = step; at = command.at }) (row_end act false (record { step = step; at = command.at })) s
+change_run step command act is s = ap (λ call. of_run (call_run call (record { step = step; at = command.at }) s.trace s.tree)) is
 
 -- no command more is done
 pub left_stay : (m : State → RunOf End) (xs : List (Ended End)) → AllLeft xs → AllStay (strictly m) xs

@@ -16,6 +16,6 @@ marked trace site n = trace ++ record { site = site; row = n } ∷ []
 abbrev pub fork_run : {E : Type 0} → Act → Site → (ℕ → E) → State → RunOf E
 fork_run act site end_of s = ends (end_of (row act s.tree)) (record { trace = marked s.trace site (row act s.tree); tree = tree_after act s.tree })
 
--- how a row of a question ends its command
-abbrev pub row_end : Bool → Site → ℕ → End
-row_end negate site n = asked negate site (row_answer n)
+-- how a row of an act ends its command
+abbrev pub row_end : Act → Bool → Site → ℕ → End
+row_end act negate site n = asked negate site (row_answer act n)

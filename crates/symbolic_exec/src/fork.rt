@@ -9,15 +9,15 @@ use crate::state::{Ended, PathState, PathsFault};
 use script_names::{Copied, Done, List, Mark, Memory, Site};
 use shell_rules::End;
 use std::alloc::Global;
+use utility_calls::Act;
 use utility_calls::theorems::rows_are_few;
-use utility_calls::{Act, row_answer};
 use utility_cases::take_row;
 
-// How a row of a question ends its command.
-fn end_of_row(row: u8, negate: bool, site: Site) -> End
-    ensures { result ≡ row_end negate site row }
+// How a row of an act ends its command.
+fn end_of_row(act: &Act, row: u8, negate: bool, site: Site) -> End
+    ensures { result ≡ row_end act.now negate site row }
 {
-    match row_answer(row) {
+    match act.row_answer(row) {
         Done::Ok => End::Status(!negate),
         Done::Failed => End::Status(negate),
         Done::Stopped(reason) => End::Stopped(reason, site),
@@ -47,12 +47,12 @@ pub fn fork(
     from: &PathState,
     room: usize,
 ) -> Result<Queue<Ended<End>>, PathsFault>
-    ensures { Found (From (fork_run act.now site (row_end negate site)) from.now) from.now.trace room result }
+    ensures { Found (From (fork_run act.now site (row_end act.now negate site)) from.now) from.now.trace room result }
 {
     rows_are_few();
     act.path().names();
     let mut out = Queue::new(alloc);
-    for row in 1..68_u8 {
+    for row in 1..72_u8 {
         let found = match take_row(alloc, &from.store, act, row) {
             Ok(found) => found,
             Err(_) => return Err(PathsFault::Memory),
@@ -68,7 +68,7 @@ pub fn fork(
             Ok(trace) => trace,
             Err(_) => return Err(PathsFault::Memory),
         };
-        let end = end_of_row(row, negate, site);
+        let end = end_of_row(act, row, negate, site);
         let state = PathState { store, trace };
         match out.push(Ended { end, state }) {
             Ok(()) => (),

@@ -1,4 +1,4 @@
-//! Paths of small scripts from all trees, by the rows of `test -e` and `test -d`.
+//! Paths of small scripts from all trees, by the rows of `test -e`, `test -d`, `mkdir` and `rm -f`.
 
 use crate::{Ended, PathState, PathsFault, paths};
 use clause_solver::Store;
@@ -16,6 +16,8 @@ enum Call {
     Exists,
     IsDir,
     NotExists,
+    MakeDir,
+    Remove,
 }
 
 /// A command: its place, what it is, the names of its path, and whether the path ends in a slash.
@@ -61,6 +63,8 @@ fn planned(alloc: Global, call: Call, words: &[&[u8]], slash: bool) -> Result<Pl
             act: Act::Exists(path),
             negate: true,
         },
+        Call::MakeDir => Planned::Change(Act::MakeDir(path)),
+        Call::Remove => Planned::Change(Act::Remove(path)),
     })
 }
 
@@ -247,6 +251,92 @@ fn two_acts(rt: HostRuntime) {
         ),
         "both"
     );
+}
+
+/// A script and its paths, one less than which are too few.
+type Case = (&'static [Row<'static>], &'static [Want<'static>]);
+
+const LINK: End = End::Stopped(Reason::Link, Site { step: 3, at: 1 });
+
+const SLASH: End = End::Stopped(Reason::Slash, Site { step: 3, at: 1 });
+
+const CHANGES: &[Case] = &[
+    (
+        &[(1, Call::MakeDir, A, false)],
+        &[(&[(1, 67)], FAILED), (&[(1, 68)], OK)],
+    ),
+    (
+        &[(1, Call::MakeDir, AB, false)],
+        &[
+            (&[(1, 1)], LINK),
+            (&[(1, 66)], FAILED),
+            (&[(1, 67)], FAILED),
+            (&[(1, 68)], OK),
+        ],
+    ),
+    (
+        &[(1, Call::MakeDir, AB, true)],
+        &[
+            (&[(1, 1)], LINK),
+            (&[(1, 64)], SLASH),
+            (&[(1, 66)], FAILED),
+            (&[(1, 67)], FAILED),
+            (&[(1, 68)], OK),
+        ],
+    ),
+    (
+        &[(1, Call::Remove, AB, false)],
+        &[
+            (&[(1, 1)], LINK),
+            (&[(1, 67)], FAILED),
+            (&[(1, 70)], OK),
+            (&[(1, 71)], OK),
+        ],
+    ),
+    (
+        &[(1, Call::MakeDir, A, false), (2, Call::IsDir, A, false)],
+        &[(&[(1, 67)], FAILED), (&[(1, 68), (2, 67)], OK)],
+    ),
+    (
+        &[(1, Call::MakeDir, A, false), (2, Call::MakeDir, A, false)],
+        &[(&[(1, 67)], FAILED), (&[(1, 68), (2, 67)], FAILED)],
+    ),
+    (
+        &[(1, Call::MakeDir, A, false), (2, Call::Exists, AB, false)],
+        &[(&[(1, 67)], FAILED), (&[(1, 68), (2, 66)], FAILED)],
+    ),
+    (
+        &[(1, Call::Remove, A, false), (2, Call::MakeDir, A, false)],
+        &[(&[(1, 67)], FAILED), (&[(1, 71), (2, 68)], OK)],
+    ),
+    (
+        &[(1, Call::Remove, A, false), (2, Call::Remove, AB, false)],
+        &[(&[(1, 67)], FAILED), (&[(1, 71), (2, 70)], OK)],
+    ),
+    (
+        &[(1, Call::Remove, AB, false), (2, Call::Exists, AB, false)],
+        &[
+            (&[(1, 1)], LINK),
+            (&[(1, 67)], FAILED),
+            (&[(1, 70), (2, 66)], FAILED),
+            (&[(1, 71), (2, 66)], FAILED),
+        ],
+    ),
+    (
+        &[(1, Call::MakeDir, ROOT, false)],
+        &[(&[(1, 66)], FAILED)],
+    ),
+    (
+        &[(1, Call::Remove, ROOT, false)],
+        &[(&[(1, 67)], FAILED)],
+    ),
+];
+
+#[test]
+fn changes(rt: HostRuntime) {
+    for case in CHANGES {
+        assert!(rt; has_paths(rt.alloc(), case.0, case.1));
+    }
 }
 
 #[test]

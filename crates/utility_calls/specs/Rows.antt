@@ -1,16 +1,18 @@
 -- The rows of an act: which one applies to a tree, what it answers, and the tree that it leaves
--- (POSIX.1-2017, XCU `test`; a link is not followed here, so an act that meets one is stopped).
+-- (POSIX.1-2017, XCU `test`, `mkdir`, `rm`; a link is not followed here: a question that meets one at its path is stopped, and so is
+-- every act that meets one on the way; `mkdir` fails where a link stands at its path, and `rm -f` removes it).
 use Rattle.std.specs.Prelude.{ℕ, suc, Bool, true, false, List, [], ◌∷◌, Option, Some, None, ◌==◌, nat_lt, if◌then◌else◌}
 use Rattle.script_names.specs.declared.reason.Reason.TheVariants as reason
 use Rattle.script_names.specs.declared.reason.Done.{Done}
 use Rattle.script_names.specs.declared.reason.Done.TheVariants as done
 use Rattle.script_names.specs.Paths.{PathParts}
 use Rattle.feature_trees.specs.declared.value.Value.{Value}
+use Rattle.feature_trees.specs.declared.value.Value.TheVariants as value
 use Rattle.feature_trees.specs.declared.kind.Kind.{Kind}
 use Rattle.feature_trees.specs.declared.kind.Kind.TheVariants.{Absent, Reg, Link, Other, Dir}
-use Rattle.feature_trees.specs.Tree.{entry, at, kind_of}
+use Rattle.feature_trees.specs.Tree.{entry, at, kind_of, is_dir, put}
 use Rattle.utility_calls.specs.declared.act.Act.{Act}
-use Rattle.utility_calls.specs.declared.act.Act.TheVariants.{Exists, IsDir}
+use Rattle.utility_calls.specs.declared.act.Act.TheVariants.{Exists, IsDir, MakeDir, Remove}
 
 -- this count where a link stands, else what comes later on the way
 abbrev pub at_link : Kind → ℕ → Option ℕ → Option ℕ
@@ -26,6 +28,12 @@ abbrev pub link_on_way : ℕ → Value → List (List ℕ) → Option ℕ
 link_on_way count v [] = None
 link_on_way count v (f ∷ []) = None
 link_on_way count v (f ∷ g ∷ rest) = at_link (kind_of (entry v f)) (suc count) (link_on_way (suc count) (entry v f) (g ∷ rest))
+
+-- whether what holds the last name of a path is a directory: what stands at all names but the last; a path without names has nothing above it
+abbrev pub in_dir : Value → List (List ℕ) → Bool
+in_dir v [] = false
+in_dir v (f ∷ []) = is_dir v
+in_dir v (f ∷ g ∷ rest) = in_dir (entry v f) (g ∷ rest)
 
 -- where the path ends in a slash, row 64 is for what stands there and is no directory
 abbrev pub slash_row : Bool → Kind → ℕ → ℕ
@@ -52,19 +60,45 @@ is_dir_row Link = 65
 is_dir_row Other = 66
 is_dir_row Dir = 67
 
+-- the row of `mkdir`, by whether its path is in a directory, and by what stands at the path
+abbrev pub make_dir_row : Bool → Kind → ℕ
+make_dir_row false k = 66
+make_dir_row true Absent = 68
+make_dir_row true Reg = 67
+make_dir_row true Link = 67
+make_dir_row true Other = 67
+make_dir_row true Dir = 67
+
+-- the row of `rm -f` for what is no directory, by whether its path is in a directory
+abbrev pub gone_row : Bool → ℕ
+gone_row false = 70
+gone_row true = 71
+
+-- the row of `rm -f`, by whether its path is in a directory, and by what stands at the path
+abbrev pub remove_row : Bool → Kind → ℕ
+remove_row within Absent = gone_row within
+remove_row within Reg = gone_row within
+remove_row within Link = gone_row within
+remove_row within Other = gone_row within
+remove_row within Dir = 67
+
 -- the path of an act
 abbrev pub path_of : Act → PathParts
 path_of (Exists p) = p
 path_of (IsDir p) = p
+path_of (MakeDir p) = p
+path_of (Remove p) = p
 
--- the row of an act, by what stands at its path
-abbrev pub kind_row : Act → Kind → ℕ
-kind_row (Exists p) k = exists_row k
-kind_row (IsDir p) k = is_dir_row k
+-- the row of an act's own, by whether its path is in a directory, and by what stands at the path
+abbrev pub kind_row : Act → Bool → Kind → ℕ
+kind_row (Exists p) within k = exists_row k
+kind_row (IsDir p) within k = is_dir_row k
+kind_row (MakeDir p) within k = make_dir_row within k
+kind_row (Remove p) within k = remove_row within k
 
--- the row of an act where no link stands on the way, by what stands at its path
-abbrev pub end_row : Act → Kind → ℕ
-end_row act k = slash_row (path_of act).slash k (kind_row act k)
+-- the row of an act where no link stands on the way, by whether its path is in a directory, and by what stands at the path
+abbrev pub end_row : Act → Bool → Kind → ℕ
+end_row act within k = slash_row (path_of act).slash k (kind_row act within k)
 
 -- the count of a link on the way, else the row for what stands at the path
 abbrev pub way_row : Option ℕ → ℕ → ℕ
@@ -76,23 +110,41 @@ way_row (Some count) row = count
 abbrev pub row : Act → Value → ℕ
 row act tree =
     let p = path_of act in
-    way_row (link_on_way 0 tree p.names) (end_row act (kind_of (at tree p.names)))
+    way_row (link_on_way 0 tree p.names) (end_row act (in_dir tree p.names) (kind_of (at tree p.names)))
 
--- What a row answers: a link is not followed, on the way or at the path; a slash behind what is no directory is not
--- specified; row 66 is the answer no, and row 67 the answer yes.
-abbrev pub row_answer : ℕ → Done
-row_answer n =
+-- what a question answers at a row of its own: it is stopped at a link; row 66 is the answer no, and row 67 the answer yes
+abbrev pub question_answer : ℕ → Done
+question_answer n =
+    if n == 65 then done.Stopped reason.Link
+    else (if n == 66 then done.Failed
+    else done.Ok)
+
+-- what an act answers at a row of its own: `mkdir` succeeds at row 68 alone, and `rm -f` fails at row 67 alone
+abbrev pub own_answer : Act → ℕ → Done
+own_answer (Exists p) n = question_answer n
+own_answer (IsDir p) n = question_answer n
+own_answer (MakeDir p) n = if n == 68 then done.Ok else done.Failed
+own_answer (Remove p) n = if n == 67 then done.Failed else done.Ok
+
+-- What a row of an act answers: a link on the way is not followed, and a slash behind what is no directory is not specified.
+abbrev pub row_answer : Act → ℕ → Done
+row_answer act n =
     if nat_lt n 64 then done.Stopped reason.Link
     else (if n == 64 then done.Stopped reason.Slash
-    else (if n == 65 then done.Stopped reason.Link
-    else (if n == 66 then done.Failed
-    else done.Ok)))
+    else own_answer act n)
 
 -- what an act answers on a tree
 abbrev pub answer : Act → Value → Done
-answer act tree = row_answer (row act tree)
+answer act tree = row_answer act (row act tree)
 
--- the tree that an act leaves: a question leaves it as it is
+-- The tree that a row of an act leaves. A question leaves it as it is; `mkdir` puts an empty directory at its path at row 68,
+-- and `rm -f` takes away what stands at its path at row 71; every other row leaves it as it is.
+abbrev pub row_tree : Act → ℕ → Value → Value
+row_tree (Exists p) n tree = tree
+row_tree (IsDir p) n tree = tree
+row_tree (MakeDir p) n tree = if n == 68 then put tree p.names (value.Dir []) else tree
+row_tree (Remove p) n tree = if n == 71 then put tree p.names value.Absent else tree
+
+-- the tree that an act leaves
 abbrev pub tree_after : Act → Value → Value
-tree_after (Exists p) tree = tree
-tree_after (IsDir p) tree = tree
+tree_after act tree = row_tree act (row act tree) tree

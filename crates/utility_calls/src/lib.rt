@@ -5,4 +5,4 @@
 mod act;
 pub mod theorems;
 
-pub use act::{Act, Planned, row_answer};
+pub use act::{Act, Planned};

@@ -1,6 +1,9 @@
 //! What holds of the rows of acts, for the layers above.
 
 ghost use Rattle.utility_calls.specs.Applies.{RowApplies, NoOtherApplies, RowsAreFew};
+ghost use Rattle.utility_calls.specs.Changes.{ParentsAreDirs, DirsStayDirs, SoundStaysSound, OnlySuccessChanges, MakesInDirs, RemovesInDirs};
+
+use feature_trees::theorems::puts_are_local;
 
 /// To each act on each tree exactly one row applies.
 pub fn one_row_applies()
@@ -8,7 +11,24 @@ pub fn one_row_applies()
     ensures alone { NoOtherApplies }
 {}
 
-/// The rows of an act are 1 to 67, and one for a link on the way is below the count of names.
+/// The rows of an act are 1 to 71, and one for a link on the way is below the count of names.
 pub fn rows_are_few()
     ensures { RowsAreFew }
 {}
+
+/// A path is in a directory exactly where every strict prefix of it is a directory, so that a value can be put there.
+pub fn parents_are_dirs()
+    ensures { ParentsAreDirs }
+{}
+
+/// An act leaves a directory a directory and a sound tree sound, and one that does not succeed changes nothing. What is made or
+/// taken away is in a directory.
+pub fn trees_stay_trees()
+    ensures dir { DirsStayDirs }
+    ensures sound { SoundStaysSound }
+    ensures unchanged { OnlySuccessChanges }
+    ensures made { MakesInDirs }
+    ensures removed { RemovesInDirs }
+{
+    puts_are_local();
+}

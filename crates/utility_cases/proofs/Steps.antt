@@ -1,5 +1,5 @@
 -- What the calls of a store do to its pairs.
-use Rattle.std.proofs.Common.{◌≡◌, ◌≢◌, ℕ, zero, suc, ◌+◌, ◌<◌, ◌≤◌, ◌↔◌, IsTrue, List, [], ◌∷◌, ◌++◌, length, take, get_or, refl, sym, ap, subst, ◌∙◌, arith, get_or-take}
+use Rattle.std.proofs.Common.{◌≡◌, ◌≢◌, ℕ, zero, suc, ◌+◌, ◌-◌, ◌<◌, ◌≤◌, ◌↔◌, IsTrue, List, [], ◌∷◌, ◌++◌, length, take, get_or, refl, sym, ap, subst, ◌∙◌, arith, get_or-take}
 use Rattle.std.proofs.lemmas.List.{take_more, take_all}
 use Rattle.feature_trees.specs.declared.kind.Kind.TheVariants.{Link}
 use Rattle.feature_trees.specs.declared.value.Value.{Value}
@@ -11,7 +11,7 @@ use Rattle.clause_solver.specs.Literals.{Valuation, value_of_variable}
 use Rattle.clause_solver.specs.Stands.{Seen, Stands, Alive, Extends, HasEntry}
 use Rattle.clause_solver.specs.Pairs.{HasPair}
 use Rattle.utility_calls.specs.Applies.{NoLinkOnWay}
-use Rattle.utility_cases.specs.Ways.{IsAt, Keeps}
+use Rattle.utility_cases.specs.Ways.{IsAt, Keeps, above}
 
 -- one more name
 pub at_more : (v : Value) (p : List (List ℕ)) (f : List ℕ) → at v (p ++ f ∷ []) ≡ entry (at v p) f
@@ -91,7 +91,12 @@ keeps_same a b c P R ab bc same t u = (
   λ h. (bc t u).1 ((ab t u).1 (h.0, (same u).1 h.1)),
 )
 
-next : (names : List (List ℕ)) (i : ℕ) (f : List ℕ) → i < length names → f ≡ get_or names i f → take (i + 1) names ≡ take i names ++ f ∷ []
+-- the same said in other words
+pub keeps_alike : (a b : Seen) (P R : Value → Type 0) → Keeps a b P → ((u : Value) → P u ↔ R u) → Keeps a b R
+keeps_alike a b P R ab same = keeps_same a b b P R ab (λ t u. (λ h. h, λ h. h)) same
+
+-- the first names, and one more
+pub next : (names : List (List ℕ)) (i : ℕ) (f : List ℕ) → i < length names → f ≡ get_or names i f → take (i + 1) names ≡ take i names ++ f ∷ []
 next names i f lt is = take_more names i f lt ∙ ap (λ x. take i names ++ x ∷ []) (sym is)
 
 -- no names lead to the tree now
@@ -102,7 +107,7 @@ pub start_keeps : (s : Seen) (p : List (List ℕ)) → p ≡ [] → Keeps s s (�
 start_keeps s p e t u = (λ h. (h, subst (NoLinkOnWay u) (sym e) (λ k lt. omega arith)), λ h. h.0)
 
 -- one more name on a way without a link
-no_link_to : (u : Value) (p : List (List ℕ)) (f : List ℕ) → NoLinkOnWay u p × (kind_of (at u p) ≢ Link) → NoLinkOnWay u (p ++ f ∷ [])
+pub no_link_to : (u : Value) (p : List (List ℕ)) (f : List ℕ) → NoLinkOnWay u p × (kind_of (at u p) ≢ Link) → NoLinkOnWay u (p ++ f ∷ [])
 no_link_to u [] f h zero lt = h.1
 no_link_to u [] f h (suc k) lt = absurd (omega arith)
 no_link_to u (g ∷ p) f h zero lt = h.0 zero (omega arith)
@@ -115,7 +120,7 @@ first_name u g p f h rest = (first, rest.1)
     first zero lt = h zero (omega arith)
     first (suc k) lt = rest.0 k (omega arith)
 
-no_link_from : (u : Value) (p : List (List ℕ)) (f : List ℕ) → NoLinkOnWay u (p ++ f ∷ []) → NoLinkOnWay u p × (kind_of (at u p) ≢ Link)
+pub no_link_from : (u : Value) (p : List (List ℕ)) (f : List ℕ) → NoLinkOnWay u (p ++ f ∷ []) → NoLinkOnWay u p × (kind_of (at u p) ≢ Link)
 no_link_from u [] f h = (λ k lt. omega arith, h zero (omega arith))
 no_link_from u (g ∷ p) f h = first_name u g p f h (no_link_from (entry u g) p f (λ j le. h (suc j) (omega arith)))
 
@@ -134,3 +139,24 @@ keeps_all a b names i le h = subst (λ (p : List (List ℕ)). Keeps a b (λ u. N
 -- a start tree with a tree now
 pub pair_of : (s : Seen) → Alive s → (t : Value) × (u : Value) × HasPair s t u
 pair_of s h = (h.0, value_of_variable h.1 s.current, (h.1, h.2, refl))
+
+above_at : (f : List ℕ) (p : List (List ℕ)) → take (length p) (f ∷ p) ≡ above (f ∷ p)
+above_at f [] = refl
+above_at f (g ∷ rest) = ap (λ (q : List (List ℕ)). f ∷ q) (above_at g rest)
+
+-- the names but the last
+pub above_is : (names : List (List ℕ)) → 0 < length names → take (length names - 1) names ≡ above names
+above_is [] some = absurd (omega arith)
+above_is (f ∷ p) some = let e : length (f ∷ p) - 1 ≡ length p = omega arith in rw e (above_at f p)
+
+-- the last name, from what stands at the others
+module _ (old mid new : Seen) (x y : ℕ) (names : List (List ℕ)) (f : List ℕ) (some : 0 < length names) (f_is : f ≡ get_or names (length names - 1) f) (x_is : IsAt mid x (take (length names - 1) names)) where
+  pub last_at : ((p : List (List ℕ)) → IsAt mid x p → IsAt new y (p ++ f ∷ [])) → IsAt new y names
+  last_at end =
+      let e : length names - 1 + 1 ≡ length names = omega (arith, some) in
+      subst (IsAt new y) (sym (next names (length names - 1) f (omega (arith, some)) f_is) ∙ take_all (length names - 1 + 1) names (omega (arith, e))) (end (take (length names - 1) names) x_is)
+
+  pub last_keeps : (holder : Kinds) → Keeps old mid (λ u. NoLinkOnWay u (take (length names - 1) names)) → ((p : List (List ℕ)) → IsAt mid x p → Keeps mid new (λ u. IsTrue (has holder (kind_of (at u p))))) → Keeps old new (λ u. NoLinkOnWay u (above names) × IsTrue (has holder (kind_of (at u (above names)))))
+  last_keeps holder before pairs =
+      subst (λ (p : List (List ℕ)). Keeps old new (λ u. NoLinkOnWay u p × IsTrue (has holder (kind_of (at u p))))) (above_is names some)
+      (keeps_same_after old mid new _ _ before (pairs (take (length names - 1) names) x_is))

@@ -1,19 +1,18 @@
 -- For each row that an act has, a tree that takes it.
-use Rattle.std.proofs.Common.{◌≡◌, ◌≢◌, ℕ, zero, suc, ◌<◌, ◌≤◌, ◌↔◌, Bool, true, false, not, IsTrue, List, [], ◌∷◌, length, take, refl, sym, ap, subst, ◌∙◌, arith, length-take-le, ltb, eqb}
+use Rattle.std.proofs.Common.{◌≡◌, ℕ, zero, suc, ◌<◌, ◌≤◌, ◌↔◌, ◌⊎◌, inl, inr, Bool, true, false, IsTrue, List, [], ◌∷◌, length, take, refl, sym, ap, subst, ◌∙◌, arith, length-take-le, ltb, eqb}
 use Rattle.std.proofs.lemmas.Bool.{eqb-true, eq-eqb, ltb-true, lt-ltb}
 use Rattle.feature_trees.specs.declared.value.Value.{Value}
 use Rattle.feature_trees.specs.declared.value.Value.TheVariants as value
 use Rattle.feature_trees.specs.declared.kind.Kind.{Kind}
 use Rattle.feature_trees.specs.declared.kind.Kind.TheVariants.{Absent, Reg, Link, Other, Dir}
-use Rattle.feature_trees.specs.declared.kind.Kinds.{Kinds}
-use Rattle.feature_trees.specs.Kinds.{has, none}
-use Rattle.feature_trees.specs.Tree.{entry, at, kind_of, held}
+use Rattle.feature_trees.specs.Tree.{entry, at, kind_of, is_dir, held}
 use Rattle.feature_trees.proofs.Laws.{find-update_same}
 use Rattle.utility_calls.specs.declared.act.Act.{Act}
-use Rattle.utility_calls.specs.Rows.{path_of, row, end_row}
+use Rattle.utility_calls.specs.Rows.{path_of, in_dir, row, end_row}
 use Rattle.utility_calls.specs.Applies.{NoLinkOnWay}
-use Rattle.utility_cases.specs.Taken.{end_kinds}
-use Rattle.utility_cases.proofs.RowIs.{end_from, end_to, link_row_to, link_row_from, own_row_to, own_row_from}
+use Rattle.utility_calls.proofs.OneRow.{at_absent}
+use Rattle.utility_cases.specs.Taken.{SomeEnd}
+use Rattle.utility_cases.proofs.RowIs.{link_row_to, link_row_from, own_row_to, own_row_from}
 
 -- the directories on the way to these names, and a value at their end
 grow : List (List ℕ) → Value → Value
@@ -74,69 +73,119 @@ zero_may_not act n le = (
   λ w. absurd (omega (arith, (link_row_to act w.0 w.1 n (omega arith) w.2).0)),
 )
 
-empty_is : (p : List (List ℕ)) → true ≡ eqb (length p) 0 → p ≡ []
+pub empty_is : (p : List (List ℕ)) → true ≡ eqb (length p) 0 → p ≡ []
 empty_is [] h = refl
 empty_is (f ∷ p) h = absurd (omega (arith, eqb-true (length (f ∷ p)) 0 (sym h)))
 
-pub root_may : (act : Act) (n r : ℕ) (p : List (List ℕ)) → p ≡ (path_of act).names → true ≡ eqb (length p) 0 → 64 ≤ n → r ≡ end_row act Dir → IsTrue (eqb r n) ↔ Takes act n
+pub root_may : (act : Act) (n r : ℕ) (p : List (List ℕ)) → p ≡ (path_of act).names → true ≡ eqb (length p) 0 → 64 ≤ n → r ≡ end_row act false Dir → IsTrue (eqb r n) ↔ Takes act n
 root_may act n r p e empty le is = (to, from)
   where
     names_are : (path_of act).names ≡ []
     names_are = sym e ∙ empty_is p empty
 
-    end_is : (u : Value) → at u (path_of act).names ≡ u
-    end_is u = ap (at u) names_are
+    ends_at : (u : Value) → end_row act (in_dir u (path_of act).names) (kind_of (at u (path_of act).names)) ≡ end_row act false (kind_of u)
+    ends_at u = ap (λ (q : List (List ℕ)). end_row act (in_dir u q) (kind_of (at u q))) names_are
 
     to : IsTrue (eqb r n) → Takes act n
     to h =
         let u = value.Dir [] in
         let clear : NoLinkOnWay u (path_of act).names = subst (NoLinkOnWay u) (sym names_are) (λ k lt. omega arith) in
-        (u, refl, own_row_from act u refl n clear (ap (λ v. end_row act (kind_of v)) (end_is u) ∙ sym is ∙ eqb-true r n h))
+        (u, refl, own_row_from act u refl n clear (ends_at u ∙ sym is ∙ eqb-true r n h))
 
     from : Takes act n → IsTrue (eqb r n)
     from w =
         let few : length (path_of act).names ≤ 64 = omega (arith, ap (λ (q : List (List ℕ)). length q) names_are) in
         let o = own_row_to act w.0 w.1 n few le w.2 in
-        eq-eqb r n (is ∙ ap (end_row act) (sym (ap kind_of (end_is w.0) ∙ w.1)) ∙ o.1)
+        eq-eqb r n (is ∙ ap (end_row act false) (sym w.1) ∙ sym (ends_at w.0) ∙ o.1)
 
--- where the set is not empty, it has a kind
-some_of : (s : Kinds) → (a b c d e : Bool) → s.absent ≡ a → s.reg ≡ b → s.link ≡ c → s.other ≡ d → s.dir ≡ e → s ≢ none → (k : Kind) × IsTrue (has s k)
-some_of s true b c d e ha hb hc hd he h = (Absent, ha)
-some_of s false true c d e ha hb hc hd he h = (Reg, hb)
-some_of s false false true d e ha hb hc hd he h = (Link, hc)
-some_of s false false false true e ha hb hc hd he h = (Other, hd)
-some_of s false false false false true ha hb hc hd he h = (Dir, he)
-some_of s false false false false false ha hb hc hd he h = absurd (h (λ i. record { absent = ha i; reg = hb i; link = hc i; other = hd i; dir = he i }))
-
-has_not_none : (s : Kinds) (k : Kind) → IsTrue (has s k) → s ≡ none → ⊥
-has_not_none s Absent h e = let a : has none Absent ≡ true = ap (λ (x : Kinds). has x Absent) (sym e) ∙ h in cc
-has_not_none s Reg h e = let a : has none Reg ≡ true = ap (λ (x : Kinds). has x Reg) (sym e) ∙ h in cc
-has_not_none s Link h e = let a : has none Link ≡ true = ap (λ (x : Kinds). has x Link) (sym e) ∙ h in cc
-has_not_none s Other h e = let a : has none Other ≡ true = ap (λ (x : Kinds). has x Other) (sym e) ∙ h in cc
-has_not_none s Dir h e = let a : has none Dir ≡ true = ap (λ (x : Kinds). has x Dir) (sym e) ∙ h in cc
-
-not_is : (b : Bool) (A : Type 0) → IsTrue b ↔ A → (IsTrue (not b) → A → ⊥) × ((A → ⊥) → IsTrue (not b))
-not_is true A h = (λ e a. cc, λ f. absurd (f (h.0 refl)))
-not_is false A h = (λ e a. let x : IsTrue false = h.1 a in cc, λ f. refl)
-
-some_name : (p : List (List ℕ)) → false ≡ eqb (length p) 0 → 0 < length p
+pub some_name : (p : List (List ℕ)) → false ≡ eqb (length p) 0 → 0 < length p
 some_name [] h = cc
 some_name (f ∷ p) h = omega arith
 
-pub own_may : (act : Act) (n : ℕ) (p : List (List ℕ)) (s : Kinds) (b : Bool) → p ≡ (path_of act).names → length p ≤ 64 → false ≡ eqb (length p) 0 → 64 ≤ n → s ≡ end_kinds act n → IsTrue b ↔ (s ≡ none) → IsTrue (not b) ↔ Takes act n
-own_may act n p s b e few some le is none_is = (to, from)
-  where
-    to : IsTrue (not b) → Takes act n
-    to h =
-        let names = (path_of act).names in
-        let k = some_of s s.absent s.reg s.link s.other s.dir refl refl refl refl refl ((not_is b (s ≡ none) none_is).0 h) in
-        let v = value_with k.0 in
-        let tree = grow names v.0 in
-        let dir : kind_of tree ≡ Dir = dir_grow names v.0 (subst (λ (q : List (List ℕ)). 0 < length q) e (some_name p some)) in
-        let has_k : end_row act k.0 ≡ n = end_from act n k.0 (subst (λ x. IsTrue (has x k.0)) is k.1) in
-        (tree, dir, own_row_from act tree dir n (clear_grow names v.0) (ap (end_row act) (ap kind_of (at_grow names v.0) ∙ v.1) ∙ has_k))
+-- in the directories on the way each name is in one
+within_grow : (f : List ℕ) (p : List (List ℕ)) (v : Value) → in_dir (grow (f ∷ p) v) (f ∷ p) ≡ true
+unfolding grow
+within_grow f [] v = refl
+within_grow f (g ∷ p) v = ap (λ (x : Value). in_dir x (g ∷ p)) (entry_grow f (g ∷ p) v) ∙ within_grow g p v
 
-    from : Takes act n → IsTrue (not b)
+pub inside_may : (act : Act) (n : ℕ) (p : List (List ℕ)) → p ≡ (path_of act).names → false ≡ eqb (length p) 0 → SomeEnd act true n → Takes act n
+inside_may act n [] e some h = cc
+inside_may act n (f ∷ p) e some h =
+    let v = value_with h.0 in
+    let tree = grow (f ∷ p) v.0 in
+    let dir : kind_of tree ≡ Dir = dir_grow (f ∷ p) v.0 (omega arith) in
+    let is : end_row act (in_dir tree (f ∷ p)) (kind_of (at tree (f ∷ p))) ≡ n =
+    ap (λ b. end_row act b (kind_of (at tree (f ∷ p)))) (within_grow f p v.0) ∙ ap (end_row act true) (ap kind_of (at_grow (f ∷ p) v.0) ∙ v.1) ∙ h.1 in
+    (tree, dir, own_row_from act tree dir n (subst (NoLinkOnWay tree) e (clear_grow (f ∷ p) v.0)) (subst (λ (q : List (List ℕ)). end_row act (in_dir tree q) (kind_of (at tree q)) ≡ n) e is))
+
+nothing_within : (p : List (List ℕ)) → in_dir value.Absent p ≡ false
+nothing_within [] = refl
+nothing_within (f ∷ []) = refl
+nothing_within (f ∷ g ∷ rest) = nothing_within (g ∷ rest)
+
+no_link_in_nothing : (p : List (List ℕ)) → NoLinkOnWay value.Absent p
+no_link_in_nothing p k lt h = let a : Absent ≡ Link = ap kind_of (sym (at_absent (take k p))) ∙ h in cc
+
+clear_empty : (f : List ℕ) (p : List (List ℕ)) → NoLinkOnWay (value.Dir []) (f ∷ p)
+clear_empty f p zero lt h = let a : Dir ≡ Link = h in cc
+clear_empty f p (suc k) lt h = no_link_in_nothing p k (omega arith) h
+
+-- in no directory nothing stands
+absent_outside : (v : Value) (f : List ℕ) (p : List (List ℕ)) → in_dir v (f ∷ p) ≡ false → kind_of (at v (f ∷ p)) ≡ Absent
+absent_outside value.Absent f [] h = refl
+absent_outside value.Reg f [] h = refl
+absent_outside (value.Link b) f [] h = refl
+absent_outside value.Other f [] h = refl
+absent_outside (value.Dir es) f [] h = cc
+absent_outside v f (g ∷ p) h = absent_outside (entry v f) g p h
+
+bool_cases : (b : Bool) → (b ≡ true) ⊎ (b ≡ false)
+bool_cases true = inl refl
+bool_cases false = inr refl
+
+-- where no kind in a directory gives the row, one in none does
+outside_of : (act : Act) (n : ℕ) (f : List ℕ) (p : List (List ℕ)) → f ∷ p ≡ (path_of act).names → length (path_of act).names ≤ 64 → 64 ≤ n → (SomeEnd act true n → ⊥) → (w : Takes act n) → (in_dir w.0 (f ∷ p) ≡ false) × (end_row act false Absent ≡ n)
+outside_of act n f p e few le none w =
+    let o = own_row_to act w.0 w.1 n few le w.2 in
+    let is : end_row act (in_dir w.0 (f ∷ p)) (kind_of (at w.0 (f ∷ p))) ≡ n = subst (λ (q : List (List ℕ)). end_row act (in_dir w.0 q) (kind_of (at w.0 q)) ≡ n) (sym e) o.1 in
+    elim (bool_cases (in_dir w.0 (f ∷ p))) [
+      | inl t ↦ absurd (none (kind_of (at w.0 (f ∷ p)), ap (λ b. end_row act b (kind_of (at w.0 (f ∷ p)))) (sym t) ∙ is))
+      | inr o ↦ (o, ap (end_row act false) (sym (absent_outside w.0 f p o)) ∙ ap (λ b. end_row act b (kind_of (at w.0 (f ∷ p)))) (sym o) ∙ is)
+    ]
+
+-- a path of more than one name may be in no directory, and then nothing stands there
+pub outside_may : (act : Act) (n r : ℕ) (p : List (List ℕ)) → p ≡ (path_of act).names → length p ≤ 64 → 1 < length p → 64 ≤ n → (SomeEnd act true n → ⊥) → r ≡ end_row act false Absent → IsTrue (eqb r n) ↔ Takes act n
+outside_may act n r [] e few more le none is = absurd (omega arith)
+outside_may act n r (f ∷ []) e few more le none is = absurd (omega arith)
+outside_may act n r (f ∷ g ∷ p) e few more le none is = (to, from)
+  where
+    to : IsTrue (eqb r n) → Takes act n
+    to h =
+        let u = value.Dir [] in
+        let clear : NoLinkOnWay u (path_of act).names = subst (NoLinkOnWay u) e (clear_empty f (g ∷ p)) in
+        let ends : end_row act (in_dir u (f ∷ g ∷ p)) (kind_of (at u (f ∷ g ∷ p))) ≡ n =
+        ap (λ b. end_row act b (kind_of (at u (f ∷ g ∷ p)))) (nothing_within (g ∷ p)) ∙ ap (end_row act false) (ap kind_of (at_absent (g ∷ p))) ∙ sym is ∙ eqb-true r n h in
+        (u, refl, own_row_from act u refl n clear (subst (λ (q : List (List ℕ)). end_row act (in_dir u q) (kind_of (at u q)) ≡ n) e ends))
+
+    from : Takes act n → IsTrue (eqb r n)
     from w =
-        let o = own_row_to act w.0 w.1 n (subst (λ (q : List (List ℕ)). length q ≤ 64) e few) le w.2 in
-        (not_is b (s ≡ none) none_is).1 (λ q. has_not_none (end_kinds act n) _ (end_to act n _ o.1) (sym is ∙ q))
+        let o = outside_of act n f (g ∷ p) e (subst (λ (q : List (List ℕ)). length q ≤ 64) e few) le none w in
+        eq-eqb r n (is ∙ o.1)
+
+is_dir_of : (v : Value) → kind_of v ≡ Dir → is_dir v ≡ true
+is_dir_of value.Absent h = cc
+is_dir_of value.Reg h = cc
+is_dir_of (value.Link b) h = cc
+is_dir_of value.Other h = cc
+is_dir_of (value.Dir es) h = refl
+
+-- one name is in the root, which is a directory
+pub one_may_not : (act : Act) (n : ℕ) (p : List (List ℕ)) → p ≡ (path_of act).names → length p ≤ 1 → false ≡ eqb (length p) 0 → 64 ≤ n → (SomeEnd act true n → ⊥) → IsTrue (ltb 1 (length p)) ↔ Takes act n
+one_may_not act n [] e few some le none = cc
+one_may_not act n (f ∷ []) e few some le none = (
+  λ h. absurd (omega (arith, ltb-true 1 (length (f ∷ [])) h)),
+  λ w.
+      let o = outside_of act n f [] e (subst (λ (q : List (List ℕ)). length q ≤ 64) e (omega arith)) le none w in
+      let bad : true ≡ false = sym (is_dir_of w.0 w.1) ∙ o.0 in absurd (cc),
+)
+one_may_not act n (f ∷ g ∷ p) e few some le none = absurd (omega arith)

@@ -6,9 +6,11 @@ ghost use Rattle.clause_solver.specs.Stands.{Alive};
 ghost use Rattle.clause_solver.specs.Pairs.{HasPair};
 ghost use Rattle.utility_calls.specs.Rows.{path_of, row as row_of};
 ghost use Rattle.utility_cases.specs.Taken.{Taken};
+ghost use Rattle.utility_cases.specs.Ways.{Keeps};
 
-use crate::kinds::end_kinds;
-use crate::ways::keep;
+use crate::effects::change;
+use crate::kinds::{end_kinds, parent_kinds, path_kinds};
+use crate::ways::{keep, keep_within};
 use clause_solver::Store;
 use feature_trees::{Kind, Kinds};
 use script_names::{Copied, Memory};
@@ -36,15 +38,29 @@ fn keep_row(new: &mut Store, act: &Act, row: u8) -> Result<bool, Memory>
     ensures alive { IfOk result (λ left. IsTrue left ↔ Alive new.new) }
     ensures pairs { IfOk result (λ left. (t v : Value) → HasPair new.new t v ↔ Taken new.old act.now row t v) }
 {
+    let left = keep_taken(new, act, row)?;
+    change(new, act, row)?;
+    Ok(left)
+}
+
+// Leaves the pairs in which the act takes the row; says whether one is left.
+fn keep_taken(new: &mut Store, act: &Act, row: u8) -> Result<bool, Memory>
+    requires { row < 64 → (1 ≤ row) × (row < length (path_of act.now).names) }
+    ensures alive { IfOk result (λ left. IsTrue left ↔ Alive new.new) }
+    ensures pairs { IfOk result (λ left. Keeps new.old new.new (λ u. row_of act.now u ≡ row)) }
+{
     let names = act.path().names();
     if row < 64 {
         let to_link = &names[..row as usize];
         let left = keep(new, to_link, Kinds::of(Kind::Link))?;
-        Ok(left)
-    } else {
-        let left = keep(new, names, end_kinds(act, row))?;
-        Ok(left)
+        return Ok(left);
     }
+    if names.is_empty() {
+        let left = keep(new, names, end_kinds(act, false, row))?;
+        return Ok(left);
+    }
+    let left = keep_within(new, names, parent_kinds(act, row), path_kinds(act, row))?;
+    Ok(left)
 }
 
 /// Whether the act takes a row on some tree.
@@ -56,8 +72,11 @@ pub fn may_take(act: &Act, row: u8) -> bool
         return 0 < row && (row as usize) < names.len();
     }
     if names.is_empty() {
-        act.row_at(Kind::Dir) == row
-    } else {
-        !end_kinds(act, row).is_none()
+        return act.row_at(false, Kind::Dir) == row;
     }
+    if !end_kinds(act, true, row).is_none() {
+        return true;
+    }
+    // only below the root can a path be in no directory, and then nothing stands there
+    1 < names.len() && act.row_at(false, Kind::Absent) == row
 }

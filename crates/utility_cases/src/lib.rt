@@ -3,6 +3,7 @@
 #![tactic(auto)]
 
 mod cases;
+mod effects;
 mod kinds;
 mod ways;
 

@@ -1,4 +1,4 @@
-use Rattle.std.proofs.Common.{◌≡◌, ℕ, List, map, take, sym, ap, subst, ◌∙◌}
+use Rattle.std.proofs.Common.{ℕ, List, map, take, sym, ap, subst, ◌∙◌}
 use Rattle.script_names.specs.Paths.{PathParts}
 use Rattle.colis_checker.proofs.Base.{StartsWith, starts_bare, starts_more, starts_usual, map_take_one, take_all}
 use Rattle.colis_checker.proofs.package_files.start_store.Goals as goal

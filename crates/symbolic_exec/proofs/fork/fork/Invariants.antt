@@ -6,5 +6,5 @@ use Rattle.symbolic_exec.proofs.fork.fork.Given as goal
 abbrev pub invariant-loop-row : goal.invariant-loop-row
 invariant-loop-row l = record {
   count : length l.out ≤ l.room;
-  rows : Rows l.act l.site (row_end l.negate l.site) l.from l.row l.out;
+  rows : Rows l.act l.site (row_end l.act l.negate l.site) l.from l.row l.out;
 }

@@ -34,10 +34,10 @@ module _ (c : goal.In-Ok) where
   is_absent = c.in-Ok.ensures.ok
 
 pub invariant_of-self-in-Nothing : goal.invariant_of-self-in-Nothing
-invariant_of-self-in-Nothing c = appended_settled c.self.inside (new_absent c) c.in-Ok.y (Made made.Absent) c.self.invariant tt (made_single c.self.inside.vars.items) refl (is_absent c)
+invariant_of-self-in-Nothing c = appended_settled c.self.inside (new_absent c) c.in-Ok.y (Made made.Absent) c.self.invariant tt (made_single c.self.inside.vars.items made.Absent) refl (is_absent c)
 
 pub returns-in-Ok-clause-extends : goal.returns-in-Ok-clause-extends
-returns-in-Ok-clause-extends c = rw (← c.self.view_is) (appended_extends c.self.inside (new_absent c) c.in-Ok.y (Made made.Absent) c.self.invariant tt (made_single c.self.inside.vars.items) refl (is_absent c))
+returns-in-Ok-clause-extends c = rw (← c.self.view_is) (appended_extends c.self.inside (new_absent c) c.in-Ok.y (Made made.Absent) c.self.invariant tt (made_single c.self.inside.vars.items made.Absent) refl (is_absent c))
 
 pub returns-in-Ok-clause-entry : goal.returns-in-Ok-clause-entry
 returns-in-Ok-clause-entry c = absent_is_entry c.self.inside (new_absent c) c.in-Ok.y c.args.x.0 c.args.f.now c.self.invariant (known_absent c) refl (is_absent c) (leads_absent c)

@@ -1,0 +1,5 @@
+use Rattle.utility_calls.proofs.Changes.{parents}
+use Rattle.utility_calls.proofs.theorems.parents_are_dirs.Goals as goal
+
+pub returns : goal.returns
+returns c v f p = parents v f p
