@@ -15,13 +15,8 @@ enum Call {
     Remove,
 }
 
-// An act with the rows that it takes on some tree of a store.
-struct Taking {
-    call: Call,
-    words: &'static [&'static [u8]],
-    slash: bool,
-    rows: &'static [u8],
-}
+// An act, by its call, its path's names and whether the path ends in a slash, with the rows that it takes on some tree of a store.
+type Taking = (Call, &'static [&'static [u8]], bool, &'static [u8]);
 
 fn act<R: Abort + AllocGlobal>(
     rt: &R,
@@ -46,10 +41,10 @@ fn act<R: Abort + AllocGlobal>(
 // The rows that each act takes on some tree of the store are these, and it may take them.
 fn expect<R: Abort + AllocGlobal>(rt: &R, store: &Store, table: &[Taking]) -> Result<(), Fail> {
     for case in table {
-        let act = act(rt, case.call, case.words, case.slash)?;
+        let act = act(rt, case.0, case.1, case.2)?;
         for row in 0..73 {
             let took = take_row(rt.alloc(), store, &act, row)?.is_some();
-            assert_eq!(rt; took, case.rows.contains(&row), "row {row}");
+            assert_eq!(rt; took, case.3.contains(&row), "row {row}");
             assert!(rt; may_take(&act, row) || !took, "row {row}");
         }
     }
@@ -76,154 +71,44 @@ fn after<R: Abort + AllocGlobal>(
 
 // On every tree.
 const QUESTIONS: &[Taking] = &[
-    Taking {
-        call: Call::Exists,
-        words: &[],
-        slash: false,
-        rows: &[67],
-    },
-    Taking {
-        call: Call::Exists,
-        words: &[],
-        slash: true,
-        rows: &[67],
-    },
-    Taking {
-        call: Call::Exists,
-        words: &[b"a"],
-        slash: false,
-        rows: &[65, 66, 67],
-    },
-    Taking {
-        call: Call::Exists,
-        words: &[b"a"],
-        slash: true,
-        rows: &[64, 66, 67],
-    },
-    Taking {
-        call: Call::Exists,
-        words: &[b"a", b"b"],
-        slash: false,
-        rows: &[1, 65, 66, 67],
-    },
-    Taking {
-        call: Call::Exists,
-        words: &[b"a", b"b", b"c"],
-        slash: true,
-        rows: &[1, 2, 64, 66, 67],
-    },
-    Taking {
-        call: Call::IsDir,
-        words: &[],
-        slash: false,
-        rows: &[67],
-    },
-    Taking {
-        call: Call::IsDir,
-        words: &[],
-        slash: true,
-        rows: &[67],
-    },
-    Taking {
-        call: Call::IsDir,
-        words: &[b"a"],
-        slash: false,
-        rows: &[65, 66, 67],
-    },
-    Taking {
-        call: Call::IsDir,
-        words: &[b"a"],
-        slash: true,
-        rows: &[64, 66, 67],
-    },
-    Taking {
-        call: Call::IsDir,
-        words: &[b"a", b"b"],
-        slash: false,
-        rows: &[1, 65, 66, 67],
-    },
-    Taking {
-        call: Call::IsDir,
-        words: &[b"a", b"b", b"c"],
-        slash: true,
-        rows: &[1, 2, 64, 66, 67],
-    },
+    (Call::Exists, &[], false, &[67]),
+    (Call::Exists, &[], true, &[67]),
+    (Call::Exists, &[b"a"], false, &[65, 66, 67]),
+    (Call::Exists, &[b"a"], true, &[64, 66, 67]),
+    (Call::Exists, &[b"a", b"b"], false, &[1, 65, 66, 67]),
+    (Call::Exists, &[b"a", b"b", b"c"], true, &[1, 2, 64, 66, 67]),
+    (Call::IsDir, &[], false, &[67]),
+    (Call::IsDir, &[], true, &[67]),
+    (Call::IsDir, &[b"a"], false, &[65, 66, 67]),
+    (Call::IsDir, &[b"a"], true, &[64, 66, 67]),
+    (Call::IsDir, &[b"a", b"b"], false, &[1, 65, 66, 67]),
+    (Call::IsDir, &[b"a", b"b", b"c"], true, &[1, 2, 64, 66, 67]),
 ];
 
 // On every tree.
 const CHANGES: &[Taking] = &[
-    Taking {
-        call: Call::MakeDir,
-        words: &[],
-        slash: false,
-        rows: &[66],
-    },
-    Taking {
-        call: Call::MakeDir,
-        words: &[],
-        slash: true,
-        rows: &[66],
-    },
-    Taking {
-        call: Call::MakeDir,
-        words: &[b"a"],
-        slash: false,
-        rows: &[67, 68],
-    },
-    Taking {
-        call: Call::MakeDir,
-        words: &[b"a"],
-        slash: true,
-        rows: &[64, 67, 68],
-    },
-    Taking {
-        call: Call::MakeDir,
-        words: &[b"a", b"b"],
-        slash: false,
-        rows: &[1, 66, 67, 68],
-    },
-    Taking {
-        call: Call::MakeDir,
-        words: &[b"a", b"b", b"c"],
-        slash: true,
-        rows: &[1, 2, 64, 66, 67, 68],
-    },
-    Taking {
-        call: Call::Remove,
-        words: &[],
-        slash: false,
-        rows: &[67],
-    },
-    Taking {
-        call: Call::Remove,
-        words: &[],
-        slash: true,
-        rows: &[67],
-    },
-    Taking {
-        call: Call::Remove,
-        words: &[b"a"],
-        slash: false,
-        rows: &[67, 71],
-    },
-    Taking {
-        call: Call::Remove,
-        words: &[b"a"],
-        slash: true,
-        rows: &[64, 67, 71],
-    },
-    Taking {
-        call: Call::Remove,
-        words: &[b"a", b"b"],
-        slash: false,
-        rows: &[1, 67, 70, 71],
-    },
-    Taking {
-        call: Call::Remove,
-        words: &[b"a", b"b", b"c"],
-        slash: true,
-        rows: &[1, 2, 64, 67, 70, 71],
-    },
+    (Call::MakeDir, &[], false, &[66]),
+    (Call::MakeDir, &[], true, &[66]),
+    (Call::MakeDir, &[b"a"], false, &[67, 68]),
+    (Call::MakeDir, &[b"a"], true, &[64, 67, 68]),
+    (Call::MakeDir, &[b"a", b"b"], false, &[1, 66, 67, 68]),
+    (
+        Call::MakeDir,
+        &[b"a", b"b", b"c"],
+        true,
+        &[1, 2, 64, 66, 67, 68],
+    ),
+    (Call::Remove, &[], false, &[67]),
+    (Call::Remove, &[], true, &[67]),
+    (Call::Remove, &[b"a"], false, &[67, 71]),
+    (Call::Remove, &[b"a"], true, &[64, 67, 71]),
+    (Call::Remove, &[b"a", b"b"], false, &[1, 67, 70, 71]),
+    (
+        Call::Remove,
+        &[b"a", b"b", b"c"],
+        true,
+        &[1, 2, 64, 67, 70, 71],
+    ),
 ];
 
 #[test]
@@ -235,218 +120,58 @@ fn takes_each_row(rt: HostRuntime) -> Result<(), Fail> {
 
 // Where `/a` is a link.
 const LINK: &[Taking] = &[
-    Taking {
-        call: Call::Exists,
-        words: &[b"a"],
-        slash: false,
-        rows: &[65],
-    },
-    Taking {
-        call: Call::Exists,
-        words: &[b"a", b"b"],
-        slash: false,
-        rows: &[1],
-    },
-    Taking {
-        call: Call::MakeDir,
-        words: &[b"a"],
-        slash: false,
-        rows: &[67],
-    },
-    Taking {
-        call: Call::MakeDir,
-        words: &[b"a", b"b"],
-        slash: false,
-        rows: &[1],
-    },
-    Taking {
-        call: Call::Remove,
-        words: &[b"a"],
-        slash: false,
-        rows: &[71],
-    },
+    (Call::Exists, &[b"a"], false, &[65]),
+    (Call::Exists, &[b"a", b"b"], false, &[1]),
+    (Call::MakeDir, &[b"a"], false, &[67]),
+    (Call::MakeDir, &[b"a", b"b"], false, &[1]),
+    (Call::Remove, &[b"a"], false, &[71]),
 ];
 
 // Where `/a` is no link and no directory.
 const NO_DIR: &[Taking] = &[
-    Taking {
-        call: Call::Exists,
-        words: &[b"a"],
-        slash: false,
-        rows: &[66, 67],
-    },
-    Taking {
-        call: Call::Exists,
-        words: &[b"a", b"b"],
-        slash: false,
-        rows: &[66],
-    },
-    Taking {
-        call: Call::MakeDir,
-        words: &[b"a", b"b"],
-        slash: false,
-        rows: &[66],
-    },
-    Taking {
-        call: Call::Remove,
-        words: &[b"a", b"b"],
-        slash: false,
-        rows: &[70],
-    },
+    (Call::Exists, &[b"a"], false, &[66, 67]),
+    (Call::Exists, &[b"a", b"b"], false, &[66]),
+    (Call::MakeDir, &[b"a", b"b"], false, &[66]),
+    (Call::Remove, &[b"a", b"b"], false, &[70]),
 ];
 
 // Where `/a` is a directory.
 const SOME_DIR: &[Taking] = &[
-    Taking {
-        call: Call::Exists,
-        words: &[b"a"],
-        slash: false,
-        rows: &[67],
-    },
-    Taking {
-        call: Call::Exists,
-        words: &[b"a", b"b"],
-        slash: false,
-        rows: &[65, 66, 67],
-    },
-    Taking {
-        call: Call::MakeDir,
-        words: &[b"a", b"b"],
-        slash: false,
-        rows: &[67, 68],
-    },
-    Taking {
-        call: Call::Remove,
-        words: &[b"a", b"b"],
-        slash: false,
-        rows: &[67, 71],
-    },
+    (Call::Exists, &[b"a"], false, &[67]),
+    (Call::Exists, &[b"a", b"b"], false, &[65, 66, 67]),
+    (Call::MakeDir, &[b"a", b"b"], false, &[67, 68]),
+    (Call::Remove, &[b"a", b"b"], false, &[67, 71]),
 ];
 
 // Where `/a` was made.
 const MADE: &[Taking] = &[
-    Taking {
-        call: Call::Exists,
-        words: &[b"a"],
-        slash: false,
-        rows: &[67],
-    },
-    Taking {
-        call: Call::IsDir,
-        words: &[b"a"],
-        slash: true,
-        rows: &[67],
-    },
-    Taking {
-        call: Call::Exists,
-        words: &[b"a", b"b"],
-        slash: false,
-        rows: &[66],
-    },
-    Taking {
-        call: Call::MakeDir,
-        words: &[b"a"],
-        slash: false,
-        rows: &[67],
-    },
-    Taking {
-        call: Call::MakeDir,
-        words: &[b"a", b"b"],
-        slash: false,
-        rows: &[68],
-    },
-    Taking {
-        call: Call::Remove,
-        words: &[b"a"],
-        slash: false,
-        rows: &[67],
-    },
-    Taking {
-        call: Call::Remove,
-        words: &[b"a", b"b"],
-        slash: false,
-        rows: &[71],
-    },
-    Taking {
-        call: Call::Exists,
-        words: &[b"b"],
-        slash: false,
-        rows: &[65, 66, 67],
-    },
+    (Call::Exists, &[b"a"], false, &[67]),
+    (Call::IsDir, &[b"a"], true, &[67]),
+    (Call::Exists, &[b"a", b"b"], false, &[66]),
+    (Call::MakeDir, &[b"a"], false, &[67]),
+    (Call::MakeDir, &[b"a", b"b"], false, &[68]),
+    (Call::Remove, &[b"a"], false, &[67]),
+    (Call::Remove, &[b"a", b"b"], false, &[71]),
+    (Call::Exists, &[b"b"], false, &[65, 66, 67]),
 ];
 
 // Where `/a/b` was made then.
 const MADE_BELOW: &[Taking] = &[
-    Taking {
-        call: Call::IsDir,
-        words: &[b"a", b"b"],
-        slash: false,
-        rows: &[67],
-    },
-    Taking {
-        call: Call::Exists,
-        words: &[b"a", b"b", b"c"],
-        slash: false,
-        rows: &[66],
-    },
-    Taking {
-        call: Call::Exists,
-        words: &[b"a", b"c"],
-        slash: false,
-        rows: &[66],
-    },
-    Taking {
-        call: Call::MakeDir,
-        words: &[b"a"],
-        slash: false,
-        rows: &[67],
-    },
+    (Call::IsDir, &[b"a", b"b"], false, &[67]),
+    (Call::Exists, &[b"a", b"b", b"c"], false, &[66]),
+    (Call::Exists, &[b"a", b"c"], false, &[66]),
+    (Call::MakeDir, &[b"a"], false, &[67]),
 ];
 
 // Where `/a` was taken away.
 const GONE: &[Taking] = &[
-    Taking {
-        call: Call::Exists,
-        words: &[b"a"],
-        slash: false,
-        rows: &[66],
-    },
-    Taking {
-        call: Call::Exists,
-        words: &[b"a", b"b"],
-        slash: false,
-        rows: &[66],
-    },
-    Taking {
-        call: Call::MakeDir,
-        words: &[b"a"],
-        slash: false,
-        rows: &[68],
-    },
-    Taking {
-        call: Call::MakeDir,
-        words: &[b"a", b"b"],
-        slash: false,
-        rows: &[66],
-    },
-    Taking {
-        call: Call::Remove,
-        words: &[b"a"],
-        slash: false,
-        rows: &[71],
-    },
-    Taking {
-        call: Call::Remove,
-        words: &[b"a", b"b"],
-        slash: false,
-        rows: &[70],
-    },
-    Taking {
-        call: Call::Exists,
-        words: &[b"b"],
-        slash: false,
-        rows: &[65, 66, 67],
-    },
+    (Call::Exists, &[b"a"], false, &[66]),
+    (Call::Exists, &[b"a", b"b"], false, &[66]),
+    (Call::MakeDir, &[b"a"], false, &[68]),
+    (Call::MakeDir, &[b"a", b"b"], false, &[66]),
+    (Call::Remove, &[b"a"], false, &[71]),
+    (Call::Remove, &[b"a", b"b"], false, &[70]),
+    (Call::Exists, &[b"b"], false, &[65, 66, 67]),
 ];
 
 #[test]
