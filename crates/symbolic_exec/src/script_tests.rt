@@ -322,14 +322,8 @@ const CHANGES: &[Case] = &[
             (&[(1, 71), (2, 66)], FAILED),
         ],
     ),
-    (
-        &[(1, Call::MakeDir, ROOT, false)],
-        &[(&[(1, 66)], FAILED)],
-    ),
-    (
-        &[(1, Call::Remove, ROOT, false)],
-        &[(&[(1, 67)], FAILED)],
-    ),
+    (&[(1, Call::MakeDir, ROOT, false)], &[(&[(1, 66)], FAILED)]),
+    (&[(1, Call::Remove, ROOT, false)], &[(&[(1, 67)], FAILED)]),
 ];
 
 #[test]
