@@ -7,7 +7,7 @@ use Rattle.colis_checker.specs.declared.faults.InputFile.{InputFile}
 use Rattle.colis_checker.specs.declared.faults.Refusal.{Refusal}
 use Rattle.colis_checker.specs.declared.faults.Refusal.TheVariants.{Usage}
 use Rattle.colis_checker.specs.declared.request.Request.{Request}
-use Rattle.colis_checker.specs.declared.package_files.Job.{Job}
+use Rattle.package_files.specs.declared.package_files.Job.{Job}
 use Rattle.colis_checker.specs.declared.deliver.Reply.{Reply}
 use Rattle.colis_checker.specs.declared.deliver.Reply.TheVariants.{Text, Refused, ReadFailed, NoMemory}
 use Rattle.checker_io.specs.Reading.{Asking, answer, Answers}

@@ -7,7 +7,7 @@ use Rattle.colis_checker.specs.declared.faults.Refusal.{Refusal}
 use Rattle.colis_checker.specs.declared.faults.Refusal.TheVariants.{TooLong, Unsupported}
 use Rattle.colis_checker.specs.declared.request.Request.{Request}
 use Rattle.shell_rules.specs.declared.command.Command.{Command}
-use Rattle.colis_checker.specs.declared.package_files.Job.{Job}
+use Rattle.package_files.specs.declared.package_files.Job.{Job}
 use Rattle.colis_checker.specs.Script.{script_of}
 
 -- the name of a file of a request

@@ -1,12 +1,6 @@
 pub mod Words
 pub mod Script
 pub mod Input
-pub mod TreeReplay
-pub mod PackageFiles
-pub mod ScenarioPaths
-pub mod OutcomeOf
-pub mod OutcomeReport
-pub mod ReportText
 pub mod ErrorLines
 pub mod Delivery
 pub mod Top

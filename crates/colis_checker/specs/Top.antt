@@ -7,14 +7,14 @@ use Rattle.colis_checker.specs.declared.faults.InputFile.{InputFile}
 use Rattle.colis_checker.specs.declared.faults.Refusal.{Refusal}
 use Rattle.colis_checker.specs.declared.faults.Refusal.TheVariants.{Usage}
 use Rattle.colis_checker.specs.declared.request.Request.{Request}
-use Rattle.colis_checker.specs.declared.package_files.Job.{Job}
-use Rattle.colis_checker.specs.declared.outcome_report.Report.{Report}
+use Rattle.package_files.specs.declared.package_files.Job.{Job}
+use Rattle.outcome_report.specs.declared.outcome_report.Report.{Report}
 use Rattle.colis_checker.specs.declared.deliver.Reply.{Reply}
 use Rattle.colis_checker.specs.declared.deliver.Reply.TheVariants.{Text, Refused, ReadFailed, NoMemory}
 use Rattle.checker_io.specs.Reading.{Answers, Asks, answer}
 use Rattle.colis_checker.specs.Input.{input, file_name}
-use Rattle.colis_checker.specs.OutcomeReport.{AllParts, verdict_of}
-use Rattle.colis_checker.specs.ReportText.{report_text}
+use Rattle.outcome_report.specs.OutcomeReport.{AllParts, verdict_of}
+use Rattle.outcome_report.specs.ReportText.{report_text}
 use Rattle.colis_checker.specs.ErrorLines.{refusal_line, read_failed_line, write_failed_line, no_memory_line}
 
 -- the text is that of a report that is exact for the job, and the status is its verdict

@@ -5,8 +5,8 @@ ghost use Rattle.colis_checker.specs.Input.{file_name};
 
 use crate::faults::{InputFile, Refusal};
 use crate::input::make_name;
-use crate::report_text::put_number;
 use crate::request::Request;
+use outcome_report::put_number;
 use script_names::{Bytes, Memory};
 use std::alloc::Global;
 

@@ -3,10 +3,10 @@ ghost use Rattle.checker_io.specs.Reading.{Reads, Settles};
 ghost use Rattle.colis_checker.specs.Input.{file_name, content_of, job_of, input};
 
 use crate::faults::{InputFile, Refusal};
-use crate::package_files::{Job, Script};
 use crate::request::Request;
 use crate::script::{ScriptFault, read_script};
 use checker_io::{Shelf, Stop, read_content};
+use package_files::{Job, Script};
 use script_names::{Bytes, Memory, Text};
 use std::alloc::Global;
 

@@ -2,22 +2,15 @@
 //! that meet stated start conditions. Begin with `top`, whose `run_words` is all that the program does.
 #![tactic(auto)]
 
-mod colis_interp;
 mod deliver;
-mod dpkg_scenarios;
 mod error_lines;
 mod faults;
 mod input;
-mod outcome_report;
-mod package_files;
-mod report_text;
 mod request;
-mod scenario_paths;
 mod script;
 #[cfg(test)]
 mod tests;
 mod top;
-mod tree_replay;
 
 use checker_io::{DirShelf, OutSink};
 use script_names::{List, Memory, Text};

@@ -5,11 +5,10 @@ ghost use Rattle.colis_checker.specs.Top.{IsTextOf, Replies, Reported, SaidRefus
 use crate::deliver::{Reply, deliver};
 use crate::error_lines::{read_failed_line, refusal_line, usage_line};
 use crate::input::read_job;
-use crate::outcome_report::{make_report, verdict};
-use crate::package_files::Job;
-use crate::report_text::render_text;
 use crate::request::{Request, WordsFault, read_words};
 use checker_io::{Shelf, Sink, Stop};
+use outcome_report::{make_report, render_text, verdict};
+use package_files::Job;
 use script_names::{Bytes, List, Memory, Text};
 use std::alloc::Global;
 

@@ -1,5 +1,0 @@
-use Rattle.colis_checker.proofs.Entries.{EntriesSoFar}
-use Rattle.colis_checker.proofs.outcome_report.make_entries.Given as goal
-
-abbrev pub invariant-loop-outcome : goal.invariant-loop-outcome
-invariant-loop-outcome l = EntriesSoFar l.job l.fn.outcomes l.entries l.outcome-iterator.rest.items

@@ -1,7 +1,0 @@
-use Rattle.std.proofs.Common.{◌≡◌, ◌++◌, take}
-use Rattle.std.specs.List.{flat_map}
-use Rattle.colis_checker.specs.ReportText.{word_text}
-use Rattle.colis_checker.proofs.report_text.put_words.Given as goal
-
-abbrev pub invariant-loop-word : goal.invariant-loop-word
-invariant-loop-word l = l.text ≡ l.initial.text ++ flat_map word_text (take l.word-index l.words)

@@ -1,0 +1,2 @@
+pub mod OutcomeReport
+pub mod ReportText

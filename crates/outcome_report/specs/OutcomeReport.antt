@@ -1,0 +1,85 @@
+-- What it is for a report to be the job's, and the verdict of a report.
+use Rattle.std.specs.Prelude.{◌≡◌, ℕ, List, [], ◌∷◌, map, Bool, true, false, if◌then◌else◌}
+use Rattle.std.specs.List.{list_any}
+use Rattle.feature_trees.specs.declared.kind.Kind.TheVariants.{Dir}
+use Rattle.feature_trees.specs.Tree.{kind_of}
+use Rattle.package_files.specs.declared.dpkg_scenarios.Ending.{Ending}
+use Rattle.package_files.specs.declared.dpkg_scenarios.Ending.TheVariants.{Done, Failed, Incomplete, Bound}
+use Rattle.package_files.specs.declared.dpkg_scenarios.Scenario.TheVariants.{Install}
+use Rattle.package_files.specs.declared.package_files.Job.{Job}
+use Rattle.scenario_paths.specs.declared.scenario_paths.Outcome.{Outcome}
+use Rattle.outcome_report.specs.declared.outcome_report.ReportEntry.{ReportEntry}
+use Rattle.outcome_report.specs.declared.outcome_report.ReportPart.{ReportPart}
+use Rattle.outcome_report.specs.declared.outcome_report.Report.{Report}
+use Rattle.package_files.specs.JobRun.{run}
+use Rattle.scenario_paths.specs.ScenarioPaths.{IsExact}
+
+-- the replay ends as the outcome says, with its acts
+pub record Agrees (entry : ReportEntry) : Type 0 where
+  pub ending : entry.replayed.ending ≡ entry.outcome.ending
+  pub trace : entry.replayed.trace ≡ entry.outcome.trace
+
+-- the entry has the run from the tree that its outcome shows, that run ends as the outcome says, and the entry says so
+pub record IsEntryOf (job : Job) (entry : ReportEntry) : Type 0 where
+  pub replayed : entry.replayed ≡ run job entry.outcome.shown
+  pub agrees : Agrees entry
+  pub confirmed : entry.confirmed ≡ true
+
+-- each of them is an entry of the job
+abbrev pub AllEntries : Job → List ReportEntry → Type 0
+AllEntries job [] = Unit {0}
+AllEntries job (entry ∷ entries) = IsEntryOf job entry × AllEntries job entries
+
+-- the outcomes of a part of the report
+abbrev pub outcomes_of : ReportPart → List Outcome
+outcomes_of part = map (λ entry. entry.outcome) part.entries
+
+-- the part is exact for the job, and each of its entries has its replay
+pub record IsPartOf (job : Job) (part : ReportPart) : Type 0 where
+  pub scenario : part.scenario ≡ Install
+  pub exact : IsExact job (outcomes_of part)
+  pub entries : AllEntries job part.entries
+
+-- the report has one part for each job, in order
+abbrev pub AllParts : List Job → List ReportPart → Type 0
+AllParts [] [] = Unit {0}
+AllParts [] (part ∷ parts) = ⊥
+AllParts (job ∷ jobs) [] = ⊥
+AllParts (job ∷ jobs) (part ∷ parts) = IsPartOf job part × AllParts jobs parts
+
+-- the entry's trees are directories, so that they can be printed
+pub record ShowsTrees (entry : ReportEntry) : Type 0 where
+  pub shown : kind_of entry.outcome.shown ≡ Dir
+  pub after : kind_of entry.replayed.after ≡ Dir
+
+-- those of each entry are
+abbrev pub AllShowTrees : List ReportEntry → Type 0
+AllShowTrees [] = Unit {0}
+AllShowTrees (entry ∷ entries) = ShowsTrees entry × AllShowTrees entries
+
+-- those of each part are
+abbrev pub PartsShowTrees : List ReportPart → Type 0
+PartsShowTrees [] = Unit {0}
+PartsShowTrees (part ∷ parts) = AllShowTrees part.entries × PartsShowTrees parts
+
+-- the scenario failed
+abbrev pub is_failed : Ending → Bool
+is_failed (Done state) = false
+is_failed (Failed state) = true
+is_failed (Incomplete reason site) = false
+is_failed (Bound site) = false
+
+-- the scenario ended without a state
+abbrev pub is_undecided : Ending → Bool
+is_undecided (Done state) = false
+is_undecided (Failed state) = false
+is_undecided (Incomplete reason site) = true
+is_undecided (Bound site) = true
+
+-- some outcome of the report has an ending that passes the test
+abbrev pub some_ending : (Ending → Bool) → Report → Bool
+some_ending test report = list_any (λ part. list_any (λ entry. test entry.outcome.ending) part.entries) report.parts
+
+-- the verdict of a report: 1 where some outcome is failed, else 2 where some is incomplete or bound, else 0
+abbrev pub verdict_of : Report → ℕ
+verdict_of report = if some_ending is_failed report then 1 else (if some_ending is_undecided report then 2 else 0)

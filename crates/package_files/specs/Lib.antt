@@ -1,0 +1,3 @@
+pub mod WordPath
+pub mod PackageFiles
+pub mod JobRun
