@@ -1,5 +1,5 @@
 -- What a limit leaves.
-use Rattle.std.proofs.Common.{◌≡◌, ℕ, ◌<◌, ◌↔◌, inl, inr, IsTrue, List, length, refl, sym, ap, ◌∙◌, length-set, get_or-set_other, get_or-set_same}
+use Rattle.std.proofs.Common.{◌≡◌, ℕ, ◌<◌, ◌↔◌, inl, inr, IsTrue, Bool, true, false, if◌then◌else◌, subst, List, length, refl, sym, ap, ◌∙◌, length-set, get_or-set_other, get_or-set_same}
 use Rattle.feature_trees.specs.declared.kind.Kind.{Kind}
 use Rattle.feature_trees.specs.declared.kind.Kinds.{Kinds}
 use Rattle.feature_trees.specs.declared.value.Value.{Value}
@@ -10,15 +10,36 @@ use Rattle.clause_solver.specs.declared.variable.Definition.TheVariants.{Start, 
 use Rattle.clause_solver.specs.declared.variable.Variable.{Variable}
 use Rattle.clause_solver.specs.Literals.{Valuation, value_of_variable}
 use Rattle.clause_solver.specs.Stands.{Stands}
-use Rattle.clause_solver.specs.Variables.{var_at, Fits, AllFit, Earlier, Ordered, AlwaysDir, OnlyDir, limited, is_node}
+use Rattle.clause_solver.specs.Variables.{var_at, defined, Fits, AllFit, Earlier, Ordered, AlwaysDir, OnlyDir, fixed_in, narrowed, limited, is_node}
 use Rattle.clause_solver.proofs.Names.{nat_cases}
 use Rattle.clause_solver.proofs.KindSets.{has_both, and_both, both_and}
 use Rattle.clause_solver.proofs.Pairs.{fits_from, fits_to}
 use Rattle.clause_solver.proofs.OneMore.{seen_of}
 
+-- a fixed kind is that of the defined value
+fixed_fits : (g : Valuation) (d : Definition) (k : Kinds) → fixed_in d k ≡ true → IsTrue (has k (kind_of (defined g d)))
+fixed_fits g Start k e = absurd (cc e)
+fixed_fits g (Child p f) k e = absurd (cc e)
+fixed_fits g (Derived a f b) k e = e
+fixed_fits g (Ensured a) k e = e
+fixed_fits g (Made m) k e = e
+
+-- a kind of the narrowed set
+narrowed_by : (fixed : Bool) (ks k : Kinds) (q : Kind) → (fixed ≡ true → IsTrue (has k q)) → IsTrue (has (if fixed then ks else both ks k) q) → IsTrue (has ks q) × IsTrue (has k q)
+narrowed_by true ks k q f h = (h, f refl)
+narrowed_by false ks k q f h = and_both (has ks q) (has k q) (rw has_both at h)
+
+narrowed_to : (fixed : Bool) (ks k : Kinds) (q : Kind) → IsTrue (has ks q) → IsTrue (has k q) → IsTrue (has (if fixed then ks else both ks k) q)
+narrowed_to true ks k q h i = h
+narrowed_to false ks k q h i = rw has_both (both_and (has ks q) (has k q) h i)
+
+narrowed_only : (fixed : Bool) (ks k : Kinds) (q : Kind) → IsTrue (has (if fixed then ks else both ks k) q) → IsTrue (has ks q)
+narrowed_only true ks k q h = h
+narrowed_only false ks k q h = (and_both (has ks q) (has k q) (rw has_both at h)).0
+
 module _ (vars : List Variable) (x : ℕ) (k : Kinds) (inside : x < length vars) where
   abbrev here_now : Variable
-  here_now = record (var_at vars x) { kinds = both (var_at vars x).kinds k }
+  here_now = record (var_at vars x) { kinds = narrowed (var_at vars x) k }
 
   -- the definition and the other facts stay
   limited_definition : (i : ℕ) → (var_at (limited vars x k) i).definition ≡ (var_at vars i).definition
@@ -35,7 +56,7 @@ module _ (vars : List Variable) (x : ℕ) (k : Kinds) (inside : x < length vars)
 
   limited_kinds : (i : ℕ) (q : Kind) → IsTrue (has (var_at (limited vars x k) i).kinds q) → IsTrue (has (var_at vars i).kinds q)
   limited_kinds i q h = elim (nat_cases i x) [
-    | inl e ↦ rw e (and_both (has (var_at vars x).kinds q) (has k q) (rw (e, get_or-set_same, has_both) at h)).0
+    | inl e ↦ rw e (narrowed_only (fixed_in (var_at vars x).definition k) (var_at vars x).kinds k q (rw (e, get_or-set_same) at h))
     | inr n ↦ rw get_or-set_other at h
   ]
 
@@ -43,7 +64,8 @@ module _ (vars : List Variable) (x : ℕ) (k : Kinds) (inside : x < length vars)
   limited_fits g h =
       let longer : x < length (limited vars x k) = rw length-set inside in
       let here : Fits g x here_now = rw get_or-set_same at (h x longer) in
-      let parts = and_both (has (var_at vars x).kinds (kind_of (value_of_variable g x))) (has k (kind_of (value_of_variable g x))) (rw has_both at here.kind) in (
+      let fixed : fixed_in (var_at vars x).definition k ≡ true → IsTrue (has k (kind_of (value_of_variable g x))) = λ e. subst (λ v. IsTrue (has k (kind_of v))) (sym here.is) (fixed_fits g (var_at vars x).definition k e) in
+      let parts = narrowed_by (fixed_in (var_at vars x).definition k) (var_at vars x).kinds k (kind_of (value_of_variable g x)) fixed here.kind in (
         λ i w. elim (nat_cases i x) [
           | inl e ↦ rw e (record { is = here.is; kind = parts.0; fenced = here.fenced; filled = here.filled })
           | inr n ↦ let w' : i < length (limited vars x k) = rw length-set w in rw get_or-set_other at (h i w')
@@ -57,7 +79,7 @@ module _ (vars : List Variable) (x : ℕ) (k : Kinds) (inside : x < length vars)
       elim (nat_cases i x) [
         | inl e ↦
             let here = h x inside in
-            rw e (rw get_or-set_same (record { is = here.is; kind = rw has_both (both_and (has (var_at vars x).kinds (kind_of (value_of_variable g x))) (has k (kind_of (value_of_variable g x))) here.kind fit); fenced = here.fenced; filled = here.filled }))
+            rw e (rw get_or-set_same (record { is = here.is; kind = narrowed_to (fixed_in (var_at vars x).definition k) (var_at vars x).kinds k (kind_of (value_of_variable g x)) here.kind fit; fenced = here.fenced; filled = here.filled }))
         | inr n ↦ rw get_or-set_other (h i w)
       ]
 

@@ -1,5 +1,5 @@
 -- The variables of a store: what a definition and the facts say of a valuation, and the order that they stand in.
-use Rattle.std.specs.Prelude.{◌≡◌, ◌≢◌, ℕ, ◌<◌, ◌⊎◌, List, [], ◌∷◌, length, Option, Some, None, slice_index_or, slice_set, IsTrue, Bool, true, false}
+use Rattle.std.specs.Prelude.{◌≡◌, ◌≢◌, ℕ, ◌<◌, ◌⊎◌, List, [], ◌∷◌, length, Option, Some, None, slice_index_or, slice_set, IsTrue, Bool, true, false, if◌then◌else◌}
 use Rattle.std.specs.List.{list_any}
 use Rattle.std.specs.Ordering.{is_eq}
 use Rattle.script_names.specs.Names.{is_name}
@@ -105,6 +105,18 @@ OnlyDir vars i = (k : Kind) → IsTrue (has (var_at vars i).kinds k) → k ≡ k
 abbrev pub IsChild : List Variable → ℕ → List ℕ → ℕ → Type 0
 IsChild vars x f i = (i < length vars) × ((var_at vars i).definition ≡ Child x f)
 
+-- whether the definition fixes the kind, and it is one of the set
+abbrev pub fixed_in : Definition → Kinds → Bool
+fixed_in Start k = false
+fixed_in (Child p f) k = false
+fixed_in (Derived x f y) k = has k kind.Dir
+fixed_in (Ensured x) k = has k kind.Dir
+fixed_in (Made m) k = has k (kind_of (made_value m))
+
+-- the kinds of a variable that is limited to a set; where its definition says as much, they stay
+abbrev pub narrowed : Variable → Kinds → Kinds
+narrowed v k = if fixed_in v.definition k then v.kinds else both v.kinds k
+
 -- the variable at a place is limited to a set
 abbrev pub limited : List Variable → ℕ → Kinds → List Variable
-limited vars x k = slice_set vars x (record (var_at vars x) { kinds = both (var_at vars x).kinds k })
+limited vars x k = slice_set vars x (record (var_at vars x) { kinds = narrowed (var_at vars x) k })

@@ -48,7 +48,7 @@ fn allows(fence: &Option<List<Name>>, f: &Name) -> bool
 }
 
 // The kind of a made value.
-fn kind_made(value: &MadeValue) -> Kind
+pub(crate) fn kind_made(value: &MadeValue) -> Kind
     ensures { result ≡ kind_of (made_value value.now) }
 {
     match value {

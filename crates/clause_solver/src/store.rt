@@ -6,12 +6,12 @@ ghost use Rattle.feature_trees.specs.Sound.{IsTree};
 ghost use Rattle.clause_solver.specs.Literals.{Valuation, value_of_variable, Covers};
 ghost use Rattle.clause_solver.specs.Solved.{IsSolved};
 ghost use Rattle.clause_solver.specs.Stands.{Seen, Stands, Alive, Extends, HasEntry, IsDirectory, HasPut, HasValue};
-ghost use Rattle.clause_solver.specs.Variables.{limited, made_value};
+ghost use Rattle.clause_solver.specs.Variables.{fixed_in, limited, made_value, narrowed};
 ghost use Rattle.feature_trees.specs.declared.value.Value.TheVariants as value;
 
 use crate::appended::{Found, append, find, resolve};
 use crate::clause::{Clause, Var};
-use crate::greatest::decide;
+use crate::greatest::{decide, kind_made};
 use crate::literals::write_literals;
 use crate::new_name::new_name;
 use crate::start_tree::{grow, open_places};
@@ -236,8 +236,32 @@ fn narrow(vars: &mut [Variable], x: usize, k: Kinds)
     requires { x < length vars.old }
     ensures { vars.new ≡ limited vars.old x k }
 {
-    let both = Kinds::both(vars[x].kinds, k);
-    vars[x].kinds = both;
+    let kinds = narrowed(&vars[x], k);
+    vars[x].kinds = kinds;
+}
+
+// The kinds of a variable that is limited to a set; where its definition says as much, they stay.
+fn narrowed(v: &Variable, k: Kinds) -> Kinds
+    ensures { result ≡ narrowed v.now k }
+{
+    if fixed_in(&v.definition, k) {
+        v.kinds
+    } else {
+        Kinds::both(v.kinds, k)
+    }
+}
+
+// Whether the definition fixes the kind, and it is one of the set.
+fn fixed_in(definition: &Definition, k: Kinds) -> bool
+    ensures { result ≡ fixed_in definition.now k }
+{
+    match definition {
+        Definition::Start => false,
+        Definition::Child(_, _) => false,
+        Definition::Derived(_, _, _) => k.has(Kind::Dir),
+        Definition::Ensured(_) => k.has(Kind::Dir),
+        Definition::Made(value) => k.has(kind_made(value)),
+    }
 }
 
 impl Copied for Store {

@@ -154,6 +154,10 @@ fn derives(rt: HostRuntime) -> Result<(), Fail> {
     put_under(&rt, &mut s, b"c", gone)?;
     expect_clause(&rt, &s, ONE_GONE)?;
     expect_tree(&rt, &mut s, "f /c\n")?;
+    // a limit that the definition has already writes nothing
+    let now = s.now();
+    assert!(rt; s.limit(now, Kinds::of(Kind::Dir)));
+    expect_clause(&rt, &s, ONE_GONE)?;
     let mut copy = s.copy(rt.alloc())?;
     let again = walk(&rt, &mut copy, &[b"c"])?;
     assert_eq!(rt; again, Var(6));

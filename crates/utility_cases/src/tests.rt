@@ -15,7 +15,8 @@ enum Call {
     Remove,
 }
 
-// An act, by its call, its path's names and whether the path ends in a slash, with the rows that it takes on some tree of a store.
+// An act, by its call, its path's names and whether the path ends in a slash, with the rows that it takes on some tree
+// of a store.
 type Taking = (Call, &'static [&'static [u8]], bool, &'static [u8]);
 
 fn act<R: Abort + AllocGlobal>(

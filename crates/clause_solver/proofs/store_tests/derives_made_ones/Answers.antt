@@ -1,4 +1,4 @@
-use Rattle.std.proofs.Common.{◌≡◌, take, get_or-take, ap, sym, ◌∙◌}
+use Rattle.std.proofs.Common.{take, get_or-take, ap, sym, ◌∙◌}
 use Rattle.feature_trees.specs.declared.value.Value.TheVariants as value
 use Rattle.feature_trees.specs.Tree.{kind_of}
 use Rattle.clause_solver.proofs.store_tests.derives_made_ones.Goals as goal
