@@ -1,5 +1,5 @@
 -- Lists that begin others.
-use Rattle.std.proofs.Common.{◌≡◌, ◌↔◌, subst, Option, Some, false, length-append, ℕ, zero, suc, ◌<◌, List, [], ◌∷◌, ◌++◌, length, take, refl, ap, sym, ◌∙◌, arith}
+use Rattle.std.proofs.Common.{◌≡◌, ◌↔◌, subst, Some, false, length-append, ℕ, zero, suc, ◌<◌, List, [], ◌∷◌, ◌++◌, length, take, refl, ap, sym, ◌∙◌, arith}
 use Rattle.std.proofs.lemmas.List.{take_at}
 use Rattle.script_names.specs.Paths.{PathParts, IsStrictPrefix, parent_of_names}
 use Rattle.script_names.specs.Laws.{ParentOfJoin, ParentBegins, JoinIsLonger}

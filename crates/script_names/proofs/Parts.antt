@@ -1,8 +1,8 @@
 -- The components of a word that spells a path: those that lead on are names.
-use Rattle.std.specs.Prelude.{nat_le, nat_lt, if◌then◌else◌, not, ◌||◌, filter}
-use Rattle.std.proofs.Common.{◌≡◌, ℕ, zero, suc, ◌+◌, ◌<◌, ◌≤◌, ◌==◌, List, [], ◌∷◌, ◌++◌, length, get_or, take, Option, Some, None, map, Bool, true, false, ◌&&◌, refl, ap, sym, ◌∙◌, arith}
+use Rattle.std.specs.Prelude.{nat_lt, if◌then◌else◌, not, ◌||◌, filter}
+use Rattle.std.proofs.Common.{◌≡◌, ℕ, zero, suc, ◌+◌, ◌<◌, ◌≤◌, List, [], ◌∷◌, ◌++◌, length, get_or, take, Option, Some, None, map, Bool, true, false, refl, ap, ◌∙◌, arith}
 use Rattle.script_names.specs.Laws.{HasNoSlash, SpellsNames}
-use Rattle.std.specs.List.{All, list_all, list_any, last_or, slice_split, onto_first}
+use Rattle.std.specs.List.{All, list_all, list_any, last_or, onto_first}
 use Rattle.std.specs.Option.{option_map}
 use Rattle.std.specs.Iterator.{Drains}
 use Rattle.std.proofs.lemmas.Iterator.{YieldsList, items_from_drains}

@@ -1,5 +1,5 @@
 -- What holds of words, paths and their parents.
-use Rattle.std.specs.Prelude.{◌≡◌, ℕ, List, [], ◌∷◌, ◌++◌, Option, Some, None, All, IsTrue, false}
+use Rattle.std.specs.Prelude.{◌≡◌, ℕ, List, Some, None, All, IsTrue, false}
 use Rattle.std.specs.List.{join_with_byte}
 use Rattle.script_names.specs.Names.{is_name}
 use Rattle.script_names.specs.Paths.{PathParts, is_slash, components, spelled_names, path_fault, parent_of, joined, IsStrictPrefix}

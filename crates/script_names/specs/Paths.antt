@@ -1,5 +1,5 @@
 -- What a word spells as a path (POSIX.1-2017, Base Definitions, 3.271 Pathname and 4.13 Pathname Resolution), and what contracts see of a path.
-use Rattle.std.specs.Prelude.{◌≡◌, ℕ, Bool, true, false, not, ◌&&◌, ◌||◌, ◌==◌, nat_eq, nat_le, nat_lt, List, [], ◌∷◌, ◌++◌, length, take, filter, Option, Some, None, Result, Ok, Err, if◌then◌else◌}
+use Rattle.std.specs.Prelude.{◌≡◌, ℕ, Bool, true, false, not, ◌&&◌, ◌==◌, nat_eq, nat_le, nat_lt, List, [], ◌∷◌, ◌++◌, length, take, filter, Option, Some, None, Result, Ok, Err, if◌then◌else◌}
 use Rattle.std.specs.List.{list_any, slice_split, last_or, ends_with}
 use Rattle.std.specs.Option.{option_map_or}
 use Rattle.script_names.specs.declared.path.PathFault.{PathFault}

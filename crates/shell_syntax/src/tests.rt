@@ -270,17 +270,25 @@ fn script(alloc: Global, last: u32) -> Result<Script, Memory> {
     })
 }
 
+// Whether a copy of the script equals it.
+fn copy_is_equal(alloc: Global) -> Result<bool, Memory> {
+    let whole = script(alloc, 100)?;
+    let twin = whole.copy(alloc)?;
+    Ok(whole.equal(&twin))
+}
+
+// Whether scripts whose last commands stand at different places are equal.
+fn others_are_equal(alloc: Global) -> Result<bool, Memory> {
+    let whole = script(alloc, 100)?;
+    let other = script(alloc, 101)?;
+    Ok(whole.equal(&other))
+}
+
 #[test]
 fn each_form_is_copied_and_compared(rt: HostRuntime) -> Result<(), Fail> {
     let alloc = rt.alloc();
-    let whole = script(alloc, 100)?;
-    let twin = whole.copy(alloc)?;
-    assert!(rt; twin.equal(&whole));
-    assert!(rt; whole.equal(&twin));
-    let other = script(alloc, 101)?;
-    assert_eq!(rt; other.equal(&whole), false);
-    assert_eq!(rt; whole.equal(&other), false);
-    assert_eq!(rt; Form::Arith == Form::Heredoc, false);
+    assert!(rt; copy_is_equal(alloc)?);
+    assert!(rt; !others_are_equal(alloc)?);
     assert!(rt; Form::CallOrder.copy(alloc)? == Form::CallOrder);
     Ok(())
 }

@@ -1,5 +1,4 @@
-use Rattle.std.proofs.Common.{◌≡◌, List, ℕ, None, Option, filter, false, sym, ap, ◌∙◌, rules, tests}
-use Rattle.std.specs.List.{last_or}
+use Rattle.std.proofs.Common.{List, ℕ, Option, false, sym, ap, ◌∙◌, rules, tests}
 use Rattle.std.specs.Option.{option_map, option_map_or}
 use Rattle.std.proofs.lemmas.Iterator.Consumers.{YieldsList-at, YieldsList-from_filter}
 use Rattle.std.proofs.lemmas.Iterator.Splits.{YieldsList-from_slice_split}

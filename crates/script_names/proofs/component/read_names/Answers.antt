@@ -1,4 +1,4 @@
-use Rattle.std.proofs.Common.{◌≡◌, List, map, ap, sym, ◌∙◌, true, ℕ}
+use Rattle.std.proofs.Common.{map, ap, ◌∙◌}
 use Rattle.std.specs.List.{list_all}
 use Rattle.script_names.specs.Names.{is_name}
 use Rattle.script_names.proofs.Parts.{name_at, more_names}

@@ -1,4 +1,4 @@
-use Rattle.std.proofs.Common.{◌≡◌, ◌<◌, length, sym, ap, ◌∙◌, arith}
+use Rattle.std.proofs.Common.{◌<◌, length, arith}
 use Rattle.std.proofs.lemmas.Grind.{common_steps}
 use Rattle.script_names.proofs.Begins.{strict_prefix}
 use Rattle.script_names.proofs.path.Path.is_strict_prefix.Goals as goal

@@ -1,5 +1,5 @@
-use Rattle.std.proofs.Common.{◌≡◌, sym, ap, ◌∙◌}
-use Rattle.script_names.proofs.Parts.{spells_names, few_names, fault_stated}
+use Rattle.std.proofs.Common.{sym, ◌∙◌}
+use Rattle.script_names.proofs.Parts.{spells_names}
 use Rattle.script_names.proofs.path.Path.read.Goals as goal
 
 pub read_names-requires : goal.read_names-requires
