@@ -1,12 +1,16 @@
 //! Texts and their tokens by hand (tests/rows.rt), in a printed form: `strict ` where the first line has `-e`, and a token as its
 //! offset, `:` and its spelling. A word is its parts: `[plain]`, `<quoted>`, `$name`, `${name:-default}`, `$at(tokens)`, each
 //! expansion in `"` where it is quoted, and `"$@"`. A newline is `nl`, a redirection `>null`, `2>null`, `<null`, `>&2` or
-//! `2>&1`. A fault is its name and its offset.
+//! `2>&1`. A fault is its name and its offset. Where there is neither, `no tokens`.
 
 mod rows;
 
 use crate::{LexFault, RawPart, Token, TokenKind, lex};
-use rows::{OPENED, TABLES, TEMPLATE, WHOLE_TEXTS};
+use rows::{
+    BLANKS_AND_COMMENTS, FAULTS_TOGETHER, OPENED, OPERATORS, PARAMETERS, QUOTES, REDIRECTIONS,
+    REFUSED_PARAMETERS, REFUSED_REDIRECTIONS, SUBSTITUTIONS, TEMPLATE, TEMPLATE_TOKENS,
+    WHOLE_TEXTS, WHOLE_WORDS,
+};
 use script_names::{Bytes, List, Memory};
 use shell_syntax::{Form, Key, Redirect};
 use std::alloc::Global;
@@ -180,6 +184,9 @@ fn shown(alloc: Global, text: &[u8]) -> Result<Bytes, Memory> {
             if lexed.strict {
                 out.extend(b"strict ")?;
             }
+            if lexed.tokens.len() == 0 {
+                out.extend(b"no tokens")?;
+            }
             show_tokens(alloc, &mut out, &lexed.tokens)?;
         }
         Err(fault) => show_fault(alloc, &mut out, fault)?,
@@ -187,20 +194,57 @@ fn shown(alloc: Global, text: &[u8]) -> Result<Bytes, Memory> {
     Ok(out)
 }
 
-// What a text is cut into, behind a first line.
-fn shown_behind(alloc: Global, text: &str) -> Result<Bytes, Memory> {
-    let mut whole = Bytes::from_slice(alloc, b"#!/bin/sh\n")?;
-    whole.extend(text.as_bytes())?;
-    shown(alloc, whole.as_slice())
+// The bytes that a column of a row spells.
+fn spelled(alloc: Global, column: &str) -> Result<Bytes, Memory> {
+    let mut out = Bytes::new(alloc);
+    for byte in column.as_bytes() {
+        out.push(match *byte {
+            b'N' => b'\n',
+            b'T' => b'\t',
+            b'R' => b'\r',
+            b'Z' => 0,
+            other => other,
+        })?;
+    }
+    Ok(out)
 }
+
+// Whether a row's text behind these bytes is cut into what the row has.
+fn holds(alloc: Global, begin: &[u8], row: &str) -> Result<bool, Memory> {
+    match row.split_once(" -> ") {
+        Some((text, form)) => {
+            let mut whole = Bytes::from_slice(alloc, begin)?;
+            let text = spelled(alloc, text)?;
+            whole.extend(text.as_slice())?;
+            let want = spelled(alloc, form)?;
+            let got = shown(alloc, whole.as_slice())?;
+            Ok(got.equal(&want))
+        }
+        None => Ok(false),
+    }
+}
+
+// The tables of texts behind a first line.
+const TABLES: &[&str] = &[
+    BLANKS_AND_COMMENTS,
+    OPERATORS,
+    REDIRECTIONS,
+    REFUSED_REDIRECTIONS,
+    QUOTES,
+    PARAMETERS,
+    REFUSED_PARAMETERS,
+    SUBSTITUTIONS,
+    WHOLE_WORDS,
+    FAULTS_TOGETHER,
+];
 
 #[test]
 fn texts_have_their_tokens_or_faults(rt: HostRuntime) -> Result<(), Fail> {
     let alloc = rt.alloc();
     for table in TABLES {
-        for row in *table {
-            let got = shown_behind(alloc, row.0)?;
-            assert!(rt; got.as_slice() == row.1.as_bytes(), "{}", row.0);
+        for row in table.lines() {
+            let right = holds(alloc, b"#!/bin/sh\n", row)?;
+            assert!(rt; right, "{row}");
         }
     }
     Ok(())
@@ -209,10 +253,17 @@ fn texts_have_their_tokens_or_faults(rt: HostRuntime) -> Result<(), Fail> {
 #[test]
 fn whole_texts_have_their_tokens_or_faults(rt: HostRuntime) -> Result<(), Fail> {
     let alloc = rt.alloc();
-    for row in WHOLE_TEXTS {
-        let got = shown(alloc, row.0.as_bytes())?;
-        assert!(rt; got.as_slice() == row.1.as_bytes(), "{}", row.0);
+    for row in WHOLE_TEXTS.lines() {
+        let right = holds(alloc, b"", row)?;
+        assert!(rt; right, "{row}");
     }
+    Ok(())
+}
+
+#[test]
+fn the_template_has_its_tokens(rt: HostRuntime) -> Result<(), Fail> {
+    let got = shown(rt.alloc(), TEMPLATE.as_bytes())?;
+    assert!(rt; got.as_slice() == TEMPLATE_TOKENS.as_bytes());
     Ok(())
 }
 
