@@ -10,9 +10,11 @@ pub record PathParts : Type 0 where
   pub names : List (List ℕ)
   pub slash : Bool
 
+-- `/`
 abbrev pub is_slash : ℕ → Bool
 is_slash b = b == 47
 
+-- NUL
 abbrev pub is_nul : ℕ → Bool
 is_nul b = b == 0
 
@@ -83,6 +85,7 @@ stated Memory = None
 abbrev pub join_fault : PathParts → Option PathFault
 join_fault path = if nat_le 64 (length path.names) then Some Many else None
 
+-- the path with one name more, without a slash
 abbrev pub joined : PathParts → List ℕ → PathParts
 joined path name = record { names = path.names ++ name ∷ []; slash = false }
 
@@ -91,6 +94,7 @@ abbrev pub parent_of_names : List (List ℕ) → Option PathParts
 parent_of_names [] = None
 parent_of_names (name ∷ names) = Some (record { names = take (length names) (name ∷ names); slash = false })
 
+-- the parent of a path
 abbrev pub parent_of : PathParts → Option PathParts
 parent_of path = parent_of_names path.names
 

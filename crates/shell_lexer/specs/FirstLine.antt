@@ -9,6 +9,7 @@ abbrev pub first_line : Bytes → Bytes
 first_line [] = []
 first_line (b ∷ rest) = if nat_eq b 10 then [] else b ∷ first_line rest
 
+-- the bytes behind the first newline
 abbrev pub behind_line : Bytes → Bytes
 behind_line [] = []
 behind_line (b ∷ rest) = if nat_eq b 10 then rest else behind_line rest
@@ -24,6 +25,7 @@ after [] line = Some line
 after (b ∷ bytes) [] = None
 after (b ∷ bytes) (a ∷ rest) = if nat_eq a b then after bytes rest else None
 
+-- the first of two that is there
 abbrev pub or_else : Option Bytes → Option Bytes → Option Bytes
 or_else None other = other
 or_else (Some rest) other = Some rest
@@ -37,6 +39,7 @@ abbrev pub strict_end : Option Bytes → Option Bool
 strict_end None = None
 strict_end (Some rest) = if list_all is_blank rest then Some true else None
 
+-- whether the first byte is a blank
 abbrev pub begins_blank : Bytes → Bool
 begins_blank [] = false
 begins_blank (b ∷ rest) = is_blank b
@@ -47,10 +50,12 @@ option_of rest =
     if list_all is_blank rest then Some false
     else (if begins_blank rest then strict_end (after (codes "-e") (after_blanks rest)) else None)
 
+-- the same behind an interpreter, where there is one
 abbrev pub option_behind : Option Bytes → Option Bool
 option_behind None = None
 option_behind (Some rest) = option_of rest
 
+-- the same behind `#!`, where it is there
 abbrev pub interpreter_behind : Option Bytes → Option Bool
 interpreter_behind None = None
 interpreter_behind (Some rest) = option_behind (after_interpreter (after_blanks rest))
@@ -64,5 +69,6 @@ abbrev pub nul_from : ℕ → Bytes → Option ℕ
 nul_from at [] = None
 nul_from at (b ∷ rest) = if nat_eq b 0 then Some at else nul_from (at + 1) rest
 
+-- the place of the first NUL of a text
 abbrev pub nul_of : Bytes → Option ℕ
 nul_of text = nul_from 0 text

@@ -21,6 +21,7 @@ abbrev pub is_all_word : List Mark → Bool
 is_all_word (All at true ∷ Gap ∷ []) = true
 is_all_word _ = false
 
+-- the first `$@` of a word that is not `"$@"`
 abbrev pub all_args : List Mark → Option ℕ
 all_args ms = if is_all_word ms then None else first_all ms
 
@@ -67,6 +68,7 @@ sooner None b = b
 sooner (Some a) None = Some a
 sooner (Some a) (Some b) = if nat_le a.0 b.0 then Some a else Some b
 
+-- the fault that a form with its offset is
 abbrev pub as_fault : Option (ℕ × Form) → Option LexFault
 as_fault None = None
 as_fault (Some a) = Some (Unsupported a.1 a.0)

@@ -79,6 +79,7 @@ numbered_by at number Less rest = less at number rest
 numbered_by at number Greater rest = greater at number rest
 numbered_by at number _ rest = Word
 
+-- behind digits, from the next byte that counts on
 abbrev pub numbered : ℕ → Bytes → Bytes → Sight
 numbered len number [] = Word
 numbered len number (b ∷ rest) = numbered_by (place len (b ∷ rest)) number (kind b) rest
@@ -104,6 +105,7 @@ sight_by len at b Greater rest = greater at [] rest
 sight_by len at b Digit rest = numbered len (run Digits (b ∷ rest)) (skip (behind Digits (b ∷ rest)))
 sight_by len at b _ rest = Word
 
+-- by the bytes that count, of which the first has this offset
 abbrev pub sight_at : ℕ → ℕ → Bytes → Sight
 sight_at len at [] = End
 sight_at len at (b ∷ rest) = sight_by len at b (kind b) rest

@@ -57,6 +57,7 @@ braced_by quoted at b Digit rest = number_key quoted at b rest
 braced_by quoted at b Hash rest = closed quoted at Count None (skip rest)
 braced_by quoted at b _ rest = bad_param at
 
+-- behind `${`, from the next byte that counts on
 abbrev pub braced : Bool → ℕ → Bytes → Look
 braced quoted at [] = Bad (OpenSubstitution at)
 braced quoted at (b ∷ rest) = braced_by quoted at b (kind b) rest
@@ -88,6 +89,7 @@ dollar_by quoted at rest b Single more = before_quote quoted at rest
 dollar_by quoted at rest b Double more = before_quote quoted at rest
 dollar_by quoted at rest b _ more = Byte 36 rest
 
+-- behind `$`, from the next byte that counts on: the text behind `$`, and the same from that byte on
 abbrev pub dollar : Bool → ℕ → Bytes → Bytes → Look
 dollar quoted at rest [] = Byte 36 rest
 dollar quoted at rest (b ∷ more) = dollar_by quoted at rest b (kind b) more
@@ -99,10 +101,12 @@ abbrev pub has_quote : Bytes → Bool
 has_quote [] = false
 has_quote (b ∷ rest) = nat_eq b 39 || has_quote rest
 
+-- the bytes up to the next single quote
 abbrev pub quote_body : Bytes → Bytes
 quote_body [] = []
 quote_body (b ∷ rest) = if nat_eq b 39 then [] else b ∷ quote_body rest
 
+-- the bytes behind the next single quote
 abbrev pub behind_quote : Bytes → Bytes
 behind_quote [] = []
 behind_quote (b ∷ rest) = if nat_eq b 39 then rest else behind_quote rest
@@ -130,6 +134,7 @@ look_by at b Tick rest = Bad (Unsupported form.Backquote at)
 look_by at b Dollar rest = dollar false at rest (skip rest)
 look_by at b _ rest = Byte b rest
 
+-- by the bytes that count, of which the first has this offset
 abbrev pub look_at : ℕ → Bytes → Look
 look_at at [] = Ends
 look_at at (b ∷ rest) = look_by at b (kind b) rest
@@ -153,6 +158,7 @@ abbrev pub inner_escaped : ℕ → Bytes → Look
 inner_escaped b [] = Byte b []
 inner_escaped b (c ∷ rest) = if is_escapable (kind c) then Byte c rest else Byte b (c ∷ rest)
 
+-- by the first byte that counts, at its offset, and the text behind it
 abbrev pub inner_by : ℕ → ℕ → ByteKind → Bytes → Look
 inner_by at b Double rest = DoubleQuote rest
 inner_by at b Back rest = inner_escaped b rest
@@ -160,9 +166,11 @@ inner_by at b Tick rest = Bad (Unsupported form.Backquote at)
 inner_by at b Dollar rest = dollar true at rest (skip rest)
 inner_by at b _ rest = Byte b rest
 
+-- by the bytes that count, of which the first has this offset
 abbrev pub inner_at : ℕ → Bytes → Look
 inner_at at [] = Ends
 inner_at at (b ∷ rest) = inner_by at b (kind b) rest
 
+-- what stands at the front of a rest of a text of len bytes, in double quotes
 abbrev pub inner : ℕ → Bytes → Look
 inner len text = inner_at (place len (skip text)) (skip text)

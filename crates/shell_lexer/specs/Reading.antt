@@ -55,6 +55,7 @@ last_run _ run = quoted_run run
 
 -- ---- tokens
 
+-- the token that an operator or a redirection is
 abbrev pub kind_of_sign : Sign → TokenKind
 kind_of_sign sign.Newline = token.Newline
 kind_of_sign sign.Semi = token.Semi
@@ -66,6 +67,7 @@ kind_of_sign sign.LeftParen = token.LeftParen
 kind_of_sign sign.RightParen = token.RightParen
 kind_of_sign (sign.Redirect which) = token.Redirect which
 
+-- the token of this kind that begins at a place
 abbrev pub token_at : ℕ → TokenKind → Token
 token_at at k = roll-Token (record { at = at; kind = k })
 

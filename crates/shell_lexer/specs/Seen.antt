@@ -8,6 +8,7 @@ use Rattle.shell_lexer.specs.Text.{Bytes}
 use Rattle.shell_lexer.specs.Operators as operators
 use Rattle.shell_lexer.specs.Parts as parts
 
+-- what the code saw, with the text behind each place
 abbrev pub seen : Bytes → Sight → operators.Sight
 seen text End = operators.End
 seen text (Passed i) = operators.Passed (drop i text)
@@ -21,6 +22,7 @@ Further at len (Passed i) = (at < i) × (i ≤ len)
 Further at len (Operator s i) = (at < i) × (i ≤ len)
 Further at len _ = Unit {0}
 
+-- the same of what it saw in a word
 abbrev pub seen_look : Bytes → Look → parts.Look
 seen_look text Ends = parts.Ends
 seen_look text (Byte b i) = parts.Byte b (drop i text)
@@ -30,6 +32,7 @@ seen_look text (DoubleQuote i) = parts.DoubleQuote (drop i text)
 seen_look text (Substitution i) = parts.Substitution (drop i text)
 seen_look text (Bad f) = parts.Bad f
 
+-- the place behind what was seen in a word is further on
 abbrev pub FurtherLook : ℕ → ℕ → Look → Type 0
 FurtherLook at len (Byte b i) = (at < i) × (i ≤ len)
 FurtherLook at len (Piece p i) = (at < i) × (i ≤ len)

@@ -6,6 +6,7 @@ use Rattle.shell_lexer.specs.declared.byte_kind.ByteKind.TheVariants.{Blank, New
 use Rattle.shell_lexer.specs.declared.byte_kind.RunKind.{RunKind}
 use Rattle.shell_lexer.specs.declared.byte_kind.RunKind.TheVariants.{Blanks, Digits, Names, Defaults}
 
+-- a text, or the rest of one
 abbrev pub Bytes : Type 0
 Bytes = List ℕ
 
@@ -13,6 +14,7 @@ Bytes = List ℕ
 abbrev pub is_blank : ℕ → Bool
 is_blank b = nat_eq b 32 || nat_eq b 9
 
+-- `0` to `9`
 abbrev pub is_digit : ℕ → Bool
 is_digit b = nat_le 48 b && nat_le b 57
 
@@ -63,6 +65,7 @@ skip (a ∷ b ∷ rest) = if nat_eq a 92 && nat_eq b 10 then skip rest else a �
 abbrev pub place : ℕ → Bytes → ℕ
 place len rest = len - length rest
 
+-- all bytes but the first
 abbrev pub tail : Bytes → Bytes
 tail [] = []
 tail (b ∷ rest) = rest
@@ -72,11 +75,12 @@ abbrev pub head_is : ℕ → Bytes → Bool
 head_is b [] = false
 head_is b (a ∷ rest) = nat_eq a b
 
--- the text behind these bytes, where they are the next that count
+-- the text behind one byte and what comes then, where the byte is the first
 abbrev pub behind_next : ℕ → (Bytes → Option Bytes) → Bytes → Option Bytes
 behind_next b more [] = None
 behind_next b more (a ∷ rest) = if nat_eq a b then more rest else None
 
+-- the text behind these bytes, where they are the next that count, one after another
 abbrev pub behind_bytes : Bytes → Bytes → Option Bytes
 behind_bytes [] text = Some text
 behind_bytes (b ∷ bytes) text = behind_next b (behind_bytes bytes) (skip text)
@@ -101,10 +105,11 @@ behind_run test text (c ∷ cs) = if test c.0 then behind_run test c.1 cs else t
 abbrev pub run : RunKind → Bytes → Bytes
 run which text = run_of (passes which) (cells text)
 
+-- the text behind the longest run of a kind
 abbrev pub behind : RunKind → Bytes → Bytes
 behind which text = behind_run (passes which) text (cells text)
 
--- whether a word ends before the text: at its end, a blank or an operator
+-- whether a word ends before a byte of this kind: a blank or the begin of an operator
 abbrev pub is_word_end : ByteKind → Bool
 is_word_end Blank = true
 is_word_end Newline = true
@@ -117,6 +122,7 @@ is_word_end Less = true
 is_word_end Greater = true
 is_word_end _ = false
 
+-- whether a word ends before the text
 abbrev pub ends_word : Bytes → Bool
 ends_word [] = true
 ends_word (b ∷ rest) = is_word_end (kind b)
