@@ -11,7 +11,7 @@ use rows::{
     REFUSED_PARAMETERS, REFUSED_REDIRECTIONS, SUBSTITUTIONS, TEMPLATE, TEMPLATE_TOKENS,
     WHOLE_TEXTS, WHOLE_WORDS,
 };
-use script_names::{Bytes, List, Memory};
+use script_names::{Bytes, Copied, List, Memory};
 use shell_syntax::{Form, Key, Redirect};
 use std::alloc::Global;
 use std::test::Fail;
@@ -173,11 +173,12 @@ fn show_tokens(alloc: Global, out: &mut Bytes, tokens: &List<Token>) -> Result<(
     Ok(())
 }
 
-// What a text is cut into; where its end is not said right, nothing that a row has.
+// What a text is cut into, from a copy; where its end is not said right, nothing that a row has.
 fn shown(alloc: Global, text: &[u8]) -> Result<Bytes, Memory> {
     let mut out = Bytes::new(alloc);
     match lex(alloc, text) {
         Ok(lexed) => {
+            let lexed = lexed.copy(alloc)?;
             if lexed.end as usize != text.len() {
                 out.extend(b"another end ")?;
             }
