@@ -61,7 +61,8 @@ fn read_names(alloc: Global, word: &[u8]) -> Result<Option<List<Name>>, Memory>
     }
 }
 
-/// The path that a word spells, where it is a slash and names joined by slashes.
+/// The path that a word spells: `/` and 1 to 64 names joined by `/`, each of bytes of the portable filename character set
+/// (POSIX.1-2017, Base Definitions, 3.282). None for any other word.
 pub fn read_path(alloc: Global, word: &[u8]) -> Result<Option<Path>, Memory>
     ensures { IfOk result (λ path. path ≡ path_of_word word.now) }
 {
