@@ -92,7 +92,7 @@ impl Store {
         ensures kept { OnErr result (self.new ≡ self.old) }
         ensures count { self.new.count ≤ self.old.count + 1 }
     {
-        f.known();
+        f.is_sound();
         match resolve(&self.vars, x.0, f) {
             Found::Known(y) => Ok(Var(y)),
             Found::Nothing => {
@@ -128,7 +128,7 @@ impl Store {
         ensures kept { OnErr result (self.new ≡ self.old) }
         ensures count { self.new.count ≤ self.old.count + 1 }
     {
-        f.known();
+        f.is_sound();
         let alloc = *self.vars.allocator();
         let name = f.copy(alloc)?;
         let derived = Definition::Derived(x.0, name, y.0);

@@ -64,7 +64,7 @@ fn put_held(items: &mut Vec<Held>, f: &Name, rest: &[Name], v: Value) -> Result<
             Ok(at) => {
                 let answer = put_below(&mut items[at].value, g, more, v);
                 items[at].value.known();
-                f.known();
+                f.is_sound();
                 answer
             }
             Err(_) => Err(PutFault::NoParent),

@@ -140,7 +140,7 @@ pub(crate) fn set_held(items: &mut Vec<Held>, f: &Name, v: Value) -> Result<(), 
     ensures kept { OnErr result (items.new.items ≡ items.old.items) }
 {
     v.known();
-    f.known();
+    f.is_sound();
     match v {
         Value::Absent => {
             take_away(items, f);

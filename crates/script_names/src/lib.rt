@@ -15,6 +15,7 @@ mod path;
 #[cfg(test)]
 mod path_tests;
 mod reason;
+mod split;
 #[cfg(test)]
 mod tests;
 mod text;
@@ -26,7 +27,8 @@ pub use copied::Copied;
 pub use list::List;
 pub use mark::{Mark, Site};
 pub use memory::Memory;
-pub use name::{Name, NameFault};
-pub use path::{Path, PathFault};
+pub use name::{NAME_MAX, Name, NameFault};
+pub use path::{MAX_NAMES, Path, PathFault};
 pub use reason::{Done, Reason};
+pub use split::first_part;
 pub use text::Text;

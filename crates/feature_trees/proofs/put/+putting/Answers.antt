@@ -29,4 +29,4 @@ put_held-returns-in-Ok-place-clause-sound t c =
     let written = c.index.ensures ∙ written_back c.args.items.now.items c.in-Ok-place.at _ c.index.result.now is.in_range in
     keeps_sound c.args.items.now.items c.args.f.now c.in-Ok-place.at c.index_mut.result.now c.args.rest.now _ c.g-item.result c.args.v _ c.requires.old_there
     is c.index_mut.ensures.value (cons_back c.args.rest.now c.g-item.result c.in-len1-up.len_at_least c.g-item.is) c.put_below-answer.result c.put_below-answer.ensures.ok c.put_below-answer.ensures.kept
-    c.requires.old_sound c.known-in-Ok-place.ensures (subst (λ (h : Held). IsTrue (sound h.value)) written c.known.ensures)
+    c.requires.old_sound c.is_sound.ensures (subst (λ (h : Held). IsTrue (sound h.value)) written c.known.ensures)

@@ -7,8 +7,8 @@ use Rattle.feature_trees.proofs.value.set_held.Goals as goal
 
 pub returns-in-Absent-clause-sound : goal.returns-in-Absent-clause-sound
 returns-in-Absent-clause-sound c =
-    rw c.take_away.ensures.gone (sound-update (seen c.args.items.now.items) c.args.f.now Absent c.requires.old_sound c.known-2.ensures refl)
+    rw c.take_away.ensures.gone (sound-update (seen c.args.items.now.items) c.args.f.now Absent c.requires.old_sound c.is_sound.ensures refl)
 
 pub returns-in_default-clause-sound : goal.returns-in_default-clause-sound
 returns-in_default-clause-sound c =
-    set_sound c.put_there.result c.put_there.new.items.items c.args.items.now.items c.args.f.now c.args.v c.requires.old_sound c.known-2.ensures c.known.ensures c.put_there.ensures.ok c.put_there.ensures.kept
+    set_sound c.put_there.result c.put_there.new.items.items c.args.items.now.items c.args.f.now c.args.v c.requires.old_sound c.is_sound.ensures c.known.ensures c.put_there.ensures.ok c.put_there.ensures.kept

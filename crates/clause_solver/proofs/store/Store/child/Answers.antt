@@ -62,7 +62,7 @@ module _ (c : goal.In-Ok-append) where
   none i h = c.in_default.ensures i (rw c.deref-in-At.ensures.value h)
 
   before : Earlier c.self.inside.vars.items (length c.self.inside.vars.items) (Child c.in-At.n c.args.f.now)
-  before = child_before c.self.inside.vars.items c.args.x.0 c.in-At.n c.args.f.now c.known.ensures leads_child
+  before = child_before c.self.inside.vars.items c.args.x.0 c.in-At.n c.args.f.now c.is_sound.ensures leads_child
 
   single : IsSingle c.self.inside.vars.items (Child c.in-At.n c.args.f.now)
   single = child_single c.self.inside.vars.items c.in-At.n c.args.f.now none
@@ -74,4 +74,4 @@ pub returns-in-Ok-append-clause-extends : goal.returns-in-Ok-append-clause-exten
 returns-in-Ok-append-clause-extends c = rw (← c.self.view_is) (appended_extends c.self.inside (new_child c) c.in-Ok-append.y (Child c.in-At.n c.args.f.now) c.self.invariant (before c) (single c) refl (is_child c))
 
 pub returns-in-Ok-append-clause-entry : goal.returns-in-Ok-append-clause-entry
-returns-in-Ok-append-clause-entry c = child_is_entry c.self.inside (new_child c) c.in-Ok-append.y c.args.x.0 c.in-At.n c.args.f.now c.self.invariant (known_child c) c.known.ensures (none c) refl (is_child c) (leads_child c)
+returns-in-Ok-append-clause-entry c = child_is_entry c.self.inside (new_child c) c.in-Ok-append.y c.args.x.0 c.in-At.n c.args.f.now c.self.invariant (known_child c) c.is_sound.ensures (none c) refl (is_child c) (leads_child c)

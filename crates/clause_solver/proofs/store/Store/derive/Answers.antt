@@ -17,7 +17,7 @@ module _ (c : goal.In-Ok) where
   is = rw c.in_ok-name.ensures at c.in-Ok.ensures.ok
 
   before : Earlier c.self.inside.vars.items (length c.self.inside.vars.items) (Derived c.args.x.0 c.args.f.now c.args.y.0)
-  before = derived_before c.self.inside.vars.items c.args.x.0 c.args.y.0 c.args.f.now inside.0 inside.1 c.known.ensures
+  before = derived_before c.self.inside.vars.items c.args.x.0 c.args.y.0 c.args.f.now inside.0 inside.1 c.is_sound.ensures
 
   single : IsSingle c.self.inside.vars.items (Derived c.args.x.0 c.args.f.now c.args.y.0)
   single = derived_single c.self.inside.vars.items c.args.x.0 c.args.y.0 c.args.f.now
@@ -29,4 +29,4 @@ pub returns-clause-extends : goal.returns-clause-extends
 returns-clause-extends c = rw (← c.self.view_is) (appended_extends c.self.inside (after c) c.in-Ok.z (Derived c.args.x.0 c.args.f.now c.args.y.0) c.self.invariant (before c) (single c) refl (is c))
 
 pub returns-clause-put : goal.returns-clause-put
-returns-clause-put c = derived_is_put c.self.inside (after c) c.in-Ok.z c.args.x.0 c.args.y.0 c.args.f.now c.self.invariant (inside c).0 (inside c).1 c.known.ensures refl (is c)
+returns-clause-put c = derived_is_put c.self.inside (after c) c.in-Ok.z c.args.x.0 c.args.y.0 c.args.f.now c.self.invariant (inside c).0 (inside c).1 c.is_sound.ensures refl (is c)
