@@ -1,7 +1,7 @@
 ghost use Rattle.std.specs.Prelude.{◌≡◌, ◌+◌, ◌<◌, ◌≤◌, ◌∷◌, None, false, length, drop, IfOk, IfSome};
 ghost use Rattle.std.specs.List.{list_any};
-ghost use Rattle.shell_words.specs.Patterns.{Decides, pattern_letters, code, items, item_at, allows};
-ghost use Rattle.shell_words.specs.Patterns.{closes_at, begins_with, negation_size, set_size, set_of, ranges, is_within};
+ghost use Rattle.shell_words.specs.Patterns.{Decides, pattern_letters, code, items, item_at, allows, negation_size};
+ghost use Rattle.shell_words.specs.Patterns.{closes_at, begins_with, set_size, set_of, ranges, is_within};
 ghost use Rattle.shell_words.specs.Patterns.{has_pair, is_split_backslash, is_falling, is_left_out_item};
 
 use crate::fault::WordFault;
