@@ -5,6 +5,8 @@
 mod node;
 mod shared;
 mod steps;
+#[cfg(test)]
+mod tests;
 
 pub use shared::Shared;
 pub use steps::Steps;

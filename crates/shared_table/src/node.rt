@@ -10,6 +10,9 @@ use std::marker::Model;
 use std::rc::Rc;
 use std::sync::ledger::Ledger;
 
+// The most items of a leaf, and the most children of any other node.
+const BRANCHING: usize = 16;
+
 /// A node of the tree, which contracts see as its height and its items, in order. A leaf, of height 0, has up to 16
 /// items. Any other node has up to 16 children, each one lower than it, and all but the last one are full.
 #[cycle(node)]
@@ -59,7 +62,7 @@ pub(crate) fn item_at<T>(node: &Node<T>, width: usize, at: usize) -> Option<&T>
         Part::Inner(children) => {
             let place = at / width;
             if place < children.len() {
-                item_at(&children[place], width / 16, at % width)
+                item_at(&children[place], width / BRANCHING, at % width)
             } else {
                 None
             }
@@ -103,7 +106,7 @@ fn copied_node<T: Copied>(node: &Node<T>, alloc: Global) -> Result<Node<T>, Memo
 fn copied_items<T: Copied>(items: &[T], alloc: Global) -> Result<Vec<T>, Memory>
     ensures { IfOk result (λ copies. copies.items ≡ items.now) }
 {
-    let mut out = Vec::with_capacity(alloc, 16)?;
+    let mut out = Vec::with_capacity(alloc, BRANCHING)?;
     for item in items {
         out.push(item.copy(alloc)?)?;
     }
@@ -118,7 +121,7 @@ fn shared_children<T: Drop>(
     ensures { IfOk result (λ owners.
         map (λ child. child.value) owners.items ≡ map (λ child. child.value) children.now) }
 {
-    let mut out = Vec::with_capacity(alloc, 16)?;
+    let mut out = Vec::with_capacity(alloc, BRANCHING)?;
     for child in children {
         out.push(child.clone()?)?;
     }
@@ -236,7 +239,7 @@ fn put_in_children<T: Copied, L: Ledger>(
     if place < children.len() {
         put(
             &mut children[place],
-            width / 16,
+            width / BRANCHING,
             at % width,
             item,
             alloc,
@@ -328,7 +331,7 @@ pub(crate) fn append<T: Copied, L: Ledger>(
     ensures counts { steps.old ≤ steps.new }
     ensures cost { steps.new ≤ steps.old + (root.old.value.0 + 2) }
 {
-    if len / 16 < width {
+    if len / BRANCHING < width {
         put(root, width, len, item, alloc, steps)?;
         return Ok(width);
     }
