@@ -2,7 +2,7 @@
 use Rattle.std.proofs.Common.{◌≡◌, ℕ, ◌+◌, ◌/◌, ◌%◌, ◌<◌, ◌≤◌, Bool, true, false, nat_lt, List, [], ◌∷◌, ◌++◌, drop, get_or, cond, refl, sym, ap, subst, arith}
 use Rattle.std.proofs.lemmas.Bool.{ltb-true, ltb-false}
 use Rattle.std.specs.List.{flat_map}
-use Rattle.feature_trees.specs.Show.{is_literal, hex_digit, shown_byte, show}
+use Rattle.shown_texts.specs.Show.{is_literal, hex_digit, shown_byte, show}
 
 less : (n : ℕ) → nat_lt n 10 ≡ true → n < 10
 less n h = ltb-true n 10 h
