@@ -15,6 +15,17 @@ pub enum PutFault {
     Memory,
 }
 
+impl From<Memory> for PutFault {
+    ghost use Rattle.std.specs.Prelude.{◌≡◌};
+    ghost use Rattle.feature_trees.specs.declared.put.PutFault.TheVariants.{Memory as NoMemory};
+
+    ghost from_gives = { λ _ fault. fault ≡ NoMemory };
+
+    fn from(_refused: Memory) -> PutFault {
+        PutFault::Memory
+    }
+}
+
 impl Value {
     /// Puts a value at a path.
     pub fn put(&mut self, p: &Path, v: Value) -> Result<(), PutFault>
@@ -57,10 +68,7 @@ fn put_among(items: &mut Vec<NamedValue>, f: &Name, rest: &[Name], v: Value) -> 
     ensures kept { OnErr result (items.new.items ≡ items.old.items) }
 {
     match rest {
-        [] => match set_value(items, f, v) {
-            Ok(()) => Ok(()),
-            Err(Memory) => Err(PutFault::Memory),
-        },
+        [] => Ok(set_value(items, f, v)?),
         [g, more @ ..] => match place(items.as_slice(), f) {
             Ok(at) => {
                 let answer = put_below(&mut items[at].value, g, more, v);
