@@ -19,17 +19,21 @@ StandsElsewhere =
 
 -- below its path stands what stands there in the value that was put
 abbrev pub StandsBelow : Type 0
-StandsBelow = (v w : Value) (p q : List (List ℕ)) → IsTrue (sound v) → IsTrue (has_parents v p) → at (put v p w) (p ++ q) ≡ at w q
+StandsBelow =
+    (v w : Value) (p q : List (List ℕ)) → IsTrue (sound v) → IsTrue (has_parents v p)
+    → at (put v p w) (p ++ q) ≡ at w q
 
 -- above its path stands what stood there, with the same put in it
 abbrev pub StandsAbove : Type 0
 StandsAbove =
-    (v w : Value) (p q : List (List ℕ)) → IsTrue (sound v) → IsTrue (has_parents v (p ++ q)) → at (put v (p ++ q) w) p ≡ put (at v p) q w
+    (v w : Value) (p q : List (List ℕ)) → IsTrue (sound v) → IsTrue (has_parents v (p ++ q))
+    → at (put v (p ++ q) w) p ≡ put (at v p) q w
 
 -- a sound value with a sound one put at names in it is sound
 abbrev pub PutsStaySound : Type 0
 PutsStaySound =
-    (v w : Value) (p : List (List ℕ)) → IsTrue (sound v) → IsTrue (sound w) → All (λ f. IsTrue (is_name f)) p → IsTrue (sound (put v p w))
+    (v w : Value) (p : List (List ℕ)) → IsTrue (sound v) → IsTrue (sound w) → All (λ f. IsTrue (is_name f)) p
+    → IsTrue (sound (put v p w))
 
 -- two directories with the same entry under every name are the same
 abbrev pub EntriesDetermine : Type 0

@@ -7,7 +7,7 @@ ghost use Rattle.feature_trees.specs.Show.{show};
 ghost use Rattle.feature_trees.specs.TreeText.{line, path_below, entries_text, value_text, tree_text};
 
 use crate::shown::put_shown;
-use crate::value::{Held, Value};
+use crate::value::{NamedValue, Value};
 use script_names::{Bytes, Memory, Name};
 use std::alloc::Global;
 
@@ -39,13 +39,18 @@ pub fn put_tree(alloc: Global, text: &mut Bytes, tree: &Value) -> Result<(), Mem
 
 // Adds the lines of entries below a path.
 #[cycle(printing)]
-fn put_entries(alloc: Global, text: &mut Bytes, path: &[u8], items: &[Held]) -> Result<(), Memory>
+fn put_entries(
+    alloc: Global,
+    text: &mut Bytes,
+    path: &[u8],
+    items: &[NamedValue],
+) -> Result<(), Memory>
     requires { AllThere items.now }
     ensures { OnOk result (text.new ≡ text.old ++ entries_text (seen items.now) path.now) }
 {
-    for held in items {
-        let below = make_path(alloc, path, &held.name)?;
-        put_value(alloc, text, below.as_slice(), &held.value)?;
+    for item in items {
+        let below = make_path(alloc, path, &item.name)?;
+        put_value(alloc, text, below.as_slice(), &item.value)?;
     }
     Ok(())
 }

@@ -1,6 +1,7 @@
 //! What holds of puts and of equal trees, for the layers above.
 
-ghost use Rattle.feature_trees.specs.Laws.{StandsWherePut, StandsElsewhere, StandsBelow, StandsAbove, PutsStaySound, EntriesDetermine, ShownApart};
+ghost use Rattle.feature_trees.specs.Laws.{StandsWherePut, StandsElsewhere, StandsBelow, StandsAbove, PutsStaySound};
+ghost use Rattle.feature_trees.specs.Laws.{EntriesDetermine, ShownApart};
 
 /// A put changes what stands at its path, and what stands elsewhere stays.
 pub fn puts_are_local()

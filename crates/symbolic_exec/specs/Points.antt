@@ -1,5 +1,5 @@
--- Which runs a list of paths stands for, in the form that goes together: from the paths of one part of a program to
--- the paths of that part and the next. E and F are what a part ends with; nothing here looks into them.
+-- Which runs a list of paths stands for, in a form that composes: from the paths of one part of a program come the
+-- paths of that part and the next. E and F are what a part ends with; nothing here looks into them.
 use Rattle.std.specs.Prelude.{◌≡◌, ℕ, ◌<◌, ◌≤◌, List, [], ◌∷◌, length, Result, Ok, Err, ◌⊎◌}
 use Rattle.script_names.specs.declared.mark.Mark.{Mark}
 use Rattle.feature_trees.specs.declared.value.Value.{Value}
@@ -77,7 +77,8 @@ pub record Many {E : Type 0} (goal : Key → RunOf E → Type 0) (q : List Mark)
   pub met : AllMet goal fronts
 
 -- the paths have these points and no others, and there are at most `room` paths
-pub record Within {E : Type 0} (goal : Key → RunOf E → Type 0) (q : List Mark) (room : ℕ) (xs : List (Ended E)) : Type 0 where
+pub record Within {E : Type 0} (goal : Key → RunOf E → Type 0) (q : List Mark) (room : ℕ)
+    (xs : List (Ended E)) : Type 0 where
   pub reaches : Reaches goal q xs
   pub count : length xs ≤ room
 

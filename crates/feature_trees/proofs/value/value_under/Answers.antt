@@ -1,6 +1,6 @@
 use Rattle.std.proofs.Common.{refl, sym}
 use Rattle.feature_trees.proofs.Found.{present_at, find_gap}
-use Rattle.feature_trees.proofs.value.held_at.Goals as goal
+use Rattle.feature_trees.proofs.value.value_under.Goals as goal
 
 pub returns-in-Ok : goal.returns-in-Ok
 returns-in-Ok c = sym (present_at c.args.items.now c.args.f.now c.in-Ok.at c.index-items-at.result c.requires c.in-Ok.ensures)
