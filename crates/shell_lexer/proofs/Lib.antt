@@ -19,3 +19,4 @@ mod SpelledRedirects
 mod SpelledRuns
 mod Steps
 mod Unique
+mod Unlimited

@@ -1,5 +1,7 @@
+pub mod Depth
 pub mod FirstLine
 pub mod Late
+pub mod Laws
 pub mod Lexed
 pub mod Operators
 pub mod Parts

@@ -1,7 +1,8 @@
-//! Texts and their tokens by hand (tests/rows.rt), in a printed form: `strict ` where the first line has `-e`, and a token as its
-//! offset, `:` and its spelling. A word is its parts: `[plain]`, `<quoted>`, `$name`, `${name:-default}`, `$at(tokens)`, each
-//! expansion in `"` where it is quoted, and `"$@"`. A newline is `nl`, a redirection `>null`, `2>null`, `<null`, `>&2` or
-//! `2>&1`. A fault is its name and its offset. Where there is neither, `no tokens`.
+//! Texts and their tokens by hand (tests/rows.rt), in a printed form: `strict ` where the first line has `-e`, and a
+//! token as its offset, `:` and its spelling. A word is its parts: `[plain]`, `<quoted>`, `$name`,
+//! `${name:-default}`, `$at(tokens)`, each expansion in `"` where it is quoted, and `"$@"`. A newline is `nl`, a
+//! redirection `>null`, `2>null`, `<null`, `>&2` or `2>&1`. A fault is its name and its offset. Where there is
+//! neither, `no tokens`.
 
 mod rows;
 
@@ -59,7 +60,7 @@ fn show_fault(alloc: Global, out: &mut Bytes, fault: LexFault) -> Result<(), Mem
     show_number(alloc, out, at)
 }
 
-// Bytes between two marks.
+// Bytes between an opening and a closing byte.
 fn show_bytes(out: &mut Bytes, open: u8, bytes: &Bytes, close: u8) -> Result<(), Memory> {
     out.push(open)?;
     out.extend(bytes.as_slice())?;
