@@ -48,7 +48,7 @@ const BUFFER: usize = 4_096;
 fn next_room(max: usize, count: usize) -> usize
     requires { count ≤ max }
     ensures some { 0 < result }
-    ensures within { result ≤ 4096 }
+    ensures within { result ≤ BUFFER }
     ensures bound { count + result ≤ max + 1 }
 {
     if max - count < BUFFER {
