@@ -5,6 +5,9 @@
 
 mod boxed;
 mod bytes;
+mod common;
+#[cfg(test)]
+mod common_tests;
 mod component;
 mod copied;
 mod list;
@@ -23,6 +26,7 @@ pub mod theorems;
 
 pub use boxed::Boxed;
 pub use bytes::Bytes;
+pub use common::Common;
 pub use copied::Copied;
 pub use list::List;
 pub use mark::{Mark, Site};
