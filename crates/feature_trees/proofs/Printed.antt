@@ -11,7 +11,8 @@ use Rattle.feature_trees.specs.declared.value.NamedValue.{NamedValue}
 use Rattle.feature_trees.specs.declared.value.Value.{Value}
 use Rattle.feature_trees.specs.declared.value.Value.TheVariants.{Absent, Reg, Link, Other, Dir}
 use Rattle.feature_trees.specs.View.{seen, node_of, IsThere, AllThere}
-use Rattle.feature_trees.specs.TreeText.{Lines, line, in_turn, node_layer, entry_layer, node_text, entry_text, entries_text, value_text, path_below}
+use Rattle.shown_texts.specs.Lines.{line}
+use Rattle.feature_trees.specs.TreeText.{Lines, in_turn, node_layer, entry_layer, node_text, entry_text, entries_text, value_text, path_below}
 
 -- the lines of what a directory holds
 abbrev pub item_text : List ℕ → NamedValue → List ℕ

@@ -3,7 +3,6 @@ use Rattle.std.specs.Prelude.{◌≡◌, ◌≢◌, ℕ, IsTrue, All, List, ◌�
 use Rattle.feature_trees.specs.declared.value.Value.{Value}
 use Rattle.feature_trees.specs.Tree.{entry, at, put, has_parents, kind_of}
 use Rattle.feature_trees.specs.declared.kind.Kind.TheVariants as kind
-use Rattle.feature_trees.specs.Show.{show}
 use Rattle.feature_trees.specs.Sound.{sound}
 use Rattle.script_names.specs.Names.{is_name}
 
@@ -40,7 +39,3 @@ abbrev pub EntriesDetermine : Type 0
 EntriesDetermine =
     (v w : Value) → IsTrue (sound v) → IsTrue (sound w) → kind_of v ≡ kind.Dir → kind_of w ≡ kind.Dir
     → ((f : List ℕ) → entry v f ≡ entry w f) → v ≡ w
-
--- different byte strings are spelled differently
-abbrev pub ShownApart : Type 0
-ShownApart = (bytes others : List ℕ) → show bytes ≡ show others → bytes ≡ others
