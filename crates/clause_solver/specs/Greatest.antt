@@ -58,7 +58,10 @@ unfenced vars n = is_unfenced (var_at vars n).fence
 abbrev pub unfenced_if : List Variable → Bool → ℕ → Bool
 unfenced_if vars counted n = counted && unfenced vars n
 
--- among the greatest kinds the variable has an entry outside the names; a place that is open may have one more entry
+-- among the greatest kinds the variable has an entry under another name than these: a place of the start tree where it
+-- is open, or where such an entry of it is there (`child_present`); a directory with an entry replaced where that entry
+-- is such a one and there (`here`), or where the directory that it is made from has one (`below`); and a directory with
+-- the entries of a variable where that has one (`kept`). A place that is open may have one more entry of any name.
 pub data HasEntryOutside (vars : List Variable) (best : List Kind) (open_at : ℕ → Bool) : ℕ → List (List ℕ)
     → Type 0 where
   free : {n : ℕ} {ds : List (List ℕ)} → IsTrue (is_node (var_at vars n).definition) → kind_at best n ≡ Dir
@@ -78,7 +81,7 @@ pub record IsSatisfiedAt (vars : List Variable) (best : List Kind) (open_at : �
   pub fits : IsTrue (has (var_at vars i).kinds (kind_at best i))
   pub filled : IsTrue (var_at vars i).not_empty → HasEntryOutside vars best open_at i []
 
--- so it is with every variable
+-- the greatest kind of every variable fits its facts
 abbrev pub IsSatisfied : List Variable → List Kind → (ℕ → Bool) → Type 0
 IsSatisfied vars best open_at = (i : ℕ) → i < length vars → IsSatisfiedAt vars best open_at i
 

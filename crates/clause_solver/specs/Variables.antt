@@ -62,7 +62,7 @@ pub record Fits (g : Valuation) (i : ℕ) (v : Variable) : Type 0 where
   pub fenced : (f : List ℕ) → entry (value_of_variable g i) f ≢ value.Absent → IsTrue (allowed v.fence f)
   pub filled : IsTrue v.not_empty → (f : List ℕ) × (entry (value_of_variable g i) f ≢ value.Absent)
 
--- so it is with every variable
+-- the valuation gives every variable its defined value, and the facts on each hold
 abbrev pub AllFit : List Variable → Valuation → Type 0
 AllFit vars g = (i : ℕ) → i < length vars → Fits g i (var_at vars i)
 

@@ -159,7 +159,8 @@ fn is_present_child(
 // Whether some entry of x outside the replaced names is there.
 fn some_present_child(vars: &[Variable], best: &[Kind], x: usize, replaced: &ReplacedNames) -> bool
     requires same { length best.now ≡ length vars.now }
-    ensures { IsTrue result ↔ ((m : ℕ) × (m < length vars.now) × IsPresentChild vars.now best.now x (names replaced.now) m) }
+    ensures { IsTrue result
+        ↔ ((m : ℕ) × (m < length vars.now) × IsPresentChild vars.now best.now x (names replaced.now) m) }
 {
     for m in 0..vars.len() {
         if is_present_child(vars, best, x, &*replaced, m) {

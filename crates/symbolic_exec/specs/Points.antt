@@ -63,7 +63,7 @@ pub record Reaches {E : Type 0} (goal : Key → RunOf E → Type 0) (q : List Ma
 abbrev pub Met : {E : Type 0} → (Key → RunOf E → Type 0) → List Mark → Type 0
 Met {E} goal f = (t : Key) × (r : RunOf E) × goal t r × Begins f r.now.trace
 
--- so for each of these
+-- for each of these, the trace of one of these points' runs begins with it
 abbrev pub AllMet : {E : Type 0} → (Key → RunOf E → Type 0) → List (List Mark) → Type 0
 AllMet goal [] = Unit {0}
 AllMet goal (f ∷ fs) = Met goal f × AllMet goal fs
