@@ -6,6 +6,7 @@ mod Fronts
 mod Insides
 mod Numbers
 mod Pieces
+mod QuotedBytes
 mod Quotes
 mod Skips
 mod SoFar

@@ -1,6 +1,8 @@
 -- The laws that src/theorems.rt proves: what holds of cuts, and that what the tables see in a text is what is spelled
 -- there.
-use Rattle.std.specs.Prelude.{◌≡◌, ◌↔◌, ℕ, Bool, true, false, Some, codes}
+use Rattle.std.specs.Prelude.{◌≡◌, ◌↔◌, ℕ, ◌+◌, Bool, true, false, not, ◌||◌, nat_eq, List, [], ◌∷◌, ◌++◌, map, length}
+use Rattle.std.specs.Prelude.{Some, codes}
+use Rattle.std.specs.List.{list_all}
 use Rattle.shell_syntax.specs.declared.redirect.Redirect.{Redirect}
 use Rattle.shell_lexer.specs.declared.sight.Sign.{Sign}
 use Rattle.shell_lexer.specs.declared.sight.Sign.TheVariants as sign
@@ -8,6 +10,11 @@ use Rattle.shell_lexer.specs.declared.fault.LexFault.{LexFault}
 use Rattle.shell_lexer.specs.declared.fault.LexFault.TheVariants.{Deep}
 use Rattle.shell_lexer.specs.declared.token.Lexed.{Lexed}
 use Rattle.shell_lexer.specs.declared.token.RawPart.{RawPart}
+use Rattle.shell_lexer.specs.declared.token.RawPart.TheVariants as part
+use Rattle.shell_lexer.specs.declared.token.TokenKind.TheVariants as token
+use Rattle.shell_lexer.specs.declared.sight.ByteNote.{ByteNote}
+use Rattle.shell_lexer.specs.declared.sight.ByteNote.TheVariants as note
+use Rattle.shell_lexer.specs.Reading.{Whole, IsInner, token_at}
 use Rattle.shell_lexer.specs.Text.{Bytes}
 use Rattle.shell_lexer.specs.FirstLine.{interpreter}
 use Rattle.shell_lexer.specs.Lexed.{Cut, CutAtAnyDepth, Faulty}
@@ -36,6 +43,32 @@ abbrev pub OnlyDeepIsRefused : Type 0
 OnlyDeepIsRefused =
     (text : Bytes) (l : Lexed) (fault : LexFault)
     → CutAtAnyDepth text l → Faulty text fault → (at : ℕ) × (fault ≡ Deep at)
+
+-- ---- double quotes
+
+-- a byte that stands for itself in double quotes, whatever stands round it: no NUL, `"`, `$`, backquote or backslash
+abbrev pub is_literal : ℕ → Bool
+is_literal b = not (nat_eq b 0 || nat_eq b 34 || nat_eq b 36 || nat_eq b 92 || nat_eq b 96)
+
+-- what a word's notes have for so many bytes in double quotes
+abbrev pub gaps : Bytes → List ByteNote
+gaps bytes = map (λ b. note.Gap) bytes
+
+-- double quotes round such bytes, wherever they stand, are one part that has these bytes, newlines too
+abbrev pub QuotesAreOnePart : Type 0
+QuotesAreOnePart =
+    (deep : ℕ → Bool) (len depth from : ℕ) (bytes rest : Bytes) → list_all is_literal bytes ≡ true
+    → IsInner deep len depth from true [] (bytes ++ 34 ∷ rest) (Whole (part.Quoted bytes ∷ [], gaps bytes) rest)
+
+-- the tokens of a script of so many bytes that has one word behind the line `#!/bin/sh`
+abbrev pub one_word : List RawPart → ℕ → Lexed
+one_word parts end = record { strict = false; tokens = token_at 10 (token.Word parts) ∷ []; end = end }
+
+-- a script that is such quotes behind the line `#!/bin/sh` is cut into the word of that part
+abbrev pub QuotesAreCut : Type 0
+QuotesAreCut =
+    (bytes : Bytes) → list_all is_literal bytes ≡ true
+    → Cut (codes "#!/bin/sh\n\"" ++ (bytes ++ codes "\"")) (one_word (part.Quoted bytes ∷ []) (12 + length bytes))
 
 -- ---- what is seen is what is spelled
 

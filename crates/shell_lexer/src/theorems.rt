@@ -4,6 +4,7 @@
 
 ghost use Rattle.std.specs.Prelude.{false, true};
 ghost use Rattle.shell_lexer.specs.Laws.{OneCut, OneCutAtAnyDepth, CutsWithinLimit, OnlyDeepIsRefused};
+ghost use Rattle.shell_lexer.specs.Laws.{QuotesAreOnePart, QuotesAreCut};
 ghost use Rattle.shell_lexer.specs.Laws.{OperatorsAreLongest, RedirectionsAreSpelled, FirstLinesAreSpelled};
 ghost use Rattle.shell_lexer.specs.Laws.{PartsAreSpelled, AllArgsAreSpelled, SubstitutionsAreSpelled};
 ghost use Rattle.shell_lexer.specs.Laws.{DoubleQuotesAreSpelled};
@@ -20,6 +21,13 @@ pub fn one_cut()
 pub fn limit_only_refuses()
     ensures cuts { CutsWithinLimit }
     ensures faults { OnlyDeepIsRefused }
+{}
+
+/// Double quotes round bytes without `$`, backquote, backslash and `"` are one quoted part that has these bytes (XCU 2.2.3
+/// Double-Quotes): wherever they stand, and as the one word of a script.
+pub fn quotes_keep_bytes()
+    ensures one_part { QuotesAreOnePart }
+    ensures cut { QuotesAreCut }
 {}
 
 /// What begins at a place is an operator, or a whole redirection, exactly where its spelling stands there and no longer
