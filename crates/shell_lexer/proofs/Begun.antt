@@ -21,7 +21,7 @@ use Rattle.shell_lexer.specs.Parts.{look, look_at, look_by}
 use Rattle.shell_lexer.proofs.Fronts.{Here, at_here}
 
 -- not the end of a word
-abbrev NotEnd : parts.Look → Type 0
+abbrev pub NotEnd : parts.Look → Type 0
 NotEnd l = l ≡ parts.Ends → ⊥
 
 if_look : (b : Bool) (x y : parts.Look) → NotEnd x → NotEnd y → NotEnd (if b then x else y)
@@ -128,7 +128,7 @@ by_begun len at b kinds.Back t e f = escaped_on b t f
 by_begun len at b kinds.Dollar t e f = dollar_on false at t (skip t) f
 by_begun len at b _ t e f = cc
 
-begun : (len at : ℕ) (t : Bytes) → sight_at len at t ≡ operators.Word → NotEnd (look_at at t)
+pub begun : (len at : ℕ) (t : Bytes) → sight_at len at t ≡ operators.Word → NotEnd (look_at at t)
 begun len at [] e f = cc
 begun len at (b ∷ rest) e f = by_begun len at b (kind b) rest e f
 

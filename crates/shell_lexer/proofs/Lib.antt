@@ -1,3 +1,4 @@
+mod Ahead
 mod Begun
 mod Causes
 mod Cells
@@ -19,5 +20,6 @@ mod SpelledParts
 mod SpelledRedirects
 mod SpelledRuns
 mod Steps
+mod Tiles
 mod Unique
 mod Unlimited

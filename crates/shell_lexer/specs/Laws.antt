@@ -15,13 +15,14 @@ use Rattle.shell_lexer.specs.declared.token.TokenKind.TheVariants as token
 use Rattle.shell_lexer.specs.declared.sight.ByteNote.{ByteNote}
 use Rattle.shell_lexer.specs.declared.sight.ByteNote.TheVariants as note
 use Rattle.shell_lexer.specs.Reading.{Whole, IsInner, token_at}
-use Rattle.shell_lexer.specs.Text.{Bytes}
-use Rattle.shell_lexer.specs.FirstLine.{interpreter}
+use Rattle.shell_lexer.specs.Text.{Bytes, place}
+use Rattle.shell_lexer.specs.FirstLine.{behind_line, interpreter}
 use Rattle.shell_lexer.specs.Lexed.{Cut, CutAtAnyDepth, Faulty}
 use Rattle.shell_lexer.specs.Operators.{Operator, sight}
 use Rattle.shell_lexer.specs.Parts.{Look, AllArgs, DoubleQuote, Piece, Substitution, inner, look}
 use Rattle.shell_lexer.specs.SpelledLine.{IsFirstLine}
 use Rattle.shell_lexer.specs.SpelledParts.{IsPiece, IsSubstitution}
+use Rattle.shell_lexer.specs.Tiled.{IsTiled, RiseFrom}
 use Rattle.shell_lexer.specs.Spelling.{IsOperator, IsRedirected, Stands}
 
 -- ---- cuts
@@ -43,6 +44,16 @@ abbrev pub OnlyDeepIsRefused : Type 0
 OnlyDeepIsRefused =
     (text : Bytes) (l : Lexed) (fault : LexFault)
     → CutAtAnyDepth text l → Faulty text fault → (at : ℕ) × (fault ≡ Deep at)
+
+-- a cut has each byte behind the first line in a blank, a comment, a joined line or exactly one token
+abbrev pub CutsAreTiled : Type 0
+CutsAreTiled =
+    (text : Bytes) (l : Lexed)
+    → CutAtAnyDepth text l → IsTiled (place (length text) (behind_line text)) (behind_line text) l.tokens
+
+-- and its tokens' offsets rise strictly
+abbrev pub OffsetsRise : Type 0
+OffsetsRise = (text : Bytes) (l : Lexed) → CutAtAnyDepth text l → RiseFrom 0 l.tokens
 
 -- ---- double quotes
 

@@ -12,3 +12,4 @@ pub mod SpelledLine
 pub mod SpelledParts
 pub mod Spelling
 pub mod Text
+pub mod Tiled

@@ -4,6 +4,7 @@
 
 ghost use Rattle.std.specs.Prelude.{false, true};
 ghost use Rattle.shell_lexer.specs.Laws.{OneCut, OneCutAtAnyDepth, CutsWithinLimit, OnlyDeepIsRefused};
+ghost use Rattle.shell_lexer.specs.Laws.{CutsAreTiled, OffsetsRise};
 ghost use Rattle.shell_lexer.specs.Laws.{QuotesAreOnePart, QuotesAreCut};
 ghost use Rattle.shell_lexer.specs.Laws.{OperatorsAreLongest, RedirectionsAreSpelled, FirstLinesAreSpelled};
 ghost use Rattle.shell_lexer.specs.Laws.{PartsAreSpelled, AllArgsAreSpelled, SubstitutionsAreSpelled};
@@ -21,6 +22,13 @@ pub fn one_cut()
 pub fn limit_only_refuses()
     ensures cuts { CutsWithinLimit }
     ensures faults { OnlyDeepIsRefused }
+{}
+
+/// A text that is cut is made up of its tokens: each byte behind the first line is in a blank, a comment, a joined line or
+/// exactly one token, and the offsets of the tokens rise strictly (XCU 2.3 Token Recognition).
+pub fn cuts_are_tiled()
+    ensures tiled { CutsAreTiled }
+    ensures rise { OffsetsRise }
 {}
 
 /// Double quotes round bytes without `$`, backquote, backslash and `"` are one quoted part that has these bytes (XCU 2.2.3
