@@ -1,5 +1,5 @@
 -- Where a token that is a word begins, the word isn't at its end.
-use Rattle.std.proofs.Common.{◌≡◌, ℕ, ◌+◌, ◌-◌, if◌then◌else◌, nat_eq, Bool, true, false, List, [], ◌∷◌, Option, Some, None, refl, sym, ap, ◌∙◌, drop, length}
+use Rattle.std.proofs.Common.{◌≡◌, ℕ, ◌-◌, if◌then◌else◌, nat_eq, Bool, true, false, [], ◌∷◌, Option, Some, None, sym, ◌∙◌, drop, length}
 use Rattle.shell_syntax.specs.declared.form.Form.TheVariants as form
 use Rattle.shell_syntax.specs.declared.key.Key.{Key}
 use Rattle.shell_syntax.specs.declared.key.Key.TheVariants.{Named, Arg, Count}
@@ -13,7 +13,7 @@ use Rattle.shell_lexer.specs.declared.token.RawPart.TheVariants.{Quoted, Param}
 use Rattle.shell_lexer.specs.declared.byte_kind.ByteKind.{ByteKind}
 use Rattle.shell_lexer.specs.declared.byte_kind.ByteKind.TheVariants as kinds
 use Rattle.shell_lexer.specs.declared.byte_kind.RunKind.TheVariants.{Names, Defaults}
-use Rattle.shell_lexer.specs.Text.{Bytes, kind, skip, place, head_is, tail, run, behind}
+use Rattle.shell_lexer.specs.Text.{Bytes, kind, skip, head_is, tail, run, behind}
 use Rattle.shell_lexer.specs.Operators as operators
 use Rattle.shell_lexer.specs.Operators.{sight_at, sight_by}
 use Rattle.shell_lexer.specs.Parts as parts

@@ -1,40 +1,26 @@
 -- Double quotes round bytes that stand for themselves are one part.
-use Rattle.std.proofs.Common.{◌≡◌, ℕ, zero, suc, ◌+◌, ◌-◌, Bool, true, false, not, ◌||◌, ◌&&◌, nat_eq, if◌then◌else◌, List, [], ◌∷◌, ◌++◌, append_assoc, append-nil, map, length, Option, Some, None, codes, refl, sym, ap, ◌∙◌, subst, arith}
+use Rattle.std.proofs.Common.{◌≡◌, ℕ, suc, ◌+◌, Bool, true, false, ◌||◌, ◌&&◌, nat_eq, List, [], ◌∷◌, ◌++◌, append_assoc, append-nil, length, None, codes, refl, sym, ap, ◌∙◌, subst, arith}
 use Rattle.std.specs.List.{list_all}
 use Rattle.shell_lexer.specs.declared.byte_kind.ByteKind.{ByteKind}
 use Rattle.shell_lexer.specs.declared.byte_kind.ByteKind.TheVariants as k
 use Rattle.shell_lexer.specs.declared.sight.ByteNote.{ByteNote}
 use Rattle.shell_lexer.specs.declared.sight.ByteNote.TheVariants as note
-use Rattle.shell_lexer.specs.declared.token.Token.{Token}
 use Rattle.shell_lexer.specs.declared.token.RawPart.{RawPart}
 use Rattle.shell_lexer.specs.declared.token.RawPart.TheVariants as part
 use Rattle.shell_lexer.specs.declared.token.TokenKind.TheVariants as token
-use Rattle.shell_lexer.specs.declared.fault.LexFault.{LexFault}
 use Rattle.shell_lexer.specs.Depth.{too_deep}
-use Rattle.shell_lexer.specs.FirstLine.{nul_from, behind_line}
+use Rattle.shell_lexer.specs.FirstLine.{nul_from}
 use Rattle.shell_lexer.specs.Late.{first_all, tilde, brace, late}
 use Rattle.shell_lexer.specs.Laws.{is_literal, gaps, one_word}
 use Rattle.shell_lexer.specs.Lexed.{Cut}
-use Rattle.shell_lexer.specs.Operators.{Word, sight, sight_at}
-use Rattle.shell_lexer.specs.Parts.{Byte, DoubleQuote, inner, inner_at, inner_by, look, look_at}
-use Rattle.shell_lexer.specs.Reading.{Out, Whole, Read, last_run, token_at, IsItems, items_end, items_word, IsWord, word_ends, word_double, IsInner, inner_ends, inner_byte}
+use Rattle.shell_lexer.specs.Operators.{sight_at}
+use Rattle.shell_lexer.specs.Parts.{Byte, inner, inner_at, inner_by, look_at}
+use Rattle.shell_lexer.specs.Reading.{Whole, Read, last_run, token_at, IsItems, items_end, items_word, IsWord, word_ends, word_double, IsInner, inner_ends, inner_byte}
 use Rattle.shell_lexer.specs.Text.{Bytes, kind, skip, place, offset}
-use Rattle.shell_lexer.proofs.SpelledCases.{eq_same, and_left, and_right, true_false, if_false}
+use Rattle.shell_lexer.proofs.SpelledCases.{eq_same, not_true, or_left, or_last, and_left, and_right, true_false, if_false}
 use Rattle.shell_lexer.proofs.SpelledKinds.{KindOf, kind_of}
 
 -- ---- bytes that stand for themselves
-
-not_true : (a : Bool) → not a ≡ true → a ≡ false
-not_true true e = sym e
-not_true false e = refl
-
-or_left : (a b : Bool) → (a || b) ≡ false → a ≡ false
-or_left true b e = e
-or_left false b e = refl
-
-or_last : (a b : Bool) → (a || b) ≡ false → b ≡ false
-or_last true b e = absurd (true_false e)
-or_last false b e = e
 
 -- a byte before which no joined line is left
 skip_first : (a : ℕ) (t : Bytes) → nat_eq a 92 ≡ false → skip (a ∷ t) ≡ a ∷ t

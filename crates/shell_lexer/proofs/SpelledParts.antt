@@ -17,7 +17,8 @@ use Rattle.shell_lexer.proofs.SpelledKinds.{KindOf, kind_of, digit_kind, letter_
 use Rattle.shell_lexer.proofs.Ahead.{Ahead}
 use Rattle.shell_lexer.proofs.SpelledRuns.{skip_again, stands_then, stands_parts, stands_skip, skip_stands, IsRun, run_is, behind_is, run_stands}
 use Rattle.shell_lexer.proofs.SpelledFronts.{is_not, not_next}
-use Rattle.shell_lexer.proofs.SpelledCases.{if_case, if_true, if_false, eq_of, false_true, true_false, and_left, and_right, and_true}
+use Rattle.std.proofs.Math.Bool.{or-true}
+use Rattle.shell_lexer.proofs.SpelledCases.{not_true, if_case, if_true, if_false, eq_of, false_true, true_false, and_left, and_right, and_true}
 
 -- ---- bytes of names
 
@@ -149,15 +150,8 @@ quote_found : (bytes rest : Bytes) → list_all (λ b. not (nat_eq b 39)) bytes 
 quote_found [] rest e = (refl, refl, refl)
 quote_found (b ∷ bytes) rest e =
     let more = quote_found bytes rest (and_right (not (nat_eq b 39)) (list_all (λ b. not (nat_eq b 39)) bytes) e) in
-    let other = flip (nat_eq b 39) (and_left (not (nat_eq b 39)) (list_all (λ b. not (nat_eq b 39)) bytes) e) in
-    (or_right (nat_eq b 39) _ more.0, if_false (nat_eq b 39) _ _ other ∙ ap (λ t. b ∷ t) more.1, if_false (nat_eq b 39) _ _ other ∙ more.2) where
-      flip : (a : Bool) → not a ≡ true → a ≡ false
-      flip true e = sym e
-      flip false e = refl
-
-      or_right : (a b : Bool) → b ≡ true → (a || b) ≡ true
-      or_right true b e = refl
-      or_right false b e = e
+    let other = not_true (nat_eq b 39) (and_left (not (nat_eq b 39)) (list_all (λ b. not (nat_eq b 39)) bytes) e) in
+    (ap (λ x. nat_eq b 39 || x) more.0 ∙ or-true (nat_eq b 39), if_false (nat_eq b 39) _ _ other ∙ ap (λ t. b ∷ t) more.1, if_false (nat_eq b 39) _ _ other ∙ more.2)
 
 quoted_seen : (len : ℕ) (bytes text rest : Bytes) → IsQuoted bytes text rest → look len text ≡ Piece (part.Quoted bytes) rest
 quoted_seen len bytes text rest (single all h) =

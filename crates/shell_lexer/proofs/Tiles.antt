@@ -1,15 +1,10 @@
 -- The tokens of a cut text and what stands between them take up the text.
-use Rattle.std.proofs.Common.{◌≡◌, ◌⊎◌, inl, inr, ℕ, zero, suc, ◌+◌, ◌-◌, ◌≤◌, Bool, true, false, not, ◌&&◌, nat_eq, if◌then◌else◌, List, [], ◌∷◌, ◌++◌, append-nil, length, length-append, Option, Some, None, refl, sym, ap, ◌∙◌, subst, arith}
+use Rattle.std.proofs.Common.{◌≡◌, ◌⊎◌, inl, inr, ℕ, zero, suc, ◌+◌, ◌≤◌, Bool, true, false, not, ◌&&◌, nat_eq, if◌then◌else◌, List, [], ◌∷◌, ◌++◌, append-nil, length, length-append, Option, Some, None, refl, sym, ap, ◌∙◌, subst, arith}
 use Rattle.std.specs.List.{list_all}
 use Rattle.shell_syntax.specs.declared.redirect.Redirect.{Redirect}
-use Rattle.shell_syntax.specs.declared.form.Form.TheVariants as form
-use Rattle.shell_lexer.specs.declared.fault.LexFault.{LexFault}
-use Rattle.shell_lexer.specs.declared.fault.LexFault.TheVariants.{Unsupported}
 use Rattle.shell_lexer.specs.declared.byte_kind.ByteKind.{ByteKind}
 use Rattle.shell_lexer.specs.declared.byte_kind.ByteKind.TheVariants as k
 use Rattle.shell_lexer.specs.declared.byte_kind.RunKind.TheVariants.{Digits}
-use Rattle.shell_lexer.specs.declared.sight.Sign.{Sign}
-use Rattle.shell_lexer.specs.declared.sight.Sign.TheVariants as sign
 use Rattle.shell_lexer.specs.declared.sight.ByteNote.{ByteNote}
 use Rattle.shell_lexer.specs.declared.sight.ByteNote.TheVariants as note
 use Rattle.shell_lexer.specs.declared.token.Token.{Token}
@@ -19,8 +14,8 @@ use Rattle.shell_lexer.specs.declared.token.TokenKind.TheVariants as token_kind
 use Rattle.shell_lexer.specs.declared.token.Lexed.{Lexed}
 use Rattle.shell_lexer.specs.Text.{Bytes, kind, skip, place, offset, tail, head_is, run, behind as behind_run, is_blank}
 use Rattle.shell_lexer.specs.FirstLine.{behind_line}
-use Rattle.shell_lexer.specs.Operators.{Sight, End, Passed, Operator, Wrong, Word, sight, sight_at, sight_by, redirected, copied, less, greater, numbered, numbered_by, out_to, in_from, copy_of, null_word, whole_word, after_line, twice}
-use Rattle.shell_lexer.specs.Parts.{Byte, Piece, AllArgs, DoubleQuote, Substitution, Ends, look, inner}
+use Rattle.shell_lexer.specs.Operators.{Sight, End, Passed, Operator, Wrong, Word, sight, sight_at, sight_by, redirected, copied, less, greater, numbered, numbered_by, out_to, in_from, copy_of, null_word, whole_word, after_line}
+use Rattle.shell_lexer.specs.Parts.{Byte, Piece, AllArgs, DoubleQuote, Substitution, Ends, look}
 use Rattle.shell_lexer.specs.Reading.{Out, Whole, Stop, Read, behind, grown, ended, token_at, kind_of_sign, plain_run, quoted_run, IsItems, items_end, items_pass, items_wrong, items_close, items_sign, items_word, items_late, items_bad, IsWord, word_ends, word_byte, word_piece, word_all, word_double, word_run, word_wrong, word_bad_double, word_bad_run, IsInner, inner_open, inner_ends, inner_byte, inner_piece, inner_all, inner_run, inner_wrong, inner_bad_run, IsSub, sub_deep, sub_items}
 use Rattle.shell_lexer.specs.Lexed.{CutAtAnyDepth}
 use Rattle.shell_lexer.specs.Tiled.{at_line_end, IsTiled, ends, joined, blank, comment, token, RiseFrom}

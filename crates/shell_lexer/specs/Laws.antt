@@ -19,7 +19,7 @@ use Rattle.shell_lexer.specs.Text.{Bytes, place}
 use Rattle.shell_lexer.specs.FirstLine.{behind_line, interpreter}
 use Rattle.shell_lexer.specs.Lexed.{Cut, CutAtAnyDepth, Faulty}
 use Rattle.shell_lexer.specs.Operators.{Operator, sight}
-use Rattle.shell_lexer.specs.Parts.{Look, AllArgs, DoubleQuote, Piece, Substitution, inner, look}
+use Rattle.shell_lexer.specs.Parts.{Look, AllArgs, DoubleQuote, Piece, Substitution}
 use Rattle.shell_lexer.specs.SpelledLine.{IsFirstLine}
 use Rattle.shell_lexer.specs.SpelledParts.{IsPiece, IsSubstitution}
 use Rattle.shell_lexer.specs.Tiled.{IsTiled, RiseFrom}

@@ -9,8 +9,8 @@ abbrev pub at_line_end : Bytes → Bool
 at_line_end [] = true
 at_line_end (b ∷ rest) = nat_eq b 10
 
--- The rest of a text, whose first byte has the offset `at`, is blanks, comments, joined lines and these tokens, one behind another. A token has at
--- least one byte, and its offset is that of its first.
+-- The rest of a text, whose first byte has the offset `at`, is blanks, comments, joined lines and these tokens, one
+-- behind another. A token has at least one byte, and its offset is that of its first.
 pub data IsTiled : ℕ → Bytes → List Token → Type 0 where
   ends : {at : ℕ} → IsTiled at [] []
   joined : {at : ℕ} {rest : Bytes} {ts : List Token} → IsTiled (at + 2) rest ts → IsTiled at (92 ∷ 10 ∷ rest) ts

@@ -24,15 +24,15 @@ pub fn limit_only_refuses()
     ensures faults { OnlyDeepIsRefused }
 {}
 
-/// A text that is cut is made up of its tokens: each byte behind the first line is in a blank, a comment, a joined line or
-/// exactly one token, and the offsets of the tokens rise strictly (XCU 2.3 Token Recognition).
+/// A text that is cut is made up of its tokens: each byte behind the first line is in a blank, a comment, a joined
+/// line or exactly one token, and the offsets of the tokens rise strictly (XCU 2.3 Token Recognition).
 pub fn cuts_are_tiled()
     ensures tiled { CutsAreTiled }
     ensures rise { OffsetsRise }
 {}
 
-/// Double quotes round bytes without `$`, backquote, backslash and `"` are one quoted part that has these bytes (XCU 2.2.3
-/// Double-Quotes): wherever they stand, and as the one word of a script.
+/// Double quotes round bytes without `$`, backquote, backslash and `"` are one quoted part that has these bytes (XCU
+/// 2.2.3 Double-Quotes): wherever they stand, and as the one word of a script.
 pub fn quotes_keep_bytes()
     ensures one_part { QuotesAreOnePart }
     ensures cut { QuotesAreCut }
