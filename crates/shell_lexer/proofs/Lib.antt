@@ -5,6 +5,7 @@ mod Cells
 mod CutOnce
 mod Fronts
 mod Insides
+mod LongestRuns
 mod Numbers
 mod Pieces
 mod QuotedBytes

@@ -1,6 +1,7 @@
 -- The laws that src/theorems.rt proves: what holds of cuts, and that what the tables see in a text is what is spelled
 -- there.
-use Rattle.std.specs.Prelude.{◌≡◌, ◌↔◌, ℕ, ◌+◌, Bool, true, false, not, ◌||◌, nat_eq, List, [], ◌∷◌, ◌++◌, map, length}
+use Rattle.std.specs.Prelude.{◌≡◌, ◌↔◌, ◌⊎◌, ℕ, ◌+◌, Bool, true, false, not, ◌||◌, nat_eq, List, [], ◌∷◌, ◌++◌, map}
+use Rattle.std.specs.Prelude.{length}
 use Rattle.std.specs.Prelude.{Some, codes}
 use Rattle.std.specs.List.{list_all}
 use Rattle.shell_syntax.specs.declared.redirect.Redirect.{Redirect}
@@ -14,7 +15,8 @@ use Rattle.shell_lexer.specs.declared.token.RawPart.TheVariants as part
 use Rattle.shell_lexer.specs.declared.token.TokenKind.TheVariants as token
 use Rattle.shell_lexer.specs.declared.sight.ByteNote.{ByteNote}
 use Rattle.shell_lexer.specs.declared.sight.ByteNote.TheVariants as note
-use Rattle.shell_lexer.specs.Reading.{Whole, IsInner, token_at}
+use Rattle.shell_lexer.specs.LongestRuns.{plain_runs_are_longest, quoted_runs_are_longest}
+use Rattle.shell_lexer.specs.Reading.{Whole, Read, IsInner, IsWord, token_at}
 use Rattle.shell_lexer.specs.Text.{Bytes, place}
 use Rattle.shell_lexer.specs.FirstLine.{behind_line, interpreter}
 use Rattle.shell_lexer.specs.Lexed.{Cut, CutAtAnyDepth, Faulty}
@@ -80,6 +82,22 @@ abbrev pub QuotesAreCut : Type 0
 QuotesAreCut =
     (bytes : Bytes) → list_all is_literal bytes ≡ true
     → Cut (codes "#!/bin/sh\n\"" ++ (bytes ++ codes "\"")) (one_word (part.Quoted bytes ∷ []) (12 + length bytes))
+
+-- ---- runs
+
+-- of the parts of a word no plain run is empty, and none stands directly behind another
+abbrev pub PlainRunsAreLongest : Type 0
+PlainRunsAreLongest =
+    (deep : ℕ → Bool) (len depth : ℕ) (text rest : Bytes) (v : Read)
+    → IsWord deep len depth [] text (Whole v rest) → plain_runs_are_longest false v.0 ≡ true
+
+-- what stands in double quotes is one empty part, or no quoted run of its parts is empty, and none stands directly
+-- behind another
+abbrev pub QuotedRunsAreLongest : Type 0
+QuotedRunsAreLongest =
+    (deep : ℕ → Bool) (len depth from : ℕ) (text rest : Bytes) (v : Read)
+    → IsInner deep len depth from true [] text (Whole v rest)
+    → (v.0 ≡ part.Quoted [] ∷ []) ⊎ (quoted_runs_are_longest false v.0 ≡ true)
 
 -- ---- what is seen is what is spelled
 
