@@ -1,15 +1,14 @@
 -- A text has one cut or one fault, and the scanner finds it.
-use Rattle.std.proofs.Common.{◌≡◌, ℕ, Bool, true, false, List, [], ◌∷◌, ◌++◌, Option, Some, None, Result, Ok, Err, refl, sym, ap, ◌∙◌, subst, length, drop}
+use Rattle.std.proofs.Common.{◌≡◌, ℕ, Bool, List, [], ◌∷◌, Option, Some, None, Ok, Err, refl, sym, ap, ◌∙◌, subst, length, drop}
 use Rattle.shell_lexer.specs.declared.fault.LexFault.{LexFault}
 use Rattle.shell_lexer.specs.declared.fault.LexFault.TheVariants.{Nul, Interpreter, OpenQuote, OpenSubstitution, Unsupported, Deep, Memory}
-use Rattle.shell_lexer.specs.declared.sight.Sign.{Sign}
 use Rattle.shell_lexer.specs.declared.token.Token.{Token}
 use Rattle.shell_lexer.specs.declared.token.TokenKind.TheVariants as token
 use Rattle.shell_lexer.specs.declared.token.Lexed.{Lexed}
 use Rattle.shell_lexer.specs.Depth.{too_deep}
 use Rattle.shell_lexer.specs.Text.{Bytes, skip, place}
 use Rattle.shell_lexer.specs.FirstLine.{first_line, behind_line, interpreter, nul_of}
-use Rattle.shell_lexer.specs.Reading.{Out, Whole, Stop, behind, closes, token_at, kind_of_sign, IsItems, items_end, items_pass, items_wrong, items_close, items_sign, items_word, items_late, items_bad}
+use Rattle.shell_lexer.specs.Reading.{Out, Whole, Stop, behind, token_at, kind_of_sign, IsItems, items_end, items_pass, items_wrong, items_close, items_sign, items_word, items_late, items_bad}
 use Rattle.shell_lexer.specs.Lexed.{Cut, CutBy, Begins, Faulty, IsBody, Caused}
 use Rattle.shell_lexer.specs.Reads.{ItemsRead}
 use Rattle.shell_lexer.proofs.Causes.{caused_map}

@@ -1,5 +1,5 @@
 -- What is read by some limit of substitutions, and does not stop at one that is too deep, is read the same way without a limit.
-use Rattle.std.proofs.Common.{◌≡◌, ℕ, Bool, true, false, List, [], ◌∷◌, ◌++◌, Option, Some, None, refl, sym, ap, ◌∙◌, subst, length}
+use Rattle.std.proofs.Common.{◌≡◌, ℕ, Bool, true, false, List, [], ◌∷◌, ◌++◌, refl, subst}
 use Rattle.shell_lexer.specs.declared.sight.ByteNote.{ByteNote}
 use Rattle.shell_lexer.specs.declared.sight.ByteNote.TheVariants as note
 use Rattle.shell_lexer.specs.declared.fault.LexFault.{LexFault}
@@ -11,11 +11,8 @@ use Rattle.shell_lexer.specs.declared.token.TokenKind.TheVariants as token
 use Rattle.shell_lexer.specs.declared.token.Lexed.{Lexed}
 use Rattle.shell_lexer.specs.Depth.{too_deep, no_limit}
 use Rattle.shell_lexer.specs.Text.{Bytes, offset}
-use Rattle.shell_lexer.specs.Operators.{Wrong, sight}
-use Rattle.shell_lexer.specs.Parts.{Bad, look, inner}
-use Rattle.shell_lexer.specs.Late.{late}
 use Rattle.shell_lexer.specs.Reading.{Out, Whole, Stop, Read, behind, grown, token_at, kind_of_sign, plain_run, quoted_run, IsItems, items_end, items_pass, items_wrong, items_close, items_sign, items_word, items_late, items_bad, IsWord, word_ends, word_byte, word_piece, word_all, word_double, word_run, word_wrong, word_bad_double, word_bad_run, IsInner, inner_open, inner_ends, inner_byte, inner_piece, inner_all, inner_run, inner_wrong, inner_bad_run, IsSub, sub_deep, sub_items}
-use Rattle.shell_lexer.specs.Lexed.{Cut, CutAtAnyDepth, CutBy, Faulty, IsBody}
+use Rattle.shell_lexer.specs.Lexed.{Cut, CutAtAnyDepth, Faulty, IsBody}
 use Rattle.shell_lexer.proofs.CutOnce.{some_none}
 use Rattle.shell_lexer.proofs.Unique.{items_one, no_stop}
 

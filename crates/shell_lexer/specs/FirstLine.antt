@@ -1,6 +1,6 @@
 -- The first line of a script, which names its interpreter: `#!`, blanks, `/bin/sh`, `/bin/dash` or `/bin/bash`,
 -- perhaps blanks and `-e`, perhaps blanks. It is read as it stands, without joined lines.
-use Rattle.std.specs.Prelude.{◌≡◌, ℕ, ◌+◌, Bool, true, false, if◌then◌else◌, ◌&&◌, nat_eq, List, [], ◌∷◌, ◌++◌, Option}
+use Rattle.std.specs.Prelude.{ℕ, ◌+◌, Bool, true, false, if◌then◌else◌, nat_eq, [], ◌∷◌, Option}
 use Rattle.std.specs.Prelude.{Some, None, codes}
 use Rattle.std.specs.List.{list_all}
 use Rattle.shell_lexer.specs.Text.{Bytes, is_blank}

@@ -1,6 +1,9 @@
 -- The laws that src/theorems.rt proves: what holds of cuts, and that what the tables see in a text is what is spelled
 -- there.
-use Rattle.std.specs.Prelude.{◌≡◌, ◌↔◌, ℕ, Bool, true, false, Some, codes}
+use Rattle.std.specs.Prelude.{◌≡◌, ◌↔◌, ◌⊎◌, ℕ, ◌+◌, Bool, true, false, not, ◌||◌, nat_eq, List, [], ◌∷◌, ◌++◌, map}
+use Rattle.std.specs.Prelude.{length}
+use Rattle.std.specs.Prelude.{Some, codes}
+use Rattle.std.specs.List.{list_all}
 use Rattle.shell_syntax.specs.declared.redirect.Redirect.{Redirect}
 use Rattle.shell_lexer.specs.declared.sight.Sign.{Sign}
 use Rattle.shell_lexer.specs.declared.sight.Sign.TheVariants as sign
@@ -8,13 +11,20 @@ use Rattle.shell_lexer.specs.declared.fault.LexFault.{LexFault}
 use Rattle.shell_lexer.specs.declared.fault.LexFault.TheVariants.{Deep}
 use Rattle.shell_lexer.specs.declared.token.Lexed.{Lexed}
 use Rattle.shell_lexer.specs.declared.token.RawPart.{RawPart}
-use Rattle.shell_lexer.specs.Text.{Bytes}
-use Rattle.shell_lexer.specs.FirstLine.{interpreter}
+use Rattle.shell_lexer.specs.declared.token.RawPart.TheVariants as part
+use Rattle.shell_lexer.specs.declared.token.TokenKind.TheVariants as token
+use Rattle.shell_lexer.specs.declared.sight.ByteNote.{ByteNote}
+use Rattle.shell_lexer.specs.declared.sight.ByteNote.TheVariants as note
+use Rattle.shell_lexer.specs.LongestRuns.{plain_runs_are_longest, quoted_runs_are_longest}
+use Rattle.shell_lexer.specs.Reading.{Whole, Read, IsInner, IsWord, token_at}
+use Rattle.shell_lexer.specs.Text.{Bytes, place}
+use Rattle.shell_lexer.specs.FirstLine.{behind_line, interpreter}
 use Rattle.shell_lexer.specs.Lexed.{Cut, CutAtAnyDepth, Faulty}
 use Rattle.shell_lexer.specs.Operators.{Operator, sight}
-use Rattle.shell_lexer.specs.Parts.{Look, AllArgs, DoubleQuote, Piece, Substitution, inner, look}
+use Rattle.shell_lexer.specs.Parts.{Look, AllArgs, DoubleQuote, Piece, Substitution}
 use Rattle.shell_lexer.specs.SpelledLine.{IsFirstLine}
 use Rattle.shell_lexer.specs.SpelledParts.{IsPiece, IsSubstitution}
+use Rattle.shell_lexer.specs.Tiled.{IsTiled, RiseFrom}
 use Rattle.shell_lexer.specs.Spelling.{IsOperator, IsRedirected, Stands}
 
 -- ---- cuts
@@ -36,6 +46,58 @@ abbrev pub OnlyDeepIsRefused : Type 0
 OnlyDeepIsRefused =
     (text : Bytes) (l : Lexed) (fault : LexFault)
     → CutAtAnyDepth text l → Faulty text fault → (at : ℕ) × (fault ≡ Deep at)
+
+-- a cut has each byte behind the first line in a blank, a comment, a joined line or exactly one token
+abbrev pub CutsAreTiled : Type 0
+CutsAreTiled =
+    (text : Bytes) (l : Lexed)
+    → CutAtAnyDepth text l → IsTiled (place (length text) (behind_line text)) (behind_line text) l.tokens
+
+-- and its tokens' offsets rise strictly
+abbrev pub OffsetsRise : Type 0
+OffsetsRise = (text : Bytes) (l : Lexed) → CutAtAnyDepth text l → RiseFrom 0 l.tokens
+
+-- ---- double quotes
+
+-- a byte that stands for itself in double quotes, whatever stands round it: no NUL, `"`, `$`, backquote or backslash
+abbrev pub is_literal : ℕ → Bool
+is_literal b = not (nat_eq b 0 || nat_eq b 34 || nat_eq b 36 || nat_eq b 92 || nat_eq b 96)
+
+-- what a word's notes have for so many bytes in double quotes
+abbrev pub gaps : Bytes → List ByteNote
+gaps bytes = map (λ b. note.Gap) bytes
+
+-- double quotes round such bytes, wherever they stand, are one part that has these bytes, newlines too
+abbrev pub QuotesAreOnePart : Type 0
+QuotesAreOnePart =
+    (deep : ℕ → Bool) (len depth from : ℕ) (bytes rest : Bytes) → list_all is_literal bytes ≡ true
+    → IsInner deep len depth from true [] (bytes ++ 34 ∷ rest) (Whole (part.Quoted bytes ∷ [], gaps bytes) rest)
+
+-- the tokens of a script of so many bytes that has one word behind the line `#!/bin/sh`
+abbrev pub one_word : List RawPart → ℕ → Lexed
+one_word parts end = record { strict = false; tokens = token_at 10 (token.Word parts) ∷ []; end = end }
+
+-- a script that is such quotes behind the line `#!/bin/sh` is cut into the word of that part
+abbrev pub QuotesAreCut : Type 0
+QuotesAreCut =
+    (bytes : Bytes) → list_all is_literal bytes ≡ true
+    → Cut (codes "#!/bin/sh\n\"" ++ (bytes ++ codes "\"")) (one_word (part.Quoted bytes ∷ []) (12 + length bytes))
+
+-- ---- runs
+
+-- of the parts of a word no plain run is empty, and none stands directly behind another
+abbrev pub PlainRunsAreLongest : Type 0
+PlainRunsAreLongest =
+    (deep : ℕ → Bool) (len depth : ℕ) (text rest : Bytes) (v : Read)
+    → IsWord deep len depth [] text (Whole v rest) → plain_runs_are_longest false v.0 ≡ true
+
+-- what stands in double quotes is one empty part, or no quoted run of its parts is empty, and none stands directly
+-- behind another
+abbrev pub QuotedRunsAreLongest : Type 0
+QuotedRunsAreLongest =
+    (deep : ℕ → Bool) (len depth from : ℕ) (text rest : Bytes) (v : Read)
+    → IsInner deep len depth from true [] text (Whole v rest)
+    → (v.0 ≡ part.Quoted [] ∷ []) ⊎ (quoted_runs_are_longest false v.0 ≡ true)
 
 -- ---- what is seen is what is spelled
 

@@ -1,5 +1,5 @@
 -- What it is for a text to be cut into tokens, and what its first fault is.
-use Rattle.std.specs.Prelude.{◌≡◌, ℕ, Bool, List, [], length, Option, Some, None}
+use Rattle.std.specs.Prelude.{◌≡◌, ℕ, Bool, List, [], length, Some, None}
 use Rattle.shell_lexer.specs.declared.fault.LexFault.{LexFault}
 use Rattle.shell_lexer.specs.declared.fault.LexFault.TheVariants.{Nul, Interpreter, OpenQuote, OpenSubstitution}
 use Rattle.shell_lexer.specs.declared.fault.LexFault.TheVariants.{Unsupported, Deep, Memory}

@@ -1,7 +1,7 @@
 -- What stands where a token may begin, by the next byte that counts (POSIX.1-2017, XCU 2.3 Token Recognition, 2.7
 -- Redirection, 2.10.2 Shell Grammar Rules). A longest operator is taken. A redirection is one token with its number
 -- and its word.
-use Rattle.std.specs.Prelude.{ℕ, Bool, true, false, if◌then◌else◌, ◌&&◌, ◌||◌, nat_eq, List, [], ◌∷◌, Option, Some}
+use Rattle.std.specs.Prelude.{ℕ, if◌then◌else◌, ◌&&◌, ◌||◌, nat_eq, [], ◌∷◌, Option, Some}
 use Rattle.std.specs.Prelude.{None, codes}
 use Rattle.std.specs.Str.{bytes_eq}
 use Rattle.shell_syntax.specs.declared.redirect.Redirect.{Redirect}

@@ -1,6 +1,6 @@
 -- What stands in a word, and in double quotes, by the next byte that counts (POSIX.1-2017, XCU 2.2 Quoting, 2.5
 -- Parameters and Variables, 2.6.2 Parameter Expansion, 2.6.3 Command Substitution).
-use Rattle.std.specs.Prelude.{ℕ, ◌-◌, Bool, true, false, if◌then◌else◌, ◌||◌, nat_eq, List, [], ◌∷◌, Option, Some, None}
+use Rattle.std.specs.Prelude.{ℕ, ◌-◌, Bool, true, false, if◌then◌else◌, ◌||◌, nat_eq, [], ◌∷◌, Option, Some, None}
 use Rattle.shell_syntax.specs.declared.form.Form.TheVariants as form
 use Rattle.shell_syntax.specs.declared.key.Key.{Key}
 use Rattle.shell_syntax.specs.declared.key.Key.TheVariants.{Named, Arg, Count}

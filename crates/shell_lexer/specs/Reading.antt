@@ -1,6 +1,6 @@
 -- The reading of a text: rules from what stands at a place to the tokens, or to the first fault
 -- (POSIX.1-2017, XCU 2.3 Token Recognition; what is not supported is this project's own choice).
-use Rattle.std.specs.Prelude.{◌≡◌, ℕ, zero, suc, ◌+◌, ◌-◌, Bool, true, false, List, [], ◌∷◌, ◌++◌, Option, Some, None}
+use Rattle.std.specs.Prelude.{◌≡◌, ℕ, zero, suc, ◌+◌, ◌-◌, Bool, true, false, List, [], ◌∷◌, ◌++◌, Some, None}
 use Rattle.shell_lexer.specs.declared.sight.Sign.{Sign}
 use Rattle.shell_lexer.specs.declared.sight.Sign.TheVariants as sign
 use Rattle.shell_lexer.specs.declared.sight.ByteNote.{ByteNote}
@@ -13,8 +13,8 @@ use Rattle.shell_lexer.specs.declared.token.RawPart.TheVariants as part
 use Rattle.shell_lexer.specs.declared.token.TokenKind.{TokenKind}
 use Rattle.shell_lexer.specs.declared.token.TokenKind.TheVariants as token
 use Rattle.shell_lexer.specs.Text.{Bytes, offset}
-use Rattle.shell_lexer.specs.Operators.{Sight, End, Passed, Operator, Wrong, Word, sight}
-use Rattle.shell_lexer.specs.Parts.{Look, Ends, Byte, Piece, AllArgs, DoubleQuote, Substitution, Bad, look, inner}
+use Rattle.shell_lexer.specs.Operators.{End, Passed, Operator, Wrong, Word, sight}
+use Rattle.shell_lexer.specs.Parts.{Ends, Byte, Piece, AllArgs, DoubleQuote, Substitution, Bad, look, inner}
 use Rattle.shell_lexer.specs.Late.{late}
 
 -- a value and the text behind it, or the first fault

@@ -1,5 +1,5 @@
 -- What the code saw at a place, as the tables have it.
-use Rattle.std.specs.Prelude.{◌≡◌, ℕ, ◌+◌, ◌-◌, ◌<◌, ◌≤◌, Bool, true, false, List, length, drop, take, Option, Some}
+use Rattle.std.specs.Prelude.{◌≡◌, ℕ, ◌+◌, ◌-◌, ◌<◌, ◌≤◌, true, false, length, drop, take, Option, Some}
 use Rattle.std.specs.Prelude.{None, Result, IfOk}
 use Rattle.shell_lexer.specs.declared.sight.Sight.{Sight}
 use Rattle.shell_lexer.specs.declared.sight.Sight.TheVariants.{End, Passed, Operator, Wrong, Word}

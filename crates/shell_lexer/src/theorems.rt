@@ -4,6 +4,9 @@
 
 ghost use Rattle.std.specs.Prelude.{false, true};
 ghost use Rattle.shell_lexer.specs.Laws.{OneCut, OneCutAtAnyDepth, CutsWithinLimit, OnlyDeepIsRefused};
+ghost use Rattle.shell_lexer.specs.Laws.{CutsAreTiled, OffsetsRise};
+ghost use Rattle.shell_lexer.specs.Laws.{QuotesAreOnePart, QuotesAreCut};
+ghost use Rattle.shell_lexer.specs.Laws.{PlainRunsAreLongest, QuotedRunsAreLongest};
 ghost use Rattle.shell_lexer.specs.Laws.{OperatorsAreLongest, RedirectionsAreSpelled, FirstLinesAreSpelled};
 ghost use Rattle.shell_lexer.specs.Laws.{PartsAreSpelled, AllArgsAreSpelled, SubstitutionsAreSpelled};
 ghost use Rattle.shell_lexer.specs.Laws.{DoubleQuotesAreSpelled};
@@ -20,6 +23,27 @@ pub fn one_cut()
 pub fn limit_only_refuses()
     ensures cuts { CutsWithinLimit }
     ensures faults { OnlyDeepIsRefused }
+{}
+
+/// A text that is cut is made up of its tokens: each byte behind the first line is in a blank, a comment, a joined
+/// line or exactly one token, and the offsets of the tokens rise strictly (XCU 2.3 Token Recognition).
+pub fn cuts_are_tiled()
+    ensures tiled { CutsAreTiled }
+    ensures rise { OffsetsRise }
+{}
+
+/// Double quotes round bytes without `$`, backquote, backslash and `"` are one quoted part that has these bytes (XCU
+/// 2.2.3 Double-Quotes): wherever they stand, and as the one word of a script.
+pub fn quotes_keep_bytes()
+    ensures one_part { QuotesAreOnePart }
+    ensures cut { QuotesAreCut }
+{}
+
+/// The runs of a word are longest: of its parts no plain run is empty or stands directly behind another; and the same
+/// of quoted runs in double quotes, but for the empty quotes, which are one empty part (XCU 2.2.3 Double-Quotes).
+pub fn runs_are_longest()
+    ensures plain { PlainRunsAreLongest }
+    ensures quoted { QuotedRunsAreLongest }
 {}
 
 /// What begins at a place is an operator, or a whole redirection, exactly where its spelling stands there and no longer

@@ -1,4 +1,4 @@
-use Rattle.std.proofs.Common.{arith, drop, length, ◌<◌, ◌≤◌, refl, [], ◌++◌, true, false, ◌≡◌, ◌∙◌, sym, ap, Ok, Err}
+use Rattle.std.proofs.Common.{arith, length, ◌<◌, ◌≤◌, refl, [], true, false, ◌∙◌, sym, ap}
 use Rattle.std.proofs.lemmas.Result.{err_from_is_err_and}
 use Rattle.shell_lexer.specs.Late.{late}
 use Rattle.shell_lexer.proofs.Begun.{word_begun}
