@@ -8,8 +8,6 @@ mod deliver;
 mod error_lines;
 mod faults;
 mod input;
-#[cfg(test)]
-mod report_tests;
 mod request;
 mod script;
 #[cfg(test)]

@@ -1,13 +1,15 @@
-use crate::report_tests::NOTHING;
+mod reports;
+
 use crate::top::run_words;
 use checker_io::{MemShelf, MemSink};
+use reports::NOTHING;
 use script_names::{List, Text};
 use std::process::Abort;
 use std::test::Fail;
 
 // One call: the words, the script, what is to fail, and what has to come of it.
 #[derive(Drop)]
-pub struct Row<'a> {
+struct Row<'a> {
     words: &'a [&'a str],
     postinst: Option<&'a [u8]>,
     failing_read: u32,
@@ -21,7 +23,7 @@ pub struct Row<'a> {
 const CHECK: &[&str] = &["check", "p"];
 
 // A call in which nothing fails.
-pub fn quiet_row<'a>(postinst: Option<&'a [u8]>, status: u8, err: &'a [u8]) -> Row<'a> {
+fn quiet_row<'a>(postinst: Option<&'a [u8]>, status: u8, err: &'a [u8]) -> Row<'a> {
     Row {
         words: CHECK,
         postinst,
@@ -49,7 +51,7 @@ fn words_row<'a>(words: &'a [&'a str], postinst: &'a [u8], err: &'a [u8]) -> Row
 }
 
 // What standard output took; the status and the lines are compared.
-pub fn written<R: Abort + AllocGlobal>(rt: &R, row: &Row<'_>) -> Result<Vec<u8>, Fail> {
+fn written<R: Abort + AllocGlobal>(rt: &R, row: &Row<'_>) -> Result<Vec<u8>, Fail> {
     let alloc = rt.alloc();
     let mut words = List::new(alloc);
     for word in row.words {

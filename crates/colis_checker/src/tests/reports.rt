@@ -1,6 +1,6 @@
 //! Whole reports, and the lines of reports that tell the outcomes, written out by hand.
 
-use crate::tests::{quiet_row, written};
+use super::{quiet_row, written};
 use std::alloc::{AllocError, Global};
 use std::test::Fail;
 
