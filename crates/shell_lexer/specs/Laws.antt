@@ -124,7 +124,7 @@ PartsAreSpelled sees inside =
 abbrev pub AllArgsAreSpelled : (ℕ → Bytes → Look) → Type 0
 AllArgsAreSpelled sees = (len : ℕ) (text rest : Bytes) → (sees len text ≡ AllArgs rest) ↔ Stands (codes "$@") text rest
 
--- it is the begin of a substitution exactly where one is spelled
+-- it is the beginning of a substitution exactly where one is spelled
 abbrev pub SubstitutionsAreSpelled : (ℕ → Bytes → Look) → Type 0
 SubstitutionsAreSpelled sees =
     (len : ℕ) (text rest : Bytes) → (sees len text ≡ Substitution rest) ↔ IsSubstitution text rest

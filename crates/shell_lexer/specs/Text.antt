@@ -120,7 +120,7 @@ run which text = run_of (passes which) (cells text)
 abbrev pub behind : RunKind → Bytes → Bytes
 behind which text = behind_run (passes which) text (cells text)
 
--- whether a word ends before a byte of this kind: a blank or the begin of an operator
+-- whether a word ends before a byte of this kind: a blank or the beginning of an operator
 abbrev pub is_word_end : ByteKind → Bool
 is_word_end Blank = true
 is_word_end Newline = true

@@ -67,7 +67,7 @@ pub fn parts_are_spelled()
     ensures inside { PartsAreSpelled inner true }
 {}
 
-/// `$@` (XCU 2.5.2 Special Parameters), a substitution's begin (2.6.3 Command Substitution) and a double quote
+/// `$@` (XCU 2.5.2 Special Parameters), the beginning of a substitution (2.6.3 Command Substitution) and a double quote
 /// (2.2.3) are seen exactly where they are spelled, outside double quotes and inside them.
 pub fn openings_are_spelled()
     ensures all_args { AllArgsAreSpelled look }
