@@ -75,7 +75,7 @@ module _ {F R A : Type 0} where
       Rose old.faults new.faults × (new.failed ≡ name file) × Asks name old.holds plan file
   ReadEnds name old new plan (Err NoMemory) = IsQuiet old new
 
-  -- a reading that was carried out on a shelf, whose files are named so; the shelf holds what it file_at
+  -- a reading that was carried out on a shelf, whose files are named so; the shelf holds what it held
   pub record Reads (name : F → List ℕ) (old new : ShelfState) (plan : Asking F R A)
       (result : Result A (Stop F R)) : Type 0 where
     pub kept : new.holds ≡ old.holds

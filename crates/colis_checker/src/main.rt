@@ -12,6 +12,7 @@ mod request;
 mod script;
 #[cfg(test)]
 mod tests;
+pub mod theorems;
 mod top;
 
 use checker_io::{DirShelf, OutSink};
