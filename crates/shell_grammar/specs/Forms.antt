@@ -8,9 +8,12 @@ use Rattle.shell_grammar.specs.declared.form.CompoundForm.TheVariants as compoun
 use Rattle.shell_grammar.specs.declared.form.Item.{Item}
 use Rattle.shell_grammar.specs.declared.form.Item.TheVariants as an
 use Rattle.shell_grammar.specs.declared.look.Look.{Look}
-use Rattle.shell_grammar.specs.declared.look.Look.TheVariants.{AtEnd, Newline, Semi, DoubleSemi, AndAnd, OrOr, Bar, LeftParen, RightParen, Redirection, Keyword, Name, Assignment, Other}
+use Rattle.shell_grammar.specs.declared.look.Look.TheVariants.{AtEnd, Newline, Semi, DoubleSemi, AndAnd, OrOr, Bar}
+use Rattle.shell_grammar.specs.declared.look.Look.TheVariants.{LeftParen, RightParen, Redirection, Keyword, Name}
+use Rattle.shell_grammar.specs.declared.look.Look.TheVariants.{Assignment, Other}
 use Rattle.shell_grammar.specs.declared.look.Reserved.{Reserved}
-use Rattle.shell_grammar.specs.declared.look.Reserved.TheVariants.{Open, Close, Bang, If, Then, Elif, Else, Fi, For, In, Do, Done, While, Until, Case, Esac}
+use Rattle.shell_grammar.specs.declared.look.Reserved.TheVariants.{Open, Close, Bang, If, Then, Elif, Else, Fi, For}
+use Rattle.shell_grammar.specs.declared.look.Reserved.TheVariants.{In, Do, Done, While, Until, Case, Esac}
 
 -- a compound command begins with `(` or one of the reserved words `{ if while until for case`; a command of another form begins with a
 -- word that is not reserved, or with a redirection; no command begins otherwise
@@ -54,6 +57,7 @@ abbrev pub has_word : Bool → Item → Bool
 has_word behind_word an.Word = true
 has_word behind_word _ = behind_word
 
+-- there is one
 abbrev pub is_some : {A : Type 0} → Option A → Bool
 is_some (Some form) = true
 is_some None = false
@@ -97,6 +101,7 @@ link_and AndAnd = Some true
 link_and OrOr = Some false
 link_and _ = None
 
+-- the redirection that stands there, if one does
 abbrev pub redirection : Look → Option Redirect
 redirection (Redirection which) = Some which
 redirection _ = None

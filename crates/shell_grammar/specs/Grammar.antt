@@ -15,11 +15,16 @@ use Rattle.shell_grammar.specs.declared.form.Item.{Item}
 use Rattle.shell_grammar.specs.declared.form.Item.TheVariants as an
 use Rattle.shell_grammar.specs.declared.items.Items.{Items}
 use Rattle.shell_grammar.specs.declared.look.Look.{Look}
-use Rattle.shell_grammar.specs.declared.look.Look.TheVariants.{AtEnd, Newline, Semi, DoubleSemi, AndAnd, OrOr, Bar, LeftParen, RightParen, Redirection, Keyword}
-use Rattle.shell_grammar.specs.declared.look.Reserved.TheVariants.{Open, Close, Bang, If, Then, Elif, Else, Fi, For, In, Do, Done, Case, Esac}
+use Rattle.shell_grammar.specs.declared.look.Look.TheVariants.{AtEnd, Newline, Semi, DoubleSemi, AndAnd, OrOr, Bar}
+use Rattle.shell_grammar.specs.declared.look.Look.TheVariants.{LeftParen, RightParen, Redirection, Keyword}
+use Rattle.shell_grammar.specs.declared.look.Reserved.TheVariants.{Open, Close, Bang, If, Then, Elif, Else, Fi, For}
+use Rattle.shell_grammar.specs.declared.look.Reserved.TheVariants.{In, Do, Done, Case, Esac}
 use Rattle.shell_grammar.specs.Look.{Text}
-use Rattle.shell_grammar.specs.Forms.{command_form, compound_form, item, has_word, starts, loop_word, is_name_word, is_word, is_separator, link_and, redirection, ends_arm}
-use Rattle.shell_grammar.specs.Trees.{seq_of, pipe_of, chain_of, redirected, link, if_arm, case_arm, no_items, an_assign, a_word, a_redirect, joined, simple, word_text, assigned, Tail, Defines, Continues, named}
+use Rattle.shell_grammar.specs.Forms.{command_form, compound_form, item, has_word, starts, loop_word, is_name_word}
+use Rattle.shell_grammar.specs.Forms.{is_word, is_separator, link_and, redirection, ends_arm}
+use Rattle.shell_grammar.specs.Trees.{seq_of, pipe_of, chain_of, redirected, link, if_arm, case_arm, no_items}
+use Rattle.shell_grammar.specs.Trees.{an_assign, a_word, a_redirect, joined, simple, word_text, assigned, Tail}
+use Rattle.shell_grammar.specs.Trees.{Defines, Continues, named}
 
 -- the grammar's names, each with what stands for it
 pub data Rule : Type 0 where
@@ -146,6 +151,7 @@ Value Never = Unit {0}
 Value (Of n) = Tree n
 Value (Inside n) = Tree n
 
+-- what signs give, one after another
 abbrev pub Values : List Sign → Type 0
 Values [] = Unit {0}
 Values (s ∷ ss) = Value s × Values ss
@@ -164,19 +170,36 @@ production_behind false = record { signs = []; tree = λ v. [] }
 
 -- a command (XCU 2.10.2 command; 2.9.1 Simple Commands, 2.9.4 Compound Commands, 2.9.5 Function Definition Command)
 abbrev pub production_command : Option CommandForm → Production ACommand
-production_command (Some command.Compound) = record { signs = Here ∷ Of Compound ∷ Of Redirects ∷ []; tree = λ v. redirected v.0 v.1.0 v.1.1.0 }
-production_command (Some command.Named) = record { signs = Here ∷ AWord ∷ Of Named ∷ []; tree = λ v. named v.0 v.1.0 v.1.1.0 }
-production_command (Some command.Simple) = record { signs = Here ∷ Of (SimpleItems false) ∷ []; tree = λ v. simple v.0 v.1.0 }
+production_command (Some command.Compound) =
+    record { signs = Here ∷ Of Compound ∷ Of Redirects ∷ []; tree = λ v. redirected v.0 v.1.0 v.1.1.0 }
+production_command (Some command.Named) =
+    record { signs = Here ∷ AWord ∷ Of Named ∷ []; tree = λ v. named v.0 v.1.0 v.1.1.0 }
+production_command (Some command.Simple) =
+    record { signs = Here ∷ Of (SimpleItems false) ∷ []; tree = λ v. simple v.0 v.1.0 }
 production_command None = record { signs = Never ∷ []; tree = λ v. c.Seq [] }
 
 -- a compound command (XCU 2.10.2 compound_command; 2.9.4.1 Grouping Commands, 2.9.4.2 The for Loop, 2.9.4.3 Case Conditional Construct,
 -- 2.9.4.4 The if Conditional Construct, 2.9.4.5 The while Loop, 2.9.4.6 The until Loop)
 abbrev pub production_compound : CompoundForm → Production Compound
-production_compound compound.Subshell = record { signs = Opens LeftParen ∷ Inside Block ∷ Is RightParen ∷ []; tree = λ v. c.Sub v.0 v.1.0 }
-production_compound compound.If = record { signs = Opens (Keyword If) ∷ Inside Clause ∷ Is (Keyword Fi) ∷ []; tree = λ v. c.If v.0 v.1.0.0 v.1.0.1 }
-production_compound compound.For = record { signs = Opens (Keyword For) ∷ Inside ForRest ∷ Is (Keyword Done) ∷ []; tree = λ v. c.For v.0 v.1.0.0 v.1.0.1 v.1.0.2 }
-production_compound compound.Case = record { signs = Opens (Keyword Case) ∷ Inside CaseRest ∷ Is (Keyword Esac) ∷ []; tree = λ v. c.Case v.0 v.1.0.0 v.1.0.1 }
-production_compound (compound.Loop until) = record { signs = Opens (loop_word until) ∷ Inside Loop ∷ Is (Keyword Done) ∷ []; tree = λ v. c.While v.0 until v.1.0.0 v.1.0.1 }
+production_compound compound.Subshell =
+    record { signs = Opens LeftParen ∷ Inside Block ∷ Is RightParen ∷ []; tree = λ v. c.Sub v.0 v.1.0 }
+production_compound compound.If =
+    record { signs = Opens (Keyword If) ∷ Inside Clause ∷ Is (Keyword Fi) ∷ []; tree = λ v. c.If v.0 v.1.0.0 v.1.0.1 }
+production_compound compound.For =
+    record {
+      signs = Opens (Keyword For) ∷ Inside ForRest ∷ Is (Keyword Done) ∷ [];
+      tree = λ v. c.For v.0 v.1.0.0 v.1.0.1 v.1.0.2;
+    }
+production_compound compound.Case =
+    record {
+      signs = Opens (Keyword Case) ∷ Inside CaseRest ∷ Is (Keyword Esac) ∷ [];
+      tree = λ v. c.Case v.0 v.1.0.0 v.1.0.1;
+    }
+production_compound (compound.Loop until) =
+    record {
+      signs = Opens (loop_word until) ∷ Inside Loop ∷ Is (Keyword Done) ∷ [];
+      tree = λ v. c.While v.0 until v.1.0.0 v.1.0.1;
+    }
 production_compound compound.Braces = record { signs = Of Braces ∷ []; tree = λ v. v.0 }
 
 -- the name of a `for` (XCU 2.10.2 name)
@@ -196,14 +219,21 @@ production_arm_body false = record { signs = Of Members ∷ []; tree = λ v. v.0
 
 -- the items of a simple command (XCU 2.10.2 simple_command, cmd_prefix, cmd_suffix)
 abbrev pub production_items : (behind_word : Bool) → Option Item → Production (SimpleItems behind_word)
-production_items behind_word (Some an.Assignment) = record { signs = AWord ∷ Of (SimpleItems behind_word) ∷ []; tree = λ v. joined (an_assign (assigned v.0)) v.1.0 }
-production_items behind_word (Some (an.Redirection which)) = record { signs = Is (Redirection which) ∷ Of (SimpleItems behind_word) ∷ []; tree = λ v. joined (a_redirect which) v.1.0 }
-production_items behind_word (Some an.Word) = record { signs = AWord ∷ Of (SimpleItems true) ∷ []; tree = λ v. joined (a_word v.0) v.1.0 }
+production_items behind_word (Some an.Assignment) =
+    record { signs = AWord ∷ Of (SimpleItems behind_word) ∷ []; tree = λ v. joined (an_assign (assigned v.0)) v.1.0 }
+production_items behind_word (Some (an.Redirection which)) =
+    record {
+      signs = Is (Redirection which) ∷ Of (SimpleItems behind_word) ∷ [];
+      tree = λ v. joined (a_redirect which) v.1.0;
+    }
+production_items behind_word (Some an.Word) =
+    record { signs = AWord ∷ Of (SimpleItems true) ∷ []; tree = λ v. joined (a_word v.0) v.1.0 }
 production_items behind_word None = record { signs = []; tree = λ v. no_items }
 
 -- further pipelines (XCU 2.10.2 and_or; 2.9.3 Lists)
 abbrev pub production_links : Look → (is_and : Option Bool) → Production Links
-production_links l (Some is_and) = record { signs = Is l ∷ Of Newlines ∷ Of Pipeline ∷ Of Links ∷ []; tree = λ v. link is_and v.1.1.0 ∷ v.1.1.1.0 }
+production_links l (Some is_and) =
+    record { signs = Is l ∷ Of Newlines ∷ Of Pipeline ∷ Of Links ∷ []; tree = λ v. link is_and v.1.1.0 ∷ v.1.1.1.0 }
 production_links l None = record { signs = []; tree = λ v. [] }
 
 -- a separator and what follows it (XCU 2.10.2 separator, newline_list)
@@ -218,11 +248,13 @@ production_apart l false = record { signs = Never ∷ []; tree = λ v. tt }
 
 -- redirections (XCU 2.10.2 redirect_list)
 abbrev pub production_redirects : Option Redirect → Production Redirects
-production_redirects (Some which) = record { signs = Is (Redirection which) ∷ Of Redirects ∷ []; tree = λ v. which ∷ v.1.0 }
+production_redirects (Some which) =
+    record { signs = Is (Redirection which) ∷ Of Redirects ∷ []; tree = λ v. which ∷ v.1.0 }
 production_redirects None = record { signs = []; tree = λ v. [] }
 
 -- ---- the table
 
+-- the production of a rule, by what stands first among the tokens
 abbrev pub production : (n : Rule) → Look → Production n
 -- XCU 2.10.2 program, linebreak, complete_commands, compound_list
 production Script l = record { signs = Of Newlines ∷ Of Body ∷ Is AtEnd ∷ []; tree = λ v. v.1.0 }
@@ -240,40 +272,58 @@ production Links l = production_links l (link_and l)
 production Pipeline (Keyword Bang) = record { signs = Is (Keyword Bang) ∷ Of Piped ∷ []; tree = λ v. c.Not v.0 v.1.0 }
 production Pipeline l = record { signs = Of Piped ∷ []; tree = λ v. v.0 }
 production Piped l = record { signs = Here ∷ Of ACommand ∷ Of Bars ∷ []; tree = λ v. pipe_of v.0 (v.1.0 ∷ v.1.1.0) }
-production Bars Bar = record { signs = Is Bar ∷ Of Newlines ∷ Of ACommand ∷ Of Bars ∷ []; tree = λ v. v.1.1.0 ∷ v.1.1.1.0 }
+production Bars Bar =
+    record { signs = Is Bar ∷ Of Newlines ∷ Of ACommand ∷ Of Bars ∷ []; tree = λ v. v.1.1.0 ∷ v.1.1.1.0 }
 production Bars l = record { signs = []; tree = λ v. [] }
 production ACommand l = production_command (command_form l)
 production Compound l = production_compound (compound_form l)
 -- XCU 2.10.2 if_clause, else_part, while_clause, until_clause, do_group
-production Clause l = record { signs = Of Block ∷ Is (Keyword Then) ∷ Of Block ∷ Of Arms ∷ []; tree = λ v. (if_arm v.0 v.1.1.0 ∷ v.1.1.1.0.0, v.1.1.1.0.1) }
+production Clause l =
+    record {
+      signs = Of Block ∷ Is (Keyword Then) ∷ Of Block ∷ Of Arms ∷ [];
+      tree = λ v. (if_arm v.0 v.1.1.0 ∷ v.1.1.1.0.0, v.1.1.1.0.1);
+    }
 production Arms (Keyword Elif) = record { signs = Is (Keyword Elif) ∷ Of Clause ∷ []; tree = λ v. v.1.0 }
 production Arms (Keyword Else) = record { signs = Is (Keyword Else) ∷ Of Block ∷ []; tree = λ v. ([], Some v.1.0) }
 production Arms l = record { signs = []; tree = λ v. ([], None) }
 production Loop l = record { signs = Of Block ∷ Is (Keyword Do) ∷ Of Block ∷ []; tree = λ v. (v.0, v.1.1.0) }
 -- XCU 2.10.2 for_clause, name, in, wordlist, sequential_sep, do_group
-production ForRest l = record { signs = Of ForName ∷ Of Newlines ∷ Of ForWords ∷ Is (Keyword Do) ∷ Of Block ∷ []; tree = λ v. (v.0, v.1.1.0, v.1.1.1.1.0) }
+production ForRest l =
+    record {
+      signs = Of ForName ∷ Of Newlines ∷ Of ForWords ∷ Is (Keyword Do) ∷ Of Block ∷ [];
+      tree = λ v. (v.0, v.1.1.0, v.1.1.1.1.0);
+    }
 production ForName l = production_name (is_name_word l)
-production ForWords (Keyword In) = record { signs = Is (Keyword In) ∷ Of Each ∷ Of Apart ∷ []; tree = λ v. Some v.1.0 }
+production ForWords (Keyword In) =
+    record { signs = Is (Keyword In) ∷ Of Each ∷ Of Apart ∷ []; tree = λ v. Some v.1.0 }
 production ForWords Semi = record { signs = Is Semi ∷ Of Newlines ∷ []; tree = λ v. None }
 production ForWords l = record { signs = []; tree = λ v. None }
 production Each l = production_each (is_word l)
 production Apart l = production_apart l (is_separator l)
 -- XCU 2.10.2 case_clause, case_list, case_list_ns, case_item, case_item_ns, pattern
-production CaseRest l = record { signs = AWord ∷ Of Newlines ∷ Is (Keyword In) ∷ Of Newlines ∷ Of CaseArms ∷ []; tree = λ v. (v.0, v.1.1.1.1.0) }
+production CaseRest l =
+    record {
+      signs = AWord ∷ Of Newlines ∷ Is (Keyword In) ∷ Of Newlines ∷ Of CaseArms ∷ [];
+      tree = λ v. (v.0, v.1.1.1.1.0);
+    }
 production CaseArms (Keyword Esac) = record { signs = []; tree = λ v. [] }
 production CaseArms l = record { signs = Of OneArm ∷ Of CaseMore ∷ []; tree = λ v. v.0 ∷ v.1.0 }
-production CaseMore DoubleSemi = record { signs = Is DoubleSemi ∷ Of Newlines ∷ Of CaseArms ∷ []; tree = λ v. v.1.1.0 }
+production CaseMore DoubleSemi =
+    record { signs = Is DoubleSemi ∷ Of Newlines ∷ Of CaseArms ∷ []; tree = λ v. v.1.1.0 }
 production CaseMore l = record { signs = []; tree = λ v. [] }
 production OneArm LeftParen = record { signs = Is LeftParen ∷ Of ArmRest ∷ []; tree = λ v. v.1.0 }
 production OneArm l = record { signs = Of ArmRest ∷ []; tree = λ v. v.0 }
-production ArmRest l = record { signs = Of Patterns ∷ Is RightParen ∷ Of Newlines ∷ Of ArmBody ∷ []; tree = λ v. case_arm v.0 v.1.1.1.0 }
+production ArmRest l =
+    record { signs = Of Patterns ∷ Is RightParen ∷ Of Newlines ∷ Of ArmBody ∷ []; tree = λ v. case_arm v.0 v.1.1.1.0 }
 production Patterns l = record { signs = AWord ∷ Of MorePatterns ∷ []; tree = λ v. v.0 ∷ v.1.0 }
 production MorePatterns Bar = record { signs = Is Bar ∷ AWord ∷ Of MorePatterns ∷ []; tree = λ v. v.1.0 ∷ v.1.1.0 }
 production MorePatterns l = record { signs = []; tree = λ v. [] }
 production ArmBody l = production_arm_body (ends_arm l)
 -- XCU 2.10.2 brace_group, function_definition, function_body, simple_command, redirect_list
-production Braces l = record { signs = Opens (Keyword Open) ∷ Inside Block ∷ Is (Keyword Close) ∷ []; tree = λ v. v.1.0 }
-production Named LeftParen = record { signs = Is LeftParen ∷ Is RightParen ∷ Of Newlines ∷ Of Braces ∷ []; tree = λ v. Defines v.1.1.1.0 }
+production Braces l =
+    record { signs = Opens (Keyword Open) ∷ Inside Block ∷ Is (Keyword Close) ∷ []; tree = λ v. v.1.0 }
+production Named LeftParen =
+    record { signs = Is LeftParen ∷ Is RightParen ∷ Of Newlines ∷ Of Braces ∷ []; tree = λ v. Defines v.1.1.1.0 }
 production Named l = record { signs = Of (SimpleItems true) ∷ []; tree = λ v. Continues v.0 }
 production (SimpleItems behind_word) l = production_items behind_word (item behind_word l)
 production Redirects l = production_redirects (redirection l)
