@@ -1,4 +1,4 @@
 pub mod Readings
 pub mod Sinks
 mod Rests
-mod Held
+mod MemShelves

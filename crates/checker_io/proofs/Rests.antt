@@ -1,8 +1,10 @@
 -- What reading the rest of a file takes of it.
-use Rattle.std.proofs.Common.{◌≡◌, ◌<◌, ◌≤◌, ◌+◌, ◌-◌, ℕ, min, List, ◌++◌, length, take, Option, Some, None, sym, ap, ◌∙◌, arith, append_assoc}
+use Rattle.std.proofs.Common.{◌≡◌, ◌<◌, ◌≤◌, ◌+◌, ◌-◌, ℕ, min, List, ◌++◌, length, take, Option, Some, None, Result, Ok, Err, sym, ap, ◌∙◌, arith, append_assoc}
 use Rattle.std.proofs.lemmas.List.{length-append, length-take, length-take-le}
 use Rattle.std.specs.Io.KnownBytes.{Consumes}
-use Rattle.checker_io.specs.DirShelf.{TakesAtMost}
+use Rattle.checker_io.specs.DirShelf.{TakesAtMost, OrNoMemory}
+use Rattle.checker_io.specs.declared.shelf.ShelfFault.{ShelfFault}
+use Rattle.checker_io.specs.declared.shelf.ShelfFault.TheVariants.{Missing, TooLong, Failed, Memory}
 
 both : (old mid new : Option (List ℕ)) (bytes more : List ℕ) → Consumes old mid bytes → Consumes mid new more → Consumes old new (bytes ++ more)
 both None mid new bytes more first second = tt
@@ -49,3 +51,11 @@ takes_all old mid new bytes whole buffer len room count max first second le same
       both old mid new bytes (take count buffer) first second,
       joined_length bytes buffer count few.0 ∙ just_past (length bytes) len room count max is few.1 fits more,
     )
+
+-- what holds of an answer holds of it, or memory is missing
+pub or_no_memory : (P : Result (List ℕ) ShelfFault → Type 0) (result : Result (List ℕ) ShelfFault) → P result → OrNoMemory P result
+or_no_memory P (Ok bytes) h = h
+or_no_memory P (Err Missing) h = h
+or_no_memory P (Err TooLong) h = h
+or_no_memory P (Err Failed) h = h
+or_no_memory P (Err Memory) h = tt

@@ -93,9 +93,9 @@ more_taken : (old mid new : Option (List ℕ)) (done count : ℕ) (text : List �
     → Took old mid (take done text) → Appends mid new (take count (drop done text)) → Took old new (take (done + count) text)
 more_taken None mid new done count text first more = tt
 more_taken (Some before) None new done count text first more = absurd (cc)
-more_taken (Some before) (Some held) None done count text first more = absurd more
-more_taken (Some before) (Some held) (Some now) done count text first more =
-    let start : held ≡ before ++ take done text = cc in
+more_taken (Some before) (Some file_at) None done count text first more = absurd more
+more_taken (Some before) (Some file_at) (Some now) done count text first more =
+    let start : file_at ≡ before ++ take done text = cc in
     ap Some (more ∙ ap (λ xs. xs ++ take count (drop done text)) start ∙ append_assoc before (take done text) (take count (drop done text))
     ∙ ap (λ rest. before ++ rest) (sym (take_more done count text)))
 

@@ -1,6 +1,10 @@
 -- A shelf over the file system: its count, and what a read takes of a file.
-use Rattle.std.specs.Prelude.{◌≡◌, ◌≤◌, ◌+◌, ℕ, List, [], length, Option, Some, None, Result, Ok, Err}
+use Rattle.std.specs.Prelude.{◌≡◌, ◌≢◌, ◌≤◌, ◌+◌, ℕ, List, [], length, Option, Some, None, Result, Ok, Err}
 use Rattle.std.specs.Io.KnownBytes.{Consumes, IsAtEnd}
+use Rattle.std.specs.IoError.{error_kind}
+use Rattle.std.specs.declared.io.Error.{Error}
+use Rattle.std.specs.declared.io.ErrorKind.{ErrorKind}
+use Rattle.std.specs.declared.io.ErrorKind.TheVariants.{NotFound}
 use Rattle.checker_io.specs.declared.shelf.ShelfFault.{ShelfFault}
 use Rattle.checker_io.specs.declared.shelf.ShelfFault.TheVariants.{Missing, TooLong, Failed, Memory}
 use Rattle.checker_io.specs.Faults.{one_more}
@@ -41,3 +45,31 @@ RestTakes old new max (Err Missing) = ⊥
 RestTakes old new max (Err TooLong) = (bytes : List ℕ) × Consumes old new bytes × (length bytes ≡ max + 1)
 RestTakes old new max (Err Failed) = TakesAtMost old new (max + 1)
 RestTakes old new max (Err Memory) = TakesAtMost old new (max + 1)
+
+-- Why a file was not read that could not be opened: it is missing exactly where the system finds no such file.
+abbrev pub NotOpened : ErrorKind → Result (List ℕ) ShelfFault → Type 0
+NotOpened kind (Ok bytes) = ⊥
+NotOpened kind (Err Missing) = kind ≡ NotFound
+NotOpened kind (Err TooLong) = ⊥
+NotOpened kind (Err Failed) = kind ≢ NotFound
+NotOpened kind (Err Memory) = ⊥
+
+-- What reading a file answers that was opened so, and what it takes from it.
+abbrev pub OpenedGives : {F : Type 0} → (F → Option (List ℕ)) → Result F Error → Result F Error → ℕ
+    → Result (List ℕ) ShelfFault → Type 0
+OpenedGives remaining (Ok old) (Ok new) max result = RestTakes (remaining old) (remaining new) max result
+OpenedGives remaining (Ok old) (Err fault) max result = ⊥
+OpenedGives remaining (Err fault) new max result = NotOpened (error_kind fault) result
+
+-- a file was opened so and left so, and its reading gave this
+abbrev pub FileGives : {F : Type 0} → (F → Option (List ℕ)) → ℕ → Result (List ℕ) ShelfFault → Type 0
+FileGives {F} remaining max result =
+    (old : Result F Error) × (new : Result F Error) × OpenedGives remaining old new max result
+
+-- this holds of an answer, or memory is missing
+abbrev pub OrNoMemory : (Result (List ℕ) ShelfFault → Type 0) → Result (List ℕ) ShelfFault → Type 0
+OrNoMemory P (Ok bytes) = P (Ok bytes)
+OrNoMemory P (Err Missing) = P (Err Missing)
+OrNoMemory P (Err TooLong) = P (Err TooLong)
+OrNoMemory P (Err Failed) = P (Err Failed)
+OrNoMemory P (Err Memory) = Unit {0}

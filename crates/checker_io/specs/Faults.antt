@@ -5,6 +5,7 @@ use Rattle.std.specs.Prelude.{ℕ, ◌+◌, ◌-◌, ◌^◌, ◌≤◌, min}
 abbrev pub one_more : ℕ → ℕ
 one_more count = min (count + 1) (2 ^ 64 - 1)
 
--- a count has risen; one that stands at the largest number of 64 bits is taken as one that rose
+-- A count has risen: it is not below what it was, and above it, but where it stood at the largest number of 64 bits,
+-- where it stays.
 abbrev pub Rose : ℕ → ℕ → Type 0
-Rose before now = one_more before ≤ now
+Rose before now = (before ≤ now) × (one_more before ≤ now)

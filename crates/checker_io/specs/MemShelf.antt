@@ -1,7 +1,8 @@
 -- A shelf in memory: its files, and the reads that are to fail.
-use Rattle.std.specs.Prelude.{◌≡◌, ◌<◌, ◌≤◌, ◌==◌, ℕ, Bool, true, false, List, [], ◌∷◌, length, Option, Some, None, Result, Ok, Err, if◌then◌else◌}
+use Rattle.std.specs.Prelude.{◌≡◌, ◌<◌, ◌≤◌, ◌==◌, ℕ, Bool, true, false, List, length, Option, Some, None, Result, Ok, Err}
 use Rattle.std.specs.Str.{bytes_eq}
-use Rattle.std.specs.List.{list_any}
+use Rattle.std.specs.List.{list_any, find}
+use Rattle.std.specs.Option.{option_map}
 use Rattle.checker_io.specs.declared.mem_shelf.File.{File}
 use Rattle.checker_io.specs.declared.shelf.ShelfFault.{ShelfFault}
 use Rattle.checker_io.specs.declared.shelf.ShelfFault.TheVariants.{Missing, TooLong, Failed, Memory}
@@ -18,13 +19,12 @@ pub record MemFiles : Type 0 where
   pub failed : List ℕ
 
 -- what stands under a name: the first file of that name counts
-abbrev pub held : List File → List ℕ → Option (List ℕ)
-held [] name = None
-held (file ∷ files) name = if bytes_eq file.name name then Some file.bytes else held files name
+abbrev pub file_at : List File → List ℕ → Option (List ℕ)
+file_at files name = option_map (λ file. file.bytes) (find (λ file. bytes_eq file.name name) files)
 
 -- what any shelf is seen as, of a shelf in memory: it tells its files
 abbrev pub shelf_state : MemFiles → ShelfState
-shelf_state shelf = record { holds = Some (held shelf.files); faults = shelf.faults; failed = shelf.failed }
+shelf_state shelf = record { holds = Some (file_at shelf.files); faults = shelf.faults; failed = shelf.failed }
 
 -- the number of the next read, counted from 1
 abbrev pub next_read : MemFiles → ℕ
@@ -47,11 +47,11 @@ after_failed shelf name =
 -- under the name. Want of memory may come in place of either.
 abbrev pub MemReads : MemFiles → MemFiles → List ℕ → ℕ → Result (List ℕ) ShelfFault → Type 0
 MemReads old new name max (Ok bytes) =
-    (is_to_fail old ≡ false) × (held old.files name ≡ Some bytes) × (length bytes ≤ max) × (new ≡ after_read old)
+    (is_to_fail old ≡ false) × (file_at old.files name ≡ Some bytes) × (length bytes ≤ max) × (new ≡ after_read old)
 MemReads old new name max (Err Missing) =
-    (is_to_fail old ≡ false) × (held old.files name ≡ None) × (new ≡ after_read old)
+    (is_to_fail old ≡ false) × (file_at old.files name ≡ None) × (new ≡ after_read old)
 MemReads old new name max (Err TooLong) =
-    (is_to_fail old ≡ false) × ((bytes : List ℕ) × (held old.files name ≡ Some bytes) × (max < length bytes))
+    (is_to_fail old ≡ false) × ((bytes : List ℕ) × (file_at old.files name ≡ Some bytes) × (max < length bytes))
     × (new ≡ after_read old)
 MemReads old new name max (Err Failed) = (is_to_fail old ≡ true) × (new ≡ after_failed old name)
 MemReads old new name max (Err Memory) = new ≡ after_read old

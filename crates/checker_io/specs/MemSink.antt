@@ -1,5 +1,7 @@
 -- A sink in memory: the bytes that it took, and the writes that are to fail.
-use Rattle.std.specs.Prelude.{◌≡◌, ◌==◌, ◌++◌, ℕ, List, [], ◌∷◌, take, Option, Some, None, Result, Ok, Err, if◌then◌else◌}
+use Rattle.std.specs.Prelude.{◌≡◌, ◌==◌, ◌++◌, ℕ, List, take, Option, Some, None, Result, Ok, Err}
+use Rattle.std.specs.List.{find}
+use Rattle.std.specs.Option.{option_map}
 use Rattle.checker_io.specs.declared.mem_sink.Failing.{Failing}
 use Rattle.checker_io.specs.declared.sink.SinkFault.{SinkFault}
 use Rattle.checker_io.specs.declared.sink.SinkFault.TheVariants.{Failed, Memory}
@@ -18,10 +20,10 @@ pub record MemBytes : Type 0 where
 abbrev pub sink_state : MemBytes → SinkState
 sink_state sink = record { taken = Some sink.bytes; faults = sink.faults }
 
--- how many bytes the write of that number takes before it fails, where it is to fail: the first entry of that number counts
+-- how many bytes the write of that number takes before it fails, where it is to fail: the first entry of that number
+-- counts
 abbrev pub taken_at : List Failing → ℕ → Option ℕ
-taken_at [] number = None
-taken_at (fault ∷ failing) number = if fault.number == number then Some fault.taken else taken_at failing number
+taken_at failing number = option_map (λ fault. fault.taken) (find (λ fault. fault.number == number) failing)
 
 -- the number of the next write, counted from 1
 abbrev pub next_write : MemBytes → ℕ

@@ -56,7 +56,8 @@ module _ {F R A : Type 0} where
   Settles wanted (Err NoMemory) = Unit {0}
 
   -- where the shelf tells, a reading has this answer; elsewhere it may have it
-  pub record Answers (name : F → List ℕ) (holds : Option Files) (plan : Asking F R A) (result : Result A R) : Type 0 where
+  pub record Answers (name : F → List ℕ) (holds : Option Files) (plan : Asking F R A) (result : Result A R)
+      : Type 0 where
     pub may : MayAnswer result plan
     pub told : IfSome holds (λ files. answer (λ file. files (name file)) plan ≡ result)
 
@@ -65,8 +66,8 @@ module _ {F R A : Type 0} where
     pub may : MayAsk file plan
     pub told : IfSome holds (λ files. IsAsked file (λ other. files (name other)) plan)
 
-  -- How a reading ends on a shelf. With an answer or a refusal no count has changed. A failed read has raised the count,
-  -- by a file that the reading asks for, whose name the shelf has left. Want of memory has no stated cause.
+  -- How a reading ends on a shelf. With an answer or a refusal no count has changed. A failed read has raised the
+  -- count, by a file that the reading asks for, whose name the shelf has left. Want of memory has no stated cause.
   abbrev pub ReadEnds : (F → List ℕ) → ShelfState → ShelfState → Asking F R A → Result A (Stop F R) → Type 0
   ReadEnds name old new plan (Ok value) = IsQuiet old new × Answers name old.holds plan (Ok value)
   ReadEnds name old new plan (Err (Refused refusal)) = IsQuiet old new × Answers name old.holds plan (Err refusal)
@@ -75,7 +76,8 @@ module _ {F R A : Type 0} where
   ReadEnds name old new plan (Err NoMemory) = IsQuiet old new
 
   -- a reading that was carried out on a shelf, whose files are named so; the shelf holds what it held
-  pub record Reads (name : F → List ℕ) (old new : ShelfState) (plan : Asking F R A) (result : Result A (Stop F R)) : Type 0 where
+  pub record Reads (name : F → List ℕ) (old new : ShelfState) (plan : Asking F R A)
+      (result : Result A (Stop F R)) : Type 0 where
     pub kept : new.holds ≡ old.holds
     pub ends : ReadEnds name old new plan result
 

@@ -1,6 +1,7 @@
-ghost use Rattle.std.specs.Prelude.{◌≡◌, ◌<◌, ◌≤◌, ◌+◌, ◌-◌, [], IfOk, length};
+ghost use Rattle.std.specs.Prelude.{◌≡◌, ◌<◌, ◌≤◌, ◌+◌, ◌-◌, [], IfOk, Err, length};
+ghost use Rattle.std.specs.IoError.{error_kind};
 ghost use Rattle.std.specs.Io.KnownBytes.{ReadConsumes};
-ghost use Rattle.checker_io.specs.DirShelf.{DirFaults, DirCounts, RestTakes, name_or_empty, dir_state};
+ghost use Rattle.checker_io.specs.DirShelf.{DirFaults, DirCounts, RestTakes, NotOpened, OpenedGives, FileGives, OrNoMemory, name_or_empty, dir_state};
 ghost use Rattle.checker_io.specs.Shelf.{ReadCause};
 
 use crate::shelf::{Shelf, ShelfFault};
@@ -47,7 +48,7 @@ const BUFFER: usize = 4_096;
 fn next_room(max: usize, count: usize) -> usize
     requires { count ≤ max }
     ensures some { 0 < result }
-    ensures within { result ≤ 4096 }
+    ensures within { result ≤ BUFFER }
     ensures bound { count + result ≤ max + 1 }
 {
     if max - count < BUFFER {
@@ -91,6 +92,31 @@ fn read_rest<F: Read>(alloc: Global, file: &mut F, max: usize) -> Result<Bytes, 
     Err(ShelfFault::Failed)
 }
 
+// Why a file was not read that could not be opened.
+fn open_fault(fault: &io::Error) -> ShelfFault
+    ensures { NotOpened (error_kind fault.now) (Err result) }
+{
+    if fault.kind() == ErrorKind::NotFound {
+        ShelfFault::Missing
+    } else {
+        ShelfFault::Failed
+    }
+}
+
+// What is left of a file that was opened, of at most `max` bytes.
+fn read_opened<F: Read>(
+    alloc: Global,
+    opened: &mut io::Result<F>,
+    max: usize,
+) -> Result<Bytes, ShelfFault>
+    ensures { OpenedGives (λ f. F.remaining f) opened.old opened.new max result }
+{
+    match opened {
+        Ok(file) => read_rest(alloc, file, max),
+        Err(fault) => Err(open_fault(fault)),
+    }
+}
+
 // The file of that name.
 fn read_file<R: Files>(
     alloc: Global,
@@ -98,28 +124,22 @@ fn read_file<R: Files>(
     name: &str,
     max: usize,
 ) -> Result<Bytes, ShelfFault>
-    ensures { IfOk result (λ bytes. length bytes ≤ max) }
+    ensures { FileGives (λ f. R.File.remaining f) max result }
 {
-    match fs::open(runtime, name) {
-        Ok(mut file) => read_rest(alloc, &mut file, max),
-        Err(fault) => {
-            if fault.kind() == ErrorKind::NotFound {
-                Err(ShelfFault::Missing)
-            } else {
-                Err(ShelfFault::Failed)
-            }
-        }
-    }
+    let mut opened = fs::open(runtime, name);
+    read_opened(alloc, &mut opened, max)
 }
 
 impl<'a, R: Files> Shelf for DirShelf<'a, R> {
     ghost state = { dir_state };
 
-    /// The whole file of that name. A name of a directory, or of a file that may not be read, is a failed read.
+    /// The whole file of that name, of which at most one byte more than `max` is read. It is missing exactly where the
+    /// system finds none; a name of a directory, or of a file that may not be read, is a failed read.
     fn read(&mut self, alloc: Global, name: &str, max: usize) -> Result<Bytes, ShelfFault>
         ensures fits { IfOk result (λ bytes. length bytes ≤ max) }
         ensures cause { ReadCause (dir_state self.old) (dir_state self.new) name.now result }
         ensures counts { DirCounts self.old self.new name.now result }
+        ensures gives { OrNoMemory (λ given. FileGives (λ f. R.File.remaining f) max given) result }
     {
         let Ok(copy) = Text::from_text(alloc, name) else {
             return Err(ShelfFault::Memory);

@@ -1,6 +1,6 @@
 ghost use Rattle.std.specs.Prelude.{◌≡◌, ◌≢◌, ◌≤◌, ◌++◌, [], ◌∷◌, ℕ, List, Some, Err, OnOk, OnErr, IfOk, length, option_copied, if◌then◌else◌};
 ghost use Rattle.std.specs.Str.{bytes_eq};
-ghost use Rattle.checker_io.specs.MemShelf.{MemFiles, MemReads, held, shelf_state};
+ghost use Rattle.checker_io.specs.MemShelf.{MemFiles, MemReads, file_at, shelf_state};
 ghost use Rattle.checker_io.specs.Shelf.{ReadGives, ReadCause};
 ghost use Rattle.checker_io.specs.declared.shelf.ShelfFault.TheVariants.{Failed};
 
@@ -18,19 +18,17 @@ pub struct File {
 
 // The file that counts under a name.
 fn find<'a>(files: &'a [File], name: &str) -> Option<&'a Bytes>
-    ensures { option_copied result ≡ held files.now name.now }
+    ensures { option_copied result ≡ file_at files.now name.now }
 {
-    for file in files {
-        if file.name.as_str() == name {
-            return Some(&file.bytes);
-        }
+    match files.iter().find(|file| file.name.as_str() == name) {
+        Some(file) => Some(&file.bytes),
+        None => None,
     }
-    None
 }
 
 // A copy of what stands under a name, of at most `max` bytes.
-fn read_held(alloc: Global, files: &[File], name: &str, max: usize) -> Result<Bytes, ShelfFault>
-    ensures gives { ReadGives (held files.now name.now) max result }
+fn copy_file(alloc: Global, files: &[File], name: &str, max: usize) -> Result<Bytes, ShelfFault>
+    ensures gives { ReadGives (file_at files.now name.now) max result }
     ensures never { result ≢ Err Failed }
 {
     let Some(bytes) = find(files, name) else {
@@ -87,8 +85,8 @@ impl MemShelf {
     pub fn put(&mut self, name: &str, bytes: &[u8]) -> Result<(), Memory>
         ensures ok { OnOk result (self.new
             ≡ record self.old { files = record { name = name.now; bytes = bytes.now } ∷ self.old.files }) }
-        ensures held { OnOk result ((other : List ℕ) → held self.new.files other
-            ≡ (if bytes_eq name.now other then Some bytes.now else held self.old.files other)) }
+        ensures file_at { OnOk result ((other : List ℕ) → file_at self.new.files other
+            ≡ (if bytes_eq name.now other then Some bytes.now else file_at self.old.files other)) }
         ensures err { OnErr result (self.new ≡ self.old) }
     {
         let alloc = *self.files.allocator();
@@ -115,7 +113,7 @@ impl Shelf for MemShelf {
 
     fn read(&mut self, alloc: Global, name: &str, max: usize) -> Result<Bytes, ShelfFault>
         ensures fits { IfOk result (λ bytes. length bytes ≤ max) }
-        ensures gives { ReadGives (held self.old.files name.now) max result }
+        ensures gives { ReadGives (file_at self.old.files name.now) max result }
         ensures kept { self.new.files ≡ self.old.files }
         ensures cause { ReadCause (shelf_state self.old) (shelf_state self.new) name.now result }
         ensures exact { MemReads self.old self.new name.now max result }
@@ -129,6 +127,6 @@ impl Shelf for MemShelf {
             self.failed = copy;
             return Err(ShelfFault::Failed);
         }
-        read_held(alloc, &self.files, name, max)
+        copy_file(alloc, &self.files, name, max)
     }
 }

@@ -18,12 +18,10 @@ pub struct Failing {
 fn taken_at(failing: &[Failing], number: u64) -> Option<u32>
     ensures { result ≡ taken_at failing.now number }
 {
-    for fault in failing {
-        if fault.number == number {
-            return Some(fault.taken);
-        }
+    match failing.iter().find(|fault| fault.number == number) {
+        Some(fault) => Some(fault.taken),
+        None => None,
     }
-    None
 }
 
 /// A sink in memory, which tells all. Its writes can be made to fail, by their number.

@@ -43,7 +43,8 @@ impl<W: Write + Drop> Sink for OutSink<W> {
 
     fn write(&mut self, piece: &[u8]) -> Result<(), SinkFault>
         ensures cause { WriteCause (faults_of self.old) (faults_of self.new) result }
-        ensures writer { WriteTakes (W.contents (writer_of self.old)) (W.contents (writer_of self.new)) piece.now result }
+        ensures writer { WriteTakes (W.contents (writer_of self.old)) (W.contents (writer_of self.new))
+            piece.now result }
         ensures never { result ≢ Err Memory }
         ensures counts { OnErr result (faults_of self.new ≡ one_more (faults_of self.old)) }
     {

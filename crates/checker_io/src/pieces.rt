@@ -10,7 +10,7 @@ pub const PIECE: usize = 65_536;
 // The piece that begins at a place of a text: 65,536 bytes, or the rest where that is shorter.
 fn next_piece(text: &[u8], done: usize) -> &[u8]
     requires { done ≤ length text.now }
-    ensures { result.now ≡ take 65536 (drop done text.now) }
+    ensures { result.now ≡ take PIECE (drop done text.now) }
 {
     let size = PIECE.min(text.len() - done);
     &text[done..done + size]

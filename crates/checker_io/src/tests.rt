@@ -147,25 +147,27 @@ fn real_files(rt: HostRuntime) -> Result<(), Fail> {
         text.push((place % 251) as u8)?;
     }
     let text = text.as_slice();
-    fs::write(&rt, "short", b"hello")?;
-    fs::create_dir(&rt, "folder")?;
-    let mut sink = OutSink::new(fs::create(&rt, "long")?);
+    let _made = fs::create_dir(&rt, "written");
+    fs::write(&rt, "written/short", b"hello")?;
+    let mut sink = OutSink::new(fs::create(&rt, "written/long")?);
     assert_eq!(&rt; write_text(&mut sink, text), Ok(()));
     let mut shelf = DirShelf::new(&rt);
-    let rows: [(&str, usize, Result<&[u8], ShelfFault>); 8] = [
-        ("short", 5, Ok(b"hello")),
-        ("short", 4, Err(ShelfFault::TooLong)),
-        ("short", usize::MAX, Ok(b"hello")),
-        ("none", 5, Err(ShelfFault::Missing)),
-        ("folder", 5, Err(ShelfFault::Failed)),
-        ("folder/none", 5, Err(ShelfFault::Missing)),
-        ("long", 10_000, Ok(text)),
-        ("long", 9_999, Err(ShelfFault::TooLong)),
+    let rows: [(&str, usize, Result<&[u8], ShelfFault>); 10] = [
+        ("written/short", 5, Ok(b"hello")),
+        ("written/short", 4, Err(ShelfFault::TooLong)),
+        ("written/short", usize::MAX, Ok(b"hello")),
+        ("written/none", 5, Err(ShelfFault::Missing)),
+        ("written", 5, Err(ShelfFault::Failed)),
+        ("written/none/none", 5, Err(ShelfFault::Missing)),
+        ("written/short/none", 5, Err(ShelfFault::Failed)),
+        ("written/long", 10_000, Ok(text)),
+        ("written/long", 9_999, Err(ShelfFault::TooLong)),
+        ("/dev/zero", 10_000, Err(ShelfFault::TooLong)),
     ];
     for (name, max, want) in rows {
         reads(&rt, &mut shelf, name, max, want);
     }
-    let mut closed = OutSink::new(fs::open(&rt, "short")?);
+    let mut closed = OutSink::new(fs::open(&rt, "written/short")?);
     assert_eq!(&rt; closed.write(b"x"), Err(SinkFault::Failed));
     Ok(())
 }

@@ -19,8 +19,8 @@ use Rattle.clause_solver.specs.declared.variable.Definition.TheVariants.{Start, 
 use Rattle.clause_solver.specs.declared.variable.Variable.{Variable}
 use Rattle.clause_solver.specs.Literals.{Valuation, value_of_variable, IsSound}
 use Rattle.clause_solver.specs.Variables.{var_at, Listed, allowed, defined, made_value, AllFit, is_node, Earlier, Ordered}
-use Rattle.clause_solver.specs.Greatest.{kind_at, is_dir, best_by, IsBest, Lively, free, held, here, below, kept, Fine}
-use Rattle.clause_solver.specs.Grown.{grown, add, kids, extra, values}
+use Rattle.clause_solver.specs.Greatest.{kind_at, is_dir, best_by, IsBest, HasEntryOutside, free, child_present, here, below, kept, IsSatisfied}
+use Rattle.clause_solver.specs.Grown.{grown, add, children, extra, values}
 use Rattle.clause_solver.proofs.Names.{nat_cases, bool_cases, eq_cases, same_yes, name_cases}
 use Rattle.clause_solver.proofs.KindSets.{is_dir_cases}
 use Rattle.clause_solver.proofs.Values.{entry_of_dir, absent_kind, present_kind, derived_same, derived_other, entry_is}
@@ -81,11 +81,11 @@ add_sound p (Derived x f y) t es n s r = r
 add_sound p (Ensured x) t es n s r = r
 add_sound p (Made m) t es n s r = r
 
-pub kids_sound : (p : ℕ) (cs : List Variable) (ts : Valuation) (first : List Entry) → AllNamed cs → AllSound ts → IsTrue (sound_all first) → IsTrue (sound_all (kids p cs ts first))
-kids_sound p [] ts first n s r = r
-kids_sound p (c ∷ cs) [] first n s r = r
-kids_sound p (c ∷ cs) (t ∷ ts) first n s r =
-    add_sound p c.definition t (kids p cs ts first) (n zero (omega arith)) (s zero) (kids_sound p cs ts first (tail_named c cs n) (tail_sound t ts s) r)
+pub children_sound : (p : ℕ) (cs : List Variable) (ts : Valuation) (first : List Entry) → AllNamed cs → AllSound ts → IsTrue (sound_all first) → IsTrue (sound_all (children p cs ts first))
+children_sound p [] ts first n s r = r
+children_sound p (c ∷ cs) [] first n s r = r
+children_sound p (c ∷ cs) (t ∷ ts) first n s r =
+    add_sound p c.definition t (children p cs ts first) (n zero (omega arith)) (s zero) (children_sound p cs ts first (tail_named c cs n) (tail_sound t ts s) r)
 
 pub extra_sound : (b : Bool) (z : List ℕ) → IsTrue (is_name z) → IsTrue (sound_all (extra b z))
 extra_sound false z n = refl
@@ -97,13 +97,13 @@ values_length best open_at z k (c ∷ cs) = ap suc (values_length best open_at z
 
 pub values_kind : (best : List Kind) (open_at : ℕ → Bool) (z : List ℕ) (k : ℕ) (cs : List Variable) (i : ℕ) → i < length cs → kind_of (value_of_variable (values best open_at z k cs) i) ≡ kind_at best (k + i)
 values_kind best open_at z k [] i w = absurd (omega arith)
-values_kind best open_at z k (c ∷ cs) zero w = let e : k + 0 ≡ k = omega arith in rw e (kind_grown (kind_at best k) (kids k cs (values best open_at z (suc k) cs) (extra (open_at k) z)))
+values_kind best open_at z k (c ∷ cs) zero w = let e : k + 0 ≡ k = omega arith in rw e (kind_grown (kind_at best k) (children k cs (values best open_at z (suc k) cs) (extra (open_at k) z)))
 values_kind best open_at z k (c ∷ cs) (suc i) w = let e : k + suc i ≡ suc k + i = omega arith in rw e (values_kind best open_at z (suc k) cs i (omega arith))
 
 pub values_sound : (best : List Kind) (open_at : ℕ → Bool) (z : List ℕ) (k : ℕ) (cs : List Variable) → IsTrue (is_name z) → AllNamed cs → AllSound (values best open_at z k cs)
 values_sound best open_at z k [] zn n i = refl
 values_sound best open_at z k (c ∷ cs) zn n zero =
-    grown_sound (kind_at best k) _ (kids_sound k cs (values best open_at z (suc k) cs) (extra (open_at k) z) (tail_named c cs n) (values_sound best open_at z (suc k) cs zn (tail_named c cs n)) (extra_sound (open_at k) z zn))
+    grown_sound (kind_at best k) _ (children_sound k cs (values best open_at z (suc k) cs) (extra (open_at k) z) (tail_named c cs n) (values_sound best open_at z (suc k) cs zn (tail_named c cs n)) (extra_sound (open_at k) z zn))
 values_sound best open_at z k (c ∷ cs) zn n (suc i) = values_sound best open_at z (suc k) cs zn (tail_named c cs n) i
 
 add_cases : (p : ℕ) (d : Definition) (t : Value) (es : List Entry) (h : List ℕ) → Rises es → ((d ≡ Child p h) × (find (add p d t es) h ≡ t)) ⊎ (find (add p d t es) h ≡ find es h)
@@ -125,35 +125,35 @@ add_here p f t es r = rw (same_yes p p refl) (find-update_same es f t r)
 add_other : (p : ℕ) (d : Definition) (t : Value) (es : List Entry) (h : List ℕ) → Rises es → (d ≡ Child p h → ⊥) → find (add p d t es) h ≡ find es h
 add_other p d t es h r never = elim (add_cases p d t es h r) [ inl a ↦ absurd (never a.0) | inr b ↦ b ]
 
-kids_rises : (p : ℕ) (cs : List Variable) (ts : Valuation) (first : List Entry) → AllNamed cs → AllSound ts → IsTrue (sound_all first) → Rises (kids p cs ts first)
-kids_rises p cs ts first n s r = rises_of (kids p cs ts first) (kids_sound p cs ts first n s r)
+children_rises : (p : ℕ) (cs : List Variable) (ts : Valuation) (first : List Entry) → AllNamed cs → AllSound ts → IsTrue (sound_all first) → Rises (children p cs ts first)
+children_rises p cs ts first n s r = rises_of (children p cs ts first) (children_sound p cs ts first n s r)
 
-kids_find : (p : ℕ) (f : List ℕ) (cs : List Variable) (ts : Valuation) (first : List Entry) (j : ℕ) → AllNamed cs → AllSound ts → IsTrue (sound_all first) → length ts ≡ length cs → j < length cs → (var_at cs j).definition ≡ Child p f → ((m : ℕ) → m < j → (var_at cs m).definition ≡ Child p f → ⊥) → find (kids p cs ts first) f ≡ value_of_variable ts j
-kids_find p f [] ts first j n s r same w e never = absurd (omega arith)
-kids_find p f (c ∷ cs) [] first j n s r same w e never = absurd (omega arith)
-kids_find p f (c ∷ cs) (t ∷ ts) first zero n s r same w e never =
-    rw e (add_here p f t (kids p cs ts first) (kids_rises p cs ts first (tail_named c cs n) (tail_sound t ts s) r))
-kids_find p f (c ∷ cs) (t ∷ ts) first (suc j) n s r same w e never =
-    add_other p c.definition t (kids p cs ts first) f (kids_rises p cs ts first (tail_named c cs n) (tail_sound t ts s) r) (never zero (omega arith))
-    ∙ kids_find p f cs ts first j (tail_named c cs n) (tail_sound t ts s) r (omega arith) (omega arith) e (λ m h. never (suc m) (omega arith))
+children_find : (p : ℕ) (f : List ℕ) (cs : List Variable) (ts : Valuation) (first : List Entry) (j : ℕ) → AllNamed cs → AllSound ts → IsTrue (sound_all first) → length ts ≡ length cs → j < length cs → (var_at cs j).definition ≡ Child p f → ((m : ℕ) → m < j → (var_at cs m).definition ≡ Child p f → ⊥) → find (children p cs ts first) f ≡ value_of_variable ts j
+children_find p f [] ts first j n s r same w e never = absurd (omega arith)
+children_find p f (c ∷ cs) [] first j n s r same w e never = absurd (omega arith)
+children_find p f (c ∷ cs) (t ∷ ts) first zero n s r same w e never =
+    rw e (add_here p f t (children p cs ts first) (children_rises p cs ts first (tail_named c cs n) (tail_sound t ts s) r))
+children_find p f (c ∷ cs) (t ∷ ts) first (suc j) n s r same w e never =
+    add_other p c.definition t (children p cs ts first) f (children_rises p cs ts first (tail_named c cs n) (tail_sound t ts s) r) (never zero (omega arith))
+    ∙ children_find p f cs ts first j (tail_named c cs n) (tail_sound t ts s) r (omega arith) (omega arith) e (λ m h. never (suc m) (omega arith))
 
-kids_only : (p : ℕ) (h : List ℕ) (cs : List Variable) (ts : Valuation) (first : List Entry) → AllNamed cs → AllSound ts → IsTrue (sound_all first) → length ts ≡ length cs → find (kids p cs ts first) h ≢ Absent → ((j : ℕ) × (j < length cs) × ((var_at cs j).definition ≡ Child p h) × (value_of_variable ts j ≢ Absent)) ⊎ (find first h ≢ Absent)
-kids_only p h [] ts first n s r same some = inr some
-kids_only p h (c ∷ cs) [] first n s r same some = inr some
-kids_only p h (c ∷ cs) (t ∷ ts) first n s r same some = elim (add_cases p c.definition t (kids p cs ts first) h (kids_rises p cs ts first (tail_named c cs n) (tail_sound t ts s) r)) [
+children_only : (p : ℕ) (h : List ℕ) (cs : List Variable) (ts : Valuation) (first : List Entry) → AllNamed cs → AllSound ts → IsTrue (sound_all first) → length ts ≡ length cs → find (children p cs ts first) h ≢ Absent → ((j : ℕ) × (j < length cs) × ((var_at cs j).definition ≡ Child p h) × (value_of_variable ts j ≢ Absent)) ⊎ (find first h ≢ Absent)
+children_only p h [] ts first n s r same some = inr some
+children_only p h (c ∷ cs) [] first n s r same some = inr some
+children_only p h (c ∷ cs) (t ∷ ts) first n s r same some = elim (add_cases p c.definition t (children p cs ts first) h (children_rises p cs ts first (tail_named c cs n) (tail_sound t ts s) r)) [
   | inl a ↦ inl (0, omega arith, a.0, λ q. some (a.1 ∙ q))
-  | inr b ↦ elim (kids_only p h cs ts first (tail_named c cs n) (tail_sound t ts s) r (omega arith) (λ q. some (b ∙ q))) [
+  | inr b ↦ elim (children_only p h cs ts first (tail_named c cs n) (tail_sound t ts s) r (omega arith) (λ q. some (b ∙ q))) [
     | inl d ↦ inl (suc d.0, let w = d.1 in omega arith, d.2, d.3)
     | inr d ↦ inr d
   ]
 ]
 
-kids_skip : (p : ℕ) (h : List ℕ) (cs : List Variable) (ts : Valuation) (first : List Entry) → AllNamed cs → AllSound ts → IsTrue (sound_all first) → ((j : ℕ) → j < length cs → (var_at cs j).definition ≡ Child p h → ⊥) → find (kids p cs ts first) h ≡ find first h
-kids_skip p h [] ts first n s r never = refl
-kids_skip p h (c ∷ cs) [] first n s r never = refl
-kids_skip p h (c ∷ cs) (t ∷ ts) first n s r never =
-    add_other p c.definition t (kids p cs ts first) h (kids_rises p cs ts first (tail_named c cs n) (tail_sound t ts s) r) (never zero (omega arith))
-    ∙ kids_skip p h cs ts first (tail_named c cs n) (tail_sound t ts s) r (λ j w. never (suc j) (omega arith))
+children_skip : (p : ℕ) (h : List ℕ) (cs : List Variable) (ts : Valuation) (first : List Entry) → AllNamed cs → AllSound ts → IsTrue (sound_all first) → ((j : ℕ) → j < length cs → (var_at cs j).definition ≡ Child p h → ⊥) → find (children p cs ts first) h ≡ find first h
+children_skip p h [] ts first n s r never = refl
+children_skip p h (c ∷ cs) [] first n s r never = refl
+children_skip p h (c ∷ cs) (t ∷ ts) first n s r never =
+    add_other p c.definition t (children p cs ts first) h (children_rises p cs ts first (tail_named c cs n) (tail_sound t ts s) r) (never zero (omega arith))
+    ∙ children_skip p h cs ts first (tail_named c cs n) (tail_sound t ts s) r (λ j w. never (suc j) (omega arith))
 
 extra_find : (z : List ℕ) → find (extra true z) z ≡ Reg
 extra_find z = ap (λ o. by_order o Absent (value_of (node_of Reg)) Absent) (tied_itself ord z) ∙ value_of-node_of Reg tt
@@ -174,7 +174,7 @@ module _ (best : List Kind) (open_at : ℕ → Bool) (z : List ℕ) (zn : IsTrue
       let d' : kind_at best k ≡ kind.Dir = rw zz at d in
       let e' : (var_at cs j).definition ≡ Child k f = rw zz at e in
       let vs = values best open_at z (suc k) cs in
-      rw d' (sym (kids_find k f cs vs (extra (open_at k) z) j (tail_named c cs n) (values_sound best open_at z (suc k) cs zn (tail_named c cs n)) (extra_sound (open_at k) z zn) (values_length best open_at z (suc k) cs) (omega arith) e'
+      rw d' (sym (children_find k f cs vs (extra (open_at k) z) j (tail_named c cs n) (values_sound best open_at z (suc k) cs zn (tail_named c cs n)) (extra_sound (open_at k) z zn) (values_length best open_at z (suc k) cs) (omega arith) e'
       (λ m b q. let q' : (var_at (c ∷ cs) (suc m)).definition ≡ Child (k + 0) f = rw zz q in never (suc m) (omega arith) q')))
   entry_values k f (c ∷ cs) (suc i) (suc j) n h w e d never =
       let shift : k + suc i ≡ suc k + i = omega arith in
@@ -186,8 +186,8 @@ module _ (best : List Kind) (open_at : ℕ → Bool) (z : List ℕ) (zn : IsTrue
   only_values k h (c ∷ cs) zero n w some =
       let zz : k + 0 ≡ k = omega arith in
       let vs = values best open_at z (suc k) cs in
-      elim (kids_only k h cs vs (extra (open_at k) z) (tail_named c cs n) (values_sound best open_at z (suc k) cs zn (tail_named c cs n)) (extra_sound (open_at k) z zn) (values_length best open_at z (suc k) cs)
-      (grown_entry (kind_at best k) (kids k cs vs (extra (open_at k) z)) h some)) [
+      elim (children_only k h cs vs (extra (open_at k) z) (tail_named c cs n) (values_sound best open_at z (suc k) cs zn (tail_named c cs n)) (extra_sound (open_at k) z zn) (values_length best open_at z (suc k) cs)
+      (grown_entry (kind_at best k) (children k cs vs (extra (open_at k) z)) h some)) [
         | inl r ↦ inl (suc r.0, let w' = r.1 in omega arith, rw zz r.2, r.3)
         | inr r ↦ inr (rw zz r)
       ]
@@ -205,7 +205,7 @@ module _ (best : List Kind) (open_at : ℕ → Bool) (z : List ℕ) (zn : IsTrue
       let d' : kind_at best k ≡ kind.Dir = rw zz at d in
       let o' : open_at k ≡ true = rw zz at o in
       let vs = values best open_at z (suc k) cs in
-      rw (d', o') (kids_skip k z cs vs (extra true z) (tail_named c cs n) (values_sound best open_at z (suc k) cs zn (tail_named c cs n)) (extra_sound true z zn) (λ j b. never (suc j) k (omega arith)) ∙ extra_find z)
+      rw (d', o') (children_skip k z cs vs (extra true z) (tail_named c cs n) (values_sound best open_at z (suc k) cs zn (tail_named c cs n)) (extra_sound true z zn) (λ j b. never (suc j) k (omega arith)) ∙ extra_find z)
   fresh_values k (c ∷ cs) (suc i) n w o d never =
       let shift : k + suc i ≡ suc k + i = omega arith in
       fresh_values (suc k) cs i (tail_named c cs n) (omega arith) (rw shift at o) (rw shift at d) (λ j p b. never (suc j) p (omega arith))
@@ -380,35 +380,35 @@ module _ (vars : List Variable) (best : List Kind) (open_at : ℕ → Bool) (z :
   pub whole_sound : IsSound whole
   whole_sound = evals_sound vars vals (length vars) order (values_sound best open_at z 0 vars zn (all_named vars order)) (omega arith)
 
-  lives_is : {i : ℕ} {ds : List (List ℕ)} → Lively vars best open_at i ds → i < length vars → ¬ (Listed z ds) → (h : List ℕ) × (¬ (Listed h ds)) × (entry (value_of_variable whole i) h ≢ Absent)
-  lives_is {i} {ds} (free node d o) w out =
+  has_entry_is : {i : ℕ} {ds : List (List ℕ)} → HasEntryOutside vars best open_at i ds → i < length vars → ¬ (Listed z ds) → (h : List ℕ) × (¬ (Listed h ds)) × (entry (value_of_variable whole i) h ≢ Absent)
+  has_entry_is {i} {ds} (free node d o) w out =
       let zz : 0 + i ≡ i = omega arith in
       let there : entry (value_of_variable vals i) z ≡ Reg = fresh_values best open_at z zn 0 vars i (all_named vars order) w (rw zz o) (rw zz d) new_child in
       (z, out, λ q. let r : Reg ≡ Absent = sym (ap (λ v. entry v z) (node_is i w node) ∙ there) ∙ q in let k : kind.Reg ≡ kind.Absent = ap kind_of r in absurd (cc))
-  lives_is {i} {ds} (held m f b e some out') w out =
+  has_entry_is {i} {ds} (child_present m f b e some out') w out =
       (f, out', λ q. some_is m b some (is_by m b (Child i f) e ∙ q))
-  lives_is {i} {ds} (here x f y e some out') w out =
+  has_entry_is {i} {ds} (here x f y e some out') w out =
       let before = rw e at (order.earlier i w) in
       let at_f : entry (value_of_variable whole i) f ≡ value_of_variable whole y = ap (λ v. entry v f) (is_by i w (Derived x f y) e) ∙ derived_same (value_of_variable whole x) (value_of_variable whole y) f (sound_at whole whole_sound x) in
       (f, out', λ q. some_is y (omega (arith, before.1)) some (sym at_f ∙ q))
-  lives_is {i} {ds} (below x f y e rest1) w out =
+  has_entry_is {i} {ds} (below x f y e rest1) w out =
       let before = rw e at (order.earlier i w) in
-      let deep = lives_is rest1 (omega (arith, before.0)) (λ l. elim l [ inl q ↦ new_derived i x y w (rw (← q) at e) | inr r ↦ out r ]) in (
+      let deep = has_entry_is rest1 (omega (arith, before.0)) (λ l. elim l [ inl q ↦ new_derived i x y w (rw (← q) at e) | inr r ↦ out r ]) in (
         deep.0,
         (λ l. deep.1 (inr l)),
         λ q.
             let at_h : entry (value_of_variable whole i) deep.0 ≡ entry (value_of_variable whole x) deep.0 = ap (λ v. entry v deep.0) (is_by i w (Derived x f y) e) ∙ derived_other (value_of_variable whole x) (value_of_variable whole y) f deep.0 (sound_at whole whole_sound x) (λ same. deep.1 (inl (sym same))) in
             deep.2 (sym at_h ∙ q),
       )
-  lives_is {i} {ds} (kept x e rest1) w out =
+  has_entry_is {i} {ds} (kept x e rest1) w out =
       let before = rw e at (order.earlier i w) in
-      let deep = lives_is rest1 (omega (arith, before)) out in
+      let deep = has_entry_is rest1 (omega (arith, before)) out in
       (deep.0, deep.1, λ q. deep.2 (sym (ap (λ v. entry v deep.0) (is_by i w (Ensured x) e) ∙ entry_is (value_of_variable whole x) deep.0) ∙ q))
 
-  pub all_fit : Fine vars best open_at → AllFit vars whole
-  all_fit fine i w = record {
+  pub all_fit : IsSatisfied vars best open_at → AllFit vars whole
+  all_fit satisfied i w = record {
     is = is_by i w (var_at vars i).definition refl;
-    kind = rw (kind_is i w) ((fine i w).fits);
+    kind = rw (kind_is i w) ((satisfied i w).fits);
     fenced = λ h some. fence_is i h w some;
-    filled = λ t. let r = lives_is ((fine i w).lives t) w (λ l. l) in (r.0, r.2);
+    filled = λ t. let r = has_entry_is ((satisfied i w).filled t) w (λ l. l) in (r.0, r.2);
   }

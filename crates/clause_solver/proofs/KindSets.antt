@@ -54,20 +54,24 @@ all_by true true true true false k h = cc
 pub all_have : (s : Kinds) (k : Kind) → IsTrue (is_all s) → IsTrue (has s k)
 all_have s k h = all_by s.absent s.reg s.link s.other s.dir k h
 
-chosen : (a r l o d : Bool) (k : Kind) → IsTrue (has (set_of a r l o d) k) → IsTrue (has (set_of a r l o d) (choose (set_of a r l o d)))
-chosen a r l o true k h = refl
-chosen a true l o false k h = refl
-chosen a false true o false k h = refl
-chosen a false false true false k h = refl
-chosen a false false false false Absent h = h
+-- where a kind is in the set, the greatest one is, and it is absent only where that kind is
+chosen : (a r l o d : Bool) (k : Kind) → IsTrue (has (set_of a r l o d) k)
+    → IsTrue (has (set_of a r l o d) (choose (set_of a r l o d))) × (k ≢ Absent → choose (set_of a r l o d) ≢ Absent)
+chosen a r l o true k h = (refl, λ ne e. cc)
+chosen a true l o false k h = (refl, λ ne e. cc)
+chosen a false true o false k h = (refl, λ ne e. cc)
+chosen a false false true false k h = (refl, λ ne e. cc)
+chosen a false false false false Absent h = (h, λ ne e. ne refl)
 chosen a false false false false Reg h = cc
 chosen a false false false false Link h = cc
 chosen a false false false false Other h = cc
 chosen a false false false false Dir h = cc
 
--- where a kind is in the set, the greatest one is
 pub choose_in : (s : Kinds) (k : Kind) → IsTrue (has s k) → IsTrue (has s (choose s))
-choose_in s k h = chosen s.absent s.reg s.link s.other s.dir k h
+choose_in s k h = (chosen s.absent s.reg s.link s.other s.dir k h).0
+
+pub choose_present : (s : Kinds) (k : Kind) → IsTrue (has s k) → k ≢ Absent → choose s ≢ Absent
+choose_present s k h = (chosen s.absent s.reg s.link s.other s.dir k h).1
 
 chosen_dir : (a r l o d : Bool) → IsTrue d → choose (set_of a r l o d) ≡ Dir
 chosen_dir a r l o true h = refl
@@ -76,31 +80,9 @@ chosen_dir a r l o false h = cc
 pub choose_dir : (s : Kinds) → IsTrue (has s Dir) → choose s ≡ Dir
 choose_dir s h = chosen_dir s.absent s.reg s.link s.other s.dir h
 
-chosen_present : (a r l o d : Bool) (k : Kind) → IsTrue (has (set_of a r l o d) k) → k ≢ Absent → choose (set_of a r l o d) ≢ Absent
-chosen_present a r l o true k h ne = λ e. cc
-chosen_present a true l o false k h ne = λ e. cc
-chosen_present a false true o false k h ne = λ e. cc
-chosen_present a false false true false k h ne = λ e. cc
-chosen_present a false false false false Absent h ne = λ e. ne refl
-chosen_present a false false false false Reg h ne = λ e. cc
-chosen_present a false false false false Link h ne = λ e. cc
-chosen_present a false false false false Other h ne = λ e. cc
-chosen_present a false false false false Dir h ne = λ e. cc
-
-pub choose_present : (s : Kinds) (k : Kind) → IsTrue (has s k) → k ≢ Absent → choose s ≢ Absent
-choose_present s k h ne = chosen_present s.absent s.reg s.link s.other s.dir k h ne
-
 pub is_dir_cases : (k : Kind) → (k ≡ Dir) ⊎ (is_dir k ≡ false)
 is_dir_cases Absent = inr refl
 is_dir_cases Reg = inr refl
 is_dir_cases Link = inr refl
 is_dir_cases Other = inr refl
 is_dir_cases Dir = inl refl
-
-pub and_both : (a b : Bool) → IsTrue (a && b) → IsTrue a × IsTrue b
-and_both true b h = (refl, h)
-and_both false b h = cc
-
-pub both_and : (a b : Bool) → IsTrue a → IsTrue b → IsTrue (a && b)
-both_and true b h w = w
-both_and false b h w = cc

@@ -1,4 +1,4 @@
--- Where some valuation meets all, the greatest kinds are fine.
+-- Where some valuation meets all, the greatest kinds are satisfied.
 use Rattle.std.proofs.Common.{◌≡◌, ◌≢◌, ℕ, zero, suc, ◌<◌, inl, inr, ◌&&◌, true, false, IsTrue, Option, Some, None, List, [], ◌∷◌, length, refl, sym, ap, ◌∙◌, arith}
 use Rattle.feature_trees.specs.declared.kind.Kind.{Kind}
 use Rattle.feature_trees.specs.declared.kind.Kind.TheVariants.{Absent, Dir}
@@ -13,7 +13,7 @@ use Rattle.clause_solver.specs.declared.variable.Definition.TheVariants.{Start, 
 use Rattle.clause_solver.specs.declared.variable.Variable.{Variable}
 use Rattle.clause_solver.specs.Literals.{Valuation, value_of_variable, IsSound}
 use Rattle.clause_solver.specs.Variables.{var_at, Listed, allowed, member, defined, made_value, AllFit, is_node, Ordered}
-use Rattle.clause_solver.specs.Greatest.{kind_at, choose, is_dir, best_by, IsBest, unfenced, Lively, free, held, here, below, kept, Fine}
+use Rattle.clause_solver.specs.Greatest.{kind_at, choose, is_dir, best_by, IsBest, unfenced, HasEntryOutside, free, child_present, here, below, kept, IsSatisfied}
 use Rattle.clause_solver.proofs.Names.{name_cases, bool_cases}
 use Rattle.clause_solver.proofs.KindSets.{choose_in, choose_dir, choose_present}
 use Rattle.clause_solver.proofs.Values.{entry_of_dir, absent_or_not, present_kind, derived_same, derived_other, entry_is}
@@ -115,19 +115,19 @@ module _ (vars : List Variable) (best : List Kind) (g : Valuation) (order : Orde
   fits_by i w (Made k) e = fits_one i (kind_of (made_value k)) w (best_is i w (Made k) e) (ap kind_of (is_by i w (Made k) e))
 
   -- a place that has an entry outside the names has one among the greatest kinds
-  node_lives : (i : ℕ) → i < length vars → IsTrue (is_node (var_at vars i).definition) → (ds : List (List ℕ)) (h : List ℕ) → ¬ (Listed h ds) → entry (value_of_variable g i) h ≢ value.Absent → (fence : Option (List (List ℕ))) → (var_at vars i).fence ≡ fence → Lively vars best (unfenced vars) i ds
-  node_lives i w node ds h out some None e =
+  node_has_entry : (i : ℕ) → i < length vars → IsTrue (is_node (var_at vars i).definition) → (ds : List (List ℕ)) (h : List ℕ) → ¬ (Listed h ds) → entry (value_of_variable g i) h ≢ value.Absent → (fence : Option (List (List ℕ))) → (var_at vars i).fence ≡ fence → HasEntryOutside vars best (unfenced vars) i ds
+  node_has_entry i w node ds h out some None e =
       free node (elim (entry_of_dir (value_of_variable g i) h) [ inl d ↦ (shown i w).as_dir d | inr a ↦ absurd (some a) ]) (rw e refl)
-  node_lives i w node ds h out some (Some names) e =
+  node_has_entry i w node ds h out some (Some names) e =
       let inside : IsTrue (member h names) = rw e at ((fits i w).fenced h some) in
       let m = order.known i names h w e inside in
       let at_m : value_of_variable g m.0 ≡ entry (value_of_variable g i) h = is_by m.0 m.1 (Child i h) m.2 in
-      held m.0 h m.1 m.2 ((shown m.0 m.1).as_some (λ q. some (sym at_m ∙ q))) out
+      child_present m.0 h m.1 m.2 ((shown m.0 m.1).as_some (λ q. some (sym at_m ∙ q))) out
 
-  lives_by : (n : ℕ) → ((m : ℕ) → m < n → m < length vars → (ds : List (List ℕ)) (h : List ℕ) → ¬ (Listed h ds) → entry (value_of_variable g m) h ≢ value.Absent → Lively vars best (unfenced vars) m ds) → (i : ℕ) → i < suc n → i < length vars → (ds : List (List ℕ)) (h : List ℕ) → ¬ (Listed h ds) → entry (value_of_variable g i) h ≢ value.Absent → (d : Definition) → (var_at vars i).definition ≡ d → Lively vars best (unfenced vars) i ds
-  lives_by n ih i b w ds h out some Start e = node_lives i w (rw e refl) ds h out some (var_at vars i).fence refl
-  lives_by n ih i b w ds h out some (Child p f) e = node_lives i w (rw e refl) ds h out some (var_at vars i).fence refl
-  lives_by n ih i b w ds h out some (Derived x f y) e =
+  has_entry_by : (n : ℕ) → ((m : ℕ) → m < n → m < length vars → (ds : List (List ℕ)) (h : List ℕ) → ¬ (Listed h ds) → entry (value_of_variable g m) h ≢ value.Absent → HasEntryOutside vars best (unfenced vars) m ds) → (i : ℕ) → i < suc n → i < length vars → (ds : List (List ℕ)) (h : List ℕ) → ¬ (Listed h ds) → entry (value_of_variable g i) h ≢ value.Absent → (d : Definition) → (var_at vars i).definition ≡ d → HasEntryOutside vars best (unfenced vars) i ds
+  has_entry_by n ih i b w ds h out some Start e = node_has_entry i w (rw e refl) ds h out some (var_at vars i).fence refl
+  has_entry_by n ih i b w ds h out some (Child p f) e = node_has_entry i w (rw e refl) ds h out some (var_at vars i).fence refl
+  has_entry_by n ih i b w ds h out some (Derived x f y) e =
       let before = rw e at (order.earlier i w) in
       let at_i = is_by i w (Derived x f y) e in
       let vx = value_of_variable g x in
@@ -140,19 +140,19 @@ module _ (vars : List Variable) (best : List Kind) (g : Valuation) (order : Orde
             let at_x : entry (value_of_variable g i) h ≡ entry vx h = ap (λ v. entry v h) at_i ∙ derived_other vx vy f h (sound_at g sounds x) ne.0 in
             below x f y e (ih x (omega (arith, before.0)) (omega (arith, before.0)) (f ∷ ds) h (λ l. elim l [ inl q ↦ ne.0 (sym q) | inr r ↦ out r ]) (λ a. some (at_x ∙ a)))
       ]
-  lives_by n ih i b w ds h out some (Ensured x) e =
+  has_entry_by n ih i b w ds h out some (Ensured x) e =
       let before = rw e at (order.earlier i w) in
       let at_x : entry (value_of_variable g i) h ≡ entry (value_of_variable g x) h = ap (λ v. entry v h) (is_by i w (Ensured x) e) ∙ entry_is (value_of_variable g x) h in
       kept x e (ih x (omega (arith, before)) (omega (arith, before)) ds h out (λ a. some (at_x ∙ a)))
-  lives_by n ih i b w ds h out some (Made k) e =
+  has_entry_by n ih i b w ds h out some (Made k) e =
       absurd (some (ap (λ v. entry v h) (is_by i w (Made k) e) ∙ made_entry k h))
 
-  lives_below : (n i : ℕ) → i < n → i < length vars → (ds : List (List ℕ)) (h : List ℕ) → ¬ (Listed h ds) → entry (value_of_variable g i) h ≢ value.Absent → Lively vars best (unfenced vars) i ds
-  lives_below zero i b w ds h out some = absurd (omega arith)
-  lives_below (suc n) i b w ds h out some = lives_by n (lives_below n) i b w ds h out some (var_at vars i).definition refl
+  has_entry_below : (n i : ℕ) → i < n → i < length vars → (ds : List (List ℕ)) (h : List ℕ) → ¬ (Listed h ds) → entry (value_of_variable g i) h ≢ value.Absent → HasEntryOutside vars best (unfenced vars) i ds
+  has_entry_below zero i b w ds h out some = absurd (omega arith)
+  has_entry_below (suc n) i b w ds h out some = has_entry_by n (has_entry_below n) i b w ds h out some (var_at vars i).definition refl
 
-  pub fine : Fine vars best (unfenced vars)
-  fine i w = record {
+  pub satisfied : IsSatisfied vars best (unfenced vars)
+  satisfied i w = record {
     fits = fits_by i w (var_at vars i).definition refl;
-    lives = λ t. let some = (fits i w).filled t in lives_below (suc i) i (omega arith) w [] some.0 (λ l. l) some.1;
+    filled = λ t. let some = (fits i w).filled t in has_entry_below (suc i) i (omega arith) w [] some.0 (λ l. l) some.1;
   }

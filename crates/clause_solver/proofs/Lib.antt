@@ -1,7 +1,7 @@
 pub mod Names
 pub mod KindSets
 pub mod Values
-pub mod Lives
+pub mod HasEntries
 pub mod Pairs
 pub mod OneMore
 pub mod Unique

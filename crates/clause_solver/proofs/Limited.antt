@@ -12,7 +12,8 @@ use Rattle.clause_solver.specs.Literals.{Valuation, value_of_variable}
 use Rattle.clause_solver.specs.Stands.{Stands}
 use Rattle.clause_solver.specs.Variables.{var_at, defined, Fits, AllFit, Earlier, Ordered, AlwaysDir, OnlyDir, fixed_in, narrowed, limited, is_node}
 use Rattle.clause_solver.proofs.Names.{nat_cases}
-use Rattle.clause_solver.proofs.KindSets.{has_both, and_both, both_and}
+use Rattle.std.proofs.lemmas.Bool.{and_parts, and_from}
+use Rattle.clause_solver.proofs.KindSets.{has_both}
 use Rattle.clause_solver.proofs.Pairs.{fits_from, fits_to}
 use Rattle.clause_solver.proofs.OneMore.{seen_of}
 
@@ -27,15 +28,15 @@ fixed_fits g (Made m) k e = e
 -- a kind of the narrowed set
 narrowed_by : (fixed : Bool) (ks k : Kinds) (q : Kind) → (fixed ≡ true → IsTrue (has k q)) → IsTrue (has (if fixed then ks else both ks k) q) → IsTrue (has ks q) × IsTrue (has k q)
 narrowed_by true ks k q f h = (h, f refl)
-narrowed_by false ks k q f h = and_both (has ks q) (has k q) (rw has_both at h)
+narrowed_by false ks k q f h = and_parts (has ks q) (has k q) (rw has_both at h)
 
 narrowed_to : (fixed : Bool) (ks k : Kinds) (q : Kind) → IsTrue (has ks q) → IsTrue (has k q) → IsTrue (has (if fixed then ks else both ks k) q)
 narrowed_to true ks k q h i = h
-narrowed_to false ks k q h i = rw has_both (both_and (has ks q) (has k q) h i)
+narrowed_to false ks k q h i = rw has_both (and_from (has ks q) (has k q) h i)
 
 narrowed_only : (fixed : Bool) (ks k : Kinds) (q : Kind) → IsTrue (has (if fixed then ks else both ks k) q) → IsTrue (has ks q)
 narrowed_only true ks k q h = h
-narrowed_only false ks k q h = (and_both (has ks q) (has k q) (rw has_both at h)).0
+narrowed_only false ks k q h = (and_parts (has ks q) (has k q) (rw has_both at h)).0
 
 module _ (vars : List Variable) (x : ℕ) (k : Kinds) (inside : x < length vars) where
   abbrev here_now : Variable

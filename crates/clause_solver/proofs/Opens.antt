@@ -5,26 +5,26 @@ use Rattle.clause_solver.specs.declared.variable.MadeValue.{MadeValue}
 use Rattle.clause_solver.specs.declared.variable.Definition.TheVariants.{Derived, Ensured, Made}
 use Rattle.clause_solver.specs.declared.variable.Variable.{Variable}
 use Rattle.clause_solver.specs.Variables.{var_at, is_node}
-use Rattle.clause_solver.specs.Greatest.{unfenced, unfenced_if, Lively, free, held, here, below, kept}
+use Rattle.clause_solver.specs.Greatest.{unfenced, unfenced_if, HasEntryOutside, free, child_present, here, below, kept}
 use Rattle.clause_solver.specs.Opens.{mark_at, opened, IsRoot, itself, derived, ensured}
 use Rattle.clause_solver.proofs.Names.{last_cases}
-use Rattle.clause_solver.proofs.KindSets.{and_both, both_and}
+use Rattle.std.proofs.lemmas.Bool.{and_parts, and_from}
 
 -- with more open places no entry is lost
-pub lively_more : (vars : List Variable) (best : List Kind) (a b : ℕ → Bool) → ((n : ℕ) → IsTrue (a n) → IsTrue (b n)) → {n : ℕ} {ds : List (List ℕ)} → Lively vars best a n ds → Lively vars best b n ds
-lively_more vars best a b more (free node d o) = free node d (more _ o)
-lively_more vars best a b more (held m f w e some out) = held m f w e some out
-lively_more vars best a b more (here x f y e some out) = here x f y e some out
-lively_more vars best a b more (below x f y e rest) = below x f y e (lively_more vars best a b more rest)
-lively_more vars best a b more (kept x e rest) = kept x e (lively_more vars best a b more rest)
+pub has_entry_more : (vars : List Variable) (best : List Kind) (a b : ℕ → Bool) → ((n : ℕ) → IsTrue (a n) → IsTrue (b n)) → {n : ℕ} {ds : List (List ℕ)} → HasEntryOutside vars best a n ds → HasEntryOutside vars best b n ds
+has_entry_more vars best a b more (free node d o) = free node d (more _ o)
+has_entry_more vars best a b more (child_present m f w e some out) = child_present m f w e some out
+has_entry_more vars best a b more (here x f y e some out) = here x f y e some out
+has_entry_more vars best a b more (below x f y e rest) = below x f y e (has_entry_more vars best a b more rest)
+has_entry_more vars best a b more (kept x e rest) = kept x e (has_entry_more vars best a b more rest)
 
 -- where the place that a variable is made from is open, an entry stays
-pub lively_opened : (vars : List Variable) (best : List Kind) (marks : List Bool) {x : ℕ} {ds : List (List ℕ)} → Lively vars best (unfenced vars) x ds → ((r : ℕ) → IsRoot vars x r → IsTrue (mark_at marks r)) → Lively vars best (opened vars marks) x ds
-lively_opened vars best marks {x} (free node d o) root = free node d (both_and (mark_at marks x) (unfenced vars x) (root x (itself node)) o)
-lively_opened vars best marks (held m f w e some out) root = held m f w e some out
-lively_opened vars best marks (here x f y e some out) root = here x f y e some out
-lively_opened vars best marks (below x f y e rest) root = below x f y e (lively_opened vars best marks rest (λ r q. root r (derived x f y e q)))
-lively_opened vars best marks (kept x e rest) root = kept x e (lively_opened vars best marks rest (λ r q. root r (ensured x e q)))
+pub has_entry_opened : (vars : List Variable) (best : List Kind) (marks : List Bool) {x : ℕ} {ds : List (List ℕ)} → HasEntryOutside vars best (unfenced vars) x ds → ((r : ℕ) → IsRoot vars x r → IsTrue (mark_at marks r)) → HasEntryOutside vars best (opened vars marks) x ds
+has_entry_opened vars best marks {x} (free node d o) root = free node d (and_from (mark_at marks x) (unfenced vars x) (root x (itself node)) o)
+has_entry_opened vars best marks (child_present m f w e some out) root = child_present m f w e some out
+has_entry_opened vars best marks (here x f y e some out) root = here x f y e some out
+has_entry_opened vars best marks (below x f y e rest) root = below x f y e (has_entry_opened vars best marks rest (λ r q. root r (derived x f y e q)))
+has_entry_opened vars best marks (kept x e rest) root = kept x e (has_entry_opened vars best marks rest (λ r q. root r (ensured x e q)))
 
 -- the root of a place is itself, and a made variable's is its source's
 
@@ -56,15 +56,15 @@ root_made vars n r m e (ensured x e' q) = let bad : Made m ≡ Ensured x = sym e
 
 -- marks may be added
 pub opened_more : (vars : List Variable) (old new : List Bool) → ((n : ℕ) → IsTrue (mark_at old n) → IsTrue (mark_at new n)) → (n : ℕ) → IsTrue (opened vars old n) → IsTrue (opened vars new n)
-opened_more vars old new more n h = let q = and_both (mark_at old n) (unfenced vars n) h in both_and (mark_at new n) (unfenced vars n) (more n q.0) q.1
+opened_more vars old new more n h = let q = and_parts (mark_at old n) (unfenced vars n) h in and_from (mark_at new n) (unfenced vars n) (more n q.0) q.1
 
 -- an entry that is there with no place counted is there with any marks
-pub lively_any : (vars : List Variable) (best : List Kind) (marks : List Bool) {n : ℕ} {ds : List (List ℕ)} → Lively vars best (unfenced_if vars false) n ds → Lively vars best (opened vars marks) n ds
-lively_any vars best marks h = lively_more vars best (unfenced_if vars false) (opened vars marks) (λ n f. cc) h
+pub has_entry_any : (vars : List Variable) (best : List Kind) (marks : List Bool) {n : ℕ} {ds : List (List ℕ)} → HasEntryOutside vars best (unfenced_if vars false) n ds → HasEntryOutside vars best (opened vars marks) n ds
+has_entry_any vars best marks h = has_entry_more vars best (unfenced_if vars false) (opened vars marks) (λ n f. cc) h
 
-pub lives_next : (vars : List Variable) (best : List Kind) (old new : List Bool) (i : ℕ) → ((n : ℕ) → IsTrue (mark_at old n) → IsTrue (mark_at new n)) → ((k : ℕ) → k < i → IsTrue (var_at vars k).not_empty → Lively vars best (opened vars old) k []) → (IsTrue (var_at vars i).not_empty → Lively vars best (opened vars new) i []) → (k : ℕ) → k < i + 1 → IsTrue (var_at vars k).not_empty → Lively vars best (opened vars new) k []
-lives_next vars best old new i more before now k w t = elim (last_cases k i w) [
-  | inl b ↦ lively_more vars best (opened vars old) (opened vars new) (opened_more vars old new more) (before k b t)
+pub has_entry_next : (vars : List Variable) (best : List Kind) (old new : List Bool) (i : ℕ) → ((n : ℕ) → IsTrue (mark_at old n) → IsTrue (mark_at new n)) → ((k : ℕ) → k < i → IsTrue (var_at vars k).not_empty → HasEntryOutside vars best (opened vars old) k []) → (IsTrue (var_at vars i).not_empty → HasEntryOutside vars best (opened vars new) i []) → (k : ℕ) → k < i + 1 → IsTrue (var_at vars k).not_empty → HasEntryOutside vars best (opened vars new) k []
+has_entry_next vars best old new i more before now k w t = elim (last_cases k i w) [
+  | inl b ↦ has_entry_more vars best (opened vars old) (opened vars new) (opened_more vars old new more) (before k b t)
   | inr e ↦ rw e (now (rw e at t))
 ]
 

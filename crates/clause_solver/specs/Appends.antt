@@ -15,7 +15,8 @@ use Rattle.clause_solver.specs.Greatest.{best_by}
 use Rattle.clause_solver.specs.Fresh.{fresh}
 
 -- the variable y was added, with its greatest kind
-pub record IsAppended (vars : List Variable) (best : List Kind) (d : Definition) (new_vars : List Variable) (new_best : List Kind) (y : ℕ) : Type 0 where
+pub record IsAppended (vars : List Variable) (best : List Kind) (d : Definition)
+    (new_vars : List Variable) (new_best : List Kind) (y : ℕ) : Type 0 where
   pub at : y ≡ length vars
   pub room : length vars < 4294967295
   pub variable : new_vars ≡ vars ++ fresh d ∷ []
@@ -31,10 +32,14 @@ Within vars (Made m) = Unit {0}
 
 -- the entry f of x is the entry f of another variable, in every valuation that is left
 abbrev pub SameEntry : List Variable → ℕ → List ℕ → ℕ → Type 0
-SameEntry vars x f n = (g : Valuation) → IsSound g → AllFit vars g → entry (value_of_variable g x) f ≡ entry (value_of_variable g n) f
+SameEntry vars x f n =
+    (g : Valuation) → IsSound g → AllFit vars g → entry (value_of_variable g x) f ≡ entry (value_of_variable g n) f
 
--- the entry f of x is an older variable, nothing, or the entry f of a place of the start tree, in every valuation that is left
+-- the entry f of x is an older variable, nothing, or the entry f of a place of the start tree, in every valuation
+-- that is left
 abbrev pub LeadsTo : List Variable → ℕ → List ℕ → Found → Type 0
-LeadsTo vars x f (Known y) = (y < length vars) × ((g : Valuation) → IsSound g → AllFit vars g → entry (value_of_variable g x) f ≡ value_of_variable g y)
+LeadsTo vars x f (Known y) =
+    (y < length vars)
+    × ((g : Valuation) → IsSound g → AllFit vars g → entry (value_of_variable g x) f ≡ value_of_variable g y)
 LeadsTo vars x f Nothing = (g : Valuation) → IsSound g → AllFit vars g → entry (value_of_variable g x) f ≡ value.Absent
 LeadsTo vars x f (At n) = (n < length vars) × IsTrue (is_node (var_at vars n).definition) × SameEntry vars x f n

@@ -9,18 +9,22 @@ use Rattle.feature_trees.specs.declared.kind.Kind.{Kind}
 use Rattle.clause_solver.specs.declared.variable.Variable.{Variable}
 use Rattle.clause_solver.specs.Literals.{Valuation, value_of_variable}
 use Rattle.clause_solver.specs.Greatest.{kind_at}
-use Rattle.clause_solver.specs.Grown.{grown, kids, extra, values}
-use Rattle.clause_solver.specs.Opens.{opened, bare}
+use Rattle.clause_solver.specs.Grown.{grown, children, extra, values}
+use Rattle.clause_solver.specs.Opens.{opened, without_children}
 
 -- before any entry is known
-pub record AreBare (vars : List Variable) (best : List Kind) (marks : List Bool) (z : List ℕ) (vs : Valuation) : Type 0 where
+pub record AreWithoutChildren (vars : List Variable) (best : List Kind) (marks : List Bool) (z : List ℕ)
+    (vs : Valuation) : Type 0 where
   pub counted : length vs ≡ length vars
-  pub each : (k : ℕ) → k < length vars → value_of_variable vs k ≡ bare vars best marks z k
+  pub each : (k : ℕ) → k < length vars → value_of_variable vs k ≡ without_children vars best marks z k
 
 -- the first i values, with their entries among the variables from i on
-pub record IsBuilt (vars : List Variable) (best : List Kind) (marks : List Bool) (z : List ℕ) (i : ℕ) (vs : Valuation) : Type 0 where
+pub record IsBuilt (vars : List Variable) (best : List Kind) (marks : List Bool) (z : List ℕ) (i : ℕ)
+    (vs : Valuation) : Type 0 where
   pub counted : length vs ≡ i
-  pub each : (k : ℕ) → k < i → value_of_variable vs k ≡ grown (kind_at best k) (kids k (drop i vars) (drop i (values best (opened vars marks) z 0 vars)) (extra (opened vars marks k) z))
+  pub each : (k : ℕ) → k < i
+      → value_of_variable vs k ≡ grown (kind_at best k)
+      (children k (drop i vars) (drop i (values best (opened vars marks) z 0 vars)) (extra (opened vars marks k) z))
 
 -- a directory with another value under a name; nothing else has entries
 abbrev pub with_entry : Value → List ℕ → Value → Value
@@ -31,12 +35,12 @@ with_entry value.Other f v = value.Other
 with_entry (value.Dir es) f v = value.Dir (update es f v)
 
 -- the values, with one more moved into its parent where it is an entry
-abbrev pub handed : Valuation → Definition → Value → Valuation
-handed vs Start v = vs
-handed vs (Child p f) v = slice_set vs p (with_entry (value_of_variable vs p) f v)
-handed vs (Derived x f y) v = vs
-handed vs (Ensured x) v = vs
-handed vs (Made m) v = vs
+abbrev pub moved_to_parent : Valuation → Definition → Value → Valuation
+moved_to_parent vs Start v = vs
+moved_to_parent vs (Child p f) v = slice_set vs p (with_entry (value_of_variable vs p) f v)
+moved_to_parent vs (Derived x f y) v = vs
+moved_to_parent vs (Ensured x) v = vs
+moved_to_parent vs (Made m) v = vs
 
 -- the parent, if the definition names one, stands below this number
 abbrev pub ParentBelow : ℕ → Definition → Type 0

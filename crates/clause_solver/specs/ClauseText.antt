@@ -3,8 +3,8 @@ use Rattle.std.specs.Prelude.{ℕ, Bool, List, [], ◌∷◌, ◌++◌, codes, m
 use Rattle.std.specs.List.{flat_map}
 use Rattle.std.specs.Fmt.{decimal}
 use Rattle.feature_trees.specs.declared.kind.Kinds.{Kinds}
-use Rattle.feature_trees.specs.Show.{show}
-use Rattle.feature_trees.specs.TreeText.{line}
+use Rattle.shown_texts.specs.Lines.{line}
+use Rattle.shown_texts.specs.Show.{show}
 use Rattle.clause_solver.specs.declared.clause.Var.{Var}
 use Rattle.clause_solver.specs.declared.clause.Literal.{Literal}
 use Rattle.clause_solver.specs.declared.clause.Literal.TheVariants.{Entry, Kind, Fence, NotEmpty, Similar, Target}
@@ -47,14 +47,18 @@ kinds_text kinds = words_text (kind_words kinds)
 abbrev pub names_text : List (List ℕ) → List ℕ
 names_text names = codes "{" ++ joined (map show names) ++ codes "}"
 
+-- a literal, without the newline of its line
+abbrev pub literal_content : Literal → List ℕ
+literal_content (Entry x f y) = codes "entry " ++ var_text x ++ codes " " ++ show f ++ codes " " ++ var_text y
+literal_content (Kind x kinds) = codes "kind " ++ var_text x ++ codes " " ++ kinds_text kinds
+literal_content (Fence x names) = codes "fence " ++ var_text x ++ codes " " ++ names_text names
+literal_content (NotEmpty x) = codes "notempty " ++ var_text x
+literal_content (Similar y names x) = codes "similar " ++ var_text y ++ codes " " ++ names_text names ++ codes " " ++ var_text x
+literal_content (Target x target) = codes "target " ++ var_text x ++ codes " " ++ show target
+
 -- the line of a literal
 abbrev pub literal_text : Literal → List ℕ
-literal_text (Entry x f y) = line (codes "entry " ++ var_text x ++ codes " " ++ show f ++ codes " " ++ var_text y)
-literal_text (Kind x kinds) = line (codes "kind " ++ var_text x ++ codes " " ++ kinds_text kinds)
-literal_text (Fence x names) = line (codes "fence " ++ var_text x ++ codes " " ++ names_text names)
-literal_text (NotEmpty x) = line (codes "notempty " ++ var_text x)
-literal_text (Similar y names x) = line (codes "similar " ++ var_text y ++ codes " " ++ names_text names ++ codes " " ++ var_text x)
-literal_text (Target x target) = line (codes "target " ++ var_text x ++ codes " " ++ show target)
+literal_text literal = line (literal_content literal)
 
 -- the text of a clause
 abbrev pub clause_text : Clause → List ℕ

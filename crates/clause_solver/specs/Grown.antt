@@ -34,10 +34,10 @@ add p (Ensured x) t es = es
 add p (Made m) t es = es
 
 -- the entries of the place p among these variables, whose values are given, added to some
-abbrev pub kids : ℕ → List Variable → Valuation → List Entry → List Entry
-kids p [] ts first = first
-kids p (c ∷ cs) [] first = first
-kids p (c ∷ cs) (t ∷ ts) first = add p c.definition t (kids p cs ts first)
+abbrev pub children : ℕ → List Variable → Valuation → List Entry → List Entry
+children p [] ts first = first
+children p (c ∷ cs) [] first = first
+children p (c ∷ cs) (t ∷ ts) first = add p c.definition t (children p cs ts first)
 
 -- one entry of a new name, where one is wanted
 abbrev pub extra : Bool → List ℕ → List Entry
@@ -47,4 +47,6 @@ extra true z = record { name = z; node = node_of Reg } ∷ []
 -- the values of the variables from a number on
 abbrev pub values : List Kind → (ℕ → Bool) → List ℕ → ℕ → List Variable → Valuation
 values best open_at z k [] = []
-values best open_at z k (c ∷ cs) = grown (kind_at best k) (kids k cs (values best open_at z (suc k) cs) (extra (open_at k) z)) ∷ values best open_at z (suc k) cs
+values best open_at z k (c ∷ cs) =
+    grown (kind_at best k) (children k cs (values best open_at z (suc k) cs) (extra (open_at k) z))
+    ∷ values best open_at z (suc k) cs

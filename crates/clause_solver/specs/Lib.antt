@@ -5,7 +5,7 @@ pub mod Variables
 pub mod Greatest
 pub mod Written
 pub mod Solved
-pub mod Shades
+pub mod ReplacedNames
 pub mod Fresh
 pub mod Appends
 pub mod View

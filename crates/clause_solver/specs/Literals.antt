@@ -29,7 +29,9 @@ Meets g (Entry x f y) = value_of_variable g y.0 ≡ entry (value_of_variable g x
 Meets g (Kind x kinds) = IsTrue (has kinds (kind_of (value_of_variable g x.0)))
 Meets g (Fence x names) = (f : List ℕ) → ¬ (Contains names f) → entry (value_of_variable g x.0) f ≡ value.Absent
 Meets g (NotEmpty x) = (f : List ℕ) × (entry (value_of_variable g x.0) f ≢ value.Absent)
-Meets g (Similar y names x) = (kind_of (value_of_variable g y.0) ≡ kind.Dir) × AgreesOutside (value_of_variable g y.0) names (value_of_variable g x.0)
+Meets g (Similar y names x) =
+    (kind_of (value_of_variable g y.0) ≡ kind.Dir)
+    × AgreesOutside (value_of_variable g y.0) names (value_of_variable g x.0)
 Meets g (Target x target) = value_of_variable g x.0 ≡ value.Link target
 
 -- it meets all of them
@@ -37,11 +39,13 @@ abbrev pub MeetsAll : Valuation → List Literal → Type 0
 MeetsAll g [] = Unit {0}
 MeetsAll g (literal ∷ literals) = Meets g literal × MeetsAll g literals
 
--- every value of it is one of the file tree: names are names, and rise in each directory, so that equal trees are equal values
+-- every value of it is one of the file tree: names are names, and rise in each directory, so that equal trees are
+-- equal values
 abbrev pub IsSound : Valuation → Type 0
 IsSound g = All (λ v. IsTrue (sound v)) g
 
--- the clause covers a pair of trees: some valuation that gives the one to `start` and the other to `now` meets all literals
+-- the clause covers a pair of trees: some valuation that gives the one to `start` and the other to `now` meets all
+-- literals
 pub record Covers (clause : Clause) (before after : Value) : Type 0 where
   pub valuation : Valuation
   pub values : IsSound valuation

@@ -19,9 +19,10 @@ opened vars marks n = mark_at marks n && unfenced vars n
 -- the place of the start tree that the variable is made from
 pub data IsRoot (vars : List Variable) : ℕ → ℕ → Type 0 where
   itself : {n : ℕ} → IsTrue (is_node (var_at vars n).definition) → IsRoot vars n n
-  derived : {n r : ℕ} (x : ℕ) (f : List ℕ) (y : ℕ) → (var_at vars n).definition ≡ Derived x f y → IsRoot vars x r → IsRoot vars n r
+  derived : {n r : ℕ} (x : ℕ) (f : List ℕ) (y : ℕ) → (var_at vars n).definition ≡ Derived x f y → IsRoot vars x r
+      → IsRoot vars n r
   ensured : {n r : ℕ} (x : ℕ) → (var_at vars n).definition ≡ Ensured x → IsRoot vars x r → IsRoot vars n r
 
 -- a place of its greatest kind before any entry is known, with one entry of a new name where it is opened
-abbrev pub bare : List Variable → List Kind → List Bool → List ℕ → ℕ → Value
-bare vars best marks z n = grown (kind_at best n) (extra (opened vars marks n) z)
+abbrev pub without_children : List Variable → List Kind → List Bool → List ℕ → ℕ → Value
+without_children vars best marks z n = grown (kind_at best n) (extra (opened vars marks n) z)

@@ -27,25 +27,36 @@ Rising (f ∷ g ∷ rest) = (name_cmp f g ≡ Less) × Rising (g ∷ rest)
 -- the literals are one entry of y for each of the names, in their order, with a known variable as its value
 pub data Replaces (known : List ℕ) (y : Var) : List (List ℕ) → List Literal → Type 0 where
   none : Replaces known y [] []
-  one : {names : List (List ℕ)} {entries : List Literal} (f : List ℕ) (z : Var) → Contains known z.0 → Replaces known y names entries → Replaces known y (f ∷ names) (Entry y f z ∷ entries)
+  one : {names : List (List ℕ)} {entries : List Literal} (f : List ℕ) (z : Var) → Contains known z.0
+      → Replaces known y names entries → Replaces known y (f ∷ names) (Entry y f z ∷ entries)
 
 -- from the variables known before, going through the literals, to the variables known after
 pub data Solves : List ℕ → List Literal → List ℕ → Type 0 where
   done : {known : List ℕ} → Solves known [] known
   -- an entry of a known variable
-  entry : {known after : List ℕ} {literals : List Literal} (x : Var) (f : List ℕ) (y : Var) → Contains known x.0 → ¬ (Contains known y.0) → Solves (y.0 ∷ known) literals after → Solves known (Entry x f y ∷ literals) after
+  entry : {known after : List ℕ} {literals : List Literal} (x : Var) (f : List ℕ) (y : Var) → Contains known x.0
+      → ¬ (Contains known y.0) → Solves (y.0 ∷ known) literals after → Solves known (Entry x f y ∷ literals) after
   -- nothing
-  absent : {known after : List ℕ} {literals : List Literal} (y : Var) → ¬ (Contains known y.0) → Solves (y.0 ∷ known) literals after → Solves known (Kind y (of kind.Absent) ∷ literals) after
+  absent : {known after : List ℕ} {literals : List Literal} (y : Var) → ¬ (Contains known y.0)
+      → Solves (y.0 ∷ known) literals after → Solves known (Kind y (of kind.Absent) ∷ literals) after
   -- a file
-  reg : {known after : List ℕ} {literals : List Literal} (y : Var) → ¬ (Contains known y.0) → Solves (y.0 ∷ known) literals after → Solves known (Kind y (of kind.Reg) ∷ literals) after
+  reg : {known after : List ℕ} {literals : List Literal} (y : Var) → ¬ (Contains known y.0)
+      → Solves (y.0 ∷ known) literals after → Solves known (Kind y (of kind.Reg) ∷ literals) after
   -- a link
-  link : {known after : List ℕ} {literals : List Literal} (y : Var) (target : List ℕ) → ¬ (Contains known y.0) → Solves (y.0 ∷ known) literals after → Solves known (Target y target ∷ literals) after
+  link : {known after : List ℕ} {literals : List Literal} (y : Var) (target : List ℕ) → ¬ (Contains known y.0)
+      → Solves (y.0 ∷ known) literals after → Solves known (Target y target ∷ literals) after
   -- the directory without entries
-  empty : {known after : List ℕ} {literals : List Literal} (y : Var) → ¬ (Contains known y.0) → Solves (y.0 ∷ known) literals after → Solves known (Kind y (of kind.Dir) ∷ Fence y [] ∷ literals) after
-  -- a directory with the entries of a known variable, but under these names with the known variables that follow at once
-  similar : {known after : List ℕ} {literals : List Literal} (y : Var) (names : List (List ℕ)) (x : Var) (entries : List Literal) → Contains known x.0 → ¬ (Contains known y.0) → Rising names → Replaces known y names entries → Solves (y.0 ∷ known) literals after → Solves known (Similar y names x ∷ entries ++ literals) after
+  empty : {known after : List ℕ} {literals : List Literal} (y : Var) → ¬ (Contains known y.0)
+      → Solves (y.0 ∷ known) literals after → Solves known (Kind y (of kind.Dir) ∷ Fence y [] ∷ literals) after
+  -- a directory with the entries of a known variable, but under these names with the known variables that follow at
+  -- once
+  similar : {known after : List ℕ} {literals : List Literal} (y : Var) (names : List (List ℕ)) (x : Var)
+      (entries : List Literal) → Contains known x.0 → ¬ (Contains known y.0) → Rising names
+      → Replaces known y names entries → Solves (y.0 ∷ known) literals after
+      → Solves known (Similar y names x ∷ entries ++ literals) after
   -- a fact on known variables
-  fact : {known after : List ℕ} {literals : List Literal} (literal : Literal) → AllKnown known literal → Solves known literals after → Solves known (literal ∷ literals) after
+  fact : {known after : List ℕ} {literals : List Literal} (literal : Literal) → AllKnown known literal
+      → Solves known literals after → Solves known (literal ∷ literals) after
 
 -- the clause is in solved order: its start is known, and in the end the tree now is
 abbrev pub IsSolved : Clause → Type 0

@@ -6,7 +6,8 @@ use Rattle.feature_trees.specs.Tree.{entry, kind_of, put}
 use Rattle.clause_solver.specs.declared.clause.Literal.{Literal}
 use Rattle.clause_solver.specs.Literals.{Valuation, value_of_variable, MeetsAll, IsSound}
 
--- a store is seen as the count of its variables, their literals, and the variable of the tree now; variable 0 is the start
+-- a store is seen as the count of its variables, their literals, and the variable of the tree now; variable 0 is the
+-- start
 pub record Seen : Type 0 where
   pub count : ℕ
   pub literals : List Literal
@@ -45,7 +46,8 @@ IsDirectory s x = (t : Value) (g : Valuation) → Stands s t g → kind_of (valu
 -- the variable y is x with the value of z put under the name f, in every pair
 pub record HasPut (s : Seen) (x : ℕ) (f : List ℕ) (z y : ℕ) : Type 0 where
   pub known : y < s.count
-  pub is : (t : Value) (g : Valuation) → Stands s t g → value_of_variable g y ≡ put (value_of_variable g x) (f ∷ []) (value_of_variable g z)
+  pub is : (t : Value) (g : Valuation) → Stands s t g
+      → value_of_variable g y ≡ put (value_of_variable g x) (f ∷ []) (value_of_variable g z)
 
 -- the variable y is this value, in every pair
 pub record HasValue (s : Seen) (y : ℕ) (v : Value) : Type 0 where

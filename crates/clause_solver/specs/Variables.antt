@@ -1,5 +1,6 @@
 -- The variables of a store: what a definition and the facts say of a valuation, and the order that they stand in.
-use Rattle.std.specs.Prelude.{◌≡◌, ◌≢◌, ℕ, ◌<◌, ◌⊎◌, List, [], ◌∷◌, length, Option, Some, None, slice_index_or, slice_set, IsTrue, Bool, true, false, if◌then◌else◌}
+use Rattle.std.specs.Prelude.{◌≡◌, ◌≢◌, ℕ, ◌<◌, ◌⊎◌, List, [], ◌∷◌, length, Option, Some, None, slice_index_or}
+use Rattle.std.specs.Prelude.{slice_set, IsTrue, Bool, true, false, if◌then◌else◌}
 use Rattle.std.specs.List.{list_any}
 use Rattle.std.specs.Ordering.{is_eq}
 use Rattle.script_names.specs.Names.{is_name}
@@ -61,7 +62,7 @@ pub record Fits (g : Valuation) (i : ℕ) (v : Variable) : Type 0 where
   pub fenced : (f : List ℕ) → entry (value_of_variable g i) f ≢ value.Absent → IsTrue (allowed v.fence f)
   pub filled : IsTrue v.not_empty → (f : List ℕ) × (entry (value_of_variable g i) f ≢ value.Absent)
 
--- so it is with every variable
+-- the valuation gives every variable its defined value, and the facts on each hold
 abbrev pub AllFit : List Variable → Valuation → Type 0
 AllFit vars g = (i : ℕ) → i < length vars → Fits g i (var_at vars i)
 
@@ -87,15 +88,18 @@ pub record Ordered (vars : List Variable) : Type 0 where
   pub first : (var_at vars 0).definition ≡ Start
   pub earlier : (i : ℕ) → i < length vars → Earlier vars i (var_at vars i).definition
   -- no two children are the same entry
-  pub single : (i j p : ℕ) (f : List ℕ) → i < j → j < length vars → (var_at vars i).definition ≡ Child p f → (var_at vars j).definition ≡ Child p f → ⊥
+  pub single : (i j p : ℕ) (f : List ℕ) → i < j → j < length vars → (var_at vars i).definition ≡ Child p f
+      → (var_at vars j).definition ≡ Child p f → ⊥
   -- each name of a fence has its variable
-  pub known : (i : ℕ) (names : List (List ℕ)) (f : List ℕ) → i < length vars → (var_at vars i).fence ≡ Some names → IsTrue (member f names) → (m : ℕ) × (m < length vars) × ((var_at vars m).definition ≡ Child i f)
+  pub known : (i : ℕ) (names : List (List ℕ)) (f : List ℕ) → i < length vars → (var_at vars i).fence ≡ Some names
+      → IsTrue (member f names) → (m : ℕ) × (m < length vars) × ((var_at vars m).definition ≡ Child i f)
   -- only places of the start tree have fences
   pub nodes : (i : ℕ) → i < length vars → is_node (var_at vars i).definition ≡ false → (var_at vars i).fence ≡ None
 
 -- the variable is a directory wherever all is met
 abbrev pub AlwaysDir : List Variable → ℕ → Type 0
-AlwaysDir vars x = (g : Valuation) → length g ≡ length vars → IsSound g → AllFit vars g → kind_of (value_of_variable g x) ≡ kind.Dir
+AlwaysDir vars x =
+    (g : Valuation) → length g ≡ length vars → IsSound g → AllFit vars g → kind_of (value_of_variable g x) ≡ kind.Dir
 
 -- the variable's kinds allow a directory at most
 abbrev pub OnlyDir : List Variable → ℕ → Type 0

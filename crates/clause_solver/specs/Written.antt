@@ -51,7 +51,9 @@ filled_literals i true = NotEmpty (var i) ∷ []
 
 -- the literals of one variable
 abbrev pub literals_of : ℕ → Variable → List Literal
-literals_of i v = definition_literals i v.definition ++ (kinds_literals i v.kinds ++ (fence_literals i v.fence ++ filled_literals i v.not_empty))
+literals_of i v =
+    definition_literals i v.definition
+    ++ (kinds_literals i v.kinds ++ (fence_literals i v.fence ++ filled_literals i v.not_empty))
 
 -- the literals of the variables from a number on
 abbrev pub literals_from : ℕ → List Variable → List Literal

@@ -62,6 +62,9 @@ fn is_child(definition: &Definition, of: u32, f: &Name) -> bool
     }
 }
 
+// So many variables can be numbered.
+const MOST_VARIABLES: usize = 4_294_967_295;
+
 /// Adds a variable; for want of memory, or of numbers for variables, all is as before.
 pub(crate) fn append(
     vars: &mut Vec<Variable>,
@@ -75,7 +78,7 @@ pub(crate) fn append(
     ensures kept { OnErr result ((vars.new.items ≡ vars.old.items) × (best.new.items ≡ best.old.items)) }
 {
     let y = vars.len();
-    if y >= 4294967295 {
+    if y >= MOST_VARIABLES {
         return Err(Memory);
     }
     let kind = greatest_by(vars, best, Kinds::all(), &definition);

@@ -1,9 +1,10 @@
 ghost use Rattle.std.specs.Prelude.{◌≡◌, ℕ, ◌<◌, ◌↔◌, List, [], ◌∷◌, length, IsTrue, ◌≢◌};
 ghost use Rattle.clause_solver.specs.Literals.{Valuation, IsSound};
 ghost use Rattle.clause_solver.specs.Variables.{Ordered, Listed, member, allowed, var_at, is_node, made_value, AllFit};
-ghost use Rattle.clause_solver.specs.Greatest.{IsBest, Lively, Fine, FineAt, IsOpen, IsHeld, kind_at, best_by, best_of, choose, name_in, unfenced, unfenced_if};
+ghost use Rattle.clause_solver.specs.Greatest.{IsBest, HasEntryOutside, IsSatisfied, IsSatisfiedAt, IsOpen};
+ghost use Rattle.clause_solver.specs.Greatest.{IsPresentChild, kind_at, best_by, best_of, choose, unfenced, unfenced_if};
 ghost use Rattle.clause_solver.specs.Appends.{Within};
-ghost use Rattle.clause_solver.specs.Shades.{names};
+ghost use Rattle.clause_solver.specs.ReplacedNames.{names};
 ghost use Rattle.clause_solver.specs.declared.variable.Definition.TheVariants.{Child};
 ghost use Rattle.feature_trees.specs.Tree.{kind_of};
 ghost use Rattle.feature_trees.specs.declared.kind.Kind.TheVariants.{Absent};
@@ -109,20 +110,20 @@ fn settle(vars: &[Variable], best: &mut [Kind])
     }
 }
 
-/// Names that are replaced above.
+/// The names whose entries were replaced on the way down to a variable, the last one first.
 #[derive(Drop)]
-pub(crate) enum Shade<'a> {
+pub(crate) enum ReplacedNames<'a> {
     Nothing,
-    Also(&'a Name, &'a Shade<'a>),
+    Also(&'a Name, &'a ReplacedNames<'a>),
 }
 
-// Whether the name stands in the shade.
-fn listed(shade: &Shade, f: &Name) -> bool
-    ensures { IsTrue result ↔ Listed f.now (names shade.now) }
+// Whether the name is one of the replaced names.
+fn listed(replaced: &ReplacedNames, f: &Name) -> bool
+    ensures { IsTrue result ↔ Listed f.now (names replaced.now) }
 {
-    match shade {
-        Shade::Nothing => false,
-        Shade::Also(g, below) => f.equal(g) || listed(below, f),
+    match replaced {
+        ReplacedNames::Nothing => false,
+        ReplacedNames::Also(g, below) => f.equal(g) || listed(below, f),
     }
 }
 
@@ -135,95 +136,108 @@ fn is_open(vars: &[Variable], best: &[Kind], counted: bool, x: usize) -> bool
     counted && best[x] == Kind::Dir && vars[x].fence.is_none()
 }
 
-// Whether the variable m is an entry of x outside the shade, and is there.
-fn is_held(vars: &[Variable], best: &[Kind], x: usize, shade: &Shade, m: usize) -> bool
+// Whether the variable m is an entry of x outside the replaced names, and is there.
+fn is_present_child(
+    vars: &[Variable],
+    best: &[Kind],
+    x: usize,
+    replaced: &ReplacedNames,
+    m: usize,
+) -> bool
     requires same { length best.now ≡ length vars.now }
     requires inside { m < length vars.now }
-    ensures { IsTrue result ↔ IsHeld vars.now best.now x (names shade.now) m }
+    ensures { IsTrue result ↔ IsPresentChild vars.now best.now x (names replaced.now) m }
 {
     match &vars[m].definition {
         Definition::Child(of, f) => *of as usize == x
             && best[m] != Kind::Absent
-            && !listed(&*shade, f),
+            && !listed(&*replaced, f),
         _ => false,
     }
 }
 
-// Whether some entry of x outside the shade is there.
-fn some_held(vars: &[Variable], best: &[Kind], x: usize, shade: &Shade) -> bool
+// Whether some entry of x outside the replaced names is there.
+fn some_present_child(vars: &[Variable], best: &[Kind], x: usize, replaced: &ReplacedNames) -> bool
     requires same { length best.now ≡ length vars.now }
-    ensures { IsTrue result ↔ ((m : ℕ) × (m < length vars.now) × IsHeld vars.now best.now x (names shade.now) m) }
+    ensures { IsTrue result
+        ↔ ((m : ℕ) × (m < length vars.now) × IsPresentChild vars.now best.now x (names replaced.now) m) }
 {
     for m in 0..vars.len() {
-        if is_held(vars, best, x, &*shade, m) {
+        if is_present_child(vars, best, x, &*replaced, m) {
             return true;
         }
     }
     false
 }
 
-// Whether a place has an entry outside the shade, among the greatest kinds.
-fn node_lives(vars: &[Variable], best: &[Kind], counted: bool, x: usize, shade: &Shade) -> bool
-    requires same { length best.now ≡ length vars.now }
-    requires order { Ordered vars.now }
-    requires inside { x < length vars.now }
-    requires node { IsTrue (is_node (var_at vars.now x).definition) }
-    ensures { IsTrue result ↔ Lively vars.now best.now (unfenced_if vars.now counted) x (names shade.now) }
-{
-    let open = is_open(vars, best, counted, x);
-    let held = some_held(vars, best, x, &*shade);
-    open | held
-}
-
-// Whether the entry f, which is y's value, is outside the shade and is there.
-fn is_shown(best: &[Kind], y: usize, shade: &Shade, f: &Name) -> bool
-    requires { y < length best.now }
-    ensures { IsTrue result ↔ ((kind_at best.now y ≢ Absent) × (¬ (Listed f.now (names shade.now)))) }
-{
-    best[y] != Kind::Absent && !listed(&*shade, f)
-}
-
-/// Whether a variable has an entry outside the shade, among the greatest kinds;
-/// places without a fence may be counted as having one more, or not.
-pub(crate) fn lives(
+// Whether a place has an entry outside the replaced names, among the greatest kinds.
+fn node_has_entry(
     vars: &[Variable],
     best: &[Kind],
     counted: bool,
     x: usize,
-    shade: &Shade,
+    replaced: &ReplacedNames,
 ) -> bool
     requires same { length best.now ≡ length vars.now }
     requires order { Ordered vars.now }
     requires inside { x < length vars.now }
-    ensures { IsTrue result ↔ Lively vars.now best.now (unfenced_if vars.now counted) x (names shade.now) }
+    requires node { IsTrue (is_node (var_at vars.now x).definition) }
+    ensures { IsTrue result ↔ HasEntryOutside vars.now best.now (unfenced_if vars.now counted) x (names replaced.now) }
+{
+    let open = is_open(vars, best, counted, x);
+    let present = some_present_child(vars, best, x, &*replaced);
+    open | present
+}
+
+// Whether the entry f, which is y's value, is outside the replaced names and is there.
+fn is_shown(best: &[Kind], y: usize, replaced: &ReplacedNames, f: &Name) -> bool
+    requires { y < length best.now }
+    ensures { IsTrue result ↔ ((kind_at best.now y ≢ Absent) × (¬ (Listed f.now (names replaced.now)))) }
+{
+    best[y] != Kind::Absent && !listed(&*replaced, f)
+}
+
+/// Whether a variable has an entry outside the replaced names, among the greatest kinds;
+/// places without a fence may be counted as having one more, or not.
+pub(crate) fn has_entry_outside(
+    vars: &[Variable],
+    best: &[Kind],
+    counted: bool,
+    x: usize,
+    replaced: &ReplacedNames,
+) -> bool
+    requires same { length best.now ≡ length vars.now }
+    requires order { Ordered vars.now }
+    requires inside { x < length vars.now }
+    ensures { IsTrue result ↔ HasEntryOutside vars.now best.now (unfenced_if vars.now counted) x (names replaced.now) }
 {
     match &vars[x].definition {
-        Definition::Start => node_lives(vars, best, counted, x, &*shade),
-        Definition::Child(_, _) => node_lives(vars, best, counted, x, &*shade),
+        Definition::Start => node_has_entry(vars, best, counted, x, &*replaced),
+        Definition::Child(_, _) => node_has_entry(vars, best, counted, x, &*replaced),
         Definition::Derived(of, f, y) => {
             let of = *of as usize;
-            let first = is_shown(best, *y as usize, &*shade, f);
-            let deeper = Shade::Also(f, &*shade);
-            let second = lives(vars, best, counted, of, &deeper);
+            let first = is_shown(best, *y as usize, &*replaced, f);
+            let deeper = ReplacedNames::Also(f, &*replaced);
+            let second = has_entry_outside(vars, best, counted, of, &deeper);
             first | second
         }
-        Definition::Ensured(of) => lives(vars, best, counted, *of as usize, &*shade),
+        Definition::Ensured(of) => has_entry_outside(vars, best, counted, *of as usize, &*replaced),
         Definition::Made(_) => false,
     }
 }
 
 // Whether the greatest kind of a variable fits, and it has an entry where it must.
-fn is_fine_at(vars: &[Variable], best: &[Kind], i: usize) -> bool
+fn is_satisfied_at(vars: &[Variable], best: &[Kind], i: usize) -> bool
     requires same { length best.now ≡ length vars.now }
     requires order { Ordered vars.now }
     requires inside { i < length vars.now }
-    ensures { IsTrue result ↔ FineAt vars.now best.now (unfenced vars.now) i }
+    ensures { IsTrue result ↔ IsSatisfiedAt vars.now best.now (unfenced vars.now) i }
 {
     let fits = vars[i].kinds.has(best[i]);
     if vars[i].not_empty {
-        let shade = Shade::Nothing;
-        let lives = lives(vars, best, true, i, &shade);
-        fits & lives
+        let replaced = ReplacedNames::Nothing;
+        let filled = has_entry_outside(vars, best, true, i, &replaced);
+        fits & filled
     } else {
         fits
     }
@@ -235,13 +249,13 @@ pub(crate) fn decide(vars: &[Variable], best: &mut [Kind]) -> bool
     requires order { Ordered vars.now }
     ensures same { length best.new ≡ length vars.now }
     ensures best { IsBest vars.now best.new }
-    ensures fine { IsTrue result ↔ Fine vars.now best.new (unfenced vars.now) }
+    ensures satisfied { IsTrue result ↔ IsSatisfied vars.now best.new (unfenced vars.now) }
 {
     settle(vars, best);
-    let mut fine = true;
+    let mut satisfied = true;
     for i in 0..vars.len() {
-        let here = is_fine_at(vars, best, i);
-        fine = fine & here;
+        let here = is_satisfied_at(vars, best, i);
+        satisfied = satisfied & here;
     }
-    fine
+    satisfied
 }

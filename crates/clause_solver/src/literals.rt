@@ -1,6 +1,7 @@
 ghost use Rattle.std.specs.Prelude.{◌≡◌, ◌++◌, ◌≤◌, length, OnOk, IfOk};
 ghost use Rattle.clause_solver.specs.declared.variable.Definition.TheVariants as Definition;
-ghost use Rattle.clause_solver.specs.Written.{made_literals, definition_literals, is_all, kinds_literals, fence_literals, filled_literals, literals_of, literals_from};
+ghost use Rattle.clause_solver.specs.Written.{made_literals, definition_literals, is_all, kinds_literals};
+ghost use Rattle.clause_solver.specs.Written.{fence_literals, filled_literals, literals_of, literals_from};
 
 use crate::clause::{Literal, Var};
 use crate::variable::{Definition, MadeValue, Variable};

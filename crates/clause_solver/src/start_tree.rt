@@ -2,34 +2,36 @@ ghost use Rattle.std.specs.Prelude.{◌≡◌, ℕ, ◌<◌, ◌≤◌, List, []
 ghost use Rattle.feature_trees.specs.declared.value.Value.TheVariants as value;
 ghost use Rattle.clause_solver.specs.Literals.{value_of_variable};
 ghost use Rattle.clause_solver.specs.Variables.{Ordered, var_at};
-ghost use Rattle.clause_solver.specs.Greatest.{Fine, Lively, unfenced, kind_at};
+ghost use Rattle.clause_solver.specs.Greatest.{IsSatisfied, HasEntryOutside, unfenced, kind_at};
 ghost use Rattle.clause_solver.specs.Grown.{values, grown, some_target, extra};
 ghost use Rattle.clause_solver.specs.NewNames.{beginning, begins, name_used, IsNew};
 ghost use Rattle.clause_solver.specs.Opens.{mark_at, opened, IsRoot};
-ghost use Rattle.clause_solver.specs.Builds.{AreBare, with_entry, handed, ParentBelow};
+ghost use Rattle.clause_solver.specs.Builds.{AreWithoutChildren, with_entry, moved_to_parent, ParentBelow};
 
-use crate::greatest::{Shade, lives};
+use crate::greatest::{ReplacedNames, has_entry_outside};
 use crate::variable::{Definition, Variable};
 use feature_trees::{Entries, Kind, Value};
 use script_names::{Bytes, Memory, Name, NameFault};
 use std::alloc::Global;
 
 // A directory with one entry of that name where it is wanted.
-fn bare_dir(alloc: Global, wanted: bool, z: &Name) -> Result<Value, Memory>
+fn dir_without_children(alloc: Global, wanted: bool, z: &Name) -> Result<Value, Memory>
     ensures { IfOk result (λ v. v ≡ value.Dir (extra wanted z.now)) }
 {
     let mut entries = Entries::new(alloc);
     if wanted {
-        match entries.set(z, Value::Reg) {
-            Ok(()) => {}
-            Err(e) => return Err(e),
-        }
+        entries.set(z, Value::Reg)?;
     }
     Ok(Value::Dir(entries))
 }
 
 // A place of a kind before any entry is known.
-fn bare_value(alloc: Global, kind: Kind, wanted: bool, z: &Name) -> Result<Value, Memory>
+fn value_without_children(
+    alloc: Global,
+    kind: Kind,
+    wanted: bool,
+    z: &Name,
+) -> Result<Value, Memory>
     ensures { IfOk result (λ v. v ≡ grown kind (extra wanted z.now)) }
 {
     match kind {
@@ -37,7 +39,7 @@ fn bare_value(alloc: Global, kind: Kind, wanted: bool, z: &Name) -> Result<Value
         Kind::Reg => Ok(Value::Reg),
         Kind::Link => Ok(Value::Link(Bytes::from_slice(alloc, b"x")?)),
         Kind::Other => Ok(Value::Other),
-        Kind::Dir => bare_dir(alloc, wanted, z),
+        Kind::Dir => dir_without_children(alloc, wanted, z),
     }
 }
 
@@ -51,7 +53,7 @@ fn is_wanted(vars: &[Variable], marks: &[bool], i: usize) -> bool
 }
 
 // Every variable of its greatest kind before any entry is known.
-fn bare_values(
+fn values_without_children(
     alloc: Global,
     vars: &[Variable],
     best: &[Kind],
@@ -60,15 +62,12 @@ fn bare_values(
 ) -> Result<Vec<Value>, Memory>
     requires same { length best.now ≡ length vars.now }
     requires marks { length marks.now ≡ length vars.now }
-    ensures { IfOk result (λ v. AreBare vars.now best.now marks.now z.now v.items) }
+    ensures { IfOk result (λ v. AreWithoutChildren vars.now best.now marks.now z.now v.items) }
 {
     let mut bases = Vec::new(alloc);
     for i in 0..vars.len() {
         let wanted = is_wanted(vars, marks, i);
-        let base = match bare_value(alloc, best[i], wanted, z) {
-            Ok(base) => base,
-            Err(e) => return Err(e),
-        };
+        let base = value_without_children(alloc, best[i], wanted, z)?;
         bases.push(base)?;
     }
     Ok(bases)
@@ -85,9 +84,9 @@ fn put_entry(parent: &mut Value, f: &Name, v: Value) -> Result<(), Memory>
 }
 
 // Moves a value into its parent, where it is an entry.
-fn hand(values: &mut [Value], definition: &Definition, v: Value) -> Result<(), Memory>
+fn move_to_parent(values: &mut [Value], definition: &Definition, v: Value) -> Result<(), Memory>
     requires { ParentBelow (length values.old) definition.now }
-    ensures { OnOk result (values.new ≡ handed values.old definition.now v) }
+    ensures { OnOk result (values.new ≡ moved_to_parent values.old definition.now v) }
 {
     match definition {
         Definition::Child(of, f) => put_entry(&mut values[*of as usize], f, v),
@@ -107,21 +106,16 @@ pub(crate) fn grow(
     requires same { length best.now ≡ length vars.now }
     requires marks { length marks.now ≡ length vars.now }
     requires order { Ordered vars.now }
-    ensures { IfOk result (λ v. v ≡ value_of_variable (values best.now (opened vars.now marks.now) z.now 0 vars.now) 0) }
+    ensures { IfOk result (λ v.
+        v ≡ value_of_variable (values best.now (opened vars.now marks.now) z.now 0 vars.now) 0) }
 {
-    let mut built = match bare_values(alloc, vars, best, marks, z) {
-        Ok(built) => built,
-        Err(e) => return Err(e),
-    };
+    let mut built = values_without_children(alloc, vars, best, marks, z)?;
     while let Some(v) = built.pop() {
         let i = built.len();
         if i == 0 {
             return Ok(v);
         }
-        match hand(&mut built, &vars[i].definition, v) {
-            Ok(()) => {}
-            Err(e) => return Err(e),
-        }
+        move_to_parent(&mut built, &vars[i].definition, v)?;
     }
     unreachable!()
 }
@@ -151,16 +145,18 @@ fn open_for(vars: &[Variable], best: &[Kind], marks: &mut [bool], i: usize)
     requires marks { length marks.old ≡ length vars.now }
     requires order { Ordered vars.now }
     requires inside { i < length vars.now }
-    requires lively { IsTrue (var_at vars.now i).not_empty → Lively vars.now best.now (unfenced vars.now) i [] }
+    requires has_entry { IsTrue (var_at vars.now i).not_empty
+        → HasEntryOutside vars.now best.now (unfenced vars.now) i [] }
     ensures same { length marks.new ≡ length marks.old }
     ensures more { (n : ℕ) → IsTrue (mark_at marks.old n) → IsTrue (mark_at marks.new n) }
-    ensures lives { IsTrue (var_at vars.now i).not_empty → Lively vars.now best.now (opened vars.now marks.new) i [] }
+    ensures filled { IsTrue (var_at vars.now i).not_empty
+        → HasEntryOutside vars.now best.now (opened vars.now marks.new) i [] }
 {
     if !vars[i].not_empty {
         return;
     }
-    let shade = Shade::Nothing;
-    if lives(vars, best, false, i, &shade) {
+    let replaced = ReplacedNames::Nothing;
+    if has_entry_outside(vars, best, false, i, &replaced) {
         return;
     }
     let r = match root(vars, i) {
@@ -178,9 +174,9 @@ pub(crate) fn open_places(
 ) -> Result<Vec<bool>, Memory>
     requires same { length best.now ≡ length vars.now }
     requires order { Ordered vars.now }
-    requires fine { Fine vars.now best.now (unfenced vars.now) }
+    requires satisfied { IsSatisfied vars.now best.now (unfenced vars.now) }
     ensures same { IfOk result (λ v. length v.items ≡ length vars.now) }
-    ensures fine { IfOk result (λ v. Fine vars.now best.now (opened vars.now v.items)) }
+    ensures satisfied { IfOk result (λ v. IsSatisfied vars.now best.now (opened vars.now v.items)) }
 {
     let mut marks = vec![in alloc; false; vars.len()]?;
     for i in 0..vars.len() {

@@ -5,6 +5,7 @@ ghost use Rattle.feature_trees.specs.Tree.{entry, kind_of};
 ghost use Rattle.feature_trees.specs.Sound.{IsTree};
 ghost use Rattle.clause_solver.specs.Literals.{Valuation, value_of_variable, Covers};
 ghost use Rattle.clause_solver.specs.Solved.{IsSolved};
+ghost use Rattle.clause_solver.specs.Pairs.{HasPair};
 ghost use Rattle.clause_solver.specs.Stands.{Seen, Stands, Alive, Extends, HasEntry, IsDirectory, HasPut, HasValue};
 ghost use Rattle.clause_solver.specs.Variables.{fixed_in, limited, made_value, narrowed};
 ghost use Rattle.feature_trees.specs.declared.value.Value.TheVariants as value;
@@ -77,7 +78,8 @@ impl Store {
     pub fn limit(&mut self, x: Var, k: Kinds) -> bool
         requires { x.0 < self.old.count }
         ensures kept { (self.new.count ≡ self.old.count) × (self.new.current ≡ self.old.current) }
-        ensures exact { (t : Value) (g : Valuation) → Stands self.new t g ↔ (Stands self.old t g × IsTrue (has k (kind_of (value_of_variable g x.0)))) }
+        ensures exact { (t : Value) (g : Valuation) → Stands self.new t g
+            ↔ (Stands self.old t g × IsTrue (has k (kind_of (value_of_variable g x.0)))) }
         ensures alive { IsTrue result ↔ Alive self.new }
     {
         narrow(&mut self.vars, x.0 as usize, k);
@@ -92,15 +94,12 @@ impl Store {
         ensures kept { OnErr result (self.new ≡ self.old) }
         ensures count { self.new.count ≤ self.old.count + 1 }
     {
-        f.known();
+        f.is_sound();
         match resolve(&self.vars, x.0, f) {
             Found::Known(y) => Ok(Var(y)),
             Found::Nothing => {
                 let made = Definition::Made(MadeValue::Absent);
-                let y = match append(&mut self.vars, &mut self.best, made) {
-                    Ok(y) => y,
-                    Err(e) => return Err(e),
-                };
+                let y = append(&mut self.vars, &mut self.best, made)?;
                 Ok(Var(y))
             }
             Found::At(n) => {
@@ -109,10 +108,7 @@ impl Store {
                 }
                 let alloc = *self.vars.allocator();
                 let name = f.copy(alloc)?;
-                let y = match append(&mut self.vars, &mut self.best, Definition::Child(n, name)) {
-                    Ok(y) => y,
-                    Err(e) => return Err(e),
-                };
+                let y = append(&mut self.vars, &mut self.best, Definition::Child(n, name))?;
                 Ok(Var(y))
             }
         }
@@ -128,14 +124,11 @@ impl Store {
         ensures kept { OnErr result (self.new ≡ self.old) }
         ensures count { self.new.count ≤ self.old.count + 1 }
     {
-        f.known();
+        f.is_sound();
         let alloc = *self.vars.allocator();
         let name = f.copy(alloc)?;
         let derived = Definition::Derived(x.0, name, y.0);
-        let z = match append(&mut self.vars, &mut self.best, derived) {
-            Ok(z) => z,
-            Err(e) => return Err(e),
-        };
+        let z = append(&mut self.vars, &mut self.best, derived)?;
         Ok(Var(z))
     }
 
@@ -146,11 +139,7 @@ impl Store {
         ensures kept { OnErr result (self.new ≡ self.old) }
         ensures count { self.new.count ≤ self.old.count + 1 }
     {
-        let y = match self.made(MadeValue::Dir) {
-            Ok(y) => y,
-            Err(e) => return Err(e),
-        };
-        Ok(y)
+        self.made(MadeValue::Dir)
     }
 
     /// The variable of nothing. For want of memory the store is as before.
@@ -160,11 +149,7 @@ impl Store {
         ensures kept { OnErr result (self.new ≡ self.old) }
         ensures count { self.new.count ≤ self.old.count + 1 }
     {
-        let y = match self.made(MadeValue::Absent) {
-            Ok(y) => y,
-            Err(e) => return Err(e),
-        };
-        Ok(y)
+        self.made(MadeValue::Absent)
     }
 
     // The variable of a made value.
@@ -174,10 +159,7 @@ impl Store {
         ensures kept { OnErr result (self.new ≡ self.old) }
         ensures count { self.new.count ≤ self.old.count + 1 }
     {
-        let y = match append(&mut self.vars, &mut self.best, Definition::Made(value)) {
-            Ok(y) => y,
-            Err(e) => return Err(e),
-        };
+        let y = append(&mut self.vars, &mut self.best, Definition::Made(value))?;
         Ok(Var(y))
     }
 
@@ -197,32 +179,21 @@ impl Store {
         requires { Alive self.now }
         ensures { IfOk result (λ t. (g : Valuation) × Stands self.now t g) }
     {
-        let marks = match open_places(alloc, &self.vars, &self.best) {
-            Ok(marks) => marks,
-            Err(e) => return Err(e),
-        };
-        let z = match new_name(alloc, &self.vars) {
-            Ok(z) => z,
-            Err(e) => return Err(e),
-        };
-        let tree = match grow(alloc, &self.vars, &self.best, &marks, &z) {
-            Ok(tree) => tree,
-            Err(e) => return Err(e),
-        };
+        let marks = open_places(alloc, &self.vars, &self.best)?;
+        let z = new_name(alloc, &self.vars)?;
+        let tree = grow(alloc, &self.vars, &self.best, &marks, &z)?;
         Ok(tree)
     }
 
     /// A clause in solved order with the same pairs: variable 0 is its start, and the tree now its `now`.
     pub fn clause(&self) -> Result<Clause, Memory>
-        ensures seen { IfOk result (λ c. (c.literals ≡ self.now.literals) × (c.start.0 ≡ 0) × (c.now.0 ≡ self.now.current)) }
-        ensures covers { IfOk result (λ c. (t u : Value) → Covers c t u ↔ ((g : Valuation) × Stands self.now t g × (value_of_variable g self.now.current ≡ u))) }
+        ensures seen { IfOk result (λ c. (c.literals ≡ self.now.literals) × (c.start.0 ≡ 0)
+            × (c.now.0 ≡ self.now.current)) }
+        ensures covers { IfOk result (λ c. (t u : Value) → Covers c t u ↔ HasPair self.now t u) }
         ensures solved { IfOk result IsSolved }
     {
         let alloc = *self.vars.allocator();
-        let literals = match write_literals(alloc, &self.vars) {
-            Ok(literals) => literals,
-            Err(e) => return Err(e),
-        };
+        let literals = write_literals(alloc, &self.vars)?;
         Ok(Clause {
             literals,
             start: Var(0),

@@ -49,17 +49,25 @@ fn limits(rt: HostRuntime) -> Result<(), Fail> {
     assert!(rt; s.limit(bin, Kinds::of(Kind::Dir)));
     let again = walk(&rt, &mut s, &[b"usr", b"bin"])?;
     assert_eq!(rt; (etc, bin, again), (Var(1), Var(3), Var(3)));
-    let text =
-        "clause start v0 now v0\nkind v0 dir\nentry v0 etc v1\nkind v1 dir\nentry v0 usr v2\nentry v2 bin v3\nkind v3 dir\n";
-    expect_clause(&rt, &s, text)?;
+    expect_clause(&rt, &s, TWO_DIRECTORIES)?;
     expect_tree(&rt, &mut s, "d /etc\nd /usr\nd /usr/bin\n")?;
     let mut copy = s.copy(rt.alloc())?;
     let now = s.now();
     assert!(rt; !s.limit(now, Kinds::of(Kind::Reg)));
     assert!(rt; !s.limit(now, Kinds::all()));
-    expect_clause(&rt, &copy, text)?;
+    expect_clause(&rt, &copy, TWO_DIRECTORIES)?;
     expect_tree(&rt, &mut copy, "d /etc\nd /usr\nd /usr/bin\n")
 }
+
+// Where `/etc` and `/usr/bin` are directories.
+const TWO_DIRECTORIES: &str = "clause start v0 now v0
+kind v0 dir
+entry v0 etc v1
+kind v1 dir
+entry v0 usr v2
+entry v2 bin v3
+kind v3 dir
+";
 
 #[test]
 fn shows_each_kind(rt: HostRuntime) -> Result<(), Fail> {
@@ -166,12 +174,45 @@ fn derives(rt: HostRuntime) -> Result<(), Fail> {
 }
 
 // An empty directory where nothing stood.
-const ONE_MADE: &str =
-    "clause start v0 now v3\nkind v0 dir\nentry v0 a v1\nkind v1 absent\nkind v2 dir\nfence v2 {}\nsimilar v3 {a} v0\nentry v3 a v2\n";
+const ONE_MADE: &str = "clause start v0 now v3
+kind v0 dir
+entry v0 a v1
+kind v1 absent
+kind v2 dir
+fence v2 {}
+similar v3 {a} v0
+entry v3 a v2
+";
 
 // And nothing where a file stood.
-const ONE_GONE: &str =
-    "clause start v0 now v7\nkind v0 dir\nentry v0 a v1\nkind v1 absent\nkind v2 dir\nfence v2 {}\nsimilar v3 {a} v0\nentry v3 a v2\nkind v4 absent\nentry v0 c v5\nkind v5 reg\nkind v6 absent\nsimilar v7 {c} v3\nentry v7 c v6\n";
+const ONE_GONE: &str = "clause start v0 now v7
+kind v0 dir
+entry v0 a v1
+kind v1 absent
+kind v2 dir
+fence v2 {}
+similar v3 {a} v0
+entry v3 a v2
+kind v4 absent
+entry v0 c v5
+kind v5 reg
+kind v6 absent
+similar v7 {c} v3
+entry v7 c v6
+";
+
+// A directory `/etc` that holds an empty directory `b` alone.
+const ONE_IN_ONE: &str = "clause start v0 now v4
+kind v0 dir
+kind v1 dir
+fence v1 {}
+kind v2 dir
+fence v2 {}
+similar v3 {b} v1
+entry v3 b v2
+similar v4 {etc} v0
+entry v4 etc v3
+";
 
 #[test]
 fn derives_made_ones(rt: HostRuntime) -> Result<(), Fail> {
@@ -181,9 +222,7 @@ fn derives_made_ones(rt: HostRuntime) -> Result<(), Fail> {
     let name = Name::read(rt.alloc(), b"b")?;
     let filled = s.derive(outer, &name, inner)?;
     put_under(&rt, &mut s, b"etc", filled)?;
-    let text =
-        "clause start v0 now v4\nkind v0 dir\nkind v1 dir\nfence v1 {}\nkind v2 dir\nfence v2 {}\nsimilar v3 {b} v1\nentry v3 b v2\nsimilar v4 {etc} v0\nentry v4 etc v3\n";
-    expect_clause(&rt, &s, text)?;
+    expect_clause(&rt, &s, ONE_IN_ONE)?;
     let b = walk(&rt, &mut s, &[b"etc", b"b"])?;
     assert_eq!(rt; b, Var(2));
     let old = walk(&rt, &mut s, &[b"etc", b"c"])?;

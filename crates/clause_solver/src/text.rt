@@ -1,13 +1,12 @@
-ghost use Rattle.std.specs.Prelude.{◌≡◌, ◌++◌, ◌||◌, ◌∷◌, [], IfOk, OnOk, OnErr, codes, map, if◌then◌else◌};
+ghost use Rattle.std.specs.Prelude.{◌≡◌, ◌++◌, ◌||◌, ◌∷◌, [], IfOk, OnOk, OnErr, map, if◌then◌else◌};
 ghost use Rattle.std.specs.List.{flat_map};
-ghost use Rattle.std.specs.Fmt.{decimal};
-ghost use Rattle.feature_trees.specs.Show.{show};
-ghost use Rattle.feature_trees.specs.TreeText.{line};
-ghost use Rattle.clause_solver.specs.ClauseText.{after_comma, joined, var_text, kinds_text, names_text, literal_text, clause_text};
+ghost use Rattle.shown_texts.specs.Show.{show};
+ghost use Rattle.clause_solver.specs.ClauseText.{after_comma, joined, var_text, kinds_text, names_text, literal_content, literal_text, clause_text};
 
 use crate::clause::{Clause, Literal, Var};
-use feature_trees::{Kind, Kinds, put_shown};
+use feature_trees::{Kind, Kinds};
 use script_names::{Bytes, Memory, Name};
+use shown_texts::{push_number, push_shown};
 use std::alloc::Global;
 
 /// The text of a clause: the line of its two variables, then one line per literal, in their order.
@@ -15,15 +14,10 @@ pub fn print_clause(alloc: Global, clause: &Clause) -> Result<Bytes, Memory>
     ensures { IfOk result (λ text. text ≡ clause_text clause.entry.now) }
 {
     let mut text = Bytes::new(alloc);
-    put_pair(
-        alloc,
-        &mut text,
-        b"clause start ",
-        clause.start,
-        b" now ",
-        clause.now,
-    )?;
-    put_literals(alloc, &mut text, clause.literals.as_slice())?;
+    put_var(&mut text, b"clause start ", clause.start)?;
+    put_var(&mut text, b" now ", clause.now)?;
+    text.extend(b"\n")?;
+    put_literals(&mut text, clause.literals.as_slice())?;
     Ok(text)
 }
 
@@ -36,123 +30,60 @@ pub fn put_clause(alloc: Global, text: &mut Bytes, clause: &Clause) -> Result<()
     text.extend(more.as_slice())
 }
 
-// Adds a line with two variables, each after a word.
-fn put_pair(
-    alloc: Global,
-    text: &mut Bytes,
-    first: &[u8],
-    x: Var,
-    second: &[u8],
-    y: Var,
-) -> Result<(), Memory>
-    ensures { OnOk result (text.new ≡ text.old ++ line (first.now ++ var_text x ++ second.now ++ var_text y)) }
-{
-    text.extend(first)?;
-    put_var(alloc, text, x)?;
-    text.extend(second)?;
-    put_var(alloc, text, y)?;
-    text.extend(b"\n")
-}
-
 // Adds the lines of literals.
-fn put_literals(alloc: Global, text: &mut Bytes, literals: &[Literal]) -> Result<(), Memory>
+fn put_literals(text: &mut Bytes, literals: &[Literal]) -> Result<(), Memory>
     ensures { OnOk result (text.new ≡ text.old ++ flat_map literal_text literals.now) }
 {
     for literal in literals {
-        put_literal(alloc, text, literal)?;
+        put_literal(text, literal)?;
+        text.extend(b"\n")?;
     }
     Ok(())
 }
 
-// Adds the line of a literal.
-fn put_literal(alloc: Global, text: &mut Bytes, literal: &Literal) -> Result<(), Memory>
-    ensures { OnOk result (text.new ≡ text.old ++ literal_text literal.now) }
+// Adds a literal, without the newline of its line.
+fn put_literal(text: &mut Bytes, literal: &Literal) -> Result<(), Memory>
+    ensures { OnOk result (text.new ≡ text.old ++ literal_content literal.now) }
 {
     match literal {
-        Literal::Entry(x, f, y) => put_entry(alloc, text, *x, f, *y),
-        Literal::Kind(x, kinds) => put_kind(alloc, text, *x, *kinds),
-        Literal::Fence(x, names) => put_fence(alloc, text, *x, names.as_slice()),
-        Literal::NotEmpty(x) => put_not_empty(alloc, text, *x),
-        Literal::Similar(y, names, x) => put_similar(alloc, text, *y, names.as_slice(), *x),
-        Literal::Target(x, target) => put_target(alloc, text, *x, target.as_slice()),
+        Literal::Entry(x, f, y) => {
+            put_var(text, b"entry ", *x)?;
+            text.extend(b" ")?;
+            push_shown(text, f.as_slice())?;
+            put_var(text, b" ", *y)
+        }
+        Literal::Kind(x, kinds) => {
+            put_var(text, b"kind ", *x)?;
+            text.extend(b" ")?;
+            put_kinds(text, *kinds)
+        }
+        Literal::Fence(x, names) => {
+            put_var(text, b"fence ", *x)?;
+            text.extend(b" ")?;
+            put_names(text, names.as_slice())
+        }
+        Literal::NotEmpty(x) => put_var(text, b"notempty ", *x),
+        Literal::Similar(y, names, x) => {
+            put_var(text, b"similar ", *y)?;
+            text.extend(b" ")?;
+            put_names(text, names.as_slice())?;
+            put_var(text, b" ", *x)
+        }
+        Literal::Target(x, target) => {
+            put_var(text, b"target ", *x)?;
+            text.extend(b" ")?;
+            push_shown(text, target.as_slice())
+        }
     }
 }
 
-fn put_entry(alloc: Global, text: &mut Bytes, x: Var, f: &Name, y: Var) -> Result<(), Memory>
-    ensures { OnOk result (text.new ≡ text.old ++ line (codes "entry " ++ var_text x ++ codes " " ++ show f.now ++ codes " " ++ var_text y)) }
+// Adds a variable behind a word.
+fn put_var(text: &mut Bytes, word: &[u8], x: Var) -> Result<(), Memory>
+    ensures { OnOk result (text.new ≡ text.old ++ (word.now ++ var_text x)) }
 {
-    text.extend(b"entry ")?;
-    put_var(alloc, text, x)?;
-    text.extend(b" ")?;
-    put_shown(text, f.as_slice())?;
-    text.extend(b" ")?;
-    put_var(alloc, text, y)?;
-    text.extend(b"\n")
-}
-
-fn put_kind(alloc: Global, text: &mut Bytes, x: Var, kinds: Kinds) -> Result<(), Memory>
-    ensures { OnOk result (text.new ≡ text.old ++ line (codes "kind " ++ var_text x ++ codes " " ++ kinds_text kinds)) }
-{
-    text.extend(b"kind ")?;
-    put_var(alloc, text, x)?;
-    text.extend(b" ")?;
-    put_kinds(text, kinds)?;
-    text.extend(b"\n")
-}
-
-fn put_fence(alloc: Global, text: &mut Bytes, x: Var, names: &[Name]) -> Result<(), Memory>
-    ensures { OnOk result (text.new ≡ text.old ++ line (codes "fence " ++ var_text x ++ codes " " ++ names_text names.now)) }
-{
-    text.extend(b"fence ")?;
-    put_var(alloc, text, x)?;
-    text.extend(b" ")?;
-    put_names(text, names)?;
-    text.extend(b"\n")
-}
-
-fn put_not_empty(alloc: Global, text: &mut Bytes, x: Var) -> Result<(), Memory>
-    ensures { OnOk result (text.new ≡ text.old ++ line (codes "notempty " ++ var_text x)) }
-{
-    text.extend(b"notempty ")?;
-    put_var(alloc, text, x)?;
-    text.extend(b"\n")
-}
-
-fn put_similar(
-    alloc: Global,
-    text: &mut Bytes,
-    y: Var,
-    names: &[Name],
-    x: Var,
-) -> Result<(), Memory>
-    ensures { OnOk result (text.new ≡ text.old ++ line (codes "similar " ++ var_text y ++ codes " " ++ names_text names.now ++ codes " " ++ var_text x)) }
-{
-    text.extend(b"similar ")?;
-    put_var(alloc, text, y)?;
-    text.extend(b" ")?;
-    put_names(text, names)?;
-    text.extend(b" ")?;
-    put_var(alloc, text, x)?;
-    text.extend(b"\n")
-}
-
-fn put_target(alloc: Global, text: &mut Bytes, x: Var, target: &[u8]) -> Result<(), Memory>
-    ensures { OnOk result (text.new ≡ text.old ++ line (codes "target " ++ var_text x ++ codes " " ++ show target.now)) }
-{
-    text.extend(b"target ")?;
-    put_var(alloc, text, x)?;
-    text.extend(b" ")?;
-    put_shown(text, target)?;
-    text.extend(b"\n")
-}
-
-// Adds a variable.
-fn put_var(alloc: Global, text: &mut Bytes, x: Var) -> Result<(), Memory>
-    ensures { OnOk result (text.new ≡ text.old ++ var_text x) }
-{
+    text.extend(word)?;
     text.extend(b"v")?;
-    let number = x.0.to_string(alloc)?;
-    text.extend(number.as_bytes())
+    push_number(text, u64::from(x.0))
 }
 
 // Adds a set of names.
@@ -163,7 +94,7 @@ fn put_names(text: &mut Bytes, names: &[Name]) -> Result<(), Memory>
     match names {
         [] => {}
         [first, rest @ ..] => {
-            put_shown(text, first.as_slice())?;
+            push_shown(text, first.as_slice())?;
             put_others(text, rest)?;
         }
     }
@@ -176,7 +107,7 @@ fn put_others(text: &mut Bytes, names: &[Name]) -> Result<(), Memory>
 {
     for name in names {
         text.extend(b",")?;
-        put_shown(text, name.as_slice())?;
+        push_shown(text, name.as_slice())?;
     }
     Ok(())
 }

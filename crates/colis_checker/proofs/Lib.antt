@@ -1,3 +1,4 @@
 pub mod Lines
 pub mod Took
 pub mod Calls
+pub mod CommandForms

@@ -1,29 +1,35 @@
 -- The first line of a text, and the commands of the lines one by one.
-use Rattle.std.proofs.Common.{◌≡◌, ◌⊎◌, ℕ, zero, suc, ◌+◌, ◌<◌, ◌==◌, List, [], ◌∷◌, ◌++◌, length, get_or, take, drop, Some, Result, Ok, Err, false, refl, ap, inl, inr, arith, append_assoc}
-use Rattle.std.proofs.lemmas.Bool.{ne_eqb}
+use Rattle.std.proofs.Common.{◌≡◌, ◌⊎◌, ℕ, zero, suc, ◌+◌, ◌<◌, ◌==◌, List, [], ◌∷◌, ◌++◌, length, get_or, take, drop, Some, Result, Ok, Err, false, refl, ap, sym, ◌∙◌, inl, inr, arith, append_assoc}
+use Rattle.std.specs.List.{slice_split, join_with_byte}
+use Rattle.std.proofs.lemmas.List.Splits.{length-slice_split, join_with_byte-slice_split}
 use Rattle.shell_rules.specs.declared.command.Command.{Command}
 use Rattle.utility_calls.specs.declared.act.Planned.{Planned}
-use Rattle.colis_checker.specs.Script.{lines_of, call_of, commands_of, command_then}
+use Rattle.colis_checker.specs.Script.{is_newline, last_line, lines_of_parts, lines_of, call_of, commands_of, command_then}
 
--- a text whose first newline is at i
-pub lines_at : (xs : List ℕ) (i : ℕ) → i < length xs → get_or xs i 0 ≡ 10 → ((k : ℕ) → k < i → get_or xs k 0 ≡ 10 → ⊥)
-    → lines_of xs ≡ take i xs ∷ lines_of (drop (suc i) xs)
-lines_at [] i lt e none = absurd (omega arith)
-lines_at (x ∷ xs) zero lt e none = rw e refl
-lines_at (x ∷ xs) (suc i) lt e none =
-    let ne : (x == 10) ≡ false = ne_eqb x 10 (none 0 (omega arith)) in
-    let rest : lines_of xs ≡ take i xs ∷ lines_of (drop (suc i) xs) = lines_at xs i (omega arith) e (λ k h. none (suc k) (omega arith)) in
-    rw (ne, rest) refl
+-- a part with another behind it is a line
+line_before : (part : List ℕ) (parts : List (List ℕ)) → 0 < length parts → lines_of_parts (part ∷ parts) ≡ part ∷ lines_of_parts parts
+line_before part [] some = absurd (omega arith)
+line_before part (next ∷ parts) some = refl
 
--- a text without a newline
-pub lines_alone : (xs : List ℕ) → 0 < length xs → ((k : ℕ) → k < length xs → get_or xs k 0 ≡ 10 → ⊥) → lines_of xs ≡ xs ∷ []
-lines_alone [] lt none = absurd (omega arith)
-lines_alone (x ∷ []) lt none =
-    let ne : (x == 10) ≡ false = ne_eqb x 10 (none 0 (omega arith)) in rw ne refl
-lines_alone (x ∷ y ∷ xs) lt none =
-    let ne : (x == 10) ≡ false = ne_eqb x 10 (none 0 (omega arith)) in
-    let rest : lines_of (y ∷ xs) ≡ (y ∷ xs) ∷ [] = lines_alone (y ∷ xs) (omega arith) (λ k h. none (suc k) (omega arith)) in
-    rw (ne, rest) refl
+-- the first line of a text with a newline, and what stands behind it
+pub first_of_lines : (text line rest : List ℕ) → slice_split is_newline text ≡ line ∷ slice_split is_newline rest
+    → lines_of text ≡ line ∷ lines_of rest
+first_of_lines text line rest parts =
+    ap lines_of_parts parts ∙ line_before line (slice_split is_newline rest) (omega (arith, length-slice_split is_newline rest))
+
+-- a last line with a byte
+filled_line : (line : List ℕ) → 0 < length line → last_line line ≡ line ∷ []
+filled_line [] some = absurd (omega arith)
+filled_line (b ∷ bs) some = refl
+
+-- a part of a text without a newline is the text
+pub only_part : (text line : List ℕ) → slice_split is_newline text ≡ line ∷ [] → line ≡ text
+only_part text line parts = ap (join_with_byte 10) (sym parts) ∙ join_with_byte-slice_split 10 text
+
+-- the only line of a text without a newline
+pub only_line : (text line : List ℕ) → 0 < length text → slice_split is_newline text ≡ line ∷ [] → lines_of text ≡ line ∷ []
+only_line text line some parts =
+    ap lines_of_parts parts ∙ filled_line line (rw (only_part text line parts) some)
 
 -- commands that were read before
 abbrev pub prepended : List Command → Result (List Command) ℕ → Result (List Command) ℕ

@@ -21,7 +21,8 @@ NoMemoryEnds old new status = (status ≡ 6) × TookPrefix old.taken new.taken n
 abbrev pub Delivers : Reply → SinkState → SinkState → SinkState → SinkState → ℕ → Type 0
 Delivers (Text text verdict) out0 out1 err0 err1 status =
     ((status ≡ verdict) × (out1.faults ≡ out0.faults) × Took out0.taken out1.taken text × (err1 ≡ err0))
-    ⊎ ((Rose out0.faults out1.faults × TookPrefix out0.taken out1.taken text × LineEnds err0 err1 write_failed_line 5 status)
+    ⊎ ((Rose out0.faults out1.faults × TookPrefix out0.taken out1.taken text
+    × LineEnds err0 err1 write_failed_line 5 status)
     ⊎ (TookPrefix out0.taken out1.taken text × NoMemoryEnds err0 err1 status))
 Delivers (Refused line) out0 out1 err0 err1 status = (out1 ≡ out0) × LineEnds err0 err1 line 3 status
 Delivers (ReadFailed line) out0 out1 err0 err1 status = (out1 ≡ out0) × LineEnds err0 err1 line 4 status

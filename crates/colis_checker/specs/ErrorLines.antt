@@ -4,7 +4,7 @@ use Rattle.std.specs.Fmt.{decimal}
 use Rattle.colis_checker.specs.declared.faults.InputFile.{InputFile}
 use Rattle.colis_checker.specs.declared.faults.Refusal.{Refusal}
 use Rattle.colis_checker.specs.declared.faults.Refusal.TheVariants.{Usage, TooLong, Unsupported}
-use Rattle.feature_trees.specs.TreeText.{line}
+use Rattle.shown_texts.specs.Lines.{line}
 
 -- the line of a refusal, given the files' names
 abbrev pub refusal_line : (InputFile → List ℕ) → Refusal → List ℕ

@@ -1,4 +1,5 @@
 pub mod Words
+pub mod CommandLines
 pub mod Script
 pub mod Input
 pub mod ErrorLines

@@ -1,5 +1,6 @@
 -- What a call answers, by its words, the shelf and the two sinks.
 use Rattle.std.specs.Prelude.{◌≡◌, ◌⊎◌, ℕ, ◌≤◌, List, [], ◌∷◌, Option, Result, Ok, Err, IfSome}
+use Rattle.script_names.specs.declared.memory.Memory.{Memory}
 use Rattle.checker_io.specs.Faults.{Rose}
 use Rattle.checker_io.specs.Shelf.{Files, ShelfState, IsQuiet}
 use Rattle.checker_io.specs.Sink.{SinkState, Took, TookPrefix}
@@ -12,6 +13,7 @@ use Rattle.outcome_report.specs.declared.outcome_report.Report.{Report}
 use Rattle.colis_checker.specs.declared.deliver.Reply.{Reply}
 use Rattle.colis_checker.specs.declared.deliver.Reply.TheVariants.{Text, Refused, ReadFailed, NoMemory}
 use Rattle.checker_io.specs.Reading.{Answers, Asks, answer}
+use Rattle.colis_checker.specs.Words.{form}
 use Rattle.colis_checker.specs.Input.{input, file_name}
 use Rattle.outcome_report.specs.OutcomeReport.{AllParts, verdict_of}
 use Rattle.outcome_report.specs.ReportText.{report_text}
@@ -25,7 +27,8 @@ pub record IsTextOf (job : Job) (text : List ℕ) (status : ℕ) : Type 0 where
   pub status_is : status ≡ verdict_of report
   pub small : status ≤ 2
 
--- In what follows the words were understood as given: a request, or the number of the word at which they are no command line.
+-- In what follows the words were understood as given: a request, or the number of the word at which they are no
+-- command line.
 
 -- the same of the job that the request reads
 pub record IsReportText (given : Result Request ℕ) (holds : Option Files) (text : List ℕ) (status : ℕ) : Type 0 where
@@ -70,12 +73,14 @@ Replies given old new NoMemory = Unit {0}
 -- the line of a refusal, where no read failed, or of a read that failed
 abbrev pub IsReplyLine : Result Request ℕ → ShelfState → ShelfState → List ℕ → Type 0
 IsReplyLine given old new line =
-    (IsQuiet old new × IsRefusalLine given old.holds line) ⊎ (Rose old.faults new.faults × IsReadFailedLine given old.holds new.failed line)
+    (IsQuiet old new × IsRefusalLine given old.holds line)
+    ⊎ (Rose old.faults new.faults × IsReadFailedLine given old.holds new.failed line)
 
 -- a line that may be written in this call: such a line, or that of a write that failed, or of want of memory
 abbrev pub IsLine : Result Request ℕ → ShelfState → ShelfState → SinkState → SinkState → List ℕ → Type 0
 IsLine given old new out0 out1 line =
-    IsReplyLine given old new line ⊎ ((Rose out0.faults out1.faults × (line ≡ write_failed_line)) ⊎ (line ≡ no_memory_line))
+    IsReplyLine given old new line
+    ⊎ ((Rose out0.faults out1.faults × (line ≡ write_failed_line)) ⊎ (line ≡ no_memory_line))
 
 -- no write failed
 pub record NoneFailed (out0 out1 err0 err1 : SinkState) : Type 0 where
@@ -83,7 +88,8 @@ pub record NoneFailed (out0 out1 err0 err1 : SinkState) : Type 0 where
   pub err : err1.faults ≡ err0.faults
 
 -- Status 0, 1 or 2: no read and no write failed, the whole text was taken, and nothing else was written.
-pub record Reported (given : Result Request ℕ) (shelf0 shelf1 : ShelfState) (out0 out1 err0 err1 : SinkState) (status : ℕ) : Type 0 where
+pub record Reported (given : Result Request ℕ) (shelf0 shelf1 : ShelfState)
+    (out0 out1 err0 err1 : SinkState) (status : ℕ) : Type 0 where
   pub quiet : IsQuiet shelf0 shelf1
   pub written : NoneFailed out0 out1 err0 err1
   pub text : List ℕ
@@ -92,7 +98,8 @@ pub record Reported (given : Result Request ℕ) (shelf0 shelf1 : ShelfState) (o
   pub silent : Took err0.taken err1.taken []
 
 -- Status 3: no read and no write failed, and the one line of the first refusal was taken.
-pub record SaidRefusal (given : Result Request ℕ) (shelf0 shelf1 : ShelfState) (out0 out1 err0 err1 : SinkState) : Type 0 where
+pub record SaidRefusal (given : Result Request ℕ) (shelf0 shelf1 : ShelfState)
+    (out0 out1 err0 err1 : SinkState) : Type 0 where
   pub quiet : IsQuiet shelf0 shelf1
   pub written : NoneFailed out0 out1 err0 err1
   pub line : List ℕ
@@ -101,7 +108,8 @@ pub record SaidRefusal (given : Result Request ℕ) (shelf0 shelf1 : ShelfState)
   pub taken : Took err0.taken err1.taken line
 
 -- Status 4: the shelf's count rose by a file that the words ask for, its line was taken, and no write failed.
-pub record SaidReadFailed (given : Result Request ℕ) (shelf0 shelf1 : ShelfState) (out0 out1 err0 err1 : SinkState) : Type 0 where
+pub record SaidReadFailed (given : Result Request ℕ) (shelf0 shelf1 : ShelfState)
+    (out0 out1 err0 err1 : SinkState) : Type 0 where
   pub rose : Rose shelf0.faults shelf1.faults
   pub written : NoneFailed out0 out1 err0 err1
   pub line : List ℕ
@@ -110,17 +118,20 @@ pub record SaidReadFailed (given : Result Request ℕ) (shelf0 shelf1 : ShelfSta
   pub taken : Took err0.taken err1.taken line
 
 -- Status 5, first case: the sink of the text failed, no refusal applies, and no read failed.
-pub record TextFailed (given : Result Request ℕ) (shelf0 shelf1 : ShelfState) (out0 out1 err0 err1 : SinkState) : Type 0 where
+pub record TextFailed (given : Result Request ℕ) (shelf0 shelf1 : ShelfState)
+    (out0 out1 err0 err1 : SinkState) : Type 0 where
   pub rose : Rose out0.faults out1.faults
   pub quiet : IsQuiet shelf0 shelf1
   pub text : List ℕ
   pub verdict : ℕ
   pub is_text : IsReportText given shelf0.holds text verdict
   pub part : TookPrefix out0.taken out1.taken text
-  pub said : Took err0.taken err1.taken write_failed_line ⊎ (Rose err0.faults err1.faults × TookPrefix err0.taken err1.taken write_failed_line)
+  pub said : Took err0.taken err1.taken write_failed_line
+      ⊎ (Rose err0.faults err1.faults × TookPrefix err0.taken err1.taken write_failed_line)
 
 -- Status 5, second case: the sink of the lines failed, at the line of a refusal or of a read that failed.
-pub record LineFailed (given : Result Request ℕ) (shelf0 shelf1 : ShelfState) (out0 out1 err0 err1 : SinkState) : Type 0 where
+pub record LineFailed (given : Result Request ℕ) (shelf0 shelf1 : ShelfState)
+    (out0 out1 err0 err1 : SinkState) : Type 0 where
   pub rose : Rose err0.faults err1.faults
   pub line : List ℕ
   pub is_line : IsReplyLine given shelf0 shelf1 line
@@ -128,12 +139,14 @@ pub record LineFailed (given : Result Request ℕ) (shelf0 shelf1 : ShelfState) 
   pub part : TookPrefix err0.taken err1.taken line
 
 -- Status 5: one of the two
-abbrev pub FailedToWrite : Result Request ℕ → ShelfState → ShelfState → SinkState → SinkState → SinkState → SinkState → Type 0
+abbrev pub FailedToWrite : Result Request ℕ → ShelfState → ShelfState → SinkState → SinkState → SinkState → SinkState
+    → Type 0
 FailedToWrite given shelf0 shelf1 out0 out1 err0 err1 =
     TextFailed given shelf0 shelf1 out0 out1 err0 err1 ⊎ LineFailed given shelf0 shelf1 out0 out1 err0 err1
 
 -- part of the report's text was taken, and no read failed
-pub record TookText (given : Result Request ℕ) (shelf0 shelf1 : ShelfState) (out0 out1 : SinkState) : Type 0 where
+pub record TookText (given : Result Request ℕ) (shelf0 shelf1 : ShelfState)
+    (out0 out1 : SinkState) : Type 0 where
   pub quiet : IsQuiet shelf0 shelf1
   pub text : List ℕ
   pub verdict : ℕ
@@ -141,7 +154,8 @@ pub record TookText (given : Result Request ℕ) (shelf0 shelf1 : ShelfState) (o
   pub part : TookPrefix out0.taken out1.taken text
 
 -- Status 6: parts of a text and of a line were taken, perhaps nothing.
-pub record RanOut (given : Result Request ℕ) (shelf0 shelf1 : ShelfState) (out0 out1 err0 err1 : SinkState) : Type 0 where
+pub record RanOut (given : Result Request ℕ) (shelf0 shelf1 : ShelfState)
+    (out0 out1 err0 err1 : SinkState) : Type 0 where
   pub text_part : Took out0.taken out1.taken [] ⊎ TookText given shelf0 shelf1 out0 out1
   pub line : List ℕ
   pub is_line : IsLine given shelf0 shelf1 out0 out1 line
@@ -156,11 +170,18 @@ pub record NoneRose (shelf0 shelf1 : ShelfState) (out0 out1 err0 err1 : SinkStat
 -- Where no count rose and the words and the files give a job, the report is written, or memory is missing.
 abbrev pub Completes : Result Request ℕ → ShelfState → ℕ → Type 0
 Completes given shelf status = (request : Request) (job : Job) → given ≡ Ok request
-    → IfSome shelf.holds (λ files. answer (λ file. files (file_name request file)) (input request) ≡ Ok job → (status ≤ 2) ⊎ (status ≡ 6))
+    → IfSome shelf.holds (λ files. answer (λ file. files (file_name request file)) (input request) ≡ Ok job
+    → (status ≤ 2) ⊎ (status ≡ 6))
 
 -- Where no count rose and a refusal applies, it is answered, or memory is missing.
 abbrev pub Refuses : Result Request ℕ → ShelfState → ℕ → Type 0
 Refuses given shelf status =
     ((word : ℕ) → given ≡ Err word → (status ≡ 3) ⊎ (status ≡ 6))
     × ((request : Request) (refusal : Refusal) → given ≡ Ok request
-    → IfSome shelf.holds (λ files. answer (λ file. files (file_name request file)) (input request) ≡ Err refusal → (status ≡ 3) ⊎ (status ≡ 6)))
+    → IfSome shelf.holds (λ files. answer (λ file. files (file_name request file)) (input request) ≡ Err refusal
+    → (status ≡ 3) ⊎ (status ≡ 6)))
+
+-- the words were had, and this holds of what they spell
+abbrev pub OfWords : Result (List (List ℕ)) Memory → (Result Request ℕ → Type 0) → Type 0
+OfWords (Ok words) P = P (form words)
+OfWords (Err missing) P = ⊥

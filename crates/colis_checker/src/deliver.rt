@@ -4,6 +4,18 @@ ghost use Rattle.colis_checker.specs.Delivery.{LineEnds, Delivers, NoMemoryEnds}
 use checker_io::{Sink, SinkFault, write_text};
 use script_names::Bytes;
 
+// The status of a call that was refused.
+const REFUSED: u8 = 3;
+
+// The status of a call of which a read failed.
+const READ_FAILED: u8 = 4;
+
+// The status of a call of which a write failed.
+const WRITE_FAILED: u8 = 5;
+
+/// The status of a call for which memory was missing.
+pub const OUT_OF_MEMORY: u8 = 6;
+
 /// What a call has to say.
 #[derive(Drop)]
 pub enum Reply {
@@ -19,8 +31,8 @@ fn write_line<E: Sink>(err: &mut E, line: &[u8], status: u8) -> u8
 {
     match write_text(err, line) {
         Ok(()) => status,
-        Err(SinkFault::Failed) => 5,
-        Err(SinkFault::Memory) => 6,
+        Err(SinkFault::Failed) => WRITE_FAILED,
+        Err(SinkFault::Memory) => OUT_OF_MEMORY,
     }
 }
 
@@ -29,7 +41,7 @@ fn write_no_memory<E: Sink>(err: &mut E) -> u8
     ensures { NoMemoryEnds (E.state err.old) (E.state err.new) result }
 {
     let _ = write_text(err, b"colis: out of memory\n");
-    6
+    OUT_OF_MEMORY
 }
 
 /// Writes the reply, and answers the status.
@@ -39,11 +51,11 @@ pub fn deliver<O: Sink, E: Sink>(reply: &Reply, out: &mut O, err: &mut E) -> u8
     match reply {
         Reply::Text { text, verdict } => match write_text(out, text.as_slice()) {
             Ok(()) => *verdict,
-            Err(SinkFault::Failed) => write_line(err, b"colis: write failed\n", 5),
+            Err(SinkFault::Failed) => write_line(err, b"colis: write failed\n", WRITE_FAILED),
             Err(SinkFault::Memory) => write_no_memory(err),
         },
-        Reply::Refused { line } => write_line(err, line.as_slice(), 3),
-        Reply::ReadFailed { line } => write_line(err, line.as_slice(), 4),
+        Reply::Refused { line } => write_line(err, line.as_slice(), REFUSED),
+        Reply::ReadFailed { line } => write_line(err, line.as_slice(), READ_FAILED),
         Reply::NoMemory => write_no_memory(err),
     }
 }

@@ -6,8 +6,8 @@ ghost use Rattle.colis_checker.specs.Input.{file_name};
 use crate::faults::{InputFile, Refusal};
 use crate::input::make_name;
 use crate::request::Request;
-use outcome_report::put_number;
 use script_names::{Bytes, Memory};
+use shown_texts::push_number;
 use std::alloc::Global;
 
 // The beginning of a line on a file: the program, the file's name, and what is wrong with it.
@@ -33,7 +33,7 @@ pub fn usage_line(alloc: Global, word: u32) -> Result<Bytes, Memory>
 {
     let mut text = Bytes::new(alloc);
     text.extend(b"colis: usage: word ")?;
-    put_number(alloc, &mut text, u64::from(word))?;
+    push_number(&mut text, u64::from(word))?;
     text.extend(b"\n")?;
     Ok(text)
 }
@@ -51,7 +51,7 @@ pub fn refusal_line(alloc: Global, request: &Request, refusal: Refusal) -> Resul
         }
         Refusal::Unsupported { file, at } => {
             let mut text = file_line(alloc, request, file, b": unsupported line at ")?;
-            put_number(alloc, &mut text, u64::from(at))?;
+            push_number(&mut text, u64::from(at))?;
             text.extend(b"\n")?;
             Ok(text)
         }

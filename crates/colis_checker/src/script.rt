@@ -5,7 +5,7 @@ ghost use Rattle.colis_checker.specs.Script.{lines_of, call_of, script_of, comma
 ghost use Rattle.package_files.specs.WordPath.{path_of_word};
 
 use package_files::read_path;
-use script_names::{List, Memory};
+use script_names::{List, Memory, first_part};
 use shell_rules::Command;
 use std::alloc::Global;
 use utility_calls::{Act, Planned};
@@ -26,12 +26,11 @@ fn first_line(text: &[u8]) -> (&[u8], &[u8])
     ensures place { (length result.0.now + 1 + length result.1.now ≡ length text.now) ⊎ (result.1.now ≡ []) }
     ensures shorter { length result.1.now < length text.now }
 {
-    for (i, b) in text.iter().enumerate() {
-        if *b == b'\n' {
-            return (&text[..i], &text[i + 1..]);
-        }
+    let (line, next) = first_part(text, b'\n');
+    match next {
+        Some(rest) => (line, rest),
+        None => (line, &[]),
     }
-    (text, &[])
 }
 
 // The first so many bytes of a line, or all of a shorter one, and what follows them.
@@ -143,9 +142,9 @@ fn read_commands(alloc: Global, text: &[u8], start: u32) -> Result<List<Command>
 }
 
 /// The commands of a script, or the byte offset of the first line that isn't of the form: `#!/bin/sh`, then `set -e`,
-/// then lines `true`, `false`, `test -e P`, `test -d P`, `mkdir P` and `rm -f P`, where P is `/` and 1 to 64 names joined by
-/// `/`, each of bytes of the portable filename character set (POSIX.1-2017, Base Definitions, 3.282). The last line may
-/// lack its newline; a first or second line that is missing is one at the end.
+/// then lines `true`, `false`, `test -e P`, `test -d P`, `mkdir P` and `rm -f P`, where P is `/` and 1 to 64 names
+/// joined by `/`, each of bytes of the portable filename character set (POSIX.1-2017, Base Definitions, 3.282). The last
+/// line may lack its newline; a first or second line that is missing is one at the end.
 pub fn read_script(alloc: Global, text: &[u8]) -> Result<List<Command>, ScriptFault>
     requires { length text.now < 2 ^ 31 }
     ensures { ScriptGives (script_of text.now) result }

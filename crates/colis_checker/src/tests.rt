@@ -1,7 +1,9 @@
+mod reports;
+
 use crate::top::run_words;
 use checker_io::{MemShelf, MemSink};
+use reports::NOTHING;
 use script_names::{List, Text};
-use std::alloc::{AllocError, Global};
 use std::process::Abort;
 use std::test::Fail;
 
@@ -71,188 +73,10 @@ fn written<R: Abort + AllocGlobal>(rt: &R, row: &Row<'_>) -> Result<Vec<u8>, Fai
     Ok(out.bytes().to_vec(alloc)?)
 }
 
-// The lines of a report that say how many outcomes there are, how each ends and by which acts, and the verdict.
-fn brief(alloc: Global, text: &[u8]) -> Result<Vec<u8>, AllocError> {
-    let mut lines = Vec::new(alloc);
-    for line in text.split(|b| *b == b'\n') {
-        if line.starts_with(b"scenario")
-            || line.starts_with(b"outcome")
-            || line.starts_with(b"trace")
-            || line.starts_with(b"verdict")
-        {
-            lines.extend_from_slice(line)?;
-            lines.push(b'\n')?;
-        }
-    }
-    Ok(lines)
-}
-
-const NOTHING: &[u8] =
-    b"colis report 1\nscenario install outcomes 1\noutcome 1 done Installed\ntrace\nconfirmed yes\ncall new postinst configure \\e ok\nclause start v0 now v0\nkind v0 dir\nentry v0 etc v1\nkind v1 dir\nentry v0 usr v2\nkind v2 dir\nentry v2 bin v3\nkind v3 dir\nentry v2 sbin v4\nkind v4 dir\nentry v2 lib v5\nkind v5 dir\nentry v2 share v6\nkind v6 dir\nentry v6 doc v7\nkind v7 dir\nentry v0 var v8\nkind v8 dir\nentry v8 lib v9\nkind v9 dir\nentry v8 log v10\nkind v10 dir\nentry v8 cache v11\nkind v11 dir\nentry v0 srv v12\nkind v12 dir\nentry v0 tmp v13\nkind v13 dir\nshown\nd /etc\nd /srv\nd /tmp\nd /usr\nd /usr/bin\nd /usr/lib\nd /usr/sbin\nd /usr/share\nd /usr/share/doc\nd /var\nd /var/cache\nd /var/lib\nd /var/log\nafter\nd /etc\nd /srv\nd /tmp\nd /usr\nd /usr/bin\nd /usr/lib\nd /usr/sbin\nd /usr/share\nd /usr/share/doc\nd /var\nd /var/cache\nd /var/lib\nd /var/log\nverdict 0\n";
-
-// `mkdir /srv/a`: it fails where something stands there, and is done where nothing does; then it stands there after.
-const MADE: &[u8] =
-    b"colis report 1\nscenario install outcomes 2\noutcome 1 failed Half-Configured\ntrace 3:17:67\nconfirmed yes\ncall new postinst configure \\e failed\nclause start v0 now v0\nkind v0 dir\nentry v0 etc v1\nkind v1 dir\nentry v0 usr v2\nkind v2 dir\nentry v2 bin v3\nkind v3 dir\nentry v2 sbin v4\nkind v4 dir\nentry v2 lib v5\nkind v5 dir\nentry v2 share v6\nkind v6 dir\nentry v6 doc v7\nkind v7 dir\nentry v0 var v8\nkind v8 dir\nentry v8 lib v9\nkind v9 dir\nentry v8 log v10\nkind v10 dir\nentry v8 cache v11\nkind v11 dir\nentry v0 srv v12\nkind v12 dir\nentry v0 tmp v13\nkind v13 dir\nentry v12 a v14\nkind v14 reg,link,other,dir\nshown\nd /etc\nd /srv\nd /srv/a\nd /tmp\nd /usr\nd /usr/bin\nd /usr/lib\nd /usr/sbin\nd /usr/share\nd /usr/share/doc\nd /var\nd /var/cache\nd /var/lib\nd /var/log\nafter\nd /etc\nd /srv\nd /srv/a\nd /tmp\nd /usr\nd /usr/bin\nd /usr/lib\nd /usr/sbin\nd /usr/share\nd /usr/share/doc\nd /var\nd /var/cache\nd /var/lib\nd /var/log\noutcome 2 done Installed\ntrace 3:17:68\nconfirmed yes\ncall new postinst configure \\e ok\nclause start v0 now v17\nkind v0 dir\nentry v0 etc v1\nkind v1 dir\nentry v0 usr v2\nkind v2 dir\nentry v2 bin v3\nkind v3 dir\nentry v2 sbin v4\nkind v4 dir\nentry v2 lib v5\nkind v5 dir\nentry v2 share v6\nkind v6 dir\nentry v6 doc v7\nkind v7 dir\nentry v0 var v8\nkind v8 dir\nentry v8 lib v9\nkind v9 dir\nentry v8 log v10\nkind v10 dir\nentry v8 cache v11\nkind v11 dir\nentry v0 srv v12\nkind v12 dir\nentry v0 tmp v13\nkind v13 dir\nentry v12 a v14\nkind v14 absent\nkind v15 dir\nfence v15 {}\nsimilar v16 {a} v12\nentry v16 a v15\nsimilar v17 {srv} v0\nentry v17 srv v16\nshown\nd /etc\nd /srv\nd /tmp\nd /usr\nd /usr/bin\nd /usr/lib\nd /usr/sbin\nd /usr/share\nd /usr/share/doc\nd /var\nd /var/cache\nd /var/lib\nd /var/log\nafter\nd /etc\nd /srv\nd /srv/a\nd /tmp\nd /usr\nd /usr/bin\nd /usr/lib\nd /usr/sbin\nd /usr/share\nd /usr/share/doc\nd /var\nd /var/cache\nd /var/lib\nd /var/log\nverdict 1\n";
-
-#[test]
-fn a_report_byte_for_byte(rt: HostRuntime) -> Result<(), Fail> {
-    let out = written(&rt, &quiet_row(Some(b"#!/bin/sh\nset -e"), 0, b""))?;
-    assert_eq!(rt; out.as_slice(), NOTHING);
-    let script = b"#!/bin/sh\nset -e\nmkdir /srv/a\n".as_slice();
-    let out = written(&rt, &quiet_row(Some(script), 1, b""))?;
-    assert_eq!(rt; out.as_slice(), MADE);
-    Ok(())
-}
-
-// The script, the status, and the lines of the report that brief keeps.
-const OUTCOMES: &[(Option<&[u8]>, u8, &[u8])] = &[
-    (
-        None,
-        0,
-        b"scenario install outcomes 1\noutcome 1 done Installed\ntrace\nverdict 0\n",
-    ),
-    (
-        Some(b"#!/bin/sh\nset -e\n"),
-        0,
-        b"scenario install outcomes 1\noutcome 1 done Installed\ntrace\nverdict 0\n",
-    ),
-    (
-        Some(b"#!/bin/sh\nset -e\ntrue\nfalse\n"),
-        1,
-        b"scenario install outcomes 1\noutcome 1 failed Half-Configured\ntrace\nverdict 1\n",
-    ),
-    (
-        Some(b"#!/bin/sh\nset -e\nfalse\ntrue"),
-        1,
-        b"scenario install outcomes 1\noutcome 1 failed Half-Configured\ntrace\nverdict 1\n",
-    ),
-    (
-        Some(b"#!/bin/sh\nset -e\ntrue\ntrue"),
-        0,
-        b"scenario install outcomes 1\noutcome 1 done Installed\ntrace\nverdict 0\n",
-    ),
-    (
-        Some(b"#!/bin/sh\nset -e\ntest -e /srv/a\ntest -d /srv/a\n"),
-        1,
-        b"scenario install outcomes 4\noutcome 1 incomplete link 3:17\ntrace 3:17:65\noutcome 2 failed Half-Configured\ntrace 3:17:66\noutcome 3 failed Half-Configured\ntrace 3:17:67 3:32:66\noutcome 4 done Installed\ntrace 3:17:67 3:32:67\nverdict 1\n",
-    ),
-    (
-        Some(b"#!/bin/sh\nset -e\ntest -d /etc\n"),
-        0,
-        b"scenario install outcomes 1\noutcome 1 done Installed\ntrace 3:17:67\nverdict 0\n",
-    ),
-    (
-        Some(b"#!/bin/sh\nset -e\ntest -e /etc\n"),
-        0,
-        b"scenario install outcomes 1\noutcome 1 done Installed\ntrace 3:17:67\nverdict 0\n",
-    ),
-    (
-        Some(b"#!/bin/sh\nset -e\ntest -e /srv/...\n"),
-        1,
-        b"scenario install outcomes 3\noutcome 1 incomplete link 3:17\ntrace 3:17:65\noutcome 2 failed Half-Configured\ntrace 3:17:66\noutcome 3 done Installed\ntrace 3:17:67\nverdict 1\n",
-    ),
-    (
-        Some(b"#!/bin/sh\nset -e\ntest -e /a\ntest -e /a\n"),
-        1,
-        b"scenario install outcomes 3\noutcome 1 incomplete link 3:17\ntrace 3:17:65\noutcome 2 failed Half-Configured\ntrace 3:17:66\noutcome 3 done Installed\ntrace 3:17:67 3:28:67\nverdict 1\n",
-    ),
-    (
-        Some(b"#!/bin/sh\nset -e\ntest -e /a/b\ntest -d /a\n"),
-        1,
-        b"scenario install outcomes 4\noutcome 1 incomplete link 3:17\ntrace 3:17:1\noutcome 2 incomplete link 3:17\ntrace 3:17:65\noutcome 3 failed Half-Configured\ntrace 3:17:66\noutcome 4 done Installed\ntrace 3:17:67 3:30:67\nverdict 1\n",
-    ),
-    (
-        Some(b"#!/bin/sh\nset -e\ntest -d /a\ntest -e /a/b\n"),
-        1,
-        b"scenario install outcomes 5\noutcome 1 incomplete link 3:17\ntrace 3:17:65\noutcome 2 failed Half-Configured\ntrace 3:17:66\noutcome 3 incomplete link 3:28\ntrace 3:17:67 3:28:65\noutcome 4 failed Half-Configured\ntrace 3:17:67 3:28:66\noutcome 5 done Installed\ntrace 3:17:67 3:28:67\nverdict 1\n",
-    ),
-    (
-        Some(b"#!/bin/sh\nset -e\ntest -e /srv/x\nfalse\n"),
-        1,
-        b"scenario install outcomes 3\noutcome 1 incomplete link 3:17\ntrace 3:17:65\noutcome 2 failed Half-Configured\ntrace 3:17:66\noutcome 3 failed Half-Configured\ntrace 3:17:67\nverdict 1\n",
-    ),
-    (
-        Some(
-            b"#!/bin/sh\nset -e\ntest -e /a/a/a/a/a/a/a/a/a/a/a/a/a/a/a/a/a/a/a/a/a/a/a/a/a/a/a/a/a/a/a/a/a/a/a/a/a/a/a/a/a/a/a/a/a/a/a/a/a/a/a/a/a/a/a/a/a/a/a/a/a/a/a/a\n",
-        ),
-        1,
-        b"scenario install outcomes 66\noutcome 1 incomplete link 3:17\ntrace 3:17:1\noutcome 2 incomplete link 3:17\ntrace 3:17:2\noutcome 3 incomplete link 3:17\ntrace 3:17:3\noutcome 4 incomplete link 3:17\ntrace 3:17:4\noutcome 5 incomplete link 3:17\ntrace 3:17:5\noutcome 6 incomplete link 3:17\ntrace 3:17:6\noutcome 7 incomplete link 3:17\ntrace 3:17:7\noutcome 8 incomplete link 3:17\ntrace 3:17:8\noutcome 9 incomplete link 3:17\ntrace 3:17:9\noutcome 10 incomplete link 3:17\ntrace 3:17:10\noutcome 11 incomplete link 3:17\ntrace 3:17:11\noutcome 12 incomplete link 3:17\ntrace 3:17:12\noutcome 13 incomplete link 3:17\ntrace 3:17:13\noutcome 14 incomplete link 3:17\ntrace 3:17:14\noutcome 15 incomplete link 3:17\ntrace 3:17:15\noutcome 16 incomplete link 3:17\ntrace 3:17:16\noutcome 17 incomplete link 3:17\ntrace 3:17:17\noutcome 18 incomplete link 3:17\ntrace 3:17:18\noutcome 19 incomplete link 3:17\ntrace 3:17:19\noutcome 20 incomplete link 3:17\ntrace 3:17:20\noutcome 21 incomplete link 3:17\ntrace 3:17:21\noutcome 22 incomplete link 3:17\ntrace 3:17:22\noutcome 23 incomplete link 3:17\ntrace 3:17:23\noutcome 24 incomplete link 3:17\ntrace 3:17:24\noutcome 25 incomplete link 3:17\ntrace 3:17:25\noutcome 26 incomplete link 3:17\ntrace 3:17:26\noutcome 27 incomplete link 3:17\ntrace 3:17:27\noutcome 28 incomplete link 3:17\ntrace 3:17:28\noutcome 29 incomplete link 3:17\ntrace 3:17:29\noutcome 30 incomplete link 3:17\ntrace 3:17:30\noutcome 31 incomplete link 3:17\ntrace 3:17:31\noutcome 32 incomplete link 3:17\ntrace 3:17:32\noutcome 33 incomplete link 3:17\ntrace 3:17:33\noutcome 34 incomplete link 3:17\ntrace 3:17:34\noutcome 35 incomplete link 3:17\ntrace 3:17:35\noutcome 36 incomplete link 3:17\ntrace 3:17:36\noutcome 37 incomplete link 3:17\ntrace 3:17:37\noutcome 38 incomplete link 3:17\ntrace 3:17:38\noutcome 39 incomplete link 3:17\ntrace 3:17:39\noutcome 40 incomplete link 3:17\ntrace 3:17:40\noutcome 41 incomplete link 3:17\ntrace 3:17:41\noutcome 42 incomplete link 3:17\ntrace 3:17:42\noutcome 43 incomplete link 3:17\ntrace 3:17:43\noutcome 44 incomplete link 3:17\ntrace 3:17:44\noutcome 45 incomplete link 3:17\ntrace 3:17:45\noutcome 46 incomplete link 3:17\ntrace 3:17:46\noutcome 47 incomplete link 3:17\ntrace 3:17:47\noutcome 48 incomplete link 3:17\ntrace 3:17:48\noutcome 49 incomplete link 3:17\ntrace 3:17:49\noutcome 50 incomplete link 3:17\ntrace 3:17:50\noutcome 51 incomplete link 3:17\ntrace 3:17:51\noutcome 52 incomplete link 3:17\ntrace 3:17:52\noutcome 53 incomplete link 3:17\ntrace 3:17:53\noutcome 54 incomplete link 3:17\ntrace 3:17:54\noutcome 55 incomplete link 3:17\ntrace 3:17:55\noutcome 56 incomplete link 3:17\ntrace 3:17:56\noutcome 57 incomplete link 3:17\ntrace 3:17:57\noutcome 58 incomplete link 3:17\ntrace 3:17:58\noutcome 59 incomplete link 3:17\ntrace 3:17:59\noutcome 60 incomplete link 3:17\ntrace 3:17:60\noutcome 61 incomplete link 3:17\ntrace 3:17:61\noutcome 62 incomplete link 3:17\ntrace 3:17:62\noutcome 63 incomplete link 3:17\ntrace 3:17:63\noutcome 64 incomplete link 3:17\ntrace 3:17:65\noutcome 65 failed Half-Configured\ntrace 3:17:66\noutcome 66 done Installed\ntrace 3:17:67\nverdict 1\n",
-    ),
-];
-
-// The same of scripts that change the tree.
-const CHANGES: &[(Option<&[u8]>, u8, &[u8])] = &[
-    (
-        Some(b"#!/bin/sh\nset -e\nmkdir /srv/a/b\n"),
-        1,
-        b"scenario install outcomes 4\noutcome 1 incomplete link 3:17\ntrace 3:17:2\noutcome 2 failed Half-Configured\ntrace 3:17:66\noutcome 3 failed Half-Configured\ntrace 3:17:67\noutcome 4 done Installed\ntrace 3:17:68\nverdict 1\n",
-    ),
-    (
-        Some(b"#!/bin/sh\nset -e\nrm -f /srv/a\ntest -e /srv/a\n"),
-        1,
-        b"scenario install outcomes 2\noutcome 1 failed Half-Configured\ntrace 3:17:67\noutcome 2 failed Half-Configured\ntrace 3:17:71 3:30:66\nverdict 1\n",
-    ),
-    (
-        Some(b"#!/bin/sh\nset -e\nmkdir /srv/a\ntest -d /srv/a\n"),
-        1,
-        b"scenario install outcomes 2\noutcome 1 failed Half-Configured\ntrace 3:17:67\noutcome 2 done Installed\ntrace 3:17:68 3:30:67\nverdict 1\n",
-    ),
-    (
-        Some(b"#!/bin/sh\nset -e\nmkdir /srv/a\nmkdir /srv/a\n"),
-        1,
-        b"scenario install outcomes 2\noutcome 1 failed Half-Configured\ntrace 3:17:67\noutcome 2 failed Half-Configured\ntrace 3:17:68 3:30:67\nverdict 1\n",
-    ),
-    (
-        Some(b"#!/bin/sh\nset -e\nrm -f /srv/a\nmkdir /srv/a\n"),
-        1,
-        b"scenario install outcomes 2\noutcome 1 failed Half-Configured\ntrace 3:17:67\noutcome 2 done Installed\ntrace 3:17:71 3:30:68\nverdict 1\n",
-    ),
-    (
-        Some(b"#!/bin/sh\nset -e\nrm -f /srv/a/b\ntest -d /srv/a\n"),
-        1,
-        b"scenario install outcomes 4\noutcome 1 incomplete link 3:17\ntrace 3:17:2\noutcome 2 failed Half-Configured\ntrace 3:17:67\noutcome 3 failed Half-Configured\ntrace 3:17:70 3:32:66\noutcome 4 done Installed\ntrace 3:17:71 3:32:67\nverdict 1\n",
-    ),
-    (
-        Some(b"#!/bin/sh\nset -e\nrm -f /srv/a\nrm -f /srv/a/b\n"),
-        1,
-        b"scenario install outcomes 2\noutcome 1 failed Half-Configured\ntrace 3:17:67\noutcome 2 done Installed\ntrace 3:17:71 3:30:70\nverdict 1\n",
-    ),
-    (
-        Some(b"#!/bin/sh\nset -e\nmkdir /srv/a\nmkdir /srv/a/b\ntest -d /srv/a/b\n"),
-        1,
-        b"scenario install outcomes 2\noutcome 1 failed Half-Configured\ntrace 3:17:67\noutcome 2 done Installed\ntrace 3:17:68 3:30:68 3:45:67\nverdict 1\n",
-    ),
-    (
-        Some(b"#!/bin/sh\nset -e\nmkdir /etc\n"),
-        1,
-        b"scenario install outcomes 1\noutcome 1 failed Half-Configured\ntrace 3:17:67\nverdict 1\n",
-    ),
-    (
-        Some(b"#!/bin/sh\nset -e\nrm -f /etc\n"),
-        1,
-        b"scenario install outcomes 1\noutcome 1 failed Half-Configured\ntrace 3:17:67\nverdict 1\n",
-    ),
-];
-
-#[test]
-fn outcomes_of_scripts(rt: HostRuntime) -> Result<(), Fail> {
-    for row in OUTCOMES {
-        let out = written(&rt, &quiet_row(row.0, row.1, b""))?;
-        let lines = brief(rt.alloc(), out.as_slice())?;
-        assert_eq!(rt; lines.as_slice(), row.2);
-    }
-    Ok(())
-}
-
-#[test]
-fn outcomes_of_changes(rt: HostRuntime) -> Result<(), Fail> {
-    for row in CHANGES {
-        let out = written(&rt, &quiet_row(row.0, row.1, b""))?;
-        let lines = brief(rt.alloc(), out.as_slice())?;
-        assert_eq!(rt; lines.as_slice(), row.2);
-    }
-    Ok(())
-}
+// A question about a path of 65 names.
+const TOO_DEEP: &[u8] = b"#!/bin/sh\nset -e\ntest -e \
+    /a/a/a/a/a/a/a/a/a/a/a/a/a/a/a/a/a/a/a/a/a/a/a/a/a/a/a/a/a/a/a/a/a\
+    /a/a/a/a/a/a/a/a/a/a/a/a/a/a/a/a/a/a/a/a/a/a/a/a/a/a/a/a/a/a/a/a\n";
 
 // The words, the script, and the one line on standard error; the status is 3.
 const REFUSED: &[(&[&str], &[u8], &[u8])] = &[
@@ -381,7 +205,7 @@ const REFUSED: &[(&[&str], &[u8], &[u8])] = &[
     ),
     (
         &["check", "p"],
-        b"#!/bin/sh\nset -e\ntest -e /a/a/a/a/a/a/a/a/a/a/a/a/a/a/a/a/a/a/a/a/a/a/a/a/a/a/a/a/a/a/a/a/a/a/a/a/a/a/a/a/a/a/a/a/a/a/a/a/a/a/a/a/a/a/a/a/a/a/a/a/a/a/a/a/a\n",
+        TOO_DEEP,
         b"colis: p/postinst: unsupported line at 17\n",
     ),
     (

@@ -1,8 +1,9 @@
-ghost use Rattle.std.specs.Prelude.{◌≡◌, ◌≤◌, IfOk, Ok};
+ghost use Rattle.std.specs.Prelude.{◌≡◌, ◌≤◌, IfOk, IfErr, Ok};
+ghost use Rattle.std.specs.Process.{exit_status};
 ghost use Rattle.colis_checker.specs.Words.{form};
-ghost use Rattle.colis_checker.specs.Top.{IsTextOf, Replies, Reported, SaidRefusal, SaidReadFailed, FailedToWrite, RanOut, NoneRose, Completes, Refuses};
+ghost use Rattle.colis_checker.specs.Top.{IsTextOf, Replies, Reported, SaidRefusal, SaidReadFailed, FailedToWrite, RanOut, NoneRose, Completes, Refuses, OfWords};
 
-use crate::deliver::{Reply, deliver};
+use crate::deliver::{OUT_OF_MEMORY, Reply, deliver};
 use crate::error_lines::{read_failed_line, refusal_line, usage_line};
 use crate::input::read_job;
 use crate::request::{Request, WordsFault, read_words};
@@ -11,6 +12,7 @@ use outcome_report::{make_report, render_text, verdict};
 use package_files::Job;
 use script_names::{Bytes, List, Memory, Text};
 use std::alloc::Global;
+use std::process::ExitCode;
 
 #[derive(Drop)]
 struct Written {
@@ -76,7 +78,8 @@ pub fn run_words<S: Shelf, O: Sink, E: Sink>(
     ensures statuses { result ≤ 6 }
     ensures kept { (S.state shelf.new).holds ≡ (S.state shelf.old).holds }
 
-    // 0, 1, 2: no read and no write failed, a report that is exact for the job of the words was written, and the status is its verdict.
+    // 0, 1, 2: no read and no write failed, a report that is exact for the job of the words was written, and the status
+    // is its verdict.
     ensures reported { result ≤ 2 → Reported (form words.now) (S.state shelf.old) (S.state shelf.new)
         (O.state out.old) (O.state out.new) (E.state err.old) (E.state err.new) result }
 
@@ -97,11 +100,57 @@ pub fn run_words<S: Shelf, O: Sink, E: Sink>(
         (O.state out.old) (O.state out.new) (E.state err.old) (E.state err.new) }
 
     // Where no count rose, a job is reported and a refusal is named, unless memory is missing.
-    ensures complete { NoneRose (S.state shelf.old) (S.state shelf.new) (O.state out.old) (O.state out.new) (E.state err.old) (E.state err.new)
+    ensures complete { NoneRose (S.state shelf.old) (S.state shelf.new)
+        (O.state out.old) (O.state out.new) (E.state err.old) (E.state err.new)
         → Completes (form words.now) (S.state shelf.old) result }
-    ensures refuses { NoneRose (S.state shelf.old) (S.state shelf.new) (O.state out.old) (O.state out.new) (E.state err.old) (E.state err.new)
+    ensures refuses { NoneRose (S.state shelf.old) (S.state shelf.new)
+        (O.state out.old) (O.state out.new) (E.state err.old) (E.state err.new)
         → Refuses (form words.now) (S.state shelf.old) result }
 {
     let reply = answer(alloc, words, shelf);
     deliver(&reply, out, err)
+}
+
+/// Does what the words ask for, where they were had, and ends the program with the status. Where memory was missing for
+/// the words that is 6, and nothing was read or written.
+pub fn finish<S: Shelf, O: Sink, E: Sink>(
+    alloc: Global,
+    words: &Result<List<Text>, Memory>,
+    shelf: &mut S,
+    out: &mut O,
+    err: &mut E,
+) -> ExitCode
+    ensures statuses { exit_status result ≤ 6 }
+    ensures kept { (S.state shelf.new).holds ≡ (S.state shelf.old).holds }
+    ensures no_words { IfErr words.now (λ _. (exit_status result ≡ 6) × (S.state shelf.new ≡ S.state shelf.old)
+        × (O.state out.new ≡ O.state out.old) × (E.state err.new ≡ E.state err.old)) }
+
+    // As `run_words` says of each status.
+    ensures reported { exit_status result ≤ 2 → OfWords words.now (λ given. Reported given
+        (S.state shelf.old) (S.state shelf.new)
+        (O.state out.old) (O.state out.new) (E.state err.old) (E.state err.new)
+        (exit_status result)) }
+    ensures refused { exit_status result ≡ 3 → OfWords words.now (λ given. SaidRefusal given
+        (S.state shelf.old) (S.state shelf.new)
+        (O.state out.old) (O.state out.new) (E.state err.old) (E.state err.new)) }
+    ensures read_failed { exit_status result ≡ 4 → OfWords words.now (λ given. SaidReadFailed given
+        (S.state shelf.old) (S.state shelf.new)
+        (O.state out.old) (O.state out.new) (E.state err.old) (E.state err.new)) }
+    ensures write_failed { exit_status result ≡ 5 → OfWords words.now (λ given. FailedToWrite given
+        (S.state shelf.old) (S.state shelf.new)
+        (O.state out.old) (O.state out.new) (E.state err.old) (E.state err.new)) }
+    ensures ran_out { exit_status result ≡ 6 → IfOk words.now (λ had. RanOut (form had)
+        (S.state shelf.old) (S.state shelf.new)
+        (O.state out.old) (O.state out.new) (E.state err.old) (E.state err.new)) }
+    ensures complete { NoneRose (S.state shelf.old) (S.state shelf.new)
+        (O.state out.old) (O.state out.new) (E.state err.old) (E.state err.new)
+        → IfOk words.now (λ had. Completes (form had) (S.state shelf.old) (exit_status result)) }
+    ensures refuses { NoneRose (S.state shelf.old) (S.state shelf.new)
+        (O.state out.old) (O.state out.new) (E.state err.old) (E.state err.new)
+        → IfOk words.now (λ had. Refuses (form had) (S.state shelf.old) (exit_status result)) }
+{
+    match words {
+        Ok(words) => ExitCode::from(run_words(alloc, words, shelf, out, err)),
+        Err(_) => ExitCode::from(OUT_OF_MEMORY),
+    }
 }

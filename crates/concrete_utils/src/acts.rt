@@ -18,8 +18,8 @@ enum Way {
     Free(Kind),
 }
 
-/// The row that an act takes on a tree, and its answer; the tree becomes the one that the act leaves, and stays as it was
-/// where memory was missing.
+/// The row that an act takes on a tree, and its answer; the tree becomes the one that the act leaves, and stays as it
+/// was where memory was missing.
 pub fn act(alloc: Global, a: &Act, tree: &mut Value) -> Result<(u8, Done), Memory>
     ensures row { IfOk result (λ taken. taken.0 ≡ row a.now tree.old) }
     ensures answer { IfOk result (λ taken. taken.1 ≡ answer a.now tree.old) }
@@ -28,10 +28,8 @@ pub fn act(alloc: Global, a: &Act, tree: &mut Value) -> Result<(u8, Done), Memor
 {
     let row = row_on(a, tree);
     let answer = a.row_answer(row);
-    match change(alloc, a, row, tree) {
-        Ok(()) => Ok((row, answer)),
-        Err(_) => Err(Memory),
-    }
+    change(alloc, a, row, tree)?;
+    Ok((row, answer))
 }
 
 // The row that an act takes on a tree.

@@ -114,7 +114,8 @@ fn takes_each_row(rt: HostRuntime) -> Result<(), Fail> {
     Ok(())
 }
 
-// The path's names, whether it ends in a slash, the row that is taken and its answer, and what is put at the path, if anything.
+// The path's names, whether it ends in a slash, the row that is taken and its answer, and what is put at the path, if
+// anything.
 type Change = (&'static [&'static [u8]], bool, (u8, Done), Option<Kind>);
 
 const MAKES: &[Change] = &[

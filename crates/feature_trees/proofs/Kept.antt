@@ -13,7 +13,7 @@ use Rattle.feature_trees.specs.declared.shape.Node.TheFolds.{fold-roll-Node}
 use Rattle.feature_trees.specs.declared.value.Value.{Value}
 use Rattle.feature_trees.specs.declared.value.Value.TheVariants.{Absent, Reg, Link, Other, Dir}
 use Rattle.script_names.specs.Names.{is_name}
-use Rattle.feature_trees.specs.Tree.{find, name_cmp, by_order, update, held, put, entry, entries_of, kind_of}
+use Rattle.feature_trees.specs.Tree.{find, name_cmp, by_order, update, entry_if_present, put, entry, entries_of, kind_of}
 use Rattle.feature_trees.specs.declared.kind.Kind.TheVariants as kind
 use Rattle.feature_trees.specs.View.{value_layer, value_of, node_of, IsThere}
 use Rattle.feature_trees.specs.Sound.{sound_layer, entry_layer, before, sound_all, sound, sound_node, sound_Dir}
@@ -47,52 +47,52 @@ node_sound (Link b) s = ap sound_node (sym (N.rolls-Link b)) ∙ fold-roll-Node 
 node_sound Other s = ap sound_node (sym N.rolls-Other) ∙ fold-roll-Node Bool (List ℕ × Bool) sound_layer entry_layer Open.Other
 node_sound (Dir es) s = subst IsTrue (sym (sound_Dir es)) s
 
-each_held : (f : List ℕ) (w : Value) (es : List Entry) → IsTrue (is_name f) → IsTrue (sound w) → EachSound es → EachSound (held f w ++ es)
-each_held f Absent es n s h = h
-each_held f Reg es n s h = (n, node_sound Reg s, h)
-each_held f (Link b) es n s h = (n, node_sound (Link b) s, h)
-each_held f Other es n s h = (n, node_sound Other s, h)
-each_held f (Dir ds) es n s h = (n, node_sound (Dir ds) s, h)
+each_inserted : (f : List ℕ) (w : Value) (es : List Entry) → IsTrue (is_name f) → IsTrue (sound w) → EachSound es → EachSound (entry_if_present f w ++ es)
+each_inserted f Absent es n s h = h
+each_inserted f Reg es n s h = (n, node_sound Reg s, h)
+each_inserted f (Link b) es n s h = (n, node_sound (Link b) s, h)
+each_inserted f Other es n s h = (n, node_sound Other s, h)
+each_inserted f (Dir ds) es n s h = (n, node_sound (Dir ds) s, h)
 
-rises_held : (f : List ℕ) (w : Value) (es : List Entry) → Above f es → Rises es → Rises (held f w ++ es)
-rises_held f Absent es a r = r
-rises_held f Reg es a r = (a, r)
-rises_held f (Link b) es a r = (a, r)
-rises_held f Other es a r = (a, r)
-rises_held f (Dir ds) es a r = (a, r)
+rises_inserted : (f : List ℕ) (w : Value) (es : List Entry) → Above f es → Rises es → Rises (entry_if_present f w ++ es)
+rises_inserted f Absent es a r = r
+rises_inserted f Reg es a r = (a, r)
+rises_inserted f (Link b) es a r = (a, r)
+rises_inserted f Other es a r = (a, r)
+rises_inserted f (Dir ds) es a r = (a, r)
 
-above_held : (n f : List ℕ) (w : Value) (es : List Entry) → name_cmp n f ≡ Less → Above n es → Above n (held f w ++ es)
-above_held n f Absent es lt a = a
-above_held n f Reg es lt a = lt
-above_held n f (Link b) es lt a = lt
-above_held n f Other es lt a = lt
-above_held n f (Dir ds) es lt a = lt
+above_inserted : (n f : List ℕ) (w : Value) (es : List Entry) → name_cmp n f ≡ Less → Above n es → Above n (entry_if_present f w ++ es)
+above_inserted n f Absent es lt a = a
+above_inserted n f Reg es lt a = lt
+above_inserted n f (Link b) es lt a = lt
+above_inserted n f Other es lt a = lt
+above_inserted n f (Dir ds) es lt a = lt
 
 above_update : (n : List ℕ) (es : List Entry) (f : List ℕ) (w : Value) → name_cmp n f ≡ Less → Above n es → Rises es → Above n (update es f w)
-above_update n [] f w lt a r = subst (Above n) (append-nil (held f w)) (above_held n f w [] lt tt)
+above_update n [] f w lt a r = subst (Above n) (append-nil (entry_if_present f w)) (above_inserted n f w [] lt tt)
 above_update n (e ∷ es) f w lt a r = step (name_cmp f e.name)
   where
-    step : (o : Ordering) → Above n (by_order o (held f w ++ (e ∷ es)) (held f w ++ es) (e ∷ update es f w))
-    step Less = above_held n f w (e ∷ es) lt a
-    step Equal = above_held n f w es lt (above_more n e.name es a r.0)
+    step : (o : Ordering) → Above n (by_order o (entry_if_present f w ++ (e ∷ es)) (entry_if_present f w ++ es) (e ∷ update es f w))
+    step Less = above_inserted n f w (e ∷ es) lt a
+    step Equal = above_inserted n f w es lt (above_more n e.name es a r.0)
     step Greater = a
 
 rises_update : (es : List Entry) (f : List ℕ) (w : Value) → Rises es → Rises (update es f w)
-rises_update [] f w r = subst Rises (append-nil (held f w)) (rises_held f w [] tt tt)
+rises_update [] f w r = subst Rises (append-nil (entry_if_present f w)) (rises_inserted f w [] tt tt)
 rises_update (e ∷ es) f w r = step (rises_update es f w r.1) (name_cmp f e.name) refl
   where
-    step : Rises (update es f w) → (o : Ordering) → name_cmp f e.name ≡ o → Rises (by_order o (held f w ++ (e ∷ es)) (held f w ++ es) (e ∷ update es f w))
-    step more Less is = rises_held f w (e ∷ es) is r
-    step more Equal is = rises_held f w es (subst (λ n. Above n es) (sym (same_name f e.name is)) r.0) r.1
+    step : Rises (update es f w) → (o : Ordering) → name_cmp f e.name ≡ o → Rises (by_order o (entry_if_present f w ++ (e ∷ es)) (entry_if_present f w ++ es) (e ∷ update es f w))
+    step more Less is = rises_inserted f w (e ∷ es) is r
+    step more Equal is = rises_inserted f w es (subst (λ n. Above n es) (sym (same_name f e.name is)) r.0) r.1
     step more Greater is = (above_update e.name es f w (flip_less f e.name is) r.0 r.1, more)
 
 each_update : (es : List Entry) (f : List ℕ) (w : Value) → IsTrue (is_name f) → IsTrue (sound w) → EachSound es → EachSound (update es f w)
-each_update [] f w n s h = subst EachSound (append-nil (held f w)) (each_held f w [] n s tt)
+each_update [] f w n s h = subst EachSound (append-nil (entry_if_present f w)) (each_inserted f w [] n s tt)
 each_update (e ∷ es) f w n s h = step (each_update es f w n s h.2) (name_cmp f e.name)
   where
-    step : EachSound (update es f w) → (o : Ordering) → EachSound (by_order o (held f w ++ (e ∷ es)) (held f w ++ es) (e ∷ update es f w))
-    step more Less = each_held f w (e ∷ es) n s h
-    step more Equal = each_held f w es n s h.2
+    step : EachSound (update es f w) → (o : Ordering) → EachSound (by_order o (entry_if_present f w ++ (e ∷ es)) (entry_if_present f w ++ es) (e ∷ update es f w))
+    step more Less = each_inserted f w (e ∷ es) n s h
+    step more Equal = each_inserted f w es n s h.2
     step more Greater = (h.0, h.1, more)
 
 -- a put keeps the entries sound

@@ -13,7 +13,7 @@ use Rattle.feature_trees.specs.declared.shape.Node.TheViews.{out-Node, roll-Node
 use Rattle.feature_trees.specs.declared.value.Value.{Value}
 use Rattle.feature_trees.specs.declared.value.Value.TheVariants.{Absent, Reg, Link, Other, Dir}
 use Rattle.script_names.specs.Names.{is_name}
-use Rattle.feature_trees.specs.Tree.{find, name_cmp, by_order, at, put, entry, update, held, has_parents, is_dir, entries_of}
+use Rattle.feature_trees.specs.Tree.{find, name_cmp, by_order, at, put, entry, update, entry_if_present, has_parents, is_dir, entries_of}
 use Rattle.feature_trees.specs.View.{value_layer, value_of, node_of, value_of-node_of}
 use Rattle.feature_trees.specs.Sound.{before, sound_all, sound, sound_node, sound_Dir}
 use Rattle.feature_trees.proofs.Found.{same_name}
@@ -100,24 +100,24 @@ sound-entry Other f s = refl
 sound-entry (Dir es) f s = sound-find es f s
 
 -- an entry in front of others
-find_held_same : (f : List ℕ) (w : Value) (es : List Entry) → find es f ≡ Absent → find (held f w ++ es) f ≡ w
-find_held_same f Absent es h = h
-find_held_same f Reg es h = rw (tied_itself ord f) (value_of-node_of Reg tt)
-find_held_same f (Link b) es h = rw (tied_itself ord f) (value_of-node_of (Link b) tt)
-find_held_same f Other es h = rw (tied_itself ord f) (value_of-node_of Other tt)
-find_held_same f (Dir ds) es h = rw (tied_itself ord f) (value_of-node_of (Dir ds) tt)
+find_inserted_same : (f : List ℕ) (w : Value) (es : List Entry) → find es f ≡ Absent → find (entry_if_present f w ++ es) f ≡ w
+find_inserted_same f Absent es h = h
+find_inserted_same f Reg es h = rw (tied_itself ord f) (value_of-node_of Reg tt)
+find_inserted_same f (Link b) es h = rw (tied_itself ord f) (value_of-node_of (Link b) tt)
+find_inserted_same f Other es h = rw (tied_itself ord f) (value_of-node_of Other tt)
+find_inserted_same f (Dir ds) es h = rw (tied_itself ord f) (value_of-node_of (Dir ds) tt)
 
 find_equal : (e : Entry) (es : List Entry) (f : List ℕ) → name_cmp f e.name ≡ Less → find (e ∷ es) f ≡ Absent
 find_equal e es f is = ap (λ o. by_order o Absent (value_of e.node) (find es f)) is
 
 -- the entry that was put
 pub find-update_same : (es : List Entry) (f : List ℕ) (w : Value) → Rises es → find (update es f w) f ≡ w
-find-update_same [] f w r = ap (λ (l : List Entry). find l f) (sym (append-nil (held f w))) ∙ find_held_same f w [] refl
+find-update_same [] f w r = ap (λ (l : List Entry). find l f) (sym (append-nil (entry_if_present f w))) ∙ find_inserted_same f w [] refl
 find-update_same (e ∷ es) f w r = step (find-update_same es f w r.1) (name_cmp f e.name) refl
   where
-    step : find (update es f w) f ≡ w → (o : Ordering) → name_cmp f e.name ≡ o → find (by_order o (held f w ++ (e ∷ es)) (held f w ++ es) (e ∷ update es f w)) f ≡ w
-    step more Less is = find_held_same f w (e ∷ es) (find_equal e es f is)
-    step more Equal is = find_held_same f w es (find_above f es (subst (λ n. Above n es) (sym (same_name f e.name is)) r.0))
+    step : find (update es f w) f ≡ w → (o : Ordering) → name_cmp f e.name ≡ o → find (by_order o (entry_if_present f w ++ (e ∷ es)) (entry_if_present f w ++ es) (e ∷ update es f w)) f ≡ w
+    step more Less is = find_inserted_same f w (e ∷ es) (find_equal e es f is)
+    step more Equal is = find_inserted_same f w es (find_above f es (subst (λ n. Above n es) (sym (same_name f e.name is)) r.0))
     step more Greater is = ap (λ o. by_order o Absent (value_of e.node) (find (update es f w) f)) is ∙ more
 
 one_other : (f g : List ℕ) (n : Node) (es : List Entry) → (f ≡ g → ⊥) → (name_cmp g f ≡ Less → find es g ≡ Absent) → find (record { name = f; node = n } ∷ es) g ≡ find es g
@@ -128,28 +128,28 @@ one_other f g n es differ low = step (name_cmp g f) refl
     step Equal is = absurd (differ (sym (same_name g f is)))
     step Greater is = refl
 
-find_held_other : (f g : List ℕ) (w : Value) (es : List Entry) → (f ≡ g → ⊥) → (name_cmp g f ≡ Less → find es g ≡ Absent) → find (held f w ++ es) g ≡ find es g
-find_held_other f g Absent es differ low = refl
-find_held_other f g Reg es differ low = one_other f g (node_of Reg) es differ low
-find_held_other f g (Link b) es differ low = one_other f g (node_of (Link b)) es differ low
-find_held_other f g Other es differ low = one_other f g (node_of Other) es differ low
-find_held_other f g (Dir ds) es differ low = one_other f g (node_of (Dir ds)) es differ low
+find_inserted_other : (f g : List ℕ) (w : Value) (es : List Entry) → (f ≡ g → ⊥) → (name_cmp g f ≡ Less → find es g ≡ Absent) → find (entry_if_present f w ++ es) g ≡ find es g
+find_inserted_other f g Absent es differ low = refl
+find_inserted_other f g Reg es differ low = one_other f g (node_of Reg) es differ low
+find_inserted_other f g (Link b) es differ low = one_other f g (node_of (Link b)) es differ low
+find_inserted_other f g Other es differ low = one_other f g (node_of Other) es differ low
+find_inserted_other f g (Dir ds) es differ low = one_other f g (node_of (Dir ds)) es differ low
 
 -- every other entry stays
 pub find-update_other : (es : List Entry) (f g : List ℕ) (w : Value) → Rises es → (f ≡ g → ⊥) → find (update es f w) g ≡ find es g
-find-update_other [] f g w r differ = ap (λ (l : List Entry). find l g) (sym (append-nil (held f w))) ∙ find_held_other f g w [] differ (λ h. refl)
+find-update_other [] f g w r differ = ap (λ (l : List Entry). find l g) (sym (append-nil (entry_if_present f w))) ∙ find_inserted_other f g w [] differ (λ h. refl)
 find-update_other (e ∷ es) f g w r differ = step (find-update_other es f g w r.1 differ) (name_cmp f e.name) refl
   where
     low_tail : name_cmp g e.name ≡ Less → find es g ≡ Absent
     low_tail h = find_above g es (above_more g e.name es h r.0)
 
-    here : (o : Ordering) → f ≡ e.name → name_cmp g e.name ≡ o → find (held f w ++ es) g ≡ by_order o Absent (value_of e.node) (find es g)
-    here Less same is = find_held_other f g w es differ (λ h. low_tail is) ∙ low_tail is
+    here : (o : Ordering) → f ≡ e.name → name_cmp g e.name ≡ o → find (entry_if_present f w ++ es) g ≡ by_order o Absent (value_of e.node) (find es g)
+    here Less same is = find_inserted_other f g w es differ (λ h. low_tail is) ∙ low_tail is
     here Equal same is = absurd (differ (same ∙ sym (same_name g e.name is)))
-    here Greater same is = find_held_other f g w es differ (λ h. low_tail (ap (name_cmp g) (sym same) ∙ h))
+    here Greater same is = find_inserted_other f g w es differ (λ h. low_tail (ap (name_cmp g) (sym same) ∙ h))
 
-    step : find (update es f w) g ≡ find es g → (o : Ordering) → name_cmp f e.name ≡ o → find (by_order o (held f w ++ (e ∷ es)) (held f w ++ es) (e ∷ update es f w)) g ≡ find (e ∷ es) g
-    step more Less is = find_held_other f g w (e ∷ es) differ (λ h. find_equal e es g (ord.trans g f e.name h is))
+    step : find (update es f w) g ≡ find es g → (o : Ordering) → name_cmp f e.name ≡ o → find (by_order o (entry_if_present f w ++ (e ∷ es)) (entry_if_present f w ++ es) (e ∷ update es f w)) g ≡ find (e ∷ es) g
+    step more Less is = find_inserted_other f g w (e ∷ es) differ (λ h. find_equal e es g (ord.trans g f e.name h is))
     step more Equal is = here (name_cmp g e.name) (same_name f e.name is) refl
     step more Greater is = ap (by_order (name_cmp g e.name) Absent (value_of e.node)) more
 

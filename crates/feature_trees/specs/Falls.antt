@@ -2,13 +2,13 @@
 use Rattle.std.specs.Prelude.{◌+◌, ◌≤◌, List, [], ◌∷◌, max}
 use Rattle.std.proofs.Common.{arith}
 use denote.Param.Weighed.{most}
-use Rattle.feature_trees.specs.declared.value.Held.{Held}
+use Rattle.feature_trees.specs.declared.value.NamedValue.{NamedValue}
 use Rattle.feature_trees.specs.Shape.{count_all, weight_Dir, entry_weight_of}
 use Rattle.feature_trees.specs.View.{seen}
 use Rattle.feature_trees.specs.View.{node_of}
 use Rattle.feature_trees.specs.declared.value.Value.{Value}
 use Rattle.feature_trees.specs.declared.value.Value.TheVariants.{Absent, Reg, Link, Other, Dir}
-use Rattle.feature_trees.specs.declared.value.Entries.TheDeep.{deep-Held, deep-Value}
+use Rattle.feature_trees.specs.declared.value.Entries.TheDeep.{deep-NamedValue, deep-Value}
 use Rattle.feature_trees.specs.Shape.{weight}
 
 -- a value is no deeper than it has entries, and one
@@ -20,6 +20,7 @@ deep_le Other = omega arith
 deep_le (Dir e) = omega (arith, weight_Dir e)
 
 -- no value that a directory holds is deeper than the directory has entries
-pub most_le : (hs : List Held) → max (most deep-Held hs) 0 ≤ count_all (seen hs)
+pub most_le : (hs : List NamedValue) → max (most deep-NamedValue hs) 0 ≤ count_all (seen hs)
 most_le [] = omega arith
-most_le (h ∷ hs) = omega (arith, most_le hs, deep_le h.value, entry_weight_of (record { name = h.name; node = node_of h.value }))
+most_le (h ∷ hs) =
+    omega (arith, most_le hs, deep_le h.value, entry_weight_of (record { name = h.name; node = node_of h.value }))

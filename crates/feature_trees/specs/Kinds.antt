@@ -30,8 +30,20 @@ all = record { absent = true; reg = true; link = true; other = true; dir = true 
 
 -- the kinds that are in both sets
 abbrev pub both : Kinds → Kinds → Kinds
-both a b = record { absent = a.absent && b.absent; reg = a.reg && b.reg; link = a.link && b.link; other = a.other && b.other; dir = a.dir && b.dir }
+both a b = record {
+  absent = a.absent && b.absent;
+  reg = a.reg && b.reg;
+  link = a.link && b.link;
+  other = a.other && b.other;
+  dir = a.dir && b.dir;
+}
 
 -- the kinds that are in one of two sets, or in both
 abbrev pub either : Kinds → Kinds → Kinds
-either a b = record { absent = a.absent || b.absent; reg = a.reg || b.reg; link = a.link || b.link; other = a.other || b.other; dir = a.dir || b.dir }
+either a b = record {
+  absent = a.absent || b.absent;
+  reg = a.reg || b.reg;
+  link = a.link || b.link;
+  other = a.other || b.other;
+  dir = a.dir || b.dir;
+}

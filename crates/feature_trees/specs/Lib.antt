@@ -6,5 +6,4 @@ pub mod Place
 pub mod Sound
 pub mod Falls
 pub mod Laws
-pub mod Show
 pub mod TreeText

@@ -41,4 +41,6 @@ weight_Dir es = ap weight (sym (rolls-Dir es)) ∙ fold-roll-Node ℕ ℕ weight
 
 -- an entry weighs one more than its node
 pub entry_weight_of : (e : Entry) → entry_weight e ≡ weight e.node + 1
-entry_weight_of e = ap entry_weight (sym (rolls-Entry' (record { name = e.name; node = e.node }))) ∙ fold-roll-Entry ℕ ℕ weight_layer entry_layer (record { name = e.name; node = e.node })
+entry_weight_of e =
+    ap entry_weight (sym (rolls-Entry' (record { name = e.name; node = e.node })))
+    ∙ fold-roll-Entry ℕ ℕ weight_layer entry_layer (record { name = e.name; node = e.node })

@@ -1,4 +1,4 @@
--- What is true of every directory: its names are names, they rise, and so below it.
+-- What is true of every directory: its names are names, they rise, and the same holds of every directory below it.
 use Rattle.std.specs.Prelude.{◌≡◌, ℕ, Bool, true, ◌&&◌, IsTrue, List, [], ◌∷◌, map, refl}
 use Rattle.std.proofs.Common.{sym, ap, ◌∙◌}
 use Rattle.std.specs.Ordering.{is_lt}
@@ -61,13 +61,17 @@ pub record IsTree (v : Value) : Type 0 where
 
 -- an entry is as sound as its node
 sound_entry_of : (e : Entry) → sound_entry e ≡ (e.name, sound_node e.node)
-sound_entry_of e = ap sound_entry (sym (rolls-Entry' (record { name = e.name; node = e.node }))) ∙ fold-roll-Entry Bool (List ℕ × Bool) sound_layer entry_layer (record { name = e.name; node = e.node })
+sound_entry_of e =
+    ap sound_entry (sym (rolls-Entry' (record { name = e.name; node = e.node })))
+    ∙ fold-roll-Entry Bool (List ℕ × Bool) sound_layer entry_layer (record { name = e.name; node = e.node })
 
--- and so for many
+-- each of these entries is as sound as its node
 sound_entries_of : (es : List Entry) → map sound_entry es ≡ map (λ (e : Entry). (e.name, sound_node e.node)) es
 sound_entries_of [] = refl
 sound_entries_of (e ∷ es) = λ i. sound_entry_of e i ∷ sound_entries_of es i
 
 -- a directory is sound exactly where its entries are
 pub sound_Dir : (es : List Entry) → sound_node (N.Dir es) ≡ sound_all es
-sound_Dir es = ap sound_node (sym (N.rolls-Dir es)) ∙ fold-roll-Node Bool (List ℕ × Bool) sound_layer entry_layer (Open.Dir es) ∙ ap rises (sound_entries_of es)
+sound_Dir es =
+    ap sound_node (sym (N.rolls-Dir es)) ∙ fold-roll-Node Bool (List ℕ × Bool) sound_layer entry_layer (Open.Dir es)
+    ∙ ap rises (sound_entries_of es)

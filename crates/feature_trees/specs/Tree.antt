@@ -72,17 +72,17 @@ entries_of Other = []
 entries_of (Dir es) = es
 
 -- one entry, or none where nothing stands there
-abbrev pub held : List ℕ → Value → List Entry
-held f Absent = []
-held f Reg = record { name = f; node = node_of Reg } ∷ []
-held f (Link b) = record { name = f; node = node_of (Link b) } ∷ []
-held f Other = record { name = f; node = node_of Other } ∷ []
-held f (Dir es) = record { name = f; node = node_of (Dir es) } ∷ []
+abbrev pub entry_if_present : List ℕ → Value → List Entry
+entry_if_present f Absent = []
+entry_if_present f Reg = record { name = f; node = node_of Reg } ∷ []
+entry_if_present f (Link b) = record { name = f; node = node_of (Link b) } ∷ []
+entry_if_present f Other = record { name = f; node = node_of Other } ∷ []
+entry_if_present f (Dir es) = record { name = f; node = node_of (Dir es) } ∷ []
 
 -- the entries with this value under a name, and the others as before
 abbrev pub update : List Entry → List ℕ → Value → List Entry
-update [] f w = held f w
-update (e ∷ es) f w = by_order (name_cmp f e.name) (held f w ++ (e ∷ es)) (held f w ++ es) (e ∷ update es f w)
+update [] f w = entry_if_present f w
+update (e ∷ es) f w = by_order (name_cmp f e.name) (entry_if_present f w ++ (e ∷ es)) (entry_if_present f w ++ es) (e ∷ update es f w)
 
 -- whether every strict prefix of a path is a directory
 abbrev pub has_parents : Value → List (List ℕ) → Bool

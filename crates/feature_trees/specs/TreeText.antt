@@ -6,15 +6,13 @@ use Rattle.feature_trees.specs.declared.shape.Node.TheOpen as Open
 use Rattle.feature_trees.specs.declared.shape.Node.TheFolds.{fold-Node, fold-Entry}
 use Rattle.feature_trees.specs.declared.value.Value.{Value}
 use Rattle.feature_trees.specs.declared.value.Value.TheVariants.{Absent, Reg, Link, Other, Dir}
-use Rattle.feature_trees.specs.Show.{show}
-
--- a line of a text
-abbrev pub line : List ℕ → List ℕ
-line text = text ++ 10 ∷ []
+use Rattle.shown_texts.specs.Lines.{line}
+use Rattle.shown_texts.specs.Paths.{after_slash}
+use Rattle.shown_texts.specs.Show.{show}
 
 -- the path of a name below a path; the root's path is no bytes here
 abbrev pub path_below : List ℕ → List ℕ → List ℕ
-path_below path name = path ++ codes "/" ++ show name
+path_below path name = path ++ after_slash name
 
 -- the lines of what stands at a path
 abbrev pub Lines : Type 0

@@ -9,7 +9,7 @@ use Rattle.feature_trees.specs.declared.shape.Node.TheVariants as N
 use Rattle.feature_trees.specs.declared.shape.Node.{Node}
 use Rattle.feature_trees.specs.declared.value.Value.{Value}
 use Rattle.feature_trees.specs.declared.value.Value.TheVariants as V
-use Rattle.feature_trees.specs.declared.value.Held.{Held}
+use Rattle.feature_trees.specs.declared.value.NamedValue.{NamedValue}
 
 -- a value as a node; nothing is asked of Absent, which no entry has
 abbrev pub node_of : Value → Node
@@ -20,7 +20,7 @@ node_of V.Other = N.Other
 node_of (V.Dir e) = N.Dir e
 
 -- the entries of a directory, from what it holds
-abbrev pub seen : List Held → List Entry
+abbrev pub seen : List NamedValue → List Entry
 seen [] = []
 seen (h ∷ rest) = record { name = h.name; node = node_of h.value } ∷ seen rest
 
@@ -44,7 +44,7 @@ IsThere V.Other = Unit {0}
 IsThere (V.Dir e) = Unit {0}
 
 -- none of them is absent
-abbrev pub AllThere : List Held → Type 0
+abbrev pub AllThere : List NamedValue → Type 0
 AllThere [] = Unit {0}
 AllThere (h ∷ hs) = IsThere h.value × AllThere hs
 

@@ -1,5 +1,5 @@
 //! Feature trees: what stands at a place of the file tree, and the calls and laws of trees.
-//! It stands on script_names. Begin with `value`, and with specs/Tree.antt for what the calls mean.
+//! It stands on script_names and shown_texts. Begin with `value`, and with specs/Tree.antt for what the calls mean.
 #![tactic(auto)]
 
 mod kind;
@@ -7,14 +7,12 @@ mod print;
 mod put;
 mod same;
 pub mod shape;
-mod shown;
 pub mod theorems;
 mod value;
 
 pub use kind::{Kind, Kinds};
 pub use print::{print_tree, put_tree};
 pub use put::PutFault;
-pub use shown::{put_shown, show};
 pub use value::{Entries, Value};
 
 #[cfg(test)]

@@ -3,12 +3,13 @@ ghost use Rattle.std.specs.List.{flat_map};
 ghost use Rattle.feature_trees.specs.declared.kind.Kind.TheVariants as kind;
 ghost use Rattle.feature_trees.specs.Tree.{kind_of};
 ghost use Rattle.feature_trees.specs.View.{seen, AllThere};
-ghost use Rattle.feature_trees.specs.Show.{show};
-ghost use Rattle.feature_trees.specs.TreeText.{line, path_below, entries_text, value_text, tree_text};
+ghost use Rattle.shown_texts.specs.Lines.{line};
+ghost use Rattle.shown_texts.specs.Show.{show};
+ghost use Rattle.feature_trees.specs.TreeText.{path_below, entries_text, value_text, tree_text};
 
-use crate::shown::put_shown;
-use crate::value::{Held, Value};
+use crate::value::{NamedValue, Value};
 use script_names::{Bytes, Memory, Name};
+use shown_texts::{push_line, push_name, push_shown};
 use std::alloc::Global;
 
 /// The text of a tree: one line per entry but the root, by names in byte order, a directory before its entries.
@@ -39,13 +40,18 @@ pub fn put_tree(alloc: Global, text: &mut Bytes, tree: &Value) -> Result<(), Mem
 
 // Adds the lines of entries below a path.
 #[cycle(printing)]
-fn put_entries(alloc: Global, text: &mut Bytes, path: &[u8], items: &[Held]) -> Result<(), Memory>
+fn put_entries(
+    alloc: Global,
+    text: &mut Bytes,
+    path: &[u8],
+    items: &[NamedValue],
+) -> Result<(), Memory>
     requires { AllThere items.now }
     ensures { OnOk result (text.new ≡ text.old ++ entries_text (seen items.now) path.now) }
 {
-    for held in items {
-        let below = make_path(alloc, path, &held.name)?;
-        put_value(alloc, text, below.as_slice(), &held.value)?;
+    for item in items {
+        let below = make_path(alloc, path, &item.name)?;
+        put_value(alloc, text, below.as_slice(), &item.value)?;
     }
     Ok(())
 }
@@ -72,8 +78,7 @@ fn make_path(alloc: Global, path: &[u8], name: &Name) -> Result<Bytes, Memory>
     ensures { IfOk result (λ below. below ≡ path_below path.now name.now) }
 {
     let mut below = Bytes::from_slice(alloc, path)?;
-    below.extend(b"/")?;
-    put_shown(&mut below, name.as_slice())?;
+    push_name(&mut below, name)?;
     Ok(below)
 }
 
@@ -82,8 +87,7 @@ fn put_line(text: &mut Bytes, letter: &[u8], path: &[u8]) -> Result<(), Memory>
     ensures { OnOk result (text.new ≡ text.old ++ line (letter.now ++ path.now)) }
 {
     text.extend(letter)?;
-    text.extend(path)?;
-    text.extend(b"\n")
+    push_line(text, path)
 }
 
 // Adds the line of a link.
@@ -93,6 +97,6 @@ fn put_link(text: &mut Bytes, path: &[u8], target: &[u8]) -> Result<(), Memory>
     text.extend(b"l ")?;
     text.extend(path)?;
     text.extend(b" ")?;
-    put_shown(text, target)?;
+    push_shown(text, target)?;
     text.extend(b"\n")
 }

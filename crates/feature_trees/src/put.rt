@@ -5,7 +5,7 @@ ghost use Rattle.feature_trees.specs.Tree.{put, has_parents};
 ghost use Rattle.feature_trees.specs.declared.put.PutFault.TheVariants.{NoParent};
 ghost use Rattle.feature_trees.specs.declared.value.Value.TheVariants.{Dir};
 
-use crate::value::{Held, Value, place, set_held};
+use crate::value::{NamedValue, Value, place, set_value};
 use script_names::{Memory, Name, Path};
 
 /// Why nothing was put: a name of the path but the last is no directory's, or want of memory.
@@ -13,6 +13,17 @@ use script_names::{Memory, Name, Path};
 pub enum PutFault {
     NoParent,
     Memory,
+}
+
+impl From<Memory> for PutFault {
+    ghost use Rattle.std.specs.Prelude.{◌≡◌};
+    ghost use Rattle.feature_trees.specs.declared.put.PutFault.TheVariants.{Memory as NoMemory};
+
+    ghost from_gives = { λ _ fault. fault ≡ NoMemory };
+
+    fn from(_refused: Memory) -> PutFault {
+        PutFault::Memory
+    }
 }
 
 impl Value {
@@ -39,32 +50,30 @@ fn put_below(here: &mut Value, f: &Name, rest: &[Name], v: Value) -> Result<(), 
     ensures kept { OnErr result (here.new ≡ here.old) }
 {
     match here {
-        Value::Dir(entries) => put_held(&mut entries.items, f, rest, v),
+        Value::Dir(entries) => put_among(&mut entries.items, f, rest, v),
         _ => Err(PutFault::NoParent),
     }
 }
 
 // The same among the entries of a directory.
 #[cycle(putting)]
-fn put_held(items: &mut Vec<Held>, f: &Name, rest: &[Name], v: Value) -> Result<(), PutFault>
+fn put_among(items: &mut Vec<NamedValue>, f: &Name, rest: &[Name], v: Value) -> Result<(), PutFault>
     requires old_there { AllThere items.old.items }
     requires old_sound { IsTrue (sound_all (seen items.old.items)) }
     ensures there { AllThere items.new.items }
     ensures sound { IsTrue (sound_all (seen items.new.items)) }
     ensures ok { OnOk result (Dir (seen items.new.items) ≡ put (Dir (seen items.old.items)) (f.now ∷ rest.now) v) }
-    ensures no_parent { (result ≡ Err NoParent) ↔ (has_parents (Dir (seen items.old.items)) (f.now ∷ rest.now) ≡ false) }
+    ensures no_parent { (result ≡ Err NoParent)
+        ↔ (has_parents (Dir (seen items.old.items)) (f.now ∷ rest.now) ≡ false) }
     ensures kept { OnErr result (items.new.items ≡ items.old.items) }
 {
     match rest {
-        [] => match set_held(items, f, v) {
-            Ok(()) => Ok(()),
-            Err(Memory) => Err(PutFault::Memory),
-        },
+        [] => Ok(set_value(items, f, v)?),
         [g, more @ ..] => match place(items.as_slice(), f) {
             Ok(at) => {
                 let answer = put_below(&mut items[at].value, g, more, v);
-                items[at].value.known();
-                f.known();
+                items[at].value.is_sound();
+                f.is_sound();
                 answer
             }
             Err(_) => Err(PutFault::NoParent),

@@ -1,7 +1,7 @@
 ghost use Rattle.std.specs.Prelude.{◌≡◌, ◌↔◌, IsTrue, IfOk};
 ghost use Rattle.feature_trees.specs.View.{seen, AllThere};
 
-use crate::value::{Entries, Held, Value};
+use crate::value::{Entries, NamedValue, Value};
 use script_names::{Copied, Memory};
 use std::alloc::Global;
 
@@ -44,7 +44,7 @@ fn same_entries(a: &Entries, b: &Entries) -> bool
         return false;
     }
     for i in 0..a.len() {
-        if !same_held(&a[i], &b[i]) {
+        if !same_named(&a[i], &b[i]) {
             return false;
         }
     }
@@ -52,7 +52,7 @@ fn same_entries(a: &Entries, b: &Entries) -> bool
 }
 
 #[cycle(equal)]
-fn same_held(a: &Held, b: &Held) -> bool
+fn same_named(a: &NamedValue, b: &NamedValue) -> bool
     ensures { IsTrue result ↔ (a.now ≡ b.now) }
 {
     a.name.equal(&b.name) && same_value(&a.value, &b.value)
@@ -68,21 +68,21 @@ fn copy_value(alloc: Global, v: &Value) -> Result<Value, Memory>
         Value::Link(target) => Ok(Value::Link(target.copy(alloc)?)),
         Value::Other => Ok(Value::Other),
         Value::Dir(entries) => {
-            let items = copy_held(alloc, entries.items.as_slice())?;
+            let items = copy_items(alloc, entries.items.as_slice())?;
             Ok(Value::Dir(Entries { items }))
         }
     }
 }
 
 #[cycle(copying)]
-fn copy_held(alloc: Global, items: &[Held]) -> Result<Vec<Held>, Memory>
+fn copy_items(alloc: Global, items: &[NamedValue]) -> Result<Vec<NamedValue>, Memory>
     ensures { IfOk result (λ v. v.items ≡ items.now) }
 {
     let mut out = Vec::new(alloc);
-    for held in items {
-        let name = held.name.copy(alloc)?;
-        let value = copy_value(alloc, &held.value)?;
-        out.push(Held { name, value })?;
+    for item in items {
+        let name = item.name.copy(alloc)?;
+        let value = copy_value(alloc, &item.value)?;
+        out.push(NamedValue { name, value })?;
     }
     Ok(out)
 }

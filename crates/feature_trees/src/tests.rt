@@ -1,30 +1,10 @@
 use crate::kind::{Kind, Kinds};
 use crate::print::{print_tree, put_tree};
 use crate::put::PutFault;
-use crate::shown::show;
 use crate::value::{Entries, Value};
 use script_names::{Bytes, Copied, List, Name, Path};
 use std::process::Abort;
 use std::test::Fail;
-
-#[test]
-fn shows(rt: HostRuntime) -> Result<(), Fail> {
-    let alloc = rt.alloc();
-    let rows: [(&[u8], &str); 7] = [
-        (b"", "\\e"),
-        (b"!AZaz09~", "!AZaz09~"),
-        (b"/etc/a.b-c_9:", "/etc/a.b-c_9:"),
-        (b"\\,{}()", "\\x5c\\x2c\\x7b\\x7d\\x28\\x29"),
-        (b"a b", "a\\x20b"),
-        (b"\x00\x09\n\x1f\x7f", "\\x00\\x09\\x0a\\x1f\\x7f"),
-        (b"\xc3\xa9\x80\xff", "\\xc3\\xa9\\x80\\xff"),
-    ];
-    for (bytes, text) in rows {
-        let shown = show(alloc, bytes)?;
-        assert_eq!(rt; shown.as_slice(), text.as_bytes(), "{text}");
-    }
-    Ok(())
-}
 
 fn path<R: Abort + AllocGlobal>(rt: &R, words: &[&[u8]]) -> Result<Path, Fail> {
     let mut names = List::new(rt.alloc());

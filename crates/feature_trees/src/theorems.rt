@@ -1,6 +1,7 @@
 //! What holds of puts and of equal trees, for the layers above.
 
-ghost use Rattle.feature_trees.specs.Laws.{StandsWherePut, StandsElsewhere, StandsBelow, StandsAbove, PutsStaySound, EntriesDetermine, ShownApart};
+ghost use Rattle.feature_trees.specs.Laws.{StandsWherePut, StandsElsewhere, StandsBelow, StandsAbove, PutsStaySound};
+ghost use Rattle.feature_trees.specs.Laws.{EntriesDetermine};
 
 /// A put changes what stands at its path, and what stands elsewhere stays.
 pub fn puts_are_local()
@@ -14,9 +15,4 @@ pub fn puts_are_local()
 /// A directory is the map of its entries: two with the same entry under every name are the same.
 pub fn entries_determine()
     ensures { EntriesDetermine }
-{}
-
-/// Different byte strings are spelled differently.
-pub fn shown_apart()
-    ensures { ShownApart }
 {}

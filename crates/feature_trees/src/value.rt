@@ -25,12 +25,12 @@ pub enum Value {
 #[cycle(value)]
 #[derive(Drop)]
 pub struct Entries {
-    pub(crate) items: Vec<Held>,
+    pub(crate) items: Vec<NamedValue>,
 }
 
 #[cycle(value)]
 #[derive(Drop)]
-pub(crate) struct Held {
+pub(crate) struct NamedValue {
     pub(crate) name: Name,
     pub(crate) value: Value,
 }
@@ -85,19 +85,20 @@ impl Entries {
     /// The entry at a place, counted from 0, in the order of the names; None exactly where there are no more.
     pub fn get_at(&self, at: usize) -> Option<(&Name, &Value)>
         ensures none { IfNone result (length self.now ≤ at) }
-        ensures some { IfSome result (λ one. slice_get self.now at ≡ Some (record { name = one.0.now; node = node_of one.1.now })) }
+        ensures some { IfSome result (λ one. IsThere one.1.now
+            × (slice_get self.now at ≡ Some (record { name = one.0.now; node = node_of one.1.now }))) }
     {
         let items = self.items.as_slice();
         if at < items.len() {
-            let held = &items[at];
-            Some((&held.name, &held.value))
+            let item = &items[at];
+            Some((&item.name, &item.value))
         } else {
             None
         }
     }
 
     /// The entries are sound.
-    pub fn known(&self)
+    pub fn is_sound(&self)
         ensures { IsTrue (sound_all self.now) }
     {
         let _items = &self.items;
@@ -107,7 +108,7 @@ impl Entries {
     pub fn get(&self, f: &Name) -> Option<&Value>
         ensures { option_copied result ≡ present (find self.now f.now) }
     {
-        held_at(self.items.as_slice(), f)
+        value_under(self.items.as_slice(), f)
     }
 
     /// Puts a value under a name, or takes the entry away where the value is Absent.
@@ -115,12 +116,12 @@ impl Entries {
         ensures ok { OnOk result (self.new ≡ update self.old f.now v) }
         ensures kept { OnErr result (self.new ≡ self.old) }
     {
-        set_held(&mut self.items, f, v)
+        set_value(&mut self.items, f, v)
     }
 }
 
 // What stands under a name.
-fn held_at<'a>(items: &'a [Held], f: &Name) -> Option<&'a Value>
+fn value_under<'a>(items: &'a [NamedValue], f: &Name) -> Option<&'a Value>
     requires { AllThere items.now }
     ensures { option_copied result ≡ present (find (seen items.now) f.now) }
 {
@@ -131,7 +132,7 @@ fn held_at<'a>(items: &'a [Held], f: &Name) -> Option<&'a Value>
 }
 
 // Puts a value under a name, or takes the entry away where the value is Absent.
-pub(crate) fn set_held(items: &mut Vec<Held>, f: &Name, v: Value) -> Result<(), Memory>
+pub(crate) fn set_value(items: &mut Vec<NamedValue>, f: &Name, v: Value) -> Result<(), Memory>
     requires old_there { AllThere items.old.items }
     requires old_sound { IsTrue (sound_all (seen items.old.items)) }
     ensures there { AllThere items.new.items }
@@ -139,8 +140,8 @@ pub(crate) fn set_held(items: &mut Vec<Held>, f: &Name, v: Value) -> Result<(), 
     ensures ok { OnOk result (seen items.new.items ≡ update (seen items.old.items) f.now v) }
     ensures kept { OnErr result (items.new.items ≡ items.old.items) }
 {
-    v.known();
-    f.known();
+    v.is_sound();
+    f.is_sound();
     match v {
         Value::Absent => {
             take_away(items, f);
@@ -151,7 +152,7 @@ pub(crate) fn set_held(items: &mut Vec<Held>, f: &Name, v: Value) -> Result<(), 
 }
 
 // Takes away what stands under a name.
-fn take_away(items: &mut Vec<Held>, f: &Name)
+fn take_away(items: &mut Vec<NamedValue>, f: &Name)
     requires { AllThere items.old.items }
     ensures there { AllThere items.new.items }
     ensures gone { seen items.new.items ≡ update (seen items.old.items) f.now Value.Absent }
@@ -165,7 +166,7 @@ fn take_away(items: &mut Vec<Held>, f: &Name)
 }
 
 // Puts a value that is there under a name.
-fn put_there(items: &mut Vec<Held>, f: &Name, v: Value) -> Result<(), Memory>
+fn put_there(items: &mut Vec<NamedValue>, f: &Name, v: Value) -> Result<(), Memory>
     requires all { AllThere items.old.items }
     requires there { IsThere v }
     ensures there { AllThere items.new.items }
@@ -180,18 +181,18 @@ fn put_there(items: &mut Vec<Held>, f: &Name, v: Value) -> Result<(), Memory>
         Err(at) => {
             let alloc = *items.allocator();
             let name = f.copy(alloc)?;
-            items.insert(at, Held { name, value: v })?;
+            items.insert(at, NamedValue { name, value: v })?;
             Ok(())
         }
     }
 }
 
 // Where the name is, or where it would go.
-pub(crate) fn place(items: &[Held], f: &Name) -> Result<usize, usize>
+pub(crate) fn place(items: &[NamedValue], f: &Name) -> Result<usize, usize>
     ensures { MatchResult result (IsAt items.now f.now) (IsGap items.now f.now) }
 {
-    for (at, held) in items.iter().enumerate() {
-        match f.compare(&held.name) {
+    for (at, item) in items.iter().enumerate() {
+        match f.compare(&item.name) {
             Ordering::Less => return Err(at),
             Ordering::Equal => return Ok(at),
             Ordering::Greater => {}
@@ -202,11 +203,11 @@ pub(crate) fn place(items: &[Held], f: &Name) -> Result<usize, usize>
 
 impl Value {
     /// The value is sound.
-    pub fn known(&self)
+    pub fn is_sound(&self)
         ensures { IsTrue (sound self.now) }
     {
         match self {
-            Value::Dir(entries) => entries.known(),
+            Value::Dir(entries) => entries.is_sound(),
             _ => {}
         }
     }

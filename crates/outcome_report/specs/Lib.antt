@@ -1,2 +1,3 @@
 pub mod OutcomeReport
+pub mod ReportNames
 pub mod ReportText

@@ -1,5 +1,5 @@
 -- What it is for a report to be the job's, and the verdict of a report.
-use Rattle.std.specs.Prelude.{◌≡◌, ℕ, List, [], ◌∷◌, map, Bool, true, false, if◌then◌else◌}
+use Rattle.std.specs.Prelude.{◌≡◌, ℕ, List, [], ◌∷◌, map, Bool, true, ◌==◌, if◌then◌else◌}
 use Rattle.std.specs.List.{list_any}
 use Rattle.feature_trees.specs.declared.kind.Kind.TheVariants.{Dir}
 use Rattle.feature_trees.specs.Tree.{kind_of}
@@ -62,24 +62,21 @@ abbrev pub PartsShowTrees : List ReportPart → Type 0
 PartsShowTrees [] = Unit {0}
 PartsShowTrees (part ∷ parts) = AllShowTrees part.entries × PartsShowTrees parts
 
--- the scenario failed
-abbrev pub is_failed : Ending → Bool
-is_failed (Done state) = false
-is_failed (Failed state) = true
-is_failed (Incomplete reason site) = false
-is_failed (Bound site) = false
+-- what an ending alone makes of the verdict: 1 where the scenario failed, 2 where it ended without a state, else 0
+abbrev pub ending_verdict : Ending → ℕ
+ending_verdict (Done state) = 0
+ending_verdict (Failed state) = 1
+ending_verdict (Incomplete reason site) = 2
+ending_verdict (Bound site) = 2
 
--- the scenario ended without a state
-abbrev pub is_undecided : Ending → Bool
-is_undecided (Done state) = false
-is_undecided (Failed state) = false
-is_undecided (Incomplete reason site) = true
-is_undecided (Bound site) = true
+-- some outcome of the part makes this of the verdict
+abbrev pub part_has : ℕ → ReportPart → Bool
+part_has verdict part = list_any (λ entry. ending_verdict entry.outcome.ending == verdict) part.entries
 
--- some outcome of the report has an ending that passes the test
-abbrev pub some_ending : (Ending → Bool) → Report → Bool
-some_ending test report = list_any (λ part. list_any (λ entry. test entry.outcome.ending) part.entries) report.parts
+-- some outcome of the report does
+abbrev pub report_has : ℕ → Report → Bool
+report_has verdict report = list_any (part_has verdict) report.parts
 
 -- the verdict of a report: 1 where some outcome is failed, else 2 where some is incomplete or bound, else 0
 abbrev pub verdict_of : Report → ℕ
-verdict_of report = if some_ending is_failed report then 1 else (if some_ending is_undecided report then 2 else 0)
+verdict_of report = if report_has 1 report then 1 else (if report_has 2 report then 2 else 0)

@@ -1,7 +1,6 @@
 ghost use Rattle.std.specs.Prelude.{◌≡◌, ◌↔◌, ◌∷◌, [], map, IsTrue, IfOk};
-ghost use Rattle.std.specs.List.{list_any};
 ghost use Rattle.scenario_paths.specs.ScenarioPaths.{IsExact};
-ghost use Rattle.outcome_report.specs.OutcomeReport.{Agrees, AllEntries, AllParts, AllShowTrees, PartsShowTrees, is_failed, is_undecided, some_ending, verdict_of};
+ghost use Rattle.outcome_report.specs.OutcomeReport.{Agrees, AllEntries, AllParts, AllShowTrees, PartsShowTrees, ending_verdict, part_has, report_has, verdict_of};
 
 use package_files::{Ending, Job, Replayed, Scenario};
 use scenario_paths::{Outcome, outcomes};
@@ -95,67 +94,45 @@ pub fn make_report(alloc: Global, job: &Job) -> Result<Report, Memory>
     Ok(Report { parts })
 }
 
-// Whether the scenario failed.
-fn is_failed(ending: Ending) -> bool
-    ensures { result ≡ is_failed ending }
+// What an ending alone makes of the verdict.
+fn ending_verdict(ending: Ending) -> u8
+    ensures { result ≡ ending_verdict ending }
 {
     match ending {
-        Ending::Failed(_) => true,
-        Ending::Done(_) | Ending::Incomplete(_, _) | Ending::Bound(_) => false,
+        Ending::Done(_) => 0,
+        Ending::Failed(_) => 1,
+        Ending::Incomplete(_, _) | Ending::Bound(_) => 2,
     }
 }
 
-// Whether the scenario ended without a state.
-fn is_undecided(ending: Ending) -> bool
-    ensures { result ≡ is_undecided ending }
-{
-    match ending {
-        Ending::Incomplete(_, _) | Ending::Bound(_) => true,
-        Ending::Done(_) | Ending::Failed(_) => false,
-    }
-}
-
-// Whether an outcome of the part failed.
-fn has_failed(part: &ReportPart) -> bool
-    ensures { result ≡ list_any (λ entry. is_failed entry.outcome.ending) part.now.entries }
+// Whether an outcome of the part makes this of the verdict.
+fn part_has(part: &ReportPart, verdict: u8) -> bool
+    ensures { result ≡ part_has verdict part.now }
 {
     part.entries
         .as_slice()
         .iter()
-        .any(|entry| is_failed(entry.outcome.ending))
+        .any(|entry| ending_verdict(entry.outcome.ending) == verdict)
 }
 
-// Whether an outcome of the part ended without a state.
-fn has_undecided(part: &ReportPart) -> bool
-    ensures { result ≡ list_any (λ entry. is_undecided entry.outcome.ending) part.now.entries }
+// Whether an outcome of the report does.
+fn report_has(report: &Report, verdict: u8) -> bool
+    ensures { result ≡ report_has verdict report.now }
 {
-    part.entries
+    report
+        .parts
         .as_slice()
         .iter()
-        .any(|entry| is_undecided(entry.outcome.ending))
-}
-
-// Whether an outcome of the report failed.
-fn some_failed(report: &Report) -> bool
-    ensures { result ≡ some_ending is_failed report.now }
-{
-    report.parts.as_slice().iter().any(has_failed)
-}
-
-// Whether an outcome of the report ended without a state.
-fn some_undecided(report: &Report) -> bool
-    ensures { result ≡ some_ending is_undecided report.now }
-{
-    report.parts.as_slice().iter().any(has_undecided)
+        .any(|part| part_has(part, verdict))
 }
 
 /// The verdict of a report: 1 where some outcome is failed, else 2 where some is incomplete or bound, else 0.
 pub fn verdict(report: &Report) -> u8
     ensures { result ≡ verdict_of report.now }
 {
-    if some_failed(report) {
+    if report_has(report, 1) {
         1
-    } else if some_undecided(report) {
+    } else if report_has(report, 2) {
         2
     } else {
         0

@@ -1,44 +1,17 @@
--- The first component of a word, and the names of a path one by one.
+-- The names of a path one by one.
 use Rattle.std.specs.Prelude.{nat_le, if◌then◌else◌, MatchOption}
-use Rattle.std.proofs.Common.{◌≡◌, ℕ, zero, suc, ◌<◌, ◌≤◌, ◌==◌, List, [], ◌∷◌, ◌++◌, length, get_or, take, drop, Option, Some, None, Bool, true, false, ◌&&◌, refl, ap, sym, subst, ◌∙◌, arith, append_assoc, length-append}
+use Rattle.std.proofs.Common.{◌≡◌, ℕ, ◌<◌, ◌≤◌, List, [], ◌∷◌, ◌++◌, length, Option, Some, None, Bool, true, false, ◌&&◌, refl, ap, sym, subst, ◌∙◌, arith, append_assoc, length-append}
 use Rattle.std.specs.List.{list_all}
-use Rattle.std.proofs.lemmas.Bool.{ne_eqb, and_parts, and_from, le-leb, lt-leb}
+use Rattle.std.proofs.lemmas.List.Splits.{length-slice_split}
+use Rattle.std.proofs.lemmas.Bool.{and_parts, and_from, le-leb, lt-leb}
 use Rattle.std.proofs.lemmas.List.{append-nil}
 use Rattle.script_names.specs.Names.{is_name}
-use Rattle.package_files.specs.WordPath.{components_of, onto_first, is_portable_byte, is_portable_name, are_path_names, path_names}
-
--- a word whose first slash is at i
-pub components_at : (xs : List ℕ) (i : ℕ) → i < length xs → get_or xs i 0 ≡ 47 → ((k : ℕ) → k < i → get_or xs k 0 ≡ 47 → ⊥)
-    → components_of xs ≡ take i xs ∷ components_of (drop (suc i) xs)
-components_at [] i lt e none = absurd (omega arith)
-components_at (x ∷ xs) zero lt e none = rw e refl
-components_at (x ∷ xs) (suc i) lt e none =
-    let ne : (x == 47) ≡ false = ne_eqb x 47 (none 0 (omega arith)) in
-    let rest : components_of xs ≡ take i xs ∷ components_of (drop (suc i) xs) = components_at xs i (omega arith) e (λ k h. none (suc k) (omega arith)) in
-    rw (ne, rest) refl
-
--- a word without a slash
-pub components_alone : (xs : List ℕ) → ((k : ℕ) → k < length xs → get_or xs k 0 ≡ 47 → ⊥) → components_of xs ≡ xs ∷ []
-components_alone [] none = refl
-components_alone (x ∷ xs) none =
-    let ne : (x == 47) ≡ false = ne_eqb x 47 (none 0 (omega arith)) in
-    let rest : components_of xs ≡ xs ∷ [] = components_alone xs (λ k h. none (suc k) (omega arith)) in
-    rw (ne, rest) refl
-
--- a byte in front leaves a component
-onto_first_some : (b : ℕ) (parts : List (List ℕ)) → 0 < length (onto_first b parts)
-onto_first_some b [] = omega arith
-onto_first_some b (part ∷ parts) = omega arith
-
--- the components of one more byte are some
-split_some : (slash : Bool) (b : ℕ) (parts : List (List ℕ)) → 0 < length (if slash then [] ∷ parts else onto_first b parts)
-split_some true b parts = omega arith
-split_some false b parts = onto_first_some b parts
+use Rattle.script_names.specs.Paths.{components, is_slash}
+use Rattle.package_files.specs.WordPath.{is_portable_byte, is_portable_name, are_path_names, path_names}
 
 -- each word has a component
-pub components_some : (xs : List ℕ) → 0 < length (components_of xs)
-components_some [] = omega arith
-components_some (x ∷ xs) = split_some (x == 47) x (components_of xs)
+pub components_some : (word : List ℕ) → 0 < length (components word)
+components_some word = omega (arith, length-slice_split is_slash word)
 
 -- where a chosen value is there, the test held
 pub chosen : (b : Bool) (name bytes : List ℕ) → Some name ≡ (if b then Some bytes else None) → (name ≡ bytes) × (b ≡ true)

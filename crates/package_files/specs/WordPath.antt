@@ -2,17 +2,8 @@
 use Rattle.std.specs.Prelude.{ℕ, List, [], ◌∷◌, length, Bool, ◌&&◌, ◌||◌, Option, Some, None, option_map, ◌==◌, false, nat_le, if◌then◌else◌}
 use Rattle.std.specs.List.{list_all}
 use Rattle.script_names.specs.Names.{is_name}
-use Rattle.script_names.specs.Paths.{PathParts}
-
--- a byte in front of the first of these
-abbrev pub onto_first : ℕ → List (List ℕ) → List (List ℕ)
-onto_first b [] = (b ∷ []) ∷ []
-onto_first b (line ∷ lines) = (b ∷ line) ∷ lines
-
--- what stands between the slashes of a word, before the first and after the last too
-abbrev pub components_of : List ℕ → List (List ℕ)
-components_of [] = [] ∷ []
-components_of (b ∷ bs) = if b == 47 then [] ∷ components_of bs else onto_first b (components_of bs)
+use Rattle.script_names.specs.Paths.{PathParts, components}
+use Rattle.script_names.specs.declared.path.TheConstants.{MAX_NAMES}
 
 -- a letter, a digit, `.`, `_` or `-`
 abbrev pub is_portable_byte : ℕ → Bool
@@ -25,7 +16,7 @@ is_portable_name name = is_name name && list_all is_portable_byte name
 
 -- 1 to 64 such names
 abbrev pub are_path_names : List (List ℕ) → Bool
-are_path_names names = nat_le 1 (length names) && nat_le (length names) 64 && list_all is_portable_name names
+are_path_names names = nat_le 1 (length names) && nat_le (length names) MAX_NAMES && list_all is_portable_name names
 
 -- these names, where they are those of a path
 abbrev pub path_names : List (List ℕ) → Option (List (List ℕ))
@@ -39,4 +30,4 @@ names_of_components ((b ∷ bs) ∷ names) = None
 
 -- the path that a word spells: a slash and 1 to 64 names joined by slashes
 abbrev pub path_of_word : List ℕ → Option PathParts
-path_of_word word = option_map (λ names. record { names = names; slash = false }) (names_of_components (components_of word))
+path_of_word word = option_map (λ names. record { names = names; slash = false }) (names_of_components (components word))

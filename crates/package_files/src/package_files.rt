@@ -57,14 +57,12 @@ fn usual_base(alloc: Global) -> Result<List<Path>, Memory>
 
 // Keeps the pairs whose tree now has a directory at the path.
 fn require_directory(store: &mut Store, path: &Path) -> Result<(), Memory>
-    ensures { OnOk result ((t u : ValueOf) → HasPair store.new t u ↔ (HasPair store.old t u × (kind_of (at u path.now.names) ≡ kind.Dir))) }
+    ensures { OnOk result ((t u : ValueOf) → HasPair store.new t u
+        ↔ (HasPair store.old t u × (kind_of (at u path.now.names) ≡ kind.Dir))) }
 {
     let mut x = store.now();
     for f in path.names() {
-        x = match store.child(x, f) {
-            Ok(y) => y,
-            Err(fault) => return Err(fault),
-        };
+        x = store.child(x, f)?;
     }
     let _is_left = store.limit(x, Kinds::of(Kind::Dir));
     Ok(())
@@ -77,10 +75,7 @@ pub fn start_store(alloc: Global) -> Result<Store, Memory>
     let base = usual_base(alloc)?;
     let mut store = Store::start(alloc)?;
     for path in base.as_slice() {
-        match require_directory(&mut store, path) {
-            Ok(()) => {}
-            Err(fault) => return Err(fault),
-        }
+        require_directory(&mut store, path)?;
     }
     Ok(store)
 }

@@ -1,27 +1,16 @@
-ghost use Rattle.std.specs.Prelude.{◌≡◌, ◌<◌, ◌∷◌, [], length, IfOk, MatchOption, if◌then◌else◌};
+ghost use Rattle.std.specs.Prelude.{◌≡◌, IfOk, if◌then◌else◌};
 ghost use Rattle.std.specs.List.{list_all};
-ghost use Rattle.package_files.specs.WordPath.{components_of, is_portable_byte, is_portable_name, path_names, path_of_word};
+ghost use Rattle.script_names.specs.Paths.{components};
+ghost use Rattle.package_files.specs.WordPath.{is_portable_byte, is_portable_name, path_names, path_of_word};
 
-use script_names::{List, Memory, Name, NameFault, Path};
+use script_names::{List, MAX_NAMES, Memory, Name, NameFault, Path, first_part};
 use std::alloc::Global;
-
-// The first component of a word, and what follows its slash, where there is one.
-fn first_component(word: &[u8]) -> (&[u8], Option<&[u8]>)
-    ensures components { MatchOption result.1 (components_of word.now ≡ result.0.now ∷ []) (λ rest. (components_of word.now ≡ result.0.now ∷ components_of rest.now) × (length rest.now < length word.now)) }
-{
-    for (i, b) in word.iter().enumerate() {
-        if *b == b'/' {
-            return (&word[..i], Some(&word[i + 1..]));
-        }
-    }
-    (word, None)
-}
 
 // Whether each byte is a letter, a digit, `.`, `_` or `-`.
 fn is_portable(bytes: &[u8]) -> bool
     ensures { result ≡ list_all is_portable_byte bytes.now }
 {
-    bytes.iter().all(|b| { b.is_ascii_alphanumeric() || *b == b'.' || *b == b'_' || *b == b'-' })
+    bytes.iter().all(|b| b.is_ascii_alphanumeric() || *b == b'.' || *b == b'_' || *b == b'-')
 }
 
 // The name that the bytes are, where they are one of portable bytes alone.
@@ -40,15 +29,15 @@ fn read_name(alloc: Global, bytes: &[u8]) -> Result<Option<Name>, Memory>
 
 // The components of a word as names, where all of them are portable and there are at most 64.
 fn read_names(alloc: Global, word: &[u8]) -> Result<Option<List<Name>>, Memory>
-    ensures { IfOk result (λ names. names ≡ path_names (components_of word.now)) }
+    ensures { IfOk result (λ names. names ≡ path_names (components word.now)) }
 {
     let mut names = List::new(alloc);
     let mut rest = word;
     loop {
-        if names.len() == 64 {
+        if names.len() == MAX_NAMES {
             return Ok(None);
         }
-        let (component, next) = first_component(rest);
+        let (component, next) = first_part(rest, b'/');
         let name = match read_name(alloc, component)? {
             Some(name) => name,
             None => return Ok(None),
@@ -66,7 +55,7 @@ fn read_names(alloc: Global, word: &[u8]) -> Result<Option<List<Name>>, Memory>
 pub fn read_path(alloc: Global, word: &[u8]) -> Result<Option<Path>, Memory>
     ensures { IfOk result (λ path. path ≡ path_of_word word.now) }
 {
-    match first_component(word) {
+    match first_part(word, b'/') {
         ([], Some(rest)) => match read_names(alloc, rest)? {
             Some(names) => Ok(Some(Path::new(names, false))),
             None => Ok(None),

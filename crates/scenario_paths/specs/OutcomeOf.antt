@@ -8,7 +8,8 @@ use Rattle.symbolic_exec.specs.declared.state.Ended.{Ended}
 use Rattle.scenario_paths.specs.declared.scenario_paths.Outcome.{Outcome}
 use Rattle.package_files.specs.JobRun.{ending_of}
 
--- the outcome of a path: its place in the list, its end and trace, a clause with its pairs, and a start tree of one of them
+-- the outcome of a path: its place in the list, its end and trace, a clause with its pairs, and a start tree of one
+-- of them
 pub record IsOutcomeOf (place : ℕ) (path : Ended End) (outcome : Outcome) : Type 0 where
   pub number : outcome.number ≡ place + 1
   pub ending : outcome.ending ≡ ending_of path.end
@@ -21,4 +22,5 @@ abbrev pub AreOutcomes : ℕ → List (Ended End) → List Outcome → Type 0
 AreOutcomes place [] [] = Unit {0}
 AreOutcomes place [] (outcome ∷ outcomes) = ⊥
 AreOutcomes place (path ∷ paths) [] = ⊥
-AreOutcomes place (path ∷ paths) (outcome ∷ outcomes) = IsOutcomeOf place path outcome × AreOutcomes (suc place) paths outcomes
+AreOutcomes place (path ∷ paths) (outcome ∷ outcomes) =
+    IsOutcomeOf place path outcome × AreOutcomes (suc place) paths outcomes

@@ -61,11 +61,14 @@ Rising (outcome ∷ next ∷ rest) = TraceBelow outcome.trace next.trace × Risi
 pub record IsExact (job : Job) (outcomes : List Outcome) : Type 0 where
   -- each start tree is covered by one of them alone
   pub once : (start : Value) → IsStart start → CoversOnce outcomes start
-  -- whatever one covers is a start tree, with the one tree that the run from it leaves; and that run ends as the outcome says
-  pub runs : (place : ℕ) (outcome : Outcome) (start now : Value) → slice_get outcomes place ≡ Some outcome → Covers outcome.clause start now
+  -- whatever one covers is a start tree, with the one tree that the run from it leaves; and that run ends as the
+  -- outcome says
+  pub runs : (place : ℕ) (outcome : Outcome) (start now : Value) → slice_get outcomes place ≡ Some outcome
+      → Covers outcome.clause start now
       → IsStart start × EndsAs job outcome start now
   -- each covers the tree that it shows
-  pub shown : (place : ℕ) (outcome : Outcome) → slice_get outcomes place ≡ Some outcome → CoversAt outcomes place outcome.shown
+  pub shown : (place : ℕ) (outcome : Outcome) → slice_get outcomes place ≡ Some outcome
+      → CoversAt outcomes place outcome.shown
   -- the traces rise strictly, so no two are equal
   pub rising : Rising outcomes
   -- the numbers are 1, 2, 3 and so on

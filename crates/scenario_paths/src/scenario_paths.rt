@@ -12,8 +12,8 @@ use shell_rules::{Command, End};
 use std::alloc::Global;
 use symbolic_exec::{Ended, PathState, paths};
 
-/// One way in which a job can end: its number from 1, the ending and the acts of its runs, the clause that says which start
-/// trees they begin from and which trees they leave, and one such start tree.
+/// One way in which a job can end: its number from 1, the ending and the acts of its runs, the clause that says which
+/// start trees they begin from and which trees they leave, and one such start tree.
 #[derive(Drop)]
 pub struct Outcome {
     pub number: u32,

@@ -1,4 +1,4 @@
--- The components of a word that spells a path: those that lead on are names.
+-- The components of a word that spells a path: those that name an entry are names.
 use Rattle.std.specs.Prelude.{nat_lt, if◌then◌else◌, not, ◌||◌, filter}
 use Rattle.std.proofs.Common.{◌≡◌, ℕ, zero, suc, ◌+◌, ◌<◌, ◌≤◌, List, [], ◌∷◌, ◌++◌, length, get_or, take, Option, Some, None, map, Bool, true, false, refl, ap, ◌∙◌, arith}
 use Rattle.script_names.specs.Laws.{HasNoSlash, SpellsNames}
@@ -10,7 +10,7 @@ use Rattle.std.proofs.lemmas.List.{take_more, map-append}
 use denote.Ref.{Bor}
 use Rattle.std.proofs.lemmas.Bool.{ltb-false, le-leb, lt-ltb, and_parts, and_from}
 use Rattle.script_names.specs.Names.{is_name, is_plain_byte, is_dots}
-use Rattle.script_names.specs.Paths.{is_nul, is_slash, is_filled, is_dot, is_dot_dot, is_long, leads_on, ends_in_dot, components, spelled_names, path_fault, stated}
+use Rattle.script_names.specs.Paths.{is_nul, is_slash, is_filled, is_dot, is_dot_dot, is_long, names_entry, ends_in_dot, components, spelled_names, path_fault, stated}
 use Rattle.script_names.specs.declared.path.PathFault.{PathFault}
 use Rattle.script_names.specs.declared.path.PathFault.TheVariants.{Empty, Nul, DotDot, Dot, LongName, Many}
 
@@ -53,7 +53,7 @@ parts_plain (b ∷ bs) e =
     let nul : (is_nul b ≡ false) × (list_any is_nul bs ≡ false) = or_none (is_nul b) (list_any is_nul bs) e in
     split_plain (is_slash b) b (components bs) refl nul.0 (parts_plain bs nul.1)
 
--- what leads on and isn't `..` names no directory by dots
+-- what names an entry and isn't `..` names no directory by dots
 no_dots : (part : List ℕ) → is_dot part ≡ false → is_dot_dot part ≡ false → is_dots part ≡ false
 no_dots [] d e = refl
 no_dots (a ∷ []) d e = d
@@ -69,27 +69,27 @@ not_false : (b : Bool) → not b ≡ true → b ≡ false
 not_false true e = cc
 not_false false e = refl
 
--- a component that leads on is a name
-named : (part : List ℕ) → list_all is_plain_byte part ≡ true → is_dot_dot part ≡ false → is_long part ≡ false → leads_on part ≡ true → is_name part ≡ true
+-- a component that names an entry is a name
+named : (part : List ℕ) → list_all is_plain_byte part ≡ true → is_dot_dot part ≡ false → is_long part ≡ false → names_entry part ≡ true → is_name part ≡ true
 named part bytes up long on =
     let parts : (is_filled part ≡ true) × (not (is_dot part) ≡ true) = and_parts (is_filled part) (not (is_dot part)) on in
     rw (filled part parts.0, le-leb (length part) 255 (ltb-false 255 (length part) long), bytes, no_dots part (not_false (is_dot part) parts.1) up) refl
 
 -- one component more
-kept : (on : Bool) (part : List ℕ) (names : List (List ℕ)) → leads_on part ≡ on → (leads_on part ≡ true → is_name part ≡ true) → list_all is_name names ≡ true
+kept : (on : Bool) (part : List ℕ) (names : List (List ℕ)) → names_entry part ≡ on → (names_entry part ≡ true → is_name part ≡ true) → list_all is_name names ≡ true
     → list_all is_name (if on then part ∷ names else names) ≡ true
 kept true part names is ok e = and_from (is_name part) (list_all is_name names) (ok is) e
 kept false part names is ok e = e
 
 pub parts_named : (parts : List (List ℕ)) → list_all (list_all is_plain_byte) parts ≡ true → list_any is_dot_dot parts ≡ false → list_any is_long parts ≡ false
-    → list_all is_name (filter leads_on parts) ≡ true
+    → list_all is_name (filter names_entry parts) ≡ true
 parts_named [] bytes up long = refl
 parts_named (part ∷ parts) bytes up long =
     let b : (list_all is_plain_byte part ≡ true) × (list_all (list_all is_plain_byte) parts ≡ true) =
     and_parts (list_all is_plain_byte part) (list_all (list_all is_plain_byte) parts) bytes in
     let u : (is_dot_dot part ≡ false) × (list_any is_dot_dot parts ≡ false) = or_none (is_dot_dot part) (list_any is_dot_dot parts) up in
     let l : (is_long part ≡ false) × (list_any is_long parts ≡ false) = or_none (is_long part) (list_any is_long parts) long in
-    kept (leads_on part) part (filter leads_on parts) refl (named part b.0 u.0 l.0) (parts_named parts b.1 u.1 l.1)
+    kept (names_entry part) part (filter names_entry parts) refl (named part b.0 u.0 l.0) (parts_named parts b.1 u.1 l.1)
 
 -- the first fault of six tests
 abbrev pub first_fault : Bool → Bool → Bool → Bool → Bool → Bool → Option PathFault
@@ -153,7 +153,7 @@ fault_stated word fault h =
     is_stated (not (is_filled word)) (list_any is_nul word) (list_any is_dot_dot (components word)) (ends_in_dot word) (list_any is_long (components word))
     (nat_lt 64 (length (spelled_names word))) fault h
 
--- one of the parts that lead on
+-- one of the parts that name an entry
 pub name_at : (parts : List (Bor (List ℕ))) (i : ℕ) (d : Bor (List ℕ)) → i < length parts → list_all is_name (map (λ part. part.now) parts) ≡ true
     → is_name (get_or parts i d).now ≡ true
 name_at [] i d lt e = absurd (omega arith)

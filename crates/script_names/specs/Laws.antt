@@ -18,7 +18,8 @@ SpellsNames = (word : List ℕ) → path_fault word ≡ None → All (λ name. I
 
 -- the parent of a path with one name more has the path's names
 abbrev pub ParentOfJoin : Type 0
-ParentOfJoin = (path : PathParts) (name : List ℕ) → parent_of (joined path name) ≡ Some (record { names = path.names; slash = false })
+ParentOfJoin = (path : PathParts) (name : List ℕ)
+    → parent_of (joined path name) ≡ Some (record { names = path.names; slash = false })
 
 -- a parent's names begin the path's
 abbrev pub ParentBegins : Type 0

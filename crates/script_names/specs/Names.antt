@@ -1,6 +1,7 @@
 -- Which bytes name an entry of a directory (POSIX.1-2017, Base Definitions, 3.170).
 use Rattle.std.specs.Prelude.{ℕ, Bool, false, not, ◌&&◌, ◌==◌, nat_le, nat_lt, List, [], ◌∷◌, length}
 use Rattle.std.specs.List.{list_all}
+use Rattle.script_names.specs.declared.name.TheConstants.{NAME_MAX}
 
 -- `.` and `..`, which name a directory itself and the one above it
 abbrev pub is_dots : List ℕ → Bool
@@ -16,4 +17,4 @@ is_plain_byte b = not (b == 0) && not (b == 47)
 -- a name: 1 to 255 bytes, none NUL or `/`, neither `.` nor `..`
 abbrev pub is_name : List ℕ → Bool
 is_name bytes =
-    nat_lt 0 (length bytes) && nat_le (length bytes) 255 && list_all is_plain_byte bytes && not (is_dots bytes)
+    nat_lt 0 (length bytes) && nat_le (length bytes) NAME_MAX && list_all is_plain_byte bytes && not (is_dots bytes)

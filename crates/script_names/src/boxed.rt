@@ -27,7 +27,7 @@ impl<T> Boxed<T> {
         &self.inner
     }
 
-    /// The value, taken out.
+    /// The value, moved out.
     pub fn into_inner(self) -> T
         ensures { result ≡ self }
     {
@@ -37,7 +37,7 @@ impl<T> Boxed<T> {
 }
 
 impl<T: Drop> Boxed<T> {
-    /// The value behind a pointer; for want of memory it is given up.
+    /// The value behind a pointer; for want of memory it is dropped.
     pub fn new(alloc: Global, value: T) -> Result<Boxed<T>, Memory>
         ensures { IfOk result (λ boxed. boxed ≡ value) }
     {
@@ -49,7 +49,7 @@ impl<T: Drop> Boxed<T> {
 
 impl<T: Copied> Copied for Boxed<T> {
     fn copy(&self, alloc: Global) -> Result<Boxed<T>, Memory> {
-        let twin = self.get().copy(alloc)?;
-        Boxed::new(alloc, twin)
+        let copy = self.get().copy(alloc)?;
+        Boxed::new(alloc, copy)
     }
 }

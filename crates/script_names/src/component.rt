@@ -2,12 +2,12 @@
 ghost use Rattle.std.specs.Prelude.{◌≡◌, ◌<◌, None, filter, length, IfOk, IsTrue, map};
 ghost use Rattle.std.specs.List.{list_any, list_all};
 ghost use Rattle.script_names.specs.Names.{is_name};
-ghost use Rattle.script_names.specs.Paths.{is_nul, is_filled, is_dot, is_dot_dot, is_long, leads_on, ends_in_dot, components, spelled_names, path_fault};
+ghost use Rattle.script_names.specs.Paths.{is_nul, is_filled, is_dot, is_dot_dot, is_long, names_entry, ends_in_dot, components, spelled_names, path_fault};
 
 use crate::list::List;
 use crate::memory::Memory;
-use crate::name::Name;
-use crate::path::PathFault;
+use crate::name::{NAME_MAX, Name};
+use crate::path::{MAX_NAMES, PathFault};
 use std::alloc::Global;
 
 // Why the word spells no path, where it spells none.
@@ -24,7 +24,7 @@ pub fn path_fault(word: &[u8]) -> Option<PathFault>
         Some(PathFault::Dot)
     } else if has_long_name(word) {
         Some(PathFault::LongName)
-    } else if count_names(word) > 64 {
+    } else if count_names(word) > MAX_NAMES {
         Some(PathFault::Many)
     } else {
         None
@@ -36,7 +36,7 @@ pub fn read_names(alloc: Global, word: &[u8]) -> Result<List<Name>, Memory>
     requires { IsTrue (list_all is_name (spelled_names word.now)) }
     ensures { IfOk result (λ names. names ≡ spelled_names word.now) }
 {
-    let parts = parts_that_lead_on(alloc, word)?;
+    let parts = parts_with_names(alloc, word)?;
     let mut names = List::new(alloc);
     for part in &parts {
         let name = Name::of(alloc, part)?;
@@ -45,13 +45,13 @@ pub fn read_names(alloc: Global, word: &[u8]) -> Result<List<Name>, Memory>
     Ok(names)
 }
 
-// The components that lead on, in order.
-fn parts_that_lead_on(alloc: Global, word: &[u8]) -> Result<Vec<&[u8]>, Memory>
+// The components that name an entry, in order.
+fn parts_with_names(alloc: Global, word: &[u8]) -> Result<Vec<&[u8]>, Memory>
     ensures { IfOk result (λ parts. map (λ part. part.now) parts.items ≡ spelled_names word.now) }
 {
     let parts = word
         .split(|b| *b == b'/')
-        .filter(|part| leads_on(part))
+        .filter(|part| names_entry(part))
         .collect(alloc)?;
     Ok(parts)
 }
@@ -70,11 +70,11 @@ fn has_dot_dot(word: &[u8]) -> bool
     word.split(|b| *b == b'/').any(|part| is_dot_dot(part))
 }
 
-// Whether a component has more than 255 bytes.
+// Whether a component has more bytes than a name may have.
 fn has_long_name(word: &[u8]) -> bool
     ensures { result ≡ list_any is_long (components word.now) }
 {
-    word.split(|b| *b == b'/').any(|part| part.len() > 255)
+    word.split(|b| *b == b'/').any(|part| part.len() > NAME_MAX)
 }
 
 // How many names the word spells.
@@ -82,7 +82,7 @@ fn count_names(word: &[u8]) -> usize
     ensures { result ≡ length (spelled_names word.now) }
 {
     word.split(|b| *b == b'/')
-        .filter(|part| leads_on(part))
+        .filter(|part| names_entry(part))
         .count()
 }
 
@@ -100,9 +100,9 @@ fn ends_in_dot(word: &[u8]) -> bool
     }
 }
 
-// Whether a component is neither empty nor `.`.
-fn leads_on(part: &[u8]) -> bool
-    ensures { result ≡ leads_on part.now }
+// Whether a component names an entry: it is neither empty nor `.`.
+fn names_entry(part: &[u8]) -> bool
+    ensures { result ≡ names_entry part.now }
 {
     !part.is_empty() && !is_dot(part)
 }

@@ -7,7 +7,7 @@ use std::alloc::Global;
 pub trait Copied: Sized + Drop {
     /// A copy, which equals the value.
     fn copy(&self, alloc: Global) -> Result<Self, Memory>
-        ensures { IfOk result (λ twin. twin ≡ self.now) };
+        ensures { IfOk result (λ copy. copy ≡ self.now) };
 }
 
 impl Copied for bool {
@@ -93,8 +93,8 @@ impl<T: Copied> Copied for Option<T> {
         match self {
             None => Ok(None),
             Some(value) => {
-                let twin = value.copy(alloc)?;
-                Ok(Some(twin))
+                let copy = value.copy(alloc)?;
+                Ok(Some(copy))
             }
         }
     }

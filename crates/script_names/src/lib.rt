@@ -5,6 +5,9 @@
 
 mod boxed;
 mod bytes;
+mod common;
+#[cfg(test)]
+mod common_tests;
 mod component;
 mod copied;
 mod list;
@@ -15,6 +18,7 @@ mod path;
 #[cfg(test)]
 mod path_tests;
 mod reason;
+mod split;
 #[cfg(test)]
 mod tests;
 mod text;
@@ -22,11 +26,13 @@ pub mod theorems;
 
 pub use boxed::Boxed;
 pub use bytes::Bytes;
+pub use common::Common;
 pub use copied::Copied;
 pub use list::List;
 pub use mark::{Mark, Site};
 pub use memory::Memory;
-pub use name::{Name, NameFault};
-pub use path::{Path, PathFault};
+pub use name::{NAME_MAX, Name, NameFault};
+pub use path::{MAX_NAMES, Path, PathFault};
 pub use reason::{Done, Reason};
+pub use split::first_part;
 pub use text::Text;

@@ -40,7 +40,7 @@ impl<T> List<T> {
         self.items.as_slice()
     }
 
-    /// The items, given up by the list.
+    /// The items, moved out of the list.
     pub fn into_vec(self) -> Vec<T>
         ensures { result.items ≡ self }
     {
@@ -63,7 +63,7 @@ impl<T> List<T> {
         self.items.get(at)
     }
 
-    /// One more item at the end; for want of memory it is handed back, and the list is as before.
+    /// One more item at the end; for want of memory the item is the answer, and the list is as before.
     pub fn push(&mut self, item: T) -> Result<(), T>
         ensures ok { OnOk result (self.new ≡ self.old ++ item ∷ []) }
         ensures err { IfErr result (λ back. back ≡ item) }
@@ -77,7 +77,7 @@ impl<T> List<T> {
 }
 
 impl<T: Drop> List<T> {
-    /// One more item at the end; for want of memory it is given up, and the list is as before.
+    /// One more item at the end; for want of memory the item is dropped, and the list is as before.
     pub fn add(&mut self, item: T) -> Result<(), Memory>
         ensures ok { OnOk result (self.new ≡ self.old ++ item ∷ []) }
         ensures kept { OnErr result (self.new ≡ self.old) }
@@ -91,11 +91,11 @@ impl<T: Drop> List<T> {
 
 impl<T: Copied> Copied for List<T> {
     fn copy(&self, alloc: Global) -> Result<List<T>, Memory> {
-        let mut twins = List::new(alloc);
+        let mut copies = List::new(alloc);
         for item in self.as_slice() {
-            let twin = item.copy(alloc)?;
-            twins.add(twin)?;
+            let copy = item.copy(alloc)?;
+            copies.add(copy)?;
         }
-        Ok(twins)
+        Ok(copies)
     }
 }

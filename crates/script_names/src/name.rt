@@ -12,8 +12,11 @@ use std::alloc::Global;
 use std::cmp::Ordering;
 use std::marker::Model;
 
+/// How many bytes a name has at most (POSIX.1-2017, `<limits.h>`, {NAME_MAX}; 255 is its usual value).
+pub const NAME_MAX: usize = 255;
+
 /// The name of a directory entry: 1 to 255 bytes, none of them NUL or `/`, and neither `.` nor `..`
-/// (POSIX.1-2017, Base Definitions, 3.170 Filename; 255 is the usual NAME_MAX).
+/// (POSIX.1-2017, Base Definitions, 3.170 Filename).
 #[derive(Debug, Drop)]
 pub struct Name {
     bytes: Bytes,
@@ -38,6 +41,16 @@ pub enum NameFault {
     Memory,
 }
 
+impl From<Memory> for NameFault {
+    ghost use Rattle.script_names.specs.declared.name.NameFault.TheVariants.{Memory as OutOfMemory};
+
+    ghost from_gives = { λ _ fault. fault ≡ OutOfMemory };
+
+    fn from(_refused: Memory) -> NameFault {
+        NameFault::Memory
+    }
+}
+
 impl Name {
     /// The name that the bytes are.
     pub fn read(alloc: Global, bytes: &[u8]) -> Result<Name, NameFault>
@@ -45,10 +58,8 @@ impl Name {
         ensures bad { (result ≡ Err Bad) ↔ (is_name bytes.now ≡ false) }
     {
         if is_name(bytes) {
-            match Bytes::from_slice(alloc, bytes) {
-                Ok(bytes) => Ok(Name { bytes }),
-                Err(_) => Err(NameFault::Memory),
-            }
+            let name = Name::of(alloc, bytes)?;
+            Ok(name)
         } else {
             Err(NameFault::Bad)
         }
@@ -71,8 +82,8 @@ impl Name {
         self.bytes.as_slice()
     }
 
-    /// Says of the name that its bytes are one.
-    pub fn known(&self)
+    /// Says of the name that its bytes are one. It does nothing.
+    pub fn is_sound(&self)
         ensures { IsTrue (is_name self.now) }
     {
         let _bytes = &self.bytes;
@@ -104,7 +115,7 @@ impl Copied for Name {
 fn is_name(bytes: &[u8]) -> bool
     ensures { result ≡ is_name bytes.now }
 {
-    !bytes.is_empty() && bytes.len() <= 255 && is_plain(bytes) && !is_dots(bytes)
+    !bytes.is_empty() && bytes.len() <= NAME_MAX && is_plain(bytes) && !is_dots(bytes)
 }
 
 // Whether no byte is NUL or `/`.

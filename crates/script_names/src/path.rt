@@ -1,4 +1,4 @@
-ghost use Rattle.std.specs.Prelude.{◌≡◌, ◌≤◌, ◌-◌, ◌↔◌, [], ◌∷◌, ◌++◌, length, take, slice_get, IfOk, IsTrue};
+ghost use Rattle.std.specs.Prelude.{◌≡◌, ◌<◌, ◌≤◌, ◌-◌, ◌↔◌, ◌&&◌, [], ◌∷◌, ◌++◌, length, nat_lt, take, slice_get, IfOk, IsTrue};
 ghost use Rattle.std.specs.Option.{option_copied};
 ghost use Rattle.script_names.specs.Paths.{PathGives, path_fault, path_of, IsStrictPrefix, parent_of, join_fault, joined};
 
@@ -9,6 +9,9 @@ use crate::memory::Memory;
 use crate::name::Name;
 use std::alloc::Global;
 use std::marker::Model;
+
+/// How many names a path has at most.
+pub const MAX_NAMES: usize = 64;
 
 /// Why a word spells no path, or a path can't be made. Where several apply, the first of this order is answered.
 #[derive(Clone, Copy, Debug, PartialEq, Eq)]
@@ -28,8 +31,18 @@ pub enum PathFault {
     Memory,
 }
 
-/// A path of the file tree: at most 64 names from the root on, and whether the word that spelled it ends in `/`
-/// (POSIX.1-2017, Base Definitions, 3.271 Pathname).
+impl From<Memory> for PathFault {
+    ghost use Rattle.script_names.specs.declared.path.PathFault.TheVariants.{Memory as OutOfMemory};
+
+    ghost from_gives = { λ _ fault. fault ≡ OutOfMemory };
+
+    fn from(_refused: Memory) -> PathFault {
+        PathFault::Memory
+    }
+}
+
+/// A path of the file tree: at most 64 names from the root on, and whether the word that spelled it ends in `/`,
+/// which is said only of a path with a name (POSIX.1-2017, Base Definitions, 3.271 Pathname).
 #[derive(Debug, Drop)]
 pub struct Path {
     names: List<Name>,
@@ -37,20 +50,19 @@ pub struct Path {
 }
 
 impl Model for Path {
-    ghost use Rattle.std.specs.Prelude.{◌≤◌, length};
-    ghost use Rattle.script_names.specs.Paths.{PathParts};
+    ghost use Rattle.script_names.specs.Paths.{PathParts, IsPath};
 
     ghost Value = { PathParts };
 
     ghost view = { λ p. record { names = p.names; slash = p.slash } };
 
-    ghost invariant = { λ p. length p.names ≤ 64 };
+    ghost invariant = { λ p. IsPath p.names p.slash };
 }
 
 impl Path {
-    /// The path that a word spells (POSIX.1-2017, Base Definitions, 4.13 Pathname Resolution), read from the root on whether or not it
-    /// begins with `/`. The word is cut into components at each `/`; those that are empty or `.` are dropped. Want of memory is answered
-    /// only for words that spell a path.
+    /// The path that a word spells (POSIX.1-2017, Base Definitions, 4.13 Pathname Resolution), read from the root on
+    /// whether or not it begins with `/`. The word is cut into components at each `/`; those that are empty or `.` are
+    /// dropped. Want of memory is answered only for words that spell a path.
     pub fn read(alloc: Global, word: &[u8]) -> Result<Path, PathFault>
         ensures { PathGives (path_fault word.now) (path_of word.now) result }
     {
@@ -58,33 +70,32 @@ impl Path {
             Some(fault) => return Err(fault),
             None => {}
         }
-        let names = match read_names(alloc, word) {
-            Ok(names) => names,
-            Err(_) => return Err(PathFault::Memory),
-        };
+        let names = read_names(alloc, word)?;
         let slash = names.len() > 0 && word.ends_with(b"/");
         Ok(Path { names, slash })
     }
 
-    /// The path of these names, of which there are at most 64.
+    /// The path of these names, of which there are at most 64. A slash stands only behind a name.
     pub fn new(names: List<Name>, slash: bool) -> Path
-        requires { length names ≤ 64 }
-        ensures { result ≡ record { names = names; slash = slash } }
+        requires { length names ≤ MAX_NAMES }
+        ensures { result ≡ record { names = names; slash = slash && nat_lt 0 (length names) } }
     {
+        let slash = slash && names.len() > 0;
         Path { names, slash }
     }
 
     /// The names, from the outermost on.
     pub fn names(&self) -> &[Name]
         ensures names { result.now ≡ self.now.names }
-        ensures few { length self.now.names ≤ 64 }
+        ensures few { length self.now.names ≤ MAX_NAMES }
     {
         self.names.as_slice()
     }
 
-    /// Whether the word that spelled the path ends in `/`.
+    /// Whether the word that spelled the path ends in `/`, behind a name.
     pub fn slash(&self) -> bool
-        ensures { result ≡ self.now.slash }
+        ensures value { result ≡ self.now.slash }
+        ensures named { IsTrue result → 0 < length self.now.names }
     {
         self.slash
     }
@@ -130,16 +141,14 @@ impl Path {
         ensures { PathGives (join_fault self.now) (joined self.now name.now) result }
     {
         let names = self.names();
-        if names.len() >= 64 {
+        if names.len() >= MAX_NAMES {
             return Err(PathFault::Many);
         }
-        match join_names(alloc, names, name) {
-            Ok(names) => Ok(Path {
-                names,
-                slash: false,
-            }),
-            Err(_) => Err(PathFault::Memory),
-        }
+        let names = join_names(alloc, names, name)?;
+        Ok(Path {
+            names,
+            slash: false,
+        })
     }
 }
 
@@ -160,14 +169,14 @@ fn begins(longer: &[Name], names: &[Name]) -> bool
 
 // A copy of names.
 fn copy_names(alloc: Global, names: &[Name]) -> Result<List<Name>, Memory>
-    ensures { IfOk result (λ twins. twins ≡ names.now) }
+    ensures { IfOk result (λ copies. copies ≡ names.now) }
 {
-    let mut twins = List::new(alloc);
+    let mut copies = List::new(alloc);
     for name in names {
-        let twin = name.copy(alloc)?;
-        twins.add(twin)?;
+        let copy = name.copy(alloc)?;
+        copies.add(copy)?;
     }
-    Ok(twins)
+    Ok(copies)
 }
 
 // A copy of names, and one more.
@@ -175,8 +184,8 @@ fn join_names(alloc: Global, names: &[Name], name: &Name) -> Result<List<Name>, 
     ensures { IfOk result (λ longer. longer ≡ names.now ++ name.now ∷ []) }
 {
     let mut longer = copy_names(alloc, names)?;
-    let twin = name.copy(alloc)?;
-    longer.add(twin)?;
+    let copy = name.copy(alloc)?;
+    longer.add(copy)?;
     Ok(longer)
 }
 

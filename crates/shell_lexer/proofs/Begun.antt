@@ -1,5 +1,5 @@
 -- Where a token that is a word begins, the word isn't at its end.
-use Rattle.std.proofs.Common.{◌≡◌, ℕ, ◌+◌, ◌-◌, if◌then◌else◌, nat_eq, Bool, true, false, List, [], ◌∷◌, Option, Some, None, refl, sym, ap, ◌∙◌, drop, length}
+use Rattle.std.proofs.Common.{◌≡◌, ℕ, ◌-◌, if◌then◌else◌, nat_eq, Bool, true, false, [], ◌∷◌, Option, Some, None, sym, ◌∙◌, drop, length}
 use Rattle.shell_syntax.specs.declared.form.Form.TheVariants as form
 use Rattle.shell_syntax.specs.declared.key.Key.{Key}
 use Rattle.shell_syntax.specs.declared.key.Key.TheVariants.{Named, Arg, Count}
@@ -13,7 +13,7 @@ use Rattle.shell_lexer.specs.declared.token.RawPart.TheVariants.{Quoted, Param}
 use Rattle.shell_lexer.specs.declared.byte_kind.ByteKind.{ByteKind}
 use Rattle.shell_lexer.specs.declared.byte_kind.ByteKind.TheVariants as kinds
 use Rattle.shell_lexer.specs.declared.byte_kind.RunKind.TheVariants.{Names, Defaults}
-use Rattle.shell_lexer.specs.Text.{Bytes, kind, skip, place, head_is, tail, run, behind}
+use Rattle.shell_lexer.specs.Text.{Bytes, kind, skip, head_is, tail, run, behind}
 use Rattle.shell_lexer.specs.Operators as operators
 use Rattle.shell_lexer.specs.Operators.{sight_at, sight_by}
 use Rattle.shell_lexer.specs.Parts as parts
@@ -21,7 +21,7 @@ use Rattle.shell_lexer.specs.Parts.{look, look_at, look_by}
 use Rattle.shell_lexer.proofs.Fronts.{Here, at_here}
 
 -- not the end of a word
-abbrev NotEnd : parts.Look → Type 0
+abbrev pub NotEnd : parts.Look → Type 0
 NotEnd l = l ≡ parts.Ends → ⊥
 
 if_look : (b : Bool) (x y : parts.Look) → NotEnd x → NotEnd y → NotEnd (if b then x else y)
@@ -128,7 +128,7 @@ by_begun len at b kinds.Back t e f = escaped_on b t f
 by_begun len at b kinds.Dollar t e f = dollar_on false at t (skip t) f
 by_begun len at b _ t e f = cc
 
-begun : (len at : ℕ) (t : Bytes) → sight_at len at t ≡ operators.Word → NotEnd (look_at at t)
+pub begun : (len at : ℕ) (t : Bytes) → sight_at len at t ≡ operators.Word → NotEnd (look_at at t)
 begun len at [] e f = cc
 begun len at (b ∷ rest) e f = by_begun len at b (kind b) rest e f
 

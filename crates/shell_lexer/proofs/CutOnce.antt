@@ -1,15 +1,15 @@
 -- A text has one cut or one fault, and the scanner finds it.
-use Rattle.std.proofs.Common.{◌≡◌, ℕ, Bool, true, false, List, [], ◌∷◌, ◌++◌, Option, Some, None, Result, Ok, Err, refl, sym, ap, ◌∙◌, subst, length, drop}
+use Rattle.std.proofs.Common.{◌≡◌, ℕ, Bool, List, [], ◌∷◌, Option, Some, None, Ok, Err, refl, sym, ap, ◌∙◌, subst, length, drop}
 use Rattle.shell_lexer.specs.declared.fault.LexFault.{LexFault}
 use Rattle.shell_lexer.specs.declared.fault.LexFault.TheVariants.{Nul, Interpreter, OpenQuote, OpenSubstitution, Unsupported, Deep, Memory}
-use Rattle.shell_lexer.specs.declared.sight.Sign.{Sign}
 use Rattle.shell_lexer.specs.declared.token.Token.{Token}
 use Rattle.shell_lexer.specs.declared.token.TokenKind.TheVariants as token
 use Rattle.shell_lexer.specs.declared.token.Lexed.{Lexed}
+use Rattle.shell_lexer.specs.Depth.{too_deep}
 use Rattle.shell_lexer.specs.Text.{Bytes, skip, place}
 use Rattle.shell_lexer.specs.FirstLine.{first_line, behind_line, interpreter, nul_of}
-use Rattle.shell_lexer.specs.Reading.{Out, Whole, Stop, behind, closes, token_at, kind_of_sign, IsItems, items_end, items_pass, items_wrong, items_close, items_sign, items_word, items_late, items_bad}
-use Rattle.shell_lexer.specs.Lexed.{Cut, Begins, Faulty, IsBody, Caused}
+use Rattle.shell_lexer.specs.Reading.{Out, Whole, Stop, behind, token_at, kind_of_sign, IsItems, items_end, items_pass, items_wrong, items_close, items_sign, items_word, items_late, items_bad}
+use Rattle.shell_lexer.specs.Lexed.{Cut, CutBy, Begins, Faulty, IsBody, Caused}
 use Rattle.shell_lexer.specs.Reads.{ItemsRead}
 use Rattle.shell_lexer.proofs.Causes.{caused_map}
 use Rattle.shell_lexer.proofs.Insides.{stops_inside}
@@ -24,7 +24,7 @@ made a t n = record { strict = a; tokens = t; end = n }
 same_lexed : {a b : Bool} {t u : List Token} {m n : ℕ} → a ≡ b → t ≡ u → m ≡ n → made a t m ≡ made b u n
 same_lexed e f g = rw (e, f, g) refl
 
-pub cut_once : (text : Bytes) (l other : Lexed) → Cut text l → Cut text other → l ≡ other
+pub cut_once : {deep : ℕ → Bool} (text : Bytes) (l other : Lexed) → CutBy deep text l → CutBy deep text other → l ≡ other
 cut_once text l other c d = same_lexed (same_strict c.first d.first) (same_value (items_one c.body d.body)) (c.end ∙ sym d.end)
 
 -- ---- faults
@@ -33,7 +33,7 @@ cut_once text l other c d = same_lexed (same_strict c.first d.first) (same_value
 data Cause (text : Bytes) (f : LexFault) : Type 0 where
   by_nul : (at : ℕ) → nul_of text ≡ Some at → f ≡ Nul at → Cause text f
   by_first : nul_of text ≡ None → interpreter (first_line text) ≡ None → f ≡ Interpreter 0 → Cause text f
-  by_body : Begins text → IsBody text (Stop f) → Cause text f
+  by_body : Begins text → IsBody too_deep text (Stop f) → Cause text f
 
 cause : (text : Bytes) (f : LexFault) → Faulty text f → Cause text f
 cause text (Nul at) h = by_nul at h refl
@@ -45,7 +45,7 @@ cause text (Deep at) h = by_body h.0 h.1
 cause text Memory h = absurd h
 
 -- a fault behind the first line is the text's
-pub body_faulty : (text : Bytes) (f : LexFault) → Begins text → IsBody text (Stop f) → Faulty text f
+pub body_faulty : (text : Bytes) (f : LexFault) → Begins text → IsBody too_deep text (Stop f) → Faulty text f
 body_faulty text (Nul at) b x = absurd (stops_inside (Nul at) x)
 body_faulty text (Interpreter at) b x = absurd (stops_inside (Interpreter at) x)
 body_faulty text (OpenQuote at) b x = (b, x)
@@ -54,7 +54,7 @@ body_faulty text (Unsupported form at) b x = (b, x)
 body_faulty text (Deep at) b x = (b, x)
 body_faulty text Memory b x = absurd (stops_inside Memory x)
 
-some_none : {A : Type 0} {x : Option A} {a : A} → x ≡ Some a → x ≡ None → ⊥
+pub some_none : {A : Type 0} {x : Option A} {a : A} → x ≡ Some a → x ≡ None → ⊥
 some_none e f = cc
 
 same_place : {x : Option ℕ} {a b : ℕ} → x ≡ Some a → x ≡ Some b → a ≡ b
@@ -94,13 +94,13 @@ behind_whole xs v r (Whole w t) e = (w, ap (Whole w) (sym (whole_rest e)))
 behind_whole xs v r (Stop f) e = absurd (no_stop (sym e))
 
 -- outside substitutions a reading goes to the end
-top_ends : {len «from» parens : ℕ} {text : Bytes} {q : Out (List Token)} (v : List Token) (r : Bytes) → IsItems len 0 «from» parens text q → q ≡ Whole v r → r ≡ []
+top_ends : {deep : ℕ → Bool} {len «from» parens : ℕ} {text : Bytes} {q : Out (List Token)} (v : List Token) (r : Bytes) → IsItems deep len 0 «from» parens text q → q ≡ Whole v r → r ≡ []
 top_ends v r (items_end h e) is = sym (whole_rest (sym is ∙ e))
 top_ends v r (items_pass t h x) is = top_ends v r x is
 top_ends v r (items_wrong f h e) is = absurd (no_stop (sym is ∙ e))
 top_ends v r (items_close s t h c e) is = absurd (cc c)
-top_ends {len} {text = text} v r (items_sign s t q1 h c x e) is = let a = behind_whole (token_at (place len (skip text)) (kind_of_sign s) ∷ []) v r q1 (sym e ∙ is) in top_ends a.0 r x a.1
-top_ends {len} {text = text} v r (items_word w t q1 h i l x e) is = let a = behind_whole (token_at (place len (skip text)) (token.Word w.0) ∷ []) v r q1 (sym e ∙ is) in top_ends a.0 r x a.1
+top_ends {deep} {len} {text = text} v r (items_sign s t q1 h c x e) is = let a = behind_whole (token_at (place len (skip text)) (kind_of_sign s) ∷ []) v r q1 (sym e ∙ is) in top_ends a.0 r x a.1
+top_ends {deep} {len} {text = text} v r (items_word w t q1 h i l x e) is = let a = behind_whole (token_at (place len (skip text)) (token.Word w.0) ∷ []) v r q1 (sym e ∙ is) in top_ends a.0 r x a.1
 top_ends v r (items_late w t f h i l e) is = absurd (no_stop (sym is ∙ e))
 top_ends v r (items_bad f h i e) is = absurd (no_stop (sym is ∙ e))
 
@@ -108,11 +108,11 @@ module _ (text : Bytes) (strict : Bool) (begin : ℕ) (n : nul_of text ≡ None)
   pub cut_read : (tokens : List Token) (end size : ℕ) → ItemsRead text 0 0 begin (Ok (tokens, end)) → size ≡ length text → Cut text (made strict tokens size)
   cut_read tokens end size r e =
       let none : drop end text ≡ [] = top_ends tokens (drop end text) r.2 refl in
-      record { no_nul = n; first = i; end = e; body = subst (λ t. IsItems (length text) 0 0 0 t (Whole tokens [])) b (subst (λ r. IsItems (length text) 0 0 0 (drop begin text) (Whole tokens r)) none r.2) }
+      record { no_nul = n; first = i; end = e; body = subst (λ t. IsItems too_deep (length text) 0 0 0 t (Whole tokens [])) b (subst (λ r. IsItems too_deep (length text) 0 0 0 (drop begin text) (Whole tokens r)) none r.2) }
 
   pub fault_read : (f : LexFault) → ItemsRead text 0 0 begin (Err f) → Caused (Faulty text) f
-  fault_read f r = caused_map (λ g. IsItems (length text) 0 0 0 (drop begin text) (Stop g)) (Faulty text) f
-      (λ g x. body_faulty text g (record { no_nul = n; strict = strict; first = i }) (subst (λ t. IsItems (length text) 0 0 0 t (Stop g)) b x)) r
+  fault_read f r = caused_map (λ g. IsItems too_deep (length text) 0 0 0 (drop begin text) (Stop g)) (Faulty text) f
+      (λ g x. body_faulty text g (record { no_nul = n; strict = strict; first = i }) (subst (λ t. IsItems too_deep (length text) 0 0 0 t (Stop g)) b x)) r
 
 -- ---- the clauses of an answer
 

@@ -1,13 +1,13 @@
 -- No fault behind the first line is a NUL, a first line, or want of memory.
-use Rattle.std.proofs.Common.{◌≡◌, ℕ, zero, suc, ◌+◌, ◌-◌, if◌then◌else◌, nat_eq, Bool, true, false, List, [], ◌∷◌, ◌++◌, Option, Some, None, refl, sym, ap, ◌∙◌, subst, length}
+use Rattle.std.proofs.Common.{◌≡◌, ℕ, zero, suc, ◌-◌, if◌then◌else◌, nat_eq, Bool, true, false, List, [], ◌∷◌, ◌++◌, Option, Some, None, sym, subst}
 use Rattle.shell_syntax.specs.declared.form.Form.{Form}
 use Rattle.shell_syntax.specs.declared.key.Key.{Key}
 use Rattle.shell_syntax.specs.declared.key.Key.TheVariants.{Named, Arg, Count}
 use Rattle.shell_syntax.specs.declared.redirect.Redirect.{Redirect}
 use Rattle.shell_lexer.specs.declared.fault.LexFault.{LexFault}
 use Rattle.shell_lexer.specs.declared.fault.LexFault.TheVariants.{Nul, Interpreter, OpenQuote, OpenSubstitution, Unsupported, Deep, Memory}
-use Rattle.shell_lexer.specs.declared.sight.Mark.{Mark}
-use Rattle.shell_lexer.specs.declared.sight.Mark.TheVariants as mark
+use Rattle.shell_lexer.specs.declared.sight.ByteNote.{ByteNote}
+use Rattle.shell_lexer.specs.declared.sight.ByteNote.TheVariants as note
 use Rattle.shell_lexer.specs.declared.token.Token.{Token}
 use Rattle.shell_lexer.specs.declared.token.RawPart.{RawPart}
 use Rattle.shell_lexer.specs.declared.token.RawPart.TheVariants as part
@@ -178,7 +178,7 @@ as_fault_in : (x : Option (ℕ × Form)) (f : LexFault) → as_fault x ≡ Some 
 as_fault_in None f e = absurd (none_is e)
 as_fault_in (Some a) f e = subst IsInside (some_same e) tt
 
-late_in : (depth at : ℕ) (ms : List Mark) (f : LexFault) → late depth at ms ≡ Some f → IsInside f
+late_in : (depth at : ℕ) (ms : List ByteNote) (f : LexFault) → late depth at ms ≡ Some f → IsInside f
 late_in depth at ms f e = as_fault_in _ f e
 
 -- ---- readings
@@ -195,46 +195,46 @@ behind_in : {A : Type 0} (xs : List A) (q : Out (List A)) → OutIn q → OutIn 
 behind_in xs (Whole v rest) h = tt
 behind_in xs (Stop f) h = h
 
-grown_in : (ps : List RawPart) (ms : List Mark) (q : Out Read) → OutIn q → OutIn (grown ps ms q)
+grown_in : (ps : List RawPart) (ms : List ByteNote) (q : Out Read) → OutIn q → OutIn (grown ps ms q)
 grown_in ps ms (Whole v rest) h = tt
 grown_in ps ms (Stop f) h = h
 
 mutual
-  pub items_in : {len depth from parens : ℕ} {text : Bytes} {q : Out (List Token)} → IsItems len depth from parens text q → OutIn q
-  items_in {len} {depth} {from} {parens} {text} (items_end h e) = subst OutIn (sym e) (ended_in depth from)
-  items_in {len} {depth} {from} {parens} {text} (items_pass t h x) = items_in x
-  items_in {len} {depth} {from} {parens} {text} (items_wrong f h e) = subst OutIn (sym e) (subst SightIn h (sight_in len text))
-  items_in {len} {depth} {from} {parens} {text} (items_close s t h c e) = subst OutIn (sym e) tt
-  items_in {len} {depth} {from} {parens} {text} (items_sign s t q1 h c x e) = subst OutIn (sym e) (behind_in (token_at (place len (skip text)) (kind_of_sign s) ∷ []) q1 (items_in x))
-  items_in {len} {depth} {from} {parens} {text} (items_word v t q1 h w l x e) = subst OutIn (sym e) (behind_in (token_at (place len (skip text)) (token.Word v.0) ∷ []) q1 (items_in x))
-  items_in {len} {depth} {from} {parens} {text} (items_late v t f h w l e) = subst OutIn (sym e) (late_in depth (place len (skip text)) v.1 f l)
-  items_in {len} {depth} {from} {parens} {text} (items_bad f h w e) = subst OutIn (sym e) (word_in w)
+  pub items_in : {deep : ℕ → Bool} {len depth from parens : ℕ} {text : Bytes} {q : Out (List Token)} → IsItems deep len depth from parens text q → OutIn q
+  items_in {deep} {len} {depth} {from} {parens} {text} (items_end h e) = subst OutIn (sym e) (ended_in depth from)
+  items_in {deep} {len} {depth} {from} {parens} {text} (items_pass t h x) = items_in x
+  items_in {deep} {len} {depth} {from} {parens} {text} (items_wrong f h e) = subst OutIn (sym e) (subst SightIn h (sight_in len text))
+  items_in {deep} {len} {depth} {from} {parens} {text} (items_close s t h c e) = subst OutIn (sym e) tt
+  items_in {deep} {len} {depth} {from} {parens} {text} (items_sign s t q1 h c x e) = subst OutIn (sym e) (behind_in (token_at (place len (skip text)) (kind_of_sign s) ∷ []) q1 (items_in x))
+  items_in {deep} {len} {depth} {from} {parens} {text} (items_word v t q1 h w l x e) = subst OutIn (sym e) (behind_in (token_at (place len (skip text)) (token.Word v.0) ∷ []) q1 (items_in x))
+  items_in {deep} {len} {depth} {from} {parens} {text} (items_late v t f h w l e) = subst OutIn (sym e) (late_in depth (place len (skip text)) v.1 f l)
+  items_in {deep} {len} {depth} {from} {parens} {text} (items_bad f h w e) = subst OutIn (sym e) (word_in w)
 
-  word_in : {len depth : ℕ} {run text : Bytes} {q : Out Read} → IsWord len depth run text q → OutIn q
-  word_in {len} {depth} {run} {text} (word_ends h e) = subst OutIn (sym e) tt
-  word_in {len} {depth} {run} {text} (word_byte b t q1 h x e) = subst OutIn (sym e) (grown_in [] (mark.Plain b (place len (skip text)) ∷ []) q1 (word_in x))
-  word_in {len} {depth} {run} {text} (word_piece p t q1 h x e) = subst OutIn (sym e) (grown_in (plain_run run ++ p ∷ []) (mark.Gap ∷ []) q1 (word_in x))
-  word_in {len} {depth} {run} {text} (word_all t q1 h x e) = subst OutIn (sym e) (grown_in (plain_run run ++ part.All ∷ []) (mark.All (place len (skip text)) false ∷ []) q1 (word_in x))
-  word_in {len} {depth} {run} {text} (word_double s v t q1 h i x e) = subst OutIn (sym e) (grown_in (plain_run run ++ v.0) (v.1 ++ mark.Gap ∷ []) q1 (word_in x))
-  word_in {len} {depth} {run} {text} (word_run s ts t q1 h i x e) = subst OutIn (sym e) (grown_in (plain_run run ++ part.Run (place len (skip text)) ts false ∷ []) (mark.Gap ∷ []) q1 (word_in x))
-  word_in {len} {depth} {run} {text} (word_wrong f h e) = subst OutIn (sym e) (subst LookIn h (look_in len text))
-  word_in {len} {depth} {run} {text} (word_bad_double s f h i e) = subst OutIn (sym e) (inner_is_in i)
-  word_in {len} {depth} {run} {text} (word_bad_run s f h i e) = subst OutIn (sym e) (sub_in i)
+  word_in : {deep : ℕ → Bool} {len depth : ℕ} {run text : Bytes} {q : Out Read} → IsWord deep len depth run text q → OutIn q
+  word_in {deep} {len} {depth} {run} {text} (word_ends h e) = subst OutIn (sym e) tt
+  word_in {deep} {len} {depth} {run} {text} (word_byte b t q1 h x e) = subst OutIn (sym e) (grown_in [] (note.Plain b (place len (skip text)) ∷ []) q1 (word_in x))
+  word_in {deep} {len} {depth} {run} {text} (word_piece p t q1 h x e) = subst OutIn (sym e) (grown_in (plain_run run ++ p ∷ []) (note.Gap ∷ []) q1 (word_in x))
+  word_in {deep} {len} {depth} {run} {text} (word_all t q1 h x e) = subst OutIn (sym e) (grown_in (plain_run run ++ part.All ∷ []) (note.All (place len (skip text)) false ∷ []) q1 (word_in x))
+  word_in {deep} {len} {depth} {run} {text} (word_double s v t q1 h i x e) = subst OutIn (sym e) (grown_in (plain_run run ++ v.0) (v.1 ++ note.Gap ∷ []) q1 (word_in x))
+  word_in {deep} {len} {depth} {run} {text} (word_run s ts t q1 h i x e) = subst OutIn (sym e) (grown_in (plain_run run ++ part.Run (place len (skip text)) ts false ∷ []) (note.Gap ∷ []) q1 (word_in x))
+  word_in {deep} {len} {depth} {run} {text} (word_wrong f h e) = subst OutIn (sym e) (subst LookIn h (look_in len text))
+  word_in {deep} {len} {depth} {run} {text} (word_bad_double s f h i e) = subst OutIn (sym e) (inner_is_in i)
+  word_in {deep} {len} {depth} {run} {text} (word_bad_run s f h i e) = subst OutIn (sym e) (sub_in i)
 
-  inner_is_in : {len depth from : ℕ} {fresh : Bool} {run text : Bytes} {q : Out Read} → IsInner len depth from fresh run text q → OutIn q
-  inner_is_in {len} {depth} {from} {fresh} {run} {text} (inner_open h e) = subst OutIn (sym e) tt
-  inner_is_in {len} {depth} {from} {fresh} {run} {text} (inner_ends t h e) = subst OutIn (sym e) tt
-  inner_is_in {len} {depth} {from} {fresh} {run} {text} (inner_byte b t q1 h x e) = subst OutIn (sym e) (grown_in [] (mark.Gap ∷ []) q1 (inner_is_in x))
-  inner_is_in {len} {depth} {from} {fresh} {run} {text} (inner_piece p t q1 h x e) = subst OutIn (sym e) (grown_in (quoted_run run ++ p ∷ []) (mark.Gap ∷ []) q1 (inner_is_in x))
-  inner_is_in {len} {depth} {from} {fresh} {run} {text} (inner_all t q1 h x e) = subst OutIn (sym e) (grown_in (quoted_run run ++ part.All ∷ []) (mark.All (place len (skip text)) true ∷ []) q1 (inner_is_in x))
-  inner_is_in {len} {depth} {from} {fresh} {run} {text} (inner_run s ts t q1 h i x e) = subst OutIn (sym e) (grown_in (quoted_run run ++ part.Run (place len (skip text)) ts true ∷ []) (mark.Gap ∷ []) q1 (inner_is_in x))
-  inner_is_in {len} {depth} {from} {fresh} {run} {text} (inner_wrong f h e) = subst OutIn (sym e) (subst LookIn h (inner_in len text))
-  inner_is_in {len} {depth} {from} {fresh} {run} {text} (inner_bad_run s f h i e) = subst OutIn (sym e) (sub_in i)
+  inner_is_in : {deep : ℕ → Bool} {len depth from : ℕ} {fresh : Bool} {run text : Bytes} {q : Out Read} → IsInner deep len depth from fresh run text q → OutIn q
+  inner_is_in {deep} {len} {depth} {from} {fresh} {run} {text} (inner_open h e) = subst OutIn (sym e) tt
+  inner_is_in {deep} {len} {depth} {from} {fresh} {run} {text} (inner_ends t h e) = subst OutIn (sym e) tt
+  inner_is_in {deep} {len} {depth} {from} {fresh} {run} {text} (inner_byte b t q1 h x e) = subst OutIn (sym e) (grown_in [] (note.Gap ∷ []) q1 (inner_is_in x))
+  inner_is_in {deep} {len} {depth} {from} {fresh} {run} {text} (inner_piece p t q1 h x e) = subst OutIn (sym e) (grown_in (quoted_run run ++ p ∷ []) (note.Gap ∷ []) q1 (inner_is_in x))
+  inner_is_in {deep} {len} {depth} {from} {fresh} {run} {text} (inner_all t q1 h x e) = subst OutIn (sym e) (grown_in (quoted_run run ++ part.All ∷ []) (note.All (place len (skip text)) true ∷ []) q1 (inner_is_in x))
+  inner_is_in {deep} {len} {depth} {from} {fresh} {run} {text} (inner_run s ts t q1 h i x e) = subst OutIn (sym e) (grown_in (quoted_run run ++ part.Run (place len (skip text)) ts true ∷ []) (note.Gap ∷ []) q1 (inner_is_in x))
+  inner_is_in {deep} {len} {depth} {from} {fresh} {run} {text} (inner_wrong f h e) = subst OutIn (sym e) (subst LookIn h (inner_in len text))
+  inner_is_in {deep} {len} {depth} {from} {fresh} {run} {text} (inner_bad_run s f h i e) = subst OutIn (sym e) (sub_in i)
 
-  sub_in : {len depth from : ℕ} {text : Bytes} {q : Out (List Token)} → IsSub len depth from text q → OutIn q
+  sub_in : {deep : ℕ → Bool} {len depth from : ℕ} {text : Bytes} {q : Out (List Token)} → IsSub deep len depth from text q → OutIn q
   sub_in (sub_deep l e) = subst OutIn (sym e) tt
   sub_in (sub_items l x) = items_in x
 
 -- the fault of a reading of tokens is one of these
-pub stops_inside : {len depth from parens : ℕ} {text : Bytes} (f : LexFault) → IsItems len depth from parens text (Stop f) → IsInside f
+pub stops_inside : {deep : ℕ → Bool} {len depth from parens : ℕ} {text : Bytes} (f : LexFault) → IsItems deep len depth from parens text (Stop f) → IsInside f
 stops_inside f x = items_in x

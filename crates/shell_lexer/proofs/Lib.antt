@@ -1,11 +1,14 @@
+mod Ahead
 mod Begun
 mod Causes
 mod Cells
 mod CutOnce
 mod Fronts
 mod Insides
+mod LongestRuns
 mod Numbers
 mod Pieces
+mod QuotedBytes
 mod Quotes
 mod Skips
 mod SoFar
@@ -18,4 +21,6 @@ mod SpelledParts
 mod SpelledRedirects
 mod SpelledRuns
 mod Steps
+mod Tiles
 mod Unique
+mod Unlimited

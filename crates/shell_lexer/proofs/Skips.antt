@@ -1,11 +1,9 @@
 -- Joined lines.
-use Rattle.std.proofs.Common.{◌≡◌, ℕ, suc, ◌+◌, ◌<◌, ◌≤◌, Bool, false, if◌then◌else◌, ◌&&◌, nat_eq, [], ◌∷◌, refl, sym, ap, ◌∙◌, arith, drop, length, get_or, length-drop, add-one}
+use Rattle.std.proofs.Common.{◌≡◌, ℕ, suc, ◌+◌, ◌<◌, ◌≤◌, false, ◌&&◌, nat_eq, [], ◌∷◌, refl, sym, ap, ◌∙◌, arith, drop, length, get_or, length-drop, add-one}
 use Rattle.std.proofs.lemmas.Grind.{common_steps}
 use Rattle.std.proofs.Math.Seq.{drop-cons}
 use Rattle.shell_lexer.specs.Text.{Bytes, skip}
-
-if_false : {A : Type 0} (b : Bool) (x y : A) → b ≡ false → (if b then x else y) ≡ y
-if_false b x y e = rw e
+use Rattle.shell_lexer.proofs.SpelledCases.{if_false}
 
 skip_one : (t : Bytes) → length t ≤ 1 → skip t ≡ t
 skip_one [] le = refl

@@ -10,7 +10,7 @@ use Rattle.shell_lexer.specs.Spelling.{Stands, IsNotNext, IsOperator}
 use Rattle.shell_lexer.proofs.SpelledKinds.{KindOf, kind_of}
 use Rattle.shell_lexer.proofs.SpelledRuns.{run_stands}
 use Rattle.shell_lexer.proofs.SpelledFronts.{shown, head_of, head_back, is_not, not_next}
-use Rattle.shell_lexer.proofs.SpelledRedirects.{sees_redirected, greater_seen, less_seen, numbered_seen}
+use Rattle.shell_lexer.proofs.SpelledRedirects.{sign_same, rest_same, sees_redirected, greater_seen, less_seen, numbered_seen}
 use Rattle.shell_lexer.proofs.SpelledCases.{if_case}
 
 -- ---- what is spelled is seen
@@ -42,12 +42,6 @@ sees_operator len text rest s.OrOr h =
 sees_operator len text rest (s.Redirect which) h = sees_redirected len text rest which h
 
 -- ---- what is seen is spelled
-
-sign_same : {a b : Sign} {t u : Bytes} → Operator a t ≡ Operator b u → a ≡ b
-sign_same e = cc
-
-rest_same : {a b : Sign} {t u : Bytes} → Operator a t ≡ Operator b u → t ≡ u
-rest_same e = cc
 
 one_byte : (b c : ℕ) (text more rest : Bytes) (which seen : Sign) → skip text ≡ c ∷ more → c ≡ b → Operator seen more ≡ Operator which rest
     → (Stands (b ∷ []) text rest → IsOperator seen text rest) → IsOperator which text rest

@@ -14,9 +14,11 @@ use Rattle.shell_lexer.specs.Parts.{Look, Byte, Piece, AllArgs, DoubleQuote, Sub
 use Rattle.shell_lexer.specs.Spelling.{Stands, begins}
 use Rattle.shell_lexer.specs.SpelledParts.{is_variable, is_default, IsDigitOf, IsParam, name as by_name, name_braced, name_default, number as by_number, number_braced, number_default, count, count_braced, IsQuoted, single, escaped, IsPiece, IsSubstitution}
 use Rattle.shell_lexer.proofs.SpelledKinds.{KindOf, kind_of, digit_kind, letter_kind}
+use Rattle.shell_lexer.proofs.Ahead.{Ahead}
 use Rattle.shell_lexer.proofs.SpelledRuns.{skip_again, stands_then, stands_parts, stands_skip, skip_stands, IsRun, run_is, behind_is, run_stands}
 use Rattle.shell_lexer.proofs.SpelledFronts.{is_not, not_next}
-use Rattle.shell_lexer.proofs.SpelledCases.{if_case, if_true, if_false, eq_of, false_true, true_false, and_left, and_right, and_true}
+use Rattle.std.proofs.Math.Bool.{or-true}
+use Rattle.shell_lexer.proofs.SpelledCases.{not_true, if_case, if_true, if_false, eq_of, false_true, true_false, and_left, and_right, and_true}
 
 -- ---- bytes of names
 
@@ -148,15 +150,8 @@ quote_found : (bytes rest : Bytes) → list_all (λ b. not (nat_eq b 39)) bytes 
 quote_found [] rest e = (refl, refl, refl)
 quote_found (b ∷ bytes) rest e =
     let more = quote_found bytes rest (and_right (not (nat_eq b 39)) (list_all (λ b. not (nat_eq b 39)) bytes) e) in
-    let other = flip (nat_eq b 39) (and_left (not (nat_eq b 39)) (list_all (λ b. not (nat_eq b 39)) bytes) e) in
-    (or_right (nat_eq b 39) _ more.0, if_false (nat_eq b 39) _ _ other ∙ ap (λ t. b ∷ t) more.1, if_false (nat_eq b 39) _ _ other ∙ more.2) where
-      flip : (a : Bool) → not a ≡ true → a ≡ false
-      flip true e = sym e
-      flip false e = refl
-
-      or_right : (a b : Bool) → b ≡ true → (a || b) ≡ true
-      or_right true b e = refl
-      or_right false b e = e
+    let other = not_true (nat_eq b 39) (and_left (not (nat_eq b 39)) (list_all (λ b. not (nat_eq b 39)) bytes) e) in
+    (ap (λ x. nat_eq b 39 || x) more.0 ∙ or-true (nat_eq b 39), if_false (nat_eq b 39) _ _ other ∙ ap (λ t. b ∷ t) more.1, if_false (nat_eq b 39) _ _ other ∙ more.2)
 
 quoted_seen : (len : ℕ) (bytes text rest : Bytes) → IsQuoted bytes text rest → look len text ≡ Piece (part.Quoted bytes) rest
 quoted_seen len bytes text rest (single all h) =
@@ -201,6 +196,7 @@ IsSeen inside (Piece it rest) text = IsPiece inside it text rest
 IsSeen inside (AllArgs rest) text = Stands (codes "$@") text rest
 IsSeen inside (Substitution rest) text = IsSubstitution text rest
 IsSeen inside (DoubleQuote rest) text = Stands (codes "\"") text rest
+IsSeen inside (Byte b rest) text = Ahead text rest
 IsSeen inside _ text = Unit {0}
 
 -- what stands behind `${`, as what stands from `$` on
@@ -283,9 +279,9 @@ braced_seen : (quoted : Bool) (at : ℕ) (text from t : Bytes) → IsOpened text
 braced_seen quoted at text from [] o e = tt
 braced_seen quoted at text from (b ∷ more) o e = braced_by_seen quoted at b text from more (kind b) o e (kind_of b)
 
-quote_byte : (quoted : Bool) (at : ℕ) (behind text : Bytes) → IsSeen quoted (before_quote quoted at behind) text
-quote_byte true at behind text = tt
-quote_byte false at behind text = tt
+quote_byte : (quoted : Bool) (at : ℕ) (behind text : Bytes) → skip text ≡ 36 ∷ behind → IsSeen quoted (before_quote quoted at behind) text
+quote_byte true at behind text d = (36, [], d)
+quote_byte false at behind text d = tt
 
 dollar_by_seen : (quoted : Bool) (at b : ℕ) (text behind more : Bytes) (it : ByteKind) → skip text ≡ 36 ∷ behind → skip behind ≡ b ∷ more → KindOf b it → IsSeen quoted (dollar_by quoted at behind b it more) text
 dollar_by_seen quoted at b text after more k.Open d e is =
@@ -298,12 +294,14 @@ dollar_by_seen quoted at b text after more k.Digit d e is =
     (λ other. (refl, by_number (digit_of b is other) (after, d, (more, e, refl))))
 dollar_by_seen quoted at b text after more k.Hash d e is = (refl, count (after, d, (more, e ∙ ap (λ b. b ∷ more) is, refl)))
 dollar_by_seen quoted at b text after more k.At d e is = (after, d, (more, e ∙ ap (λ b. b ∷ more) is, refl))
-dollar_by_seen quoted at b text after more k.Single d e is = quote_byte quoted at after text
-dollar_by_seen quoted at b text after more k.Double d e is = quote_byte quoted at after text
-dollar_by_seen quoted at b text after more _ d e is = tt
+dollar_by_seen quoted at b text after more k.Single d e is = quote_byte quoted at after text d
+dollar_by_seen quoted at b text after more k.Double d e is = quote_byte quoted at after text d
+dollar_by_seen quoted at b text after more k.Special d e is = tt
+dollar_by_seen quoted at b text after more k.Dollar d e is = tt
+dollar_by_seen quoted at b text after more _ d e is = (36, [], d)
 
 dollar_seen : (quoted : Bool) (at : ℕ) (text behind t : Bytes) → skip text ≡ 36 ∷ behind → skip behind ≡ t → IsSeen quoted (dollar quoted at behind t) text
-dollar_seen quoted at text after [] d e = tt
+dollar_seen quoted at text after [] d e = (36, [], d)
 dollar_seen quoted at text after (b ∷ more) d e = dollar_by_seen quoted at b text after more (kind b) d e (kind_of b)
 
 -- up to the quote
@@ -322,10 +320,20 @@ look_by_seen at c text more k.Single e is =
     if_case (λ l. IsSeen false l text) (has_quote more) (Piece (part.Quoted (quote_body more)) (behind_quote more)) _
     (λ has. let q = quote_splits more has in (refl, single q.1 (more, e ∙ ap (λ c. c ∷ more) is, q.0))) (λ _. tt)
 look_by_seen at c text more k.Double e is = (more, e ∙ ap (λ c. c ∷ more) is, refl)
-look_by_seen at c text [] k.Back e is = tt
+look_by_seen at c text [] k.Back e is = (c, [], e)
 look_by_seen at c text (b ∷ more) k.Back e is = (refl, escaped (b ∷ more, e ∙ ap (λ c. c ∷ b ∷ more) is, refl))
 look_by_seen at c text more k.Dollar e is = dollar_seen false at text more (skip more) (e ∙ ap (λ c. c ∷ more) is) refl
-look_by_seen at c text more _ e is = tt
+look_by_seen at c text more k.Blank e is = tt
+look_by_seen at c text more k.Newline e is = tt
+look_by_seen at c text more k.Semi e is = tt
+look_by_seen at c text more k.Amp e is = tt
+look_by_seen at c text more k.Bar e is = tt
+look_by_seen at c text more k.Open e is = tt
+look_by_seen at c text more k.Close e is = tt
+look_by_seen at c text more k.Less e is = tt
+look_by_seen at c text more k.Greater e is = tt
+look_by_seen at c text more k.Tick e is = tt
+look_by_seen at c text more _ e is = (c, [], e)
 
 look_at_seen : (at : ℕ) (text t : Bytes) → skip text ≡ t → IsSeen false (look_at at t) text
 look_at_seen at text [] e = tt
@@ -334,15 +342,16 @@ look_at_seen at text (c ∷ more) e = look_by_seen at c text more (kind c) e (ki
 pub look_seen : (len : ℕ) (text : Bytes) (it : Look) → look len text ≡ it → IsSeen false it text
 look_seen len text it e = subst (λ l. IsSeen false l text) e (look_at_seen (place len (skip text)) text (skip text) refl)
 
-escaped_byte : (b : ℕ) (more text : Bytes) → IsSeen true (inner_escaped b more) text
-escaped_byte b [] text = tt
-escaped_byte b (c ∷ more) text = if_case (λ l. IsSeen true l text) (is_escapable (kind c)) (Byte c more) (Byte b (c ∷ more)) (λ _. tt) (λ _. tt)
+escaped_byte : (b : ℕ) (more text : Bytes) → skip text ≡ b ∷ more → IsSeen true (inner_escaped b more) text
+escaped_byte b [] text e = (b, [], e)
+escaped_byte b (c ∷ more) text e = if_case (λ l. IsSeen true l text) (is_escapable (kind c)) (Byte c more) (Byte b (c ∷ more)) (λ _. (b, c ∷ [], e)) (λ _. (b, [], e))
 
 inner_by_seen : (at c : ℕ) (text more : Bytes) (it : ByteKind) → skip text ≡ c ∷ more → KindOf c it → IsSeen true (inner_by at c it more) text
 inner_by_seen at c text more k.Double e is = (more, e ∙ ap (λ c. c ∷ more) is, refl)
-inner_by_seen at c text more k.Back e is = escaped_byte c more text
+inner_by_seen at c text more k.Back e is = escaped_byte c more text e
 inner_by_seen at c text more k.Dollar e is = dollar_seen true at text more (skip more) (e ∙ ap (λ c. c ∷ more) is) refl
-inner_by_seen at c text more _ e is = tt
+inner_by_seen at c text more k.Tick e is = tt
+inner_by_seen at c text more _ e is = (c, [], e)
 
 inner_at_seen : (at : ℕ) (text t : Bytes) → skip text ≡ t → IsSeen true (inner_at at t) text
 inner_at_seen at text [] e = tt

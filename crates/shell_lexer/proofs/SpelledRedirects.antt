@@ -25,10 +25,10 @@ wrong_operator e = cc
 word_operator : {which : Sign} {rest : Bytes} → Word ≡ Operator which rest → ⊥
 word_operator e = cc
 
-sign_same : {a b : Sign} {t u : Bytes} → Operator a t ≡ Operator b u → a ≡ b
+pub sign_same : {a b : Sign} {t u : Bytes} → Operator a t ≡ Operator b u → a ≡ b
 sign_same e = cc
 
-rest_same : {a b : Sign} {t u : Bytes} → Operator a t ≡ Operator b u → t ≡ u
+pub rest_same : {a b : Sign} {t u : Bytes} → Operator a t ≡ Operator b u → t ≡ u
 rest_same e = cc
 
 -- ---- the word `/dev/null`

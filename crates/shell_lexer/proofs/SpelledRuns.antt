@@ -3,6 +3,7 @@ use Rattle.std.proofs.Common.{◌≡◌, ℕ, Bool, true, false, if◌then◌els
 use Rattle.std.specs.List.{list_all}
 use Rattle.shell_lexer.specs.Text.{Bytes, skip, behind_next, behind_bytes, cells, run_of, behind_run}
 use Rattle.shell_lexer.specs.Spelling.{Stands, begins}
+use Rattle.shell_lexer.proofs.Cells.{first_cell, cells_by_skip}
 use Rattle.shell_lexer.proofs.SpelledCases.{if_case, eq_of, eq_same, and_left, and_right, and_true, some_same, none_some}
 
 -- ---- joined lines
@@ -11,10 +12,6 @@ if_same : {A B : Type 0} (f : A → B) (b : Bool) (x y : A) (z : B) → (b ≡ t
 if_same f true x y z h g = h refl
 if_same f false x y z h g = g refl
 
-if_both : {A B : Type 0} (f : A → B) (b : Bool) (u v : B) (x y : A) → (b ≡ true → u ≡ f x) → (b ≡ false → v ≡ f y) → (if b then u else v) ≡ f (if b then x else y)
-if_both f true u v x y h g = h refl
-if_both f false u v x y h g = g refl
-
 -- none is left at the front
 pub skip_again : (text : Bytes) → skip (skip text) ≡ skip text
 skip_again [] = refl
@@ -22,16 +19,6 @@ skip_again (a ∷ []) = refl
 skip_again (a ∷ b ∷ rest) = if_case (λ t. skip t ≡ t) (nat_eq a 92 && nat_eq b 10) (skip rest) (a ∷ b ∷ rest) (λ e. skip_again rest) (λ e. other a b rest e) where
   other : (a b : ℕ) (rest : Bytes) → (nat_eq a 92 && nat_eq b 10) ≡ false → skip (a ∷ b ∷ rest) ≡ a ∷ b ∷ rest
   other a b rest e = rw e
-
-abbrev pub first_cell : Bytes → List (ℕ × Bytes)
-first_cell [] = []
-first_cell (a ∷ rest) = (a, rest) ∷ cells rest
-
--- a text's cells, by its next byte that counts
-pub cells_by_skip : (text : Bytes) → cells text ≡ first_cell (skip text)
-cells_by_skip [] = refl
-cells_by_skip (a ∷ []) = refl
-cells_by_skip (a ∷ b ∷ rest) = if_both first_cell (nat_eq a 92 && nat_eq b 10) (cells rest) ((a, b ∷ rest) ∷ cells (b ∷ rest)) (skip rest) (a ∷ b ∷ rest) (λ e. cells_by_skip rest) (λ e. refl)
 
 -- ---- bytes
 

@@ -1,8 +1,7 @@
 -- A text has one reading.
-use Rattle.std.proofs.Common.{◌≡◌, ℕ, zero, suc, ◌+◌, ◌<◌, ◌≤◌, Bool, true, false, List, [], ◌∷◌, ◌++◌, Option, Some, None, refl, sym, ap, ◌∙◌, subst, arith, length}
+use Rattle.std.proofs.Common.{◌≡◌, ℕ, Bool, true, false, List, [], ◌∷◌, ◌++◌, Option, Some, None, refl, sym, ap, ◌∙◌, subst}
 use Rattle.shell_lexer.specs.declared.sight.Sign.{Sign}
-use Rattle.shell_lexer.specs.declared.sight.Mark.{Mark}
-use Rattle.shell_lexer.specs.declared.sight.Mark.TheVariants as mark
+use Rattle.shell_lexer.specs.declared.sight.ByteNote.TheVariants as note
 use Rattle.shell_lexer.specs.declared.fault.LexFault.{LexFault}
 use Rattle.shell_lexer.specs.declared.token.Token.{Token}
 use Rattle.shell_lexer.specs.declared.token.RawPart.{RawPart}
@@ -12,7 +11,7 @@ use Rattle.shell_lexer.specs.Text.{Bytes, skip, place}
 use Rattle.shell_lexer.specs.Operators.{sight, Sight, End, Passed, Operator, Wrong, Word}
 use Rattle.shell_lexer.specs.Parts.{look, inner, Look, Ends, Byte, Piece, AllArgs, DoubleQuote, Substitution, Bad}
 use Rattle.shell_lexer.specs.Late.{late}
-use Rattle.shell_lexer.specs.Reading.{Out, Whole, Stop, Read, behind, grown, ended, closes, opened, token_at, kind_of_sign, plain_run, quoted_run, last_run, IsItems, items_end, items_pass, items_wrong, items_close, items_sign, items_word, items_late, items_bad, IsWord, word_ends, word_byte, word_piece, word_all, word_double, word_run, word_wrong, word_bad_double, word_bad_run, IsInner, inner_open, inner_ends, inner_byte, inner_piece, inner_all, inner_run, inner_wrong, inner_bad_run, IsSub, sub_deep, sub_items}
+use Rattle.shell_lexer.specs.Reading.{Out, Whole, Stop, Read, behind, grown, closes, opened, token_at, kind_of_sign, plain_run, quoted_run, last_run, IsItems, items_end, items_pass, items_wrong, items_close, items_sign, items_word, items_late, items_bad, IsWord, word_ends, word_byte, word_piece, word_all, word_double, word_run, word_wrong, word_bad_double, word_bad_run, IsInner, inner_open, inner_ends, inner_byte, inner_piece, inner_all, inner_run, inner_wrong, inner_bad_run, IsSub, sub_deep, sub_items}
 
 clash : {b : Bool} → b ≡ false → b ≡ true → ⊥
 clash e f = cc
@@ -44,8 +43,8 @@ look_tag (AllArgs t) = T4
 look_tag (Substitution t) = T5
 look_tag (Bad f) = T6
 
-module _ {len depth from parens : ℕ} {text : Bytes} where
-  abbrev items_tag : {q : Out (List Token)} → IsItems len depth from parens text q → Tag
+module _ {deep : ℕ → Bool} {len depth from parens : ℕ} {text : Bytes} where
+  abbrev items_tag : {q : Out (List Token)} → IsItems deep len depth from parens text q → Tag
   items_tag (items_end h e) = T0
   items_tag (items_pass t h x) = T1
   items_tag (items_wrong f h e) = T3
@@ -55,7 +54,7 @@ module _ {len depth from parens : ℕ} {text : Bytes} where
   items_tag (items_late v t f h w l e) = T4
   items_tag (items_bad f h w e) = T4
 
-  items_right : {q : Out (List Token)} (x : IsItems len depth from parens text q) → sight_tag (sight len text) ≡ items_tag x
+  items_right : {q : Out (List Token)} (x : IsItems deep len depth from parens text q) → sight_tag (sight len text) ≡ items_tag x
   items_right (items_end h e) = ap sight_tag h
   items_right (items_pass t h x) = ap sight_tag h
   items_right (items_wrong f h e) = ap sight_tag h
@@ -65,8 +64,8 @@ module _ {len depth from parens : ℕ} {text : Bytes} where
   items_right (items_late v t f h w l e) = ap sight_tag h
   items_right (items_bad f h w e) = ap sight_tag h
 
-module _ {len depth : ℕ} {run text : Bytes} where
-  abbrev word_tag : {q : Out Read} → IsWord len depth run text q → Tag
+module _ {deep : ℕ → Bool} {len depth : ℕ} {run text : Bytes} where
+  abbrev word_tag : {q : Out Read} → IsWord deep len depth run text q → Tag
   word_tag (word_ends h e) = T0
   word_tag (word_byte b t q1 h x e) = T1
   word_tag (word_piece p t q1 h x e) = T2
@@ -77,7 +76,7 @@ module _ {len depth : ℕ} {run text : Bytes} where
   word_tag (word_bad_double s f h i e) = T3
   word_tag (word_bad_run s f h i e) = T5
 
-  word_right : {q : Out Read} (x : IsWord len depth run text q) → look_tag (look len text) ≡ word_tag x
+  word_right : {q : Out Read} (x : IsWord deep len depth run text q) → look_tag (look len text) ≡ word_tag x
   word_right (word_ends h e) = ap look_tag h
   word_right (word_byte b t q1 h x e) = ap look_tag h
   word_right (word_piece p t q1 h x e) = ap look_tag h
@@ -88,8 +87,8 @@ module _ {len depth : ℕ} {run text : Bytes} where
   word_right (word_bad_double s f h i e) = ap look_tag h
   word_right (word_bad_run s f h i e) = ap look_tag h
 
-module _ {len depth from : ℕ} {fresh : Bool} {run text : Bytes} where
-  abbrev inner_tag : {q : Out Read} → IsInner len depth from fresh run text q → Tag
+module _ {deep : ℕ → Bool} {len depth from : ℕ} {fresh : Bool} {run text : Bytes} where
+  abbrev inner_tag : {q : Out Read} → IsInner deep len depth from fresh run text q → Tag
   inner_tag (inner_open h e) = T0
   inner_tag (inner_ends t h e) = T3
   inner_tag (inner_byte b t q1 h x e) = T1
@@ -99,7 +98,7 @@ module _ {len depth from : ℕ} {fresh : Bool} {run text : Bytes} where
   inner_tag (inner_wrong f h e) = T6
   inner_tag (inner_bad_run s f h i e) = T5
 
-  inner_right : {q : Out Read} (x : IsInner len depth from fresh run text q) → look_tag (inner len text) ≡ inner_tag x
+  inner_right : {q : Out Read} (x : IsInner deep len depth from fresh run text q) → look_tag (inner len text) ≡ inner_tag x
   inner_right (inner_open h e) = ap look_tag h
   inner_right (inner_ends t h e) = ap look_tag h
   inner_right (inner_byte b t q1 h x e) = ap look_tag h
@@ -169,82 +168,82 @@ closes_sign : (d n : ℕ) {s r : Sign} {x : Sight} {t u : Bytes} → x ≡ Opera
 closes_sign d n {s} {r} e f c c' = clash c' (subst (λ s. closes d n s ≡ true) (sign_of e f) c)
 
 mutual
-  pub items_one : {len depth from parens : ℕ} {text : Bytes} {q r : Out (List Token)} → IsItems len depth from parens text q → IsItems len depth from parens text r → q ≡ r
-  items_one {len} {depth} {from} {parens} {text} (items_end h e) (items_end h' e') = e ∙ sym e'
-  items_one {len} {depth} {from} {parens} {text} {r = r} (items_pass t h x) (items_pass t' h' y) = items_one x (subst (λ t. IsItems len depth from parens t r) (passed h' h) y)
-  items_one {len} {depth} {from} {parens} {text} (items_wrong f h e) (items_wrong f' h' e') = e ∙ ap Stop (wrong h h') ∙ sym e'
-  items_one {len} {depth} {from} {parens} {text} (items_close s t h c e) (items_close s' t' h' c' e') = e ∙ ap (Whole []) (sign_rest h h') ∙ sym e'
-  items_one {len} {depth} {from} {parens} {text} (items_close s t h c e) (items_sign s' t' q1 h' c' x e') = absurd (closes_sign _ _ h h' c c')
-  items_one {len} {depth} {from} {parens} {text} (items_sign s t q1 h c x e) (items_close s' t' h' c' e') = absurd (closes_sign _ _ h' h c' c)
-  items_one {len} {depth} {from} {parens} {text} (items_sign s t q1 h c x e) (items_sign s' t' q2 h' c' y e') =
-      let ih = items_one x (subst (λ s. IsItems len depth from (opened s parens) t q2) (sign_of h' h) (subst (λ t. IsItems len depth from (opened s' parens) t q2) (sign_rest h' h) y)) in
+  pub items_one : {deep : ℕ → Bool} {len depth from parens : ℕ} {text : Bytes} {q r : Out (List Token)} → IsItems deep len depth from parens text q → IsItems deep len depth from parens text r → q ≡ r
+  items_one {deep} {len} {depth} {from} {parens} {text} (items_end h e) (items_end h' e') = e ∙ sym e'
+  items_one {deep} {len} {depth} {from} {parens} {text} {r = r} (items_pass t h x) (items_pass t' h' y) = items_one x (subst (λ t. IsItems deep len depth from parens t r) (passed h' h) y)
+  items_one {deep} {len} {depth} {from} {parens} {text} (items_wrong f h e) (items_wrong f' h' e') = e ∙ ap Stop (wrong h h') ∙ sym e'
+  items_one {deep} {len} {depth} {from} {parens} {text} (items_close s t h c e) (items_close s' t' h' c' e') = e ∙ ap (Whole []) (sign_rest h h') ∙ sym e'
+  items_one {deep} {len} {depth} {from} {parens} {text} (items_close s t h c e) (items_sign s' t' q1 h' c' x e') = absurd (closes_sign _ _ h h' c c')
+  items_one {deep} {len} {depth} {from} {parens} {text} (items_sign s t q1 h c x e) (items_close s' t' h' c' e') = absurd (closes_sign _ _ h' h c' c)
+  items_one {deep} {len} {depth} {from} {parens} {text} (items_sign s t q1 h c x e) (items_sign s' t' q2 h' c' y e') =
+      let ih = items_one x (subst (λ s. IsItems deep len depth from (opened s parens) t q2) (sign_of h' h) (subst (λ t. IsItems deep len depth from (opened s' parens) t q2) (sign_rest h' h) y)) in
       e ∙ ap (behind (token_at (place len (skip text)) (kind_of_sign s) ∷ [])) ih ∙ ap (λ s. behind (token_at (place len (skip text)) (kind_of_sign s) ∷ []) q2) (sign_of h h') ∙ sym e'
-  items_one {len} {depth} {from} {parens} {text} (items_word v t q1 h w l x e) (items_word v' t' q2 h' w' l' y e') =
+  items_one {deep} {len} {depth} {from} {parens} {text} (items_word v t q1 h w l x e) (items_word v' t' q2 h' w' l' y e') =
       let a = word_one w w' in
-      let ih = items_one x (subst (λ t. IsItems len depth from parens t q2) (sym (same_rest a)) y) in
+      let ih = items_one x (subst (λ t. IsItems deep len depth from parens t q2) (sym (same_rest a)) y) in
       e ∙ ap (behind (token_at (place len (skip text)) (token.Word v.0) ∷ [])) ih ∙ ap (λ (v : Read). behind (token_at (place len (skip text)) (token.Word v.0) ∷ []) q2) (same_value a) ∙ sym e'
-  items_one {len} {depth} {from} {parens} {text} (items_word v t q1 h w l x e) (items_late v' t' f h' w' l' e') = absurd (no_late (subst (λ (v : Read). late depth (place len (skip text)) v.1 ≡ None) (same_value (word_one w w')) l) l')
-  items_one {len} {depth} {from} {parens} {text} (items_word v t q1 h w l x e) (items_bad f h' w' e') = absurd (no_stop (word_one w w'))
-  items_one {len} {depth} {from} {parens} {text} (items_late v t f h w l e) (items_word v' t' q2 h' w' l' y e') = absurd (no_late (subst (λ (v : Read). late depth (place len (skip text)) v.1 ≡ None) (sym (same_value (word_one w w'))) l') l)
-  items_one {len} {depth} {from} {parens} {text} (items_late v t f h w l e) (items_late v' t' f' h' w' l' e') = e ∙ ap Stop (same_some (subst (λ (v : Read). late depth (place len (skip text)) v.1 ≡ Some f) (same_value (word_one w w')) l) l') ∙ sym e'
-  items_one {len} {depth} {from} {parens} {text} (items_late v t f h w l e) (items_bad f' h' w' e') = absurd (no_stop (word_one w w'))
-  items_one {len} {depth} {from} {parens} {text} (items_bad f h w e) (items_word v' t' q2 h' w' l' y e') = absurd (no_stop (sym (word_one w w')))
-  items_one {len} {depth} {from} {parens} {text} (items_bad f h w e) (items_late v' t' f' h' w' l' e') = absurd (no_stop (sym (word_one w w')))
-  items_one {len} {depth} {from} {parens} {text} (items_bad f h w e) (items_bad f' h' w' e') = e ∙ ap Stop (same_stop (word_one w w') refl) ∙ sym e'
+  items_one {deep} {len} {depth} {from} {parens} {text} (items_word v t q1 h w l x e) (items_late v' t' f h' w' l' e') = absurd (no_late (subst (λ (v : Read). late depth (place len (skip text)) v.1 ≡ None) (same_value (word_one w w')) l) l')
+  items_one {deep} {len} {depth} {from} {parens} {text} (items_word v t q1 h w l x e) (items_bad f h' w' e') = absurd (no_stop (word_one w w'))
+  items_one {deep} {len} {depth} {from} {parens} {text} (items_late v t f h w l e) (items_word v' t' q2 h' w' l' y e') = absurd (no_late (subst (λ (v : Read). late depth (place len (skip text)) v.1 ≡ None) (sym (same_value (word_one w w'))) l') l)
+  items_one {deep} {len} {depth} {from} {parens} {text} (items_late v t f h w l e) (items_late v' t' f' h' w' l' e') = e ∙ ap Stop (same_some (subst (λ (v : Read). late depth (place len (skip text)) v.1 ≡ Some f) (same_value (word_one w w')) l) l') ∙ sym e'
+  items_one {deep} {len} {depth} {from} {parens} {text} (items_late v t f h w l e) (items_bad f' h' w' e') = absurd (no_stop (word_one w w'))
+  items_one {deep} {len} {depth} {from} {parens} {text} (items_bad f h w e) (items_word v' t' q2 h' w' l' y e') = absurd (no_stop (sym (word_one w w')))
+  items_one {deep} {len} {depth} {from} {parens} {text} (items_bad f h w e) (items_late v' t' f' h' w' l' e') = absurd (no_stop (sym (word_one w w')))
+  items_one {deep} {len} {depth} {from} {parens} {text} (items_bad f h w e) (items_bad f' h' w' e') = e ∙ ap Stop (same_stop (word_one w w') refl) ∙ sym e'
   items_one x y = absurd (cc (sym (items_right x) ∙ items_right y))
 
-  pub word_one : {len depth : ℕ} {run text : Bytes} {q r : Out Read} → IsWord len depth run text q → IsWord len depth run text r → q ≡ r
-  word_one {len} {depth} {run} {text} (word_ends h e) (word_ends h' e') = e ∙ sym e'
-  word_one {len} {depth} {run} {text} (word_byte b t q1 h x e) (word_byte b' t' q2 h' y e') =
-      let ih = word_one x (subst (λ b. IsWord len depth (run ++ b ∷ []) t q2) (byte_of h' h) (subst (λ t. IsWord len depth (run ++ b' ∷ []) t q2) (byte_rest h' h) y)) in
-      e ∙ ap (grown [] (mark.Plain b (place len (skip text)) ∷ [])) ih ∙ ap (λ b. grown [] (mark.Plain b (place len (skip text)) ∷ []) q2) (byte_of h h') ∙ sym e'
-  word_one {len} {depth} {run} {text} (word_piece p t q1 h x e) (word_piece p' t' q2 h' y e') =
-      let ih = word_one x (subst (λ t. IsWord len depth [] t q2) (piece_rest h' h) y) in
-      e ∙ ap (grown (plain_run run ++ p ∷ []) (mark.Gap ∷ [])) ih ∙ ap (λ p. grown (plain_run run ++ p ∷ []) (mark.Gap ∷ []) q2) (piece_of h h') ∙ sym e'
-  word_one {len} {depth} {run} {text} (word_all t q1 h x e) (word_all t' q2 h' y e') =
-      let ih = word_one x (subst (λ t. IsWord len depth [] t q2) (all_rest h' h) y) in
-      e ∙ ap (grown (plain_run run ++ part.All ∷ []) (mark.All (place len (skip text)) false ∷ [])) ih ∙ sym e'
-  word_one {len} {depth} {run} {text} (word_double s v t q1 h i x e) (word_double s' v' t' q2 h' i' y e') =
-      let a = inner_one i (subst (λ s. IsInner len depth (place len (skip text)) true [] s (Whole v' t')) (double_rest h' h) i') in
-      let ih = word_one x (subst (λ t. IsWord len depth [] t q2) (sym (same_rest a)) y) in
-      e ∙ ap (grown (plain_run run ++ v.0) (v.1 ++ mark.Gap ∷ [])) ih ∙ ap (λ (v : Read). grown (plain_run run ++ v.0) (v.1 ++ mark.Gap ∷ []) q2) (same_value a) ∙ sym e'
-  word_one {len} {depth} {run} {text} (word_double s v t q1 h i x e) (word_bad_double s' f h' i' e') = absurd (no_stop (inner_one i (subst (λ s. IsInner len depth (place len (skip text)) true [] s (Stop f)) (double_rest h' h) i')))
-  word_one {len} {depth} {run} {text} (word_bad_double s f h i e) (word_double s' v t q1 h' i' x e') = absurd (no_stop (sym (inner_one i (subst (λ s. IsInner len depth (place len (skip text)) true [] s (Whole v t)) (double_rest h' h) i'))))
-  word_one {len} {depth} {run} {text} (word_bad_double s f h i e) (word_bad_double s' f' h' i' e') = e ∙ ap Stop (same_stop (inner_one i (subst (λ s. IsInner len depth (place len (skip text)) true [] s (Stop f')) (double_rest h' h) i')) refl) ∙ sym e'
-  word_one {len} {depth} {run} {text} (word_run s ts t q1 h i x e) (word_run s' ts' t' q2 h' i' y e') =
-      let a = sub_one i (subst (λ s. IsSub len depth (place len (skip text)) s (Whole ts' t')) (run_rest h' h) i') in
-      let ih = word_one x (subst (λ t. IsWord len depth [] t q2) (sym (same_rest a)) y) in
-      e ∙ ap (grown (plain_run run ++ part.Run (place len (skip text)) ts false ∷ []) (mark.Gap ∷ [])) ih ∙ ap (λ ts. grown (plain_run run ++ part.Run (place len (skip text)) ts false ∷ []) (mark.Gap ∷ []) q2) (same_value a) ∙ sym e'
-  word_one {len} {depth} {run} {text} (word_run s ts t q1 h i x e) (word_bad_run s' f h' i' e') = absurd (no_stop (sub_one i (subst (λ s. IsSub len depth (place len (skip text)) s (Stop f)) (run_rest h' h) i')))
-  word_one {len} {depth} {run} {text} (word_bad_run s f h i e) (word_run s' ts t q1 h' i' x e') = absurd (no_stop (sym (sub_one i (subst (λ s. IsSub len depth (place len (skip text)) s (Whole ts t)) (run_rest h' h) i'))))
-  word_one {len} {depth} {run} {text} (word_bad_run s f h i e) (word_bad_run s' f' h' i' e') = e ∙ ap Stop (same_stop (sub_one i (subst (λ s. IsSub len depth (place len (skip text)) s (Stop f')) (run_rest h' h) i')) refl) ∙ sym e'
-  word_one {len} {depth} {run} {text} (word_wrong f h e) (word_wrong f' h' e') = e ∙ ap Stop (bad h h') ∙ sym e'
+  pub word_one : {deep : ℕ → Bool} {len depth : ℕ} {run text : Bytes} {q r : Out Read} → IsWord deep len depth run text q → IsWord deep len depth run text r → q ≡ r
+  word_one {deep} {len} {depth} {run} {text} (word_ends h e) (word_ends h' e') = e ∙ sym e'
+  word_one {deep} {len} {depth} {run} {text} (word_byte b t q1 h x e) (word_byte b' t' q2 h' y e') =
+      let ih = word_one x (subst (λ b. IsWord deep len depth (run ++ b ∷ []) t q2) (byte_of h' h) (subst (λ t. IsWord deep len depth (run ++ b' ∷ []) t q2) (byte_rest h' h) y)) in
+      e ∙ ap (grown [] (note.Plain b (place len (skip text)) ∷ [])) ih ∙ ap (λ b. grown [] (note.Plain b (place len (skip text)) ∷ []) q2) (byte_of h h') ∙ sym e'
+  word_one {deep} {len} {depth} {run} {text} (word_piece p t q1 h x e) (word_piece p' t' q2 h' y e') =
+      let ih = word_one x (subst (λ t. IsWord deep len depth [] t q2) (piece_rest h' h) y) in
+      e ∙ ap (grown (plain_run run ++ p ∷ []) (note.Gap ∷ [])) ih ∙ ap (λ p. grown (plain_run run ++ p ∷ []) (note.Gap ∷ []) q2) (piece_of h h') ∙ sym e'
+  word_one {deep} {len} {depth} {run} {text} (word_all t q1 h x e) (word_all t' q2 h' y e') =
+      let ih = word_one x (subst (λ t. IsWord deep len depth [] t q2) (all_rest h' h) y) in
+      e ∙ ap (grown (plain_run run ++ part.All ∷ []) (note.All (place len (skip text)) false ∷ [])) ih ∙ sym e'
+  word_one {deep} {len} {depth} {run} {text} (word_double s v t q1 h i x e) (word_double s' v' t' q2 h' i' y e') =
+      let a = inner_one i (subst (λ s. IsInner deep len depth (place len (skip text)) true [] s (Whole v' t')) (double_rest h' h) i') in
+      let ih = word_one x (subst (λ t. IsWord deep len depth [] t q2) (sym (same_rest a)) y) in
+      e ∙ ap (grown (plain_run run ++ v.0) (v.1 ++ note.Gap ∷ [])) ih ∙ ap (λ (v : Read). grown (plain_run run ++ v.0) (v.1 ++ note.Gap ∷ []) q2) (same_value a) ∙ sym e'
+  word_one {deep} {len} {depth} {run} {text} (word_double s v t q1 h i x e) (word_bad_double s' f h' i' e') = absurd (no_stop (inner_one i (subst (λ s. IsInner deep len depth (place len (skip text)) true [] s (Stop f)) (double_rest h' h) i')))
+  word_one {deep} {len} {depth} {run} {text} (word_bad_double s f h i e) (word_double s' v t q1 h' i' x e') = absurd (no_stop (sym (inner_one i (subst (λ s. IsInner deep len depth (place len (skip text)) true [] s (Whole v t)) (double_rest h' h) i'))))
+  word_one {deep} {len} {depth} {run} {text} (word_bad_double s f h i e) (word_bad_double s' f' h' i' e') = e ∙ ap Stop (same_stop (inner_one i (subst (λ s. IsInner deep len depth (place len (skip text)) true [] s (Stop f')) (double_rest h' h) i')) refl) ∙ sym e'
+  word_one {deep} {len} {depth} {run} {text} (word_run s ts t q1 h i x e) (word_run s' ts' t' q2 h' i' y e') =
+      let a = sub_one i (subst (λ s. IsSub deep len depth (place len (skip text)) s (Whole ts' t')) (run_rest h' h) i') in
+      let ih = word_one x (subst (λ t. IsWord deep len depth [] t q2) (sym (same_rest a)) y) in
+      e ∙ ap (grown (plain_run run ++ part.Run (place len (skip text)) ts false ∷ []) (note.Gap ∷ [])) ih ∙ ap (λ ts. grown (plain_run run ++ part.Run (place len (skip text)) ts false ∷ []) (note.Gap ∷ []) q2) (same_value a) ∙ sym e'
+  word_one {deep} {len} {depth} {run} {text} (word_run s ts t q1 h i x e) (word_bad_run s' f h' i' e') = absurd (no_stop (sub_one i (subst (λ s. IsSub deep len depth (place len (skip text)) s (Stop f)) (run_rest h' h) i')))
+  word_one {deep} {len} {depth} {run} {text} (word_bad_run s f h i e) (word_run s' ts t q1 h' i' x e') = absurd (no_stop (sym (sub_one i (subst (λ s. IsSub deep len depth (place len (skip text)) s (Whole ts t)) (run_rest h' h) i'))))
+  word_one {deep} {len} {depth} {run} {text} (word_bad_run s f h i e) (word_bad_run s' f' h' i' e') = e ∙ ap Stop (same_stop (sub_one i (subst (λ s. IsSub deep len depth (place len (skip text)) s (Stop f')) (run_rest h' h) i')) refl) ∙ sym e'
+  word_one {deep} {len} {depth} {run} {text} (word_wrong f h e) (word_wrong f' h' e') = e ∙ ap Stop (bad h h') ∙ sym e'
   word_one x y = absurd (cc (sym (word_right x) ∙ word_right y))
 
-  pub inner_one : {len depth from : ℕ} {fresh : Bool} {run text : Bytes} {q r : Out Read} → IsInner len depth from fresh run text q → IsInner len depth from fresh run text r → q ≡ r
-  inner_one {len} {depth} {from} {fresh} {run} {text} (inner_open h e) (inner_open h' e') = e ∙ sym e'
-  inner_one {len} {depth} {from} {fresh} {run} {text} (inner_ends t h e) (inner_ends t' h' e') = e ∙ ap (Whole (last_run fresh run, [])) (double_rest h h') ∙ sym e'
-  inner_one {len} {depth} {from} {fresh} {run} {text} (inner_byte b t q1 h x e) (inner_byte b' t' q2 h' y e') =
-      let ih = inner_one x (subst (λ b. IsInner len depth from fresh (run ++ b ∷ []) t q2) (byte_of h' h) (subst (λ t. IsInner len depth from fresh (run ++ b' ∷ []) t q2) (byte_rest h' h) y)) in
-      e ∙ ap (grown [] (mark.Gap ∷ [])) ih ∙ sym e'
-  inner_one {len} {depth} {from} {fresh} {run} {text} (inner_piece p t q1 h x e) (inner_piece p' t' q2 h' y e') =
-      let ih = inner_one x (subst (λ t. IsInner len depth from false [] t q2) (piece_rest h' h) y) in
-      e ∙ ap (grown (quoted_run run ++ p ∷ []) (mark.Gap ∷ [])) ih ∙ ap (λ p. grown (quoted_run run ++ p ∷ []) (mark.Gap ∷ []) q2) (piece_of h h') ∙ sym e'
-  inner_one {len} {depth} {from} {fresh} {run} {text} (inner_all t q1 h x e) (inner_all t' q2 h' y e') =
-      let ih = inner_one x (subst (λ t. IsInner len depth from false [] t q2) (all_rest h' h) y) in
-      e ∙ ap (grown (quoted_run run ++ part.All ∷ []) (mark.All (place len (skip text)) true ∷ [])) ih ∙ sym e'
-  inner_one {len} {depth} {from} {fresh} {run} {text} (inner_run s ts t q1 h i x e) (inner_run s' ts' t' q2 h' i' y e') =
-      let a = sub_one i (subst (λ s. IsSub len depth (place len (skip text)) s (Whole ts' t')) (run_rest h' h) i') in
-      let ih = inner_one x (subst (λ t. IsInner len depth from false [] t q2) (sym (same_rest a)) y) in
-      e ∙ ap (grown (quoted_run run ++ part.Run (place len (skip text)) ts true ∷ []) (mark.Gap ∷ [])) ih ∙ ap (λ ts. grown (quoted_run run ++ part.Run (place len (skip text)) ts true ∷ []) (mark.Gap ∷ []) q2) (same_value a) ∙ sym e'
-  inner_one {len} {depth} {from} {fresh} {run} {text} (inner_run s ts t q1 h i x e) (inner_bad_run s' f h' i' e') = absurd (no_stop (sub_one i (subst (λ s. IsSub len depth (place len (skip text)) s (Stop f)) (run_rest h' h) i')))
-  inner_one {len} {depth} {from} {fresh} {run} {text} (inner_bad_run s f h i e) (inner_run s' ts t q1 h' i' x e') = absurd (no_stop (sym (sub_one i (subst (λ s. IsSub len depth (place len (skip text)) s (Whole ts t)) (run_rest h' h) i'))))
-  inner_one {len} {depth} {from} {fresh} {run} {text} (inner_bad_run s f h i e) (inner_bad_run s' f' h' i' e') = e ∙ ap Stop (same_stop (sub_one i (subst (λ s. IsSub len depth (place len (skip text)) s (Stop f')) (run_rest h' h) i')) refl) ∙ sym e'
-  inner_one {len} {depth} {from} {fresh} {run} {text} (inner_wrong f h e) (inner_wrong f' h' e') = e ∙ ap Stop (bad h h') ∙ sym e'
+  pub inner_one : {deep : ℕ → Bool} {len depth from : ℕ} {fresh : Bool} {run text : Bytes} {q r : Out Read} → IsInner deep len depth from fresh run text q → IsInner deep len depth from fresh run text r → q ≡ r
+  inner_one {deep} {len} {depth} {from} {fresh} {run} {text} (inner_open h e) (inner_open h' e') = e ∙ sym e'
+  inner_one {deep} {len} {depth} {from} {fresh} {run} {text} (inner_ends t h e) (inner_ends t' h' e') = e ∙ ap (Whole (last_run fresh run, [])) (double_rest h h') ∙ sym e'
+  inner_one {deep} {len} {depth} {from} {fresh} {run} {text} (inner_byte b t q1 h x e) (inner_byte b' t' q2 h' y e') =
+      let ih = inner_one x (subst (λ b. IsInner deep len depth from fresh (run ++ b ∷ []) t q2) (byte_of h' h) (subst (λ t. IsInner deep len depth from fresh (run ++ b' ∷ []) t q2) (byte_rest h' h) y)) in
+      e ∙ ap (grown [] (note.Gap ∷ [])) ih ∙ sym e'
+  inner_one {deep} {len} {depth} {from} {fresh} {run} {text} (inner_piece p t q1 h x e) (inner_piece p' t' q2 h' y e') =
+      let ih = inner_one x (subst (λ t. IsInner deep len depth from false [] t q2) (piece_rest h' h) y) in
+      e ∙ ap (grown (quoted_run run ++ p ∷ []) (note.Gap ∷ [])) ih ∙ ap (λ p. grown (quoted_run run ++ p ∷ []) (note.Gap ∷ []) q2) (piece_of h h') ∙ sym e'
+  inner_one {deep} {len} {depth} {from} {fresh} {run} {text} (inner_all t q1 h x e) (inner_all t' q2 h' y e') =
+      let ih = inner_one x (subst (λ t. IsInner deep len depth from false [] t q2) (all_rest h' h) y) in
+      e ∙ ap (grown (quoted_run run ++ part.All ∷ []) (note.All (place len (skip text)) true ∷ [])) ih ∙ sym e'
+  inner_one {deep} {len} {depth} {from} {fresh} {run} {text} (inner_run s ts t q1 h i x e) (inner_run s' ts' t' q2 h' i' y e') =
+      let a = sub_one i (subst (λ s. IsSub deep len depth (place len (skip text)) s (Whole ts' t')) (run_rest h' h) i') in
+      let ih = inner_one x (subst (λ t. IsInner deep len depth from false [] t q2) (sym (same_rest a)) y) in
+      e ∙ ap (grown (quoted_run run ++ part.Run (place len (skip text)) ts true ∷ []) (note.Gap ∷ [])) ih ∙ ap (λ ts. grown (quoted_run run ++ part.Run (place len (skip text)) ts true ∷ []) (note.Gap ∷ []) q2) (same_value a) ∙ sym e'
+  inner_one {deep} {len} {depth} {from} {fresh} {run} {text} (inner_run s ts t q1 h i x e) (inner_bad_run s' f h' i' e') = absurd (no_stop (sub_one i (subst (λ s. IsSub deep len depth (place len (skip text)) s (Stop f)) (run_rest h' h) i')))
+  inner_one {deep} {len} {depth} {from} {fresh} {run} {text} (inner_bad_run s f h i e) (inner_run s' ts t q1 h' i' x e') = absurd (no_stop (sym (sub_one i (subst (λ s. IsSub deep len depth (place len (skip text)) s (Whole ts t)) (run_rest h' h) i'))))
+  inner_one {deep} {len} {depth} {from} {fresh} {run} {text} (inner_bad_run s f h i e) (inner_bad_run s' f' h' i' e') = e ∙ ap Stop (same_stop (sub_one i (subst (λ s. IsSub deep len depth (place len (skip text)) s (Stop f')) (run_rest h' h) i')) refl) ∙ sym e'
+  inner_one {deep} {len} {depth} {from} {fresh} {run} {text} (inner_wrong f h e) (inner_wrong f' h' e') = e ∙ ap Stop (bad h h') ∙ sym e'
   inner_one x y = absurd (cc (sym (inner_right x) ∙ inner_right y))
 
-  pub sub_one : {len depth from : ℕ} {text : Bytes} {q r : Out (List Token)} → IsSub len depth from text q → IsSub len depth from text r → q ≡ r
+  pub sub_one : {deep : ℕ → Bool} {len depth from : ℕ} {text : Bytes} {q r : Out (List Token)} → IsSub deep len depth from text q → IsSub deep len depth from text r → q ≡ r
   sub_one (sub_deep l e) (sub_deep l' e') = e ∙ sym e'
-  sub_one (sub_deep l e) (sub_items l' x) = absurd (omega arith)
-  sub_one (sub_items l x) (sub_deep l' e') = absurd (omega arith)
+  sub_one (sub_deep l e) (sub_items l' x) = absurd (clash l' l)
+  sub_one (sub_items l x) (sub_deep l' e') = absurd (clash l l')
   sub_one (sub_items l x) (sub_items l' y) = items_one x y

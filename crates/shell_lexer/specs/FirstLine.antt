@@ -1,6 +1,7 @@
--- The first line of a script, which names its interpreter: `#!`, blanks, `/bin/sh`, `/bin/dash` or `/bin/bash`, perhaps blanks and `-e`,
--- perhaps blanks. It is read as it stands, without joined lines.
-use Rattle.std.specs.Prelude.{◌≡◌, ℕ, ◌+◌, Bool, true, false, if◌then◌else◌, ◌&&◌, nat_eq, List, [], ◌∷◌, ◌++◌, Option, Some, None, codes}
+-- The first line of a script, which names its interpreter: `#!`, blanks, `/bin/sh`, `/bin/dash` or `/bin/bash`,
+-- perhaps blanks and `-e`, perhaps blanks. It is read as it stands, without joined lines.
+use Rattle.std.specs.Prelude.{ℕ, ◌+◌, Bool, true, false, if◌then◌else◌, nat_eq, [], ◌∷◌, Option}
+use Rattle.std.specs.Prelude.{Some, None, codes}
 use Rattle.std.specs.List.{list_all}
 use Rattle.shell_lexer.specs.Text.{Bytes, is_blank}
 
@@ -32,7 +33,8 @@ or_else (Some rest) other = Some rest
 
 -- what follows the interpreter
 abbrev pub after_interpreter : Bytes → Option Bytes
-after_interpreter line = or_else (after (codes "/bin/sh") line) (or_else (after (codes "/bin/dash") line) (after (codes "/bin/bash") line))
+after_interpreter line =
+    or_else (after (codes "/bin/sh") line) (or_else (after (codes "/bin/dash") line) (after (codes "/bin/bash") line))
 
 -- blanks alone behind `-e`
 abbrev pub strict_end : Option Bytes → Option Bool
@@ -44,7 +46,8 @@ abbrev pub begins_blank : Bytes → Bool
 begins_blank [] = false
 begins_blank (b ∷ rest) = is_blank b
 
--- whether what follows the interpreter asks for `-e`, where it is of the form: blanks alone, or blanks, `-e` and perhaps blanks
+-- whether what follows the interpreter asks for `-e`, where it is of the form: blanks alone, or blanks, `-e` and
+-- perhaps blanks
 abbrev pub option_of : Bytes → Option Bool
 option_of rest =
     if list_all is_blank rest then Some false

@@ -1,6 +1,9 @@
+pub mod Depth
 pub mod FirstLine
 pub mod Late
+pub mod Laws
 pub mod Lexed
+pub mod LongestRuns
 pub mod Operators
 pub mod Parts
 pub mod Reading
@@ -10,3 +13,4 @@ pub mod SpelledLine
 pub mod SpelledParts
 pub mod Spelling
 pub mod Text
+pub mod Tiled

@@ -1,6 +1,8 @@
--- What stands where a token may begin, by the next byte that counts (POSIX.1-2017, XCU 2.3 Token Recognition, 2.7 Redirection,
--- 2.10.2 Shell Grammar Rules). A longest operator is taken. A redirection is one token with its number and its word.
-use Rattle.std.specs.Prelude.{ℕ, Bool, true, false, if◌then◌else◌, ◌&&◌, ◌||◌, nat_eq, List, [], ◌∷◌, Option, Some, None, codes}
+-- What stands where a token may begin, by the next byte that counts (POSIX.1-2017, XCU 2.3 Token Recognition, 2.7
+-- Redirection, 2.10.2 Shell Grammar Rules). A longest operator is taken. A redirection is one token with its number
+-- and its word.
+use Rattle.std.specs.Prelude.{ℕ, if◌then◌else◌, ◌&&◌, ◌||◌, nat_eq, [], ◌∷◌, Option, Some}
+use Rattle.std.specs.Prelude.{None, codes}
 use Rattle.std.specs.Str.{bytes_eq}
 use Rattle.shell_syntax.specs.declared.redirect.Redirect.{Redirect}
 use Rattle.shell_syntax.specs.declared.redirect.Redirect.TheVariants.{OutNull, ErrNull, InNull, OutToErr, ErrToOut}
@@ -8,7 +10,8 @@ use Rattle.shell_syntax.specs.declared.form.Form.TheVariants as form
 use Rattle.shell_lexer.specs.declared.fault.LexFault.{LexFault}
 use Rattle.shell_lexer.specs.declared.fault.LexFault.TheVariants.{Unsupported}
 use Rattle.shell_lexer.specs.declared.byte_kind.ByteKind.{ByteKind}
-use Rattle.shell_lexer.specs.declared.byte_kind.ByteKind.TheVariants.{Blank, Newline, Semi, Amp, Bar, Open, Close, Less, Greater, Hash, Digit}
+use Rattle.shell_lexer.specs.declared.byte_kind.ByteKind.TheVariants.{Blank, Newline, Semi, Amp, Bar, Open, Close, Less}
+use Rattle.shell_lexer.specs.declared.byte_kind.ByteKind.TheVariants.{Greater, Hash, Digit}
 use Rattle.shell_lexer.specs.declared.byte_kind.RunKind.TheVariants.{Blanks, Digits}
 use Rattle.shell_lexer.specs.declared.sight.Sign.{Sign}
 use Rattle.shell_lexer.specs.declared.sight.Sign.TheVariants as sign
@@ -31,7 +34,9 @@ after_line (b ∷ rest) = if nat_eq b 10 then b ∷ rest else after_line rest
 
 -- what the number before `>` redirects: none or 1, standard output; 2, standard error
 abbrev pub out_to : Bytes → Option Redirect
-out_to number = if bytes_eq number [] || bytes_eq number (codes "1") then Some OutNull else (if bytes_eq number (codes "2") then Some ErrNull else None)
+out_to number =
+    if bytes_eq number [] || bytes_eq number (codes "1") then Some OutNull
+    else (if bytes_eq number (codes "2") then Some ErrNull else None)
 
 -- what the number before `<` redirects: none or 0, standard input
 abbrev pub in_from : Bytes → Option Redirect
@@ -65,13 +70,16 @@ copied at number (b ∷ rest) = redirected at (copy_of number b) (whole_word (So
 
 -- behind `<`
 abbrev pub less : ℕ → Bytes → Bytes → Sight
-less at number rest = if head_is 60 (skip rest) then Wrong (Unsupported form.Heredoc at) else redirected at (in_from number) (null_word rest)
+less at number rest =
+    if head_is 60 (skip rest) then Wrong (Unsupported form.Heredoc at)
+    else redirected at (in_from number) (null_word rest)
 
 -- behind `>`
 abbrev pub greater : ℕ → Bytes → Bytes → Sight
 greater at number rest =
     if head_is 62 (skip rest) then redirected at (out_to number) (null_word (tail (skip rest)))
-    else (if head_is 38 (skip rest) then copied at number (skip (tail (skip rest))) else redirected at (out_to number) (null_word rest))
+    else (if head_is 38 (skip rest) then copied at number (skip (tail (skip rest)))
+    else redirected at (out_to number) (null_word rest))
 
 -- behind digits: a redirection where `<` or `>` stands directly there, else a word
 abbrev pub numbered_by : ℕ → Bytes → ByteKind → Bytes → Sight
@@ -84,6 +92,10 @@ abbrev pub numbered : ℕ → Bytes → Bytes → Sight
 numbered len number [] = Word
 numbered len number (b ∷ rest) = numbered_by (place len (b ∷ rest)) number (kind b) rest
 
+-- what digits begin that are the first bytes of the text
+abbrev pub after_digits : ℕ → Bytes → Sight
+after_digits len text = numbered len (run Digits text) (skip (behind Digits text))
+
 -- ---- all operators
 
 -- the longer operator, where this byte comes next
@@ -95,14 +107,16 @@ abbrev pub sight_by : ℕ → ℕ → ℕ → ByteKind → Bytes → Sight
 sight_by len at b Blank rest = Passed rest
 sight_by len at b Hash rest = Passed (after_line rest)
 sight_by len at b Newline rest = Operator sign.Newline rest
-sight_by len at b Semi rest = twice 59 (skip rest) (Operator sign.DoubleSemi (tail (skip rest))) (Operator sign.Semi rest)
-sight_by len at b Amp rest = twice 38 (skip rest) (Operator sign.AndAnd (tail (skip rest))) (Wrong (Unsupported form.Background at))
+sight_by len at b Semi rest =
+    twice 59 (skip rest) (Operator sign.DoubleSemi (tail (skip rest))) (Operator sign.Semi rest)
+sight_by len at b Amp rest =
+    twice 38 (skip rest) (Operator sign.AndAnd (tail (skip rest))) (Wrong (Unsupported form.Background at))
 sight_by len at b Bar rest = twice 124 (skip rest) (Operator sign.OrOr (tail (skip rest))) (Operator sign.Bar rest)
 sight_by len at b Open rest = twice 40 (skip rest) (Wrong (Unsupported form.Arith at)) (Operator sign.LeftParen rest)
 sight_by len at b Close rest = Operator sign.RightParen rest
 sight_by len at b Less rest = less at [] rest
 sight_by len at b Greater rest = greater at [] rest
-sight_by len at b Digit rest = numbered len (run Digits (b ∷ rest)) (skip (behind Digits (b ∷ rest)))
+sight_by len at b Digit rest = after_digits len (b ∷ rest)
 sight_by len at b _ rest = Word
 
 -- by the bytes that count, of which the first has this offset

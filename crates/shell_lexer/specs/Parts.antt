@@ -1,6 +1,6 @@
--- What stands in a word, and in double quotes, by the next byte that counts (POSIX.1-2017, XCU 2.2 Quoting, 2.5 Parameters and
--- Variables, 2.6.2 Parameter Expansion, 2.6.3 Command Substitution).
-use Rattle.std.specs.Prelude.{ℕ, ◌-◌, Bool, true, false, if◌then◌else◌, ◌||◌, nat_eq, List, [], ◌∷◌, Option, Some, None}
+-- What stands in a word, and in double quotes, by the next byte that counts (POSIX.1-2017, XCU 2.2 Quoting, 2.5
+-- Parameters and Variables, 2.6.2 Parameter Expansion, 2.6.3 Command Substitution).
+use Rattle.std.specs.Prelude.{ℕ, ◌-◌, Bool, true, false, if◌then◌else◌, ◌||◌, nat_eq, [], ◌∷◌, Option, Some, None}
 use Rattle.shell_syntax.specs.declared.form.Form.TheVariants as form
 use Rattle.shell_syntax.specs.declared.key.Key.{Key}
 use Rattle.shell_syntax.specs.declared.key.Key.TheVariants.{Named, Arg, Count}
@@ -9,12 +9,14 @@ use Rattle.shell_lexer.specs.declared.fault.LexFault.TheVariants.{OpenQuote, Ope
 use Rattle.shell_lexer.specs.declared.token.RawPart.{RawPart}
 use Rattle.shell_lexer.specs.declared.token.RawPart.TheVariants.{Quoted, Param}
 use Rattle.shell_lexer.specs.declared.byte_kind.ByteKind.{ByteKind}
-use Rattle.shell_lexer.specs.declared.byte_kind.ByteKind.TheVariants.{Blank, Newline, Semi, Amp, Bar, Open, Close, Less, Greater, Hash, Single, Double, Back, Tick, Dollar, Brace, At, Special, Digit, Name}
+use Rattle.shell_lexer.specs.declared.byte_kind.ByteKind.TheVariants.{Blank, Newline, Semi, Amp, Bar, Open, Close, Less}
+use Rattle.shell_lexer.specs.declared.byte_kind.ByteKind.TheVariants.{Greater, Hash, Single, Double, Back, Tick, Dollar}
+use Rattle.shell_lexer.specs.declared.byte_kind.ByteKind.TheVariants.{Brace, At, Special, Digit, Name}
 use Rattle.shell_lexer.specs.declared.byte_kind.RunKind.TheVariants.{Names, Defaults}
 use Rattle.shell_lexer.specs.Text.{Bytes, kind, skip, place, head_is, run, behind}
 
--- the end of the word, or in double quotes of the text; a byte that stands for itself; a part that holds no others; `$@`; a double quote;
--- `$(`; a fault
+-- the end of the word, or in double quotes of the text; a byte that stands for itself; a part that holds no others;
+-- `$@`; a double quote; `$(`; a fault
 pub data Look : Type 0 where
   Ends : Look
   Byte : (byte : ℕ) (rest : Bytes) → Look
@@ -23,6 +25,12 @@ pub data Look : Type 0 where
   DoubleQuote : (rest : Bytes) → Look
   Substitution : (rest : Bytes) → Look
   Bad : (fault : LexFault) → Look
+
+-- what a table says of the bytes that count, of which the first has this offset: it goes by that byte, its kind and
+-- the text behind it
+abbrev pub by_first : (ℕ → ℕ → ByteKind → Bytes → Look) → ℕ → Bytes → Look
+by_first table at [] = Ends
+by_first table at (b ∷ rest) = table at b (kind b) rest
 
 -- ---- parameters
 
@@ -44,7 +52,8 @@ behind_colon quoted at key (b ∷ rest) =
 -- behind `${` and a name or a number: `}`, or `:-`, a default and `}`
 abbrev pub behind_key : Bool → ℕ → Key → Bytes → Look
 behind_key quoted at key [] = Bad (OpenSubstitution at)
-behind_key quoted at key (b ∷ rest) = if nat_eq b 58 then behind_colon quoted at key (skip rest) else closed quoted at key None (b ∷ rest)
+behind_key quoted at key (b ∷ rest) =
+    if nat_eq b 58 then behind_colon quoted at key (skip rest) else closed quoted at key None (b ∷ rest)
 
 -- `1` to `9`
 abbrev pub number_key : Bool → ℕ → ℕ → Bytes → Look
@@ -62,6 +71,10 @@ abbrev pub braced : Bool → ℕ → Bytes → Look
 braced quoted at [] = Bad (OpenSubstitution at)
 braced quoted at (b ∷ rest) = braced_by quoted at b (kind b) rest
 
+-- `$` and a name, of which the text begins with the first byte
+abbrev pub named_part : Bool → Bytes → Look
+named_part quoted text = Piece (Param (Named (run Names text)) None quoted) (behind Names text)
+
 -- `$1` to `$9`
 abbrev pub number_part : Bool → ℕ → ℕ → Bytes → Look
 number_part quoted at b rest = if nat_eq b 48 then bad_param at else Piece (Param (Arg (b - 48)) None quoted) rest
@@ -70,7 +83,8 @@ number_part quoted at b rest = if nat_eq b 48 then bad_param at else Piece (Para
 abbrev pub parenthesis : ℕ → Bytes → Look
 parenthesis at rest = if head_is 40 (skip rest) then Bad (Unsupported form.Arith at) else Substitution rest
 
--- `$` before a quote: outside double quotes the quote begins, and the form is not supported; inside it stands for itself
+-- `$` before a quote: outside double quotes the quote begins, and the form is not supported; inside it stands for
+-- itself
 abbrev pub before_quote : Bool → ℕ → Bytes → Look
 before_quote false at rest = bad_param at
 before_quote true at rest = Byte 36 rest
@@ -79,7 +93,7 @@ before_quote true at rest = Byte 36 rest
 abbrev pub dollar_by : Bool → ℕ → Bytes → ℕ → ByteKind → Bytes → Look
 dollar_by quoted at rest b Open more = parenthesis at more
 dollar_by quoted at rest b Brace more = braced quoted at (skip more)
-dollar_by quoted at rest b Name more = Piece (Param (Named (run Names (b ∷ more))) None quoted) (behind Names (b ∷ more))
+dollar_by quoted at rest b Name more = named_part quoted (b ∷ more)
 dollar_by quoted at rest b Digit more = number_part quoted at b more
 dollar_by quoted at rest b Hash more = Piece (Param Count None quoted) more
 dollar_by quoted at rest b At more = AllArgs more
@@ -127,7 +141,8 @@ look_by at b Open rest = Ends
 look_by at b Close rest = Ends
 look_by at b Less rest = Ends
 look_by at b Greater rest = Ends
-look_by at b Single rest = if has_quote rest then Piece (Quoted (quote_body rest)) (behind_quote rest) else Bad (OpenQuote at)
+look_by at b Single rest =
+    if has_quote rest then Piece (Quoted (quote_body rest)) (behind_quote rest) else Bad (OpenQuote at)
 look_by at b Double rest = DoubleQuote rest
 look_by at b Back rest = escaped b rest
 look_by at b Tick rest = Bad (Unsupported form.Backquote at)
@@ -136,8 +151,7 @@ look_by at b _ rest = Byte b rest
 
 -- by the bytes that count, of which the first has this offset
 abbrev pub look_at : ℕ → Bytes → Look
-look_at at [] = Ends
-look_at at (b ∷ rest) = look_by at b (kind b) rest
+look_at = by_first look_by
 
 -- what stands at the front of a rest of a text of len bytes
 abbrev pub look : ℕ → Bytes → Look
@@ -168,8 +182,7 @@ inner_by at b _ rest = Byte b rest
 
 -- by the bytes that count, of which the first has this offset
 abbrev pub inner_at : ℕ → Bytes → Look
-inner_at at [] = Ends
-inner_at at (b ∷ rest) = inner_by at b (kind b) rest
+inner_at = by_first inner_by
 
 -- what stands at the front of a rest of a text of len bytes, in double quotes
 abbrev pub inner : ℕ → Bytes → Look

@@ -1,10 +1,10 @@
 -- The reading of a text: rules from what stands at a place to the tokens, or to the first fault
 -- (POSIX.1-2017, XCU 2.3 Token Recognition; what is not supported is this project's own choice).
-use Rattle.std.specs.Prelude.{◌≡◌, ℕ, zero, suc, ◌+◌, ◌-◌, ◌<◌, ◌≤◌, Bool, true, false, List, [], ◌∷◌, ◌++◌, Option, Some, None}
+use Rattle.std.specs.Prelude.{◌≡◌, ℕ, zero, suc, ◌+◌, ◌-◌, Bool, true, false, List, [], ◌∷◌, ◌++◌, Some, None}
 use Rattle.shell_lexer.specs.declared.sight.Sign.{Sign}
 use Rattle.shell_lexer.specs.declared.sight.Sign.TheVariants as sign
-use Rattle.shell_lexer.specs.declared.sight.Mark.{Mark}
-use Rattle.shell_lexer.specs.declared.sight.Mark.TheVariants as mark
+use Rattle.shell_lexer.specs.declared.sight.ByteNote.{ByteNote}
+use Rattle.shell_lexer.specs.declared.sight.ByteNote.TheVariants as note
 use Rattle.shell_lexer.specs.declared.fault.LexFault.{LexFault}
 use Rattle.shell_lexer.specs.declared.fault.LexFault.TheVariants.{OpenQuote, OpenSubstitution, Deep}
 use Rattle.shell_lexer.specs.declared.token.Token.{Token, roll-Token}
@@ -12,9 +12,9 @@ use Rattle.shell_lexer.specs.declared.token.RawPart.{RawPart}
 use Rattle.shell_lexer.specs.declared.token.RawPart.TheVariants as part
 use Rattle.shell_lexer.specs.declared.token.TokenKind.{TokenKind}
 use Rattle.shell_lexer.specs.declared.token.TokenKind.TheVariants as token
-use Rattle.shell_lexer.specs.Text.{Bytes, skip, place}
-use Rattle.shell_lexer.specs.Operators.{Sight, End, Passed, Operator, Wrong, Word, sight}
-use Rattle.shell_lexer.specs.Parts.{Look, Ends, Byte, Piece, AllArgs, DoubleQuote, Substitution, Bad, look, inner}
+use Rattle.shell_lexer.specs.Text.{Bytes, offset}
+use Rattle.shell_lexer.specs.Operators.{End, Passed, Operator, Wrong, Word, sight}
+use Rattle.shell_lexer.specs.Parts.{Ends, Byte, Piece, AllArgs, DoubleQuote, Substitution, Bad, look, inner}
 use Rattle.shell_lexer.specs.Late.{late}
 
 -- a value and the text behind it, or the first fault
@@ -29,12 +29,12 @@ behind xs (Stop fault) = Stop fault
 
 -- ---- words
 
--- the parts of a word, or of what stands in double quotes, and its marks
+-- the parts of a word, or of what stands in double quotes, and its notes
 abbrev pub Read : Type 0
-Read = List RawPart × List Mark
+Read = List RawPart × List ByteNote
 
--- the same behind some first parts and marks
-abbrev pub grown : List RawPart → List Mark → Out Read → Out Read
+-- the same behind some first parts and notes
+abbrev pub grown : List RawPart → List ByteNote → Out Read → Out Read
 grown ps ms (Whole v rest) = Whole (ps ++ v.0, ms ++ v.1) rest
 grown ps ms (Stop fault) = Stop fault
 
@@ -43,7 +43,7 @@ abbrev pub plain_run : Bytes → List RawPart
 plain_run [] = []
 plain_run (b ∷ run) = part.Plain (b ∷ run) ∷ []
 
--- so is a run of quoted bytes
+-- a run of quoted bytes is a part, where it has one
 abbrev pub quoted_run : Bytes → List RawPart
 quoted_run [] = []
 quoted_run (b ∷ run) = part.Quoted (b ∷ run) ∷ []
@@ -87,56 +87,134 @@ abbrev pub ended : ℕ → ℕ → Out (List Token)
 ended zero from = Whole [] []
 ended (suc d) from = Stop (OpenSubstitution from)
 
-mutual
-  -- the tokens at the front of a rest of a text of len bytes, inside depth substitutions, of which the innermost began at from and has so many
-  -- parentheses of its own open
-  pub data IsItems : ℕ → ℕ → ℕ → ℕ → Bytes → Out (List Token) → Type 0 where
-    -- the text ends
-    items_end : {len depth from parens : ℕ} {text : Bytes} {q : Out (List Token)} → sight len text ≡ End → q ≡ ended depth from → IsItems len depth from parens text q
-    -- a blank or a comment is passed over
-    items_pass : {len depth from parens : ℕ} {text : Bytes} {q : Out (List Token)} (rest : Bytes) → sight len text ≡ Passed rest → IsItems len depth from parens rest q → IsItems len depth from parens text q
-    -- a form that is not supported stands there
-    items_wrong : {len depth from parens : ℕ} {text : Bytes} {q : Out (List Token)} (fault : LexFault) → sight len text ≡ Wrong fault → q ≡ Stop fault → IsItems len depth from parens text q
-    -- the substitution is closed
-    items_close : {len depth from parens : ℕ} {text : Bytes} {q : Out (List Token)} (s : Sign) (rest : Bytes) → sight len text ≡ Operator s rest → closes depth parens s ≡ true → q ≡ Whole [] rest → IsItems len depth from parens text q
-    -- an operator or a redirection
-    items_sign : {len depth from parens : ℕ} {text : Bytes} {q : Out (List Token)} (s : Sign) (rest : Bytes) (q1 : Out (List Token)) → sight len text ≡ Operator s rest → closes depth parens s ≡ false → IsItems len depth from (opened s parens) rest q1
-        → q ≡ behind (token_at (place len (skip text)) (kind_of_sign s) ∷ []) q1 → IsItems len depth from parens text q
-    -- a word
-    items_word : {len depth from parens : ℕ} {text : Bytes} {q : Out (List Token)} (v : Read) (rest : Bytes) (q1 : Out (List Token)) → sight len text ≡ Word → IsWord len depth [] text (Whole v rest) → late depth (place len (skip text)) v.1 ≡ None → IsItems len depth from parens rest q1
-        → q ≡ behind (token_at (place len (skip text)) (token.Word v.0) ∷ []) q1 → IsItems len depth from parens text q
-    -- a word with a form that is looked for once it is whole
-    items_late : {len depth from parens : ℕ} {text : Bytes} {q : Out (List Token)} (v : Read) (rest : Bytes) (fault : LexFault) → sight len text ≡ Word → IsWord len depth [] text (Whole v rest) → late depth (place len (skip text)) v.1 ≡ Some fault → q ≡ Stop fault → IsItems len depth from parens text q
-    -- a word with a part that decides
-    items_bad : {len depth from parens : ℕ} {text : Bytes} {q : Out (List Token)} (fault : LexFault) → sight len text ≡ Word → IsWord len depth [] text (Stop fault) → q ≡ Stop fault → IsItems len depth from parens text q
+-- Readings of a text of len bytes from a place on, which is given by the rest of the text. `deep` is the limit of
+-- substitutions (specs/Depth.antt).
+module _ (deep : ℕ → Bool) (len : ℕ) where
+  mutual
+    -- the tokens from a place on, inside depth substitutions, of which the innermost began at `from` and has so many
+    -- parentheses of its own open
+    pub data IsItems : ℕ → ℕ → ℕ → Bytes → Out (List Token) → Type 0 where
+      -- the text ends
+      items_end : {depth from parens : ℕ} {text : Bytes} {q : Out (List Token)}
+          → sight len text ≡ End → q ≡ ended depth from → IsItems depth from parens text q
+      -- a blank or a comment is passed over
+      items_pass : {depth from parens : ℕ} {text : Bytes} {q : Out (List Token)} (rest : Bytes)
+          → sight len text ≡ Passed rest → IsItems depth from parens rest q → IsItems depth from parens text q
+      -- a form that is not supported stands there
+      items_wrong : {depth from parens : ℕ} {text : Bytes} {q : Out (List Token)} (fault : LexFault)
+          → sight len text ≡ Wrong fault → q ≡ Stop fault → IsItems depth from parens text q
+      -- the substitution is closed
+      items_close : {depth from parens : ℕ} {text : Bytes} {q : Out (List Token)} (s : Sign) (rest : Bytes)
+          → sight len text ≡ Operator s rest → closes depth parens s ≡ true → q ≡ Whole [] rest
+          → IsItems depth from parens text q
+      -- an operator or a redirection
+      items_sign : {depth from parens : ℕ} {text : Bytes} {q : Out (List Token)}
+          (s : Sign) (rest : Bytes) (q1 : Out (List Token))
+          → sight len text ≡ Operator s rest → closes depth parens s ≡ false
+          → IsItems depth from (opened s parens) rest q1
+          → q ≡ behind (token_at (offset len text) (kind_of_sign s) ∷ []) q1 → IsItems depth from parens text q
+      -- a word
+      items_word : {depth from parens : ℕ} {text : Bytes} {q : Out (List Token)}
+          (v : Read) (rest : Bytes) (q1 : Out (List Token))
+          → sight len text ≡ Word → IsWord depth [] text (Whole v rest) → late depth (offset len text) v.1 ≡ None
+          → IsItems depth from parens rest q1
+          → q ≡ behind (token_at (offset len text) (token.Word v.0) ∷ []) q1 → IsItems depth from parens text q
+      -- a word with a form that is looked for once it is whole
+      items_late : {depth from parens : ℕ} {text : Bytes} {q : Out (List Token)}
+          (v : Read) (rest : Bytes) (fault : LexFault)
+          → sight len text ≡ Word → IsWord depth [] text (Whole v rest)
+          → late depth (offset len text) v.1 ≡ Some fault
+          → q ≡ Stop fault → IsItems depth from parens text q
+      -- a word with a part that is no whole part, or not supported
+      items_bad : {depth from parens : ℕ} {text : Bytes} {q : Out (List Token)} (fault : LexFault)
+          → sight len text ≡ Word → IsWord depth [] text (Stop fault) → q ≡ Stop fault
+          → IsItems depth from parens text q
 
-  -- the rest of a word behind a run of plain bytes
-  pub data IsWord : ℕ → ℕ → Bytes → Bytes → Out Read → Type 0 where
-    word_ends : {len depth : ℕ} {run text : Bytes} {q : Out Read} → look len text ≡ Ends → q ≡ Whole (plain_run run, []) text → IsWord len depth run text q
-    word_byte : {len depth : ℕ} {run text : Bytes} {q : Out Read} (b : ℕ) (rest : Bytes) (q1 : Out Read) → look len text ≡ Byte b rest → IsWord len depth (run ++ b ∷ []) rest q1 → q ≡ grown [] (mark.Plain b (place len (skip text)) ∷ []) q1 → IsWord len depth run text q
-    word_piece : {len depth : ℕ} {run text : Bytes} {q : Out Read} (p : RawPart) (rest : Bytes) (q1 : Out Read) → look len text ≡ Piece p rest → IsWord len depth [] rest q1 → q ≡ grown (plain_run run ++ p ∷ []) (mark.Gap ∷ []) q1 → IsWord len depth run text q
-    word_all : {len depth : ℕ} {run text : Bytes} {q : Out Read} (rest : Bytes) (q1 : Out Read) → look len text ≡ AllArgs rest → IsWord len depth [] rest q1 → q ≡ grown (plain_run run ++ part.All ∷ []) (mark.All (place len (skip text)) false ∷ []) q1 → IsWord len depth run text q
-    word_double : {len depth : ℕ} {run text : Bytes} {q : Out Read} (begin : Bytes) (v : Read) (rest : Bytes) (q1 : Out Read) → look len text ≡ DoubleQuote begin → IsInner len depth (place len (skip text)) true [] begin (Whole v rest) → IsWord len depth [] rest q1
-        → q ≡ grown (plain_run run ++ v.0) (v.1 ++ mark.Gap ∷ []) q1 → IsWord len depth run text q
-    word_run : {len depth : ℕ} {run text : Bytes} {q : Out Read} (begin : Bytes) (ts : List Token) (rest : Bytes) (q1 : Out Read) → look len text ≡ Substitution begin → IsSub len depth (place len (skip text)) begin (Whole ts rest) → IsWord len depth [] rest q1
-        → q ≡ grown (plain_run run ++ part.Run (place len (skip text)) ts false ∷ []) (mark.Gap ∷ []) q1 → IsWord len depth run text q
-    word_wrong : {len depth : ℕ} {run text : Bytes} {q : Out Read} (fault : LexFault) → look len text ≡ Bad fault → q ≡ Stop fault → IsWord len depth run text q
-    word_bad_double : {len depth : ℕ} {run text : Bytes} {q : Out Read} (begin : Bytes) (fault : LexFault) → look len text ≡ DoubleQuote begin → IsInner len depth (place len (skip text)) true [] begin (Stop fault) → q ≡ Stop fault → IsWord len depth run text q
-    word_bad_run : {len depth : ℕ} {run text : Bytes} {q : Out Read} (begin : Bytes) (fault : LexFault) → look len text ≡ Substitution begin → IsSub len depth (place len (skip text)) begin (Stop fault) → q ≡ Stop fault → IsWord len depth run text q
+    -- the rest of a word behind a run of plain bytes
+    pub data IsWord : ℕ → Bytes → Bytes → Out Read → Type 0 where
+      -- the word ends
+      word_ends : {depth : ℕ} {run text : Bytes} {q : Out Read}
+          → look len text ≡ Ends → q ≡ Whole (plain_run run, []) text → IsWord depth run text q
+      -- one more plain byte
+      word_byte : {depth : ℕ} {run text : Bytes} {q : Out Read} (b : ℕ) (rest : Bytes) (q1 : Out Read)
+          → look len text ≡ Byte b rest → IsWord depth (run ++ b ∷ []) rest q1
+          → q ≡ grown [] (note.Plain b (offset len text) ∷ []) q1 → IsWord depth run text q
+      -- a part that holds no others
+      word_piece : {depth : ℕ} {run text : Bytes} {q : Out Read} (p : RawPart) (rest : Bytes) (q1 : Out Read)
+          → look len text ≡ Piece p rest → IsWord depth [] rest q1
+          → q ≡ grown (plain_run run ++ p ∷ []) (note.Gap ∷ []) q1 → IsWord depth run text q
+      -- `$@`
+      word_all : {depth : ℕ} {run text : Bytes} {q : Out Read} (rest : Bytes) (q1 : Out Read)
+          → look len text ≡ AllArgs rest → IsWord depth [] rest q1
+          → q ≡ grown (plain_run run ++ part.All ∷ []) (note.All (offset len text) false ∷ []) q1
+          → IsWord depth run text q
+      -- double quotes
+      word_double : {depth : ℕ} {run text : Bytes} {q : Out Read}
+          (begin : Bytes) (v : Read) (rest : Bytes) (q1 : Out Read)
+          → look len text ≡ DoubleQuote begin → IsInner depth (offset len text) true [] begin (Whole v rest)
+          → IsWord depth [] rest q1
+          → q ≡ grown (plain_run run ++ v.0) (v.1 ++ note.Gap ∷ []) q1 → IsWord depth run text q
+      -- a substitution
+      word_run : {depth : ℕ} {run text : Bytes} {q : Out Read}
+          (begin : Bytes) (ts : List Token) (rest : Bytes) (q1 : Out Read)
+          → look len text ≡ Substitution begin → IsSub depth (offset len text) begin (Whole ts rest)
+          → IsWord depth [] rest q1
+          → q ≡ grown (plain_run run ++ part.Run (offset len text) ts false ∷ []) (note.Gap ∷ []) q1
+          → IsWord depth run text q
+      -- a part that is no whole part, or not supported; the same in double quotes, and in a substitution
+      word_wrong : {depth : ℕ} {run text : Bytes} {q : Out Read} (fault : LexFault)
+          → look len text ≡ Bad fault → q ≡ Stop fault → IsWord depth run text q
+      word_bad_double : {depth : ℕ} {run text : Bytes} {q : Out Read} (begin : Bytes) (fault : LexFault)
+          → look len text ≡ DoubleQuote begin → IsInner depth (offset len text) true [] begin (Stop fault)
+          → q ≡ Stop fault → IsWord depth run text q
+      word_bad_run : {depth : ℕ} {run text : Bytes} {q : Out Read} (begin : Bytes) (fault : LexFault)
+          → look len text ≡ Substitution begin → IsSub depth (offset len text) begin (Stop fault)
+          → q ≡ Stop fault → IsWord depth run text q
 
-  -- the rest of what stands in double quotes that began at from, behind a run of its bytes; fresh: no part came yet
-  pub data IsInner : ℕ → ℕ → ℕ → Bool → Bytes → Bytes → Out Read → Type 0 where
-    inner_open : {len depth from : ℕ} {fresh : Bool} {run text : Bytes} {q : Out Read} → inner len text ≡ Ends → q ≡ Stop (OpenQuote from) → IsInner len depth from fresh run text q
-    inner_ends : {len depth from : ℕ} {fresh : Bool} {run text : Bytes} {q : Out Read} (rest : Bytes) → inner len text ≡ DoubleQuote rest → q ≡ Whole (last_run fresh run, []) rest → IsInner len depth from fresh run text q
-    inner_byte : {len depth from : ℕ} {fresh : Bool} {run text : Bytes} {q : Out Read} (b : ℕ) (rest : Bytes) (q1 : Out Read) → inner len text ≡ Byte b rest → IsInner len depth from fresh (run ++ b ∷ []) rest q1 → q ≡ grown [] (mark.Gap ∷ []) q1 → IsInner len depth from fresh run text q
-    inner_piece : {len depth from : ℕ} {fresh : Bool} {run text : Bytes} {q : Out Read} (p : RawPart) (rest : Bytes) (q1 : Out Read) → inner len text ≡ Piece p rest → IsInner len depth from false [] rest q1 → q ≡ grown (quoted_run run ++ p ∷ []) (mark.Gap ∷ []) q1 → IsInner len depth from fresh run text q
-    inner_all : {len depth from : ℕ} {fresh : Bool} {run text : Bytes} {q : Out Read} (rest : Bytes) (q1 : Out Read) → inner len text ≡ AllArgs rest → IsInner len depth from false [] rest q1 → q ≡ grown (quoted_run run ++ part.All ∷ []) (mark.All (place len (skip text)) true ∷ []) q1 → IsInner len depth from fresh run text q
-    inner_run : {len depth from : ℕ} {fresh : Bool} {run text : Bytes} {q : Out Read} (begin : Bytes) (ts : List Token) (rest : Bytes) (q1 : Out Read) → inner len text ≡ Substitution begin → IsSub len depth (place len (skip text)) begin (Whole ts rest) → IsInner len depth from false [] rest q1
-        → q ≡ grown (quoted_run run ++ part.Run (place len (skip text)) ts true ∷ []) (mark.Gap ∷ []) q1 → IsInner len depth from fresh run text q
-    inner_wrong : {len depth from : ℕ} {fresh : Bool} {run text : Bytes} {q : Out Read} (fault : LexFault) → inner len text ≡ Bad fault → q ≡ Stop fault → IsInner len depth from fresh run text q
-    inner_bad_run : {len depth from : ℕ} {fresh : Bool} {run text : Bytes} {q : Out Read} (begin : Bytes) (fault : LexFault) → inner len text ≡ Substitution begin → IsSub len depth (place len (skip text)) begin (Stop fault) → q ≡ Stop fault → IsInner len depth from fresh run text q
+    -- the rest of what stands in double quotes that began at `from`, behind a run of its bytes; fresh: no part came yet
+    pub data IsInner : ℕ → ℕ → Bool → Bytes → Bytes → Out Read → Type 0 where
+      -- the text ends
+      inner_open : {depth from : ℕ} {fresh : Bool} {run text : Bytes} {q : Out Read}
+          → inner len text ≡ Ends → q ≡ Stop (OpenQuote from) → IsInner depth from fresh run text q
+      -- the quotes are closed
+      inner_ends : {depth from : ℕ} {fresh : Bool} {run text : Bytes} {q : Out Read} (rest : Bytes)
+          → inner len text ≡ DoubleQuote rest → q ≡ Whole (last_run fresh run, []) rest
+          → IsInner depth from fresh run text q
+      -- one more byte that stands for itself
+      inner_byte : {depth from : ℕ} {fresh : Bool} {run text : Bytes} {q : Out Read}
+          (b : ℕ) (rest : Bytes) (q1 : Out Read)
+          → inner len text ≡ Byte b rest → IsInner depth from fresh (run ++ b ∷ []) rest q1
+          → q ≡ grown [] (note.Gap ∷ []) q1 → IsInner depth from fresh run text q
+      -- a part that holds no others
+      inner_piece : {depth from : ℕ} {fresh : Bool} {run text : Bytes} {q : Out Read}
+          (p : RawPart) (rest : Bytes) (q1 : Out Read)
+          → inner len text ≡ Piece p rest → IsInner depth from false [] rest q1
+          → q ≡ grown (quoted_run run ++ p ∷ []) (note.Gap ∷ []) q1 → IsInner depth from fresh run text q
+      -- `$@`
+      inner_all : {depth from : ℕ} {fresh : Bool} {run text : Bytes} {q : Out Read} (rest : Bytes) (q1 : Out Read)
+          → inner len text ≡ AllArgs rest → IsInner depth from false [] rest q1
+          → q ≡ grown (quoted_run run ++ part.All ∷ []) (note.All (offset len text) true ∷ []) q1
+          → IsInner depth from fresh run text q
+      -- a substitution
+      inner_run : {depth from : ℕ} {fresh : Bool} {run text : Bytes} {q : Out Read}
+          (begin : Bytes) (ts : List Token) (rest : Bytes) (q1 : Out Read)
+          → inner len text ≡ Substitution begin → IsSub depth (offset len text) begin (Whole ts rest)
+          → IsInner depth from false [] rest q1
+          → q ≡ grown (quoted_run run ++ part.Run (offset len text) ts true ∷ []) (note.Gap ∷ []) q1
+          → IsInner depth from fresh run text q
+      -- a part that is no whole part, or not supported; the same in a substitution
+      inner_wrong : {depth from : ℕ} {fresh : Bool} {run text : Bytes} {q : Out Read} (fault : LexFault)
+          → inner len text ≡ Bad fault → q ≡ Stop fault → IsInner depth from fresh run text q
+      inner_bad_run : {depth from : ℕ} {fresh : Bool} {run text : Bytes} {q : Out Read}
+          (begin : Bytes) (fault : LexFault)
+          → inner len text ≡ Substitution begin → IsSub depth (offset len text) begin (Stop fault)
+          → q ≡ Stop fault → IsInner depth from fresh run text q
 
-  -- the tokens of a substitution that began at from; one inside 64 others is too deep
-  pub data IsSub : ℕ → ℕ → ℕ → Bytes → Out (List Token) → Type 0 where
-    sub_deep : {len depth from : ℕ} {text : Bytes} {q : Out (List Token)} → 64 ≤ depth → q ≡ Stop (Deep from) → IsSub len depth from text q
-    sub_items : {len depth from : ℕ} {text : Bytes} {q : Out (List Token)} → depth < 64 → IsItems len (suc depth) from 0 text q → IsSub len depth from text q
+    -- the tokens of a substitution that began at `from`, inside depth others
+    pub data IsSub : ℕ → ℕ → Bytes → Out (List Token) → Type 0 where
+      -- it is too deep
+      sub_deep : {depth from : ℕ} {text : Bytes} {q : Out (List Token)}
+          → deep depth ≡ true → q ≡ Stop (Deep from) → IsSub depth from text q
+      -- its tokens are those up to the parenthesis that closes it
+      sub_items : {depth from : ℕ} {text : Bytes} {q : Out (List Token)}
+          → deep depth ≡ false → IsItems (suc depth) from 0 text q → IsSub depth from text q

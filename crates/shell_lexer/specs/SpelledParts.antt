@@ -1,7 +1,8 @@
--- How the parts of a word are spelled that hold no others (POSIX.1-2017, XCU 2.2 Quoting, 2.5 Parameters and Variables, 2.6.2 Parameter
--- Expansion, 2.6.3 Command Substitution): by their bytes, where joined lines are left out but in single quotes. src/theorems.rt proves
--- that the tables of specs/Parts.antt see exactly what is spelled so.
-use Rattle.std.specs.Prelude.{◌≡◌, ℕ, ◌+◌, ◌≤◌, Bool, true, false, not, ◌&&◌, nat_eq, [], ◌∷◌, ◌++◌, Option, Some, None, codes}
+-- How the parts of a word are spelled that hold no others (POSIX.1-2017, XCU 2.2 Quoting, 2.5 Parameters and
+-- Variables, 2.6.2 Parameter Expansion, 2.6.3 Command Substitution): by their bytes, where joined lines are left out
+-- but in single quotes. src/theorems.rt proves that the tables of specs/Parts.antt see exactly what is spelled so.
+use Rattle.std.specs.Prelude.{◌≡◌, ℕ, ◌+◌, ◌≤◌, Bool, true, false, not, ◌&&◌, nat_eq, [], ◌∷◌, ◌++◌, Option, Some, None}
+use Rattle.std.specs.Prelude.{codes}
 use Rattle.std.specs.List.{list_all}
 use Rattle.shell_syntax.specs.declared.key.Key.{Key}
 use Rattle.shell_syntax.specs.declared.key.Key.TheVariants.{Named, Arg, Count}
@@ -27,30 +28,38 @@ pub record IsDigitOf (number digit : ℕ) : Type 0 where
   pub most : number ≤ 9
   pub digit_is : digit ≡ 48 + number
 
--- The spellings of a parameter with its key and its default: a line each. A name outside braces is the longest one there; a number has one
--- digit.
+-- The spellings of a parameter with its key and its default: a line each. A name outside braces is the longest one
+-- there; a number has one digit.
 pub data IsParam : Key → Option Bytes → Bytes → Bytes → Type 0 where
-  name : {name text rest : Bytes} → is_variable name ≡ true → Stands (codes "$" ++ name) text rest → begins is_name_byte (skip rest) ≡ false
+  name : {name text rest : Bytes} → is_variable name ≡ true
+      → Stands (codes "$" ++ name) text rest → begins is_name_byte (skip rest) ≡ false
       → IsParam (Named name) None text rest
-  name_braced : {name text rest : Bytes} → is_variable name ≡ true → Stands (codes "${" ++ (name ++ codes "}")) text rest
+  name_braced : {name text rest : Bytes} → is_variable name ≡ true
+      → Stands (codes "${" ++ (name ++ codes "}")) text rest
       → IsParam (Named name) None text rest
   name_default : {name default text rest : Bytes} → is_variable name ≡ true → is_default default ≡ true
-      → Stands (codes "${" ++ (name ++ (codes ":-" ++ (default ++ codes "}")))) text rest → IsParam (Named name) (Some default) text rest
-  number : {number digit : ℕ} {text rest : Bytes} → IsDigitOf number digit → Stands (codes "$" ++ (digit ∷ [])) text rest
+      → Stands (codes "${" ++ (name ++ (codes ":-" ++ (default ++ codes "}")))) text rest
+      → IsParam (Named name) (Some default) text rest
+  number : {number digit : ℕ} {text rest : Bytes} → IsDigitOf number digit
+      → Stands (codes "$" ++ (digit ∷ [])) text rest
       → IsParam (Arg number) None text rest
-  number_braced : {number digit : ℕ} {text rest : Bytes} → IsDigitOf number digit → Stands (codes "${" ++ (digit ∷ codes "}")) text rest
+  number_braced : {number digit : ℕ} {text rest : Bytes} → IsDigitOf number digit
+      → Stands (codes "${" ++ (digit ∷ codes "}")) text rest
       → IsParam (Arg number) None text rest
   number_default : {number digit : ℕ} {default text rest : Bytes} → IsDigitOf number digit → is_default default ≡ true
-      → Stands (codes "${" ++ (digit ∷ (codes ":-" ++ (default ++ codes "}")))) text rest → IsParam (Arg number) (Some default) text rest
+      → Stands (codes "${" ++ (digit ∷ (codes ":-" ++ (default ++ codes "}")))) text rest
+      → IsParam (Arg number) (Some default) text rest
   count : {text rest : Bytes} → Stands (codes "$#") text rest → IsParam Count None text rest
   count_braced : {text rest : Bytes} → Stands (codes "${#}") text rest → IsParam Count None text rest
 
 -- ---- quotes
 
--- Bytes in single quotes, which keep all of them as they stand, joined lines too (2.2.2 Single-Quotes); or one byte behind a backslash
--- (2.2.1 Escape Character (Backslash)), which is no newline, since a backslash before a newline would be a joined line.
+-- Bytes in single quotes, which keep all of them as they stand, joined lines too (2.2.2 Single-Quotes); or one byte
+-- behind a backslash (2.2.1 Escape Character (Backslash)), which is no newline, since a backslash before a newline
+-- would be a joined line.
 pub data IsQuoted : Bytes → Bytes → Bytes → Type 0 where
-  single : {bytes text rest : Bytes} → list_all (λ b. not (nat_eq b 39)) bytes ≡ true → Stands (codes "'") text (bytes ++ 39 ∷ rest) → IsQuoted bytes text rest
+  single : {bytes text rest : Bytes} → list_all (λ b. not (nat_eq b 39)) bytes ≡ true
+      → Stands (codes "'") text (bytes ++ 39 ∷ rest) → IsQuoted bytes text rest
   escaped : {byte : ℕ} {text rest : Bytes} → Stands (codes "\\") text (byte ∷ rest) → IsQuoted (byte ∷ []) text rest
 
 -- ---- all parts that hold no others

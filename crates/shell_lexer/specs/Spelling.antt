@@ -1,6 +1,6 @@
--- How operators and redirections are spelled (POSIX.1-2017, XCU 2.2.1 Escape Character (Backslash), 2.3 Token Recognition, 2.7 Redirection,
--- 2.10.2 Shell Grammar Rules): by their bytes, where joined lines are left out. src/theorems.rt proves that the tables of specs/Operators.antt
--- see exactly what is spelled so.
+-- How operators and redirections are spelled (POSIX.1-2017, XCU 2.2.1 Escape Character (Backslash), 2.3 Token
+-- Recognition, 2.7 Redirection, 2.10.2 Shell Grammar Rules): by their bytes, where joined lines are left out.
+-- src/theorems.rt proves that the tables of specs/Operators.antt see exactly what is spelled so.
 use Rattle.std.specs.Prelude.{◌≡◌, ℕ, Bool, true, false, [], ◌∷◌, ◌++◌, codes}
 use Rattle.std.specs.List.{list_all}
 use Rattle.shell_syntax.specs.declared.redirect.Redirect.{Redirect}
@@ -25,16 +25,16 @@ IsNotNext b text = (more : Bytes) → skip text ≡ b ∷ more → ⊥
 
 -- ---- redirections (XCU 2.7)
 
--- An operator with the number directly before it, if it has one; blanks, perhaps none; and the word `/dev/null`, which ends there
--- (2.7.1 Redirecting Input, 2.7.2 Redirecting Output, 2.7.3 Appending Redirected Output).
+-- An operator with the number directly before it, if it has one; blanks, perhaps none; and the word `/dev/null`,
+-- which ends there (2.7.1 Redirecting Input, 2.7.2 Redirecting Output, 2.7.3 Appending Redirected Output).
 pub record IsToNull (operator text rest : Bytes) : Type 0 where
   pub blanks : Bytes
   pub blank : list_all is_blank blanks ≡ true
   pub stands : Stands (operator ++ (blanks ++ codes "/dev/null")) text rest
   pub ends : ends_word (skip rest) ≡ true
 
--- An operator with the number directly before it, if it has one, and the number directly behind it, which is a whole word
--- (2.7.6 Duplicating an Output File Descriptor).
+-- An operator with the number directly before it, if it has one, and the number directly behind it, which is a whole
+-- word (2.7.6 Duplicating an Output File Descriptor).
 pub record IsCopy (operator text rest : Bytes) : Type 0 where
   pub stands : Stands operator text rest
   pub ends : ends_word (skip rest) ≡ true
@@ -55,8 +55,9 @@ pub data IsRedirected : Redirect → Bytes → Bytes → Type 0 where
 
 -- ---- all operators
 
--- The operator's bytes come next, and no longer operator does (XCU 2.3, rules 2 and 3; 2.10.2): `;` is none where `;;` stands, `|` where `||`,
--- and `(` where `((` stands, which begins an arithmetic command in some shells (2.9.4.1 Grouping Commands).
+-- The operator's bytes come next, and no longer operator does (XCU 2.3, rules 2 and 3; 2.10.2): `;` is none where
+-- `;;` stands, `|` where `||`, and `(` where `((` stands, which begins an arithmetic command in some shells (2.9.4.1
+-- Grouping Commands).
 abbrev pub IsOperator : Sign → Bytes → Bytes → Type 0
 IsOperator sign.Newline text rest = Stands (codes "\n") text rest
 IsOperator sign.Semi text rest = Stands (codes ";") text rest × IsNotNext 59 rest

@@ -1,8 +1,11 @@
--- Bytes as a shell reads them (POSIX.1-2017, XCU 2.2.1 Escape Character (Backslash), 2.3 Token Recognition): what a byte is,
--- and the bytes that count, which are all but those of joined lines.
-use Rattle.std.specs.Prelude.{ℕ, ◌-◌, Bool, true, false, if◌then◌else◌, not, ◌&&◌, ◌||◌, nat_eq, nat_le, List, [], ◌∷◌, length, Option, Some, None}
+-- Bytes as a shell reads them (POSIX.1-2017, XCU 2.2.1 Escape Character (Backslash), 2.3 Token Recognition): what a
+-- byte is, and the bytes that count, which are all but those of joined lines.
+use Rattle.std.specs.Prelude.{ℕ, ◌-◌, Bool, true, false, if◌then◌else◌, not, ◌&&◌, ◌||◌, nat_eq, nat_le, List, [], ◌∷◌}
+use Rattle.std.specs.Prelude.{length, Option, Some, None}
 use Rattle.shell_lexer.specs.declared.byte_kind.ByteKind.{ByteKind}
-use Rattle.shell_lexer.specs.declared.byte_kind.ByteKind.TheVariants.{Blank, Newline, Semi, Amp, Bar, Open, Close, Less, Greater, Hash, Single, Double, Back, Tick, Dollar, Brace, At, Special, Digit, Name, Other}
+use Rattle.shell_lexer.specs.declared.byte_kind.ByteKind.TheVariants.{Blank, Newline, Semi, Amp, Bar, Open, Close, Less}
+use Rattle.shell_lexer.specs.declared.byte_kind.ByteKind.TheVariants.{Greater, Hash, Single, Double, Back, Tick, Dollar}
+use Rattle.shell_lexer.specs.declared.byte_kind.ByteKind.TheVariants.{Brace, At, Special, Digit, Name, Other}
 use Rattle.shell_lexer.specs.declared.byte_kind.RunKind.{RunKind}
 use Rattle.shell_lexer.specs.declared.byte_kind.RunKind.TheVariants.{Blanks, Digits, Names, Defaults}
 
@@ -32,7 +35,9 @@ is_special b = nat_eq b 42 || nat_eq b 63 || nat_eq b 33 || nat_eq b 45
 
 -- a byte that a default may have: no newline, quote, backslash, backquote, `$`, brace or `~`
 abbrev pub is_default_byte : ℕ → Bool
-is_default_byte b = not (nat_eq b 10 || nat_eq b 39 || nat_eq b 34 || nat_eq b 92 || nat_eq b 96 || nat_eq b 36 || nat_eq b 123 || nat_eq b 125 || nat_eq b 126)
+is_default_byte b =
+    not (nat_eq b 10 || nat_eq b 39 || nat_eq b 34 || nat_eq b 92 || nat_eq b 96 || nat_eq b 36
+    || nat_eq b 123 || nat_eq b 125 || nat_eq b 126)
 
 -- whether a run has the byte
 abbrev pub passes : RunKind → ℕ → Bool
@@ -44,16 +49,18 @@ passes Defaults b = is_default_byte b
 -- what a byte is to the lexer that begins no blank, operator or comment
 abbrev pub word_kind : ℕ → ByteKind
 word_kind b =
-    if nat_eq b 39 then Single else (if nat_eq b 34 then Double else (if nat_eq b 92 then Back else (if nat_eq b 96 then Tick else
-    (if nat_eq b 36 then Dollar else (if nat_eq b 123 then Brace else (if nat_eq b 64 then At else (if is_special b then Special else
-    (if is_digit b then Digit else (if is_letter b then Name else Other)))))))))
+    if nat_eq b 39 then Single else (if nat_eq b 34 then Double else (if nat_eq b 92 then Back else
+    (if nat_eq b 96 then Tick else (if nat_eq b 36 then Dollar else (if nat_eq b 123 then Brace else
+    (if nat_eq b 64 then At else (if is_special b then Special else (if is_digit b then Digit else
+    (if is_letter b then Name else Other)))))))))
 
 -- what a byte is to the lexer
 abbrev pub kind : ℕ → ByteKind
 kind b =
-    if is_blank b then Blank else (if nat_eq b 10 then Newline else (if nat_eq b 59 then Semi else (if nat_eq b 38 then Amp else
-    (if nat_eq b 124 then Bar else (if nat_eq b 40 then Open else (if nat_eq b 41 then Close else (if nat_eq b 60 then Less else
-    (if nat_eq b 62 then Greater else (if nat_eq b 35 then Hash else word_kind b)))))))))
+    if is_blank b then Blank else (if nat_eq b 10 then Newline else (if nat_eq b 59 then Semi else
+    (if nat_eq b 38 then Amp else (if nat_eq b 124 then Bar else (if nat_eq b 40 then Open else
+    (if nat_eq b 41 then Close else (if nat_eq b 60 then Less else (if nat_eq b 62 then Greater else
+    (if nat_eq b 35 then Hash else word_kind b)))))))))
 
 -- the text from its next byte that counts on: a backslash directly before a newline vanishes with it
 abbrev pub skip : Bytes → Bytes
@@ -64,6 +71,10 @@ skip (a ∷ b ∷ rest) = if nat_eq a 92 && nat_eq b 10 then skip rest else a �
 -- the offset of a rest of a text of len bytes
 abbrev pub place : ℕ → Bytes → ℕ
 place len rest = len - length rest
+
+-- the offset of its next byte that counts
+abbrev pub offset : ℕ → Bytes → ℕ
+offset len rest = place len (skip rest)
 
 -- all bytes but the first
 abbrev pub tail : Bytes → Bytes
@@ -109,7 +120,7 @@ run which text = run_of (passes which) (cells text)
 abbrev pub behind : RunKind → Bytes → Bytes
 behind which text = behind_run (passes which) text (cells text)
 
--- whether a word ends before a byte of this kind: a blank or the begin of an operator
+-- whether a word ends before a byte of this kind: a blank or the beginning of an operator
 abbrev pub is_word_end : ByteKind → Bool
 is_word_end Blank = true
 is_word_end Newline = true

@@ -1,3 +1,6 @@
+/// `{`
+pub(crate) const OPENING_BRACE: u8 = b'{';
+
 /// What a byte is to the lexer.
 #[derive(Clone, Copy, Debug, PartialEq, Eq)]
 pub(crate) enum ByteKind {

@@ -1,9 +1,10 @@
 //! Kinds of bytes, and joined lines.
 
-ghost use Rattle.std.specs.Prelude.{◌≡◌, ◌≤◌, ◌<◌, length, drop, IsTrue, MatchOption, false, true};
+ghost use Rattle.std.specs.Prelude.{◌≡◌, ◌≤◌, length, drop};
+ghost use Rattle.shell_lexer.specs.Seen.{IsBehind};
 ghost use Rattle.shell_lexer.specs.Text as text;
 
-use crate::byte_kind::{ByteKind, RunKind};
+use crate::byte_kind::{ByteKind, OPENING_BRACE, RunKind};
 
 // A space or a tab.
 pub(crate) fn is_blank(byte: u8) -> bool
@@ -99,7 +100,7 @@ fn word_kind_of(byte: u8) -> ByteKind
         ByteKind::Tick
     } else if byte == b'$' {
         ByteKind::Dollar
-    } else if byte == b'{' {
+    } else if byte == OPENING_BRACE {
         ByteKind::Brace
     } else if byte == b'@' {
         ByteKind::At
@@ -135,7 +136,7 @@ pub(crate) fn skip(bytes: &[u8], at: usize) -> usize
 // The place behind the byte, where it is the next that counts.
 pub(crate) fn after(bytes: &[u8], at: usize, byte: u8) -> Option<usize>
     requires { at ≤ length bytes.now }
-    ensures { MatchOption result (text.head_is byte (text.skip (drop at bytes.now)) ≡ false) (λ end. (at < end) × (end ≤ length bytes.now) × (text.head_is byte (text.skip (drop at bytes.now)) ≡ true) × (drop end bytes.now ≡ text.tail (text.skip (drop at bytes.now)))) }
+    ensures { IsBehind bytes.now at byte result }
 {
     let here = skip(bytes, at);
     if here < bytes.len() && bytes[here] == byte {

@@ -3,55 +3,56 @@
 ghost use Rattle.std.specs.Prelude.{◌≡◌, true, false};
 ghost use Rattle.shell_lexer.specs.Late as table;
 
+use crate::byte_kind::OPENING_BRACE;
 use crate::fault::LexFault;
-use crate::sight::Mark;
+use crate::sight::ByteNote;
 use shell_syntax::Form;
 
 // The first `$@`.
-fn first_all(marks: &[Mark]) -> Option<u32>
-    ensures { result ≡ table.first_all marks.now }
+fn first_all(notes: &[ByteNote]) -> Option<u32>
+    ensures { result ≡ table.first_all notes.now }
 {
-    for mark in marks {
-        match *mark {
-            Mark::Gap => (),
-            Mark::Plain(_, _) => (),
-            Mark::All(at, _) => return Some(at),
+    for note in notes {
+        match *note {
+            ByteNote::Gap => (),
+            ByteNote::Plain(_, _) => (),
+            ByteNote::All(at, _) => return Some(at),
         }
     }
     None
 }
 
 // Whether the word is `"$@"`.
-fn is_all_word(marks: &[Mark]) -> bool
-    ensures { result ≡ table.is_all_word marks.now }
+fn is_all_word(notes: &[ByteNote]) -> bool
+    ensures { result ≡ table.is_all_word notes.now }
 {
-    match marks {
-        [Mark::All(_, quoted), Mark::Gap] => *quoted,
+    match notes {
+        [ByteNote::All(_, quoted), ByteNote::Gap] => *quoted,
         _ => false,
     }
 }
 
 // The first `$@` of a word that is not `"$@"`.
-fn all_args(marks: &[Mark]) -> Option<u32>
-    ensures { result ≡ table.all_args marks.now }
+fn all_args(notes: &[ByteNote]) -> Option<u32>
+    ensures { result ≡ table.all_args notes.now }
 {
-    if is_all_word(marks) {
+    if is_all_word(notes) {
         None
     } else {
-        first_all(marks)
+        first_all(notes)
     }
 }
 
 // A tilde that is first, or directly behind a plain `=` or `:`.
-fn tilde(marks: &[Mark]) -> Option<u32>
-    ensures { result ≡ table.tilde true marks.now }
+fn tilde(notes: &[ByteNote]) -> Option<u32>
+    ensures { result ≡ table.tilde true notes.now }
 {
     let mut may = true;
-    for mark in marks {
-        match *mark {
-            Mark::Gap => may = false,
-            Mark::All(_, _) => may = false,
-            Mark::Plain(byte, at) => {
+    for note in notes {
+        match *note {
+            ByteNote::Gap => may = false,
+            ByteNote::All(_, _) => may = false,
+            ByteNote::Plain(byte, at) => {
                 if may && byte == b'~' {
                     return Some(at);
                 }
@@ -63,15 +64,15 @@ fn tilde(marks: &[Mark]) -> Option<u32>
 }
 
 // Whether a plain comma comes, or two plain dots side by side.
-fn has_list(marks: &[Mark]) -> bool
-    ensures { result ≡ table.has_list false marks.now }
+fn has_list(notes: &[ByteNote]) -> bool
+    ensures { result ≡ table.has_list false notes.now }
 {
     let mut dot = false;
-    for mark in marks {
-        match *mark {
-            Mark::Gap => dot = false,
-            Mark::All(_, _) => dot = false,
-            Mark::Plain(byte, _) => {
+    for note in notes {
+        match *note {
+            ByteNote::Gap => dot = false,
+            ByteNote::All(_, _) => dot = false,
+            ByteNote::Plain(byte, _) => {
                 if byte == b',' || (dot && byte == b'.') {
                     return true;
                 }
@@ -83,16 +84,16 @@ fn has_list(marks: &[Mark]) -> bool
 }
 
 // The first plain `{`, where a comma or two dots come behind it.
-fn brace(marks: &[Mark]) -> Option<u32>
-    ensures { result ≡ table.brace marks.now }
+fn brace(notes: &[ByteNote]) -> Option<u32>
+    ensures { result ≡ table.brace notes.now }
 {
-    for i in 0..marks.len() {
-        match marks[i] {
-            Mark::Gap => (),
-            Mark::All(_, _) => (),
-            Mark::Plain(byte, at) => {
-                if byte == b'{' {
-                    return if has_list(&marks[i + 1..]) {
+    for i in 0..notes.len() {
+        match notes[i] {
+            ByteNote::Gap => (),
+            ByteNote::All(_, _) => (),
+            ByteNote::Plain(byte, at) => {
+                if byte == OPENING_BRACE {
+                    return if has_list(&notes[i + 1..]) {
                         Some(at)
                     } else {
                         None
@@ -105,23 +106,23 @@ fn brace(marks: &[Mark]) -> Option<u32>
 }
 
 // Whether the word is just these plain bytes.
-fn is_plainly(bytes: &[u8], marks: &[Mark]) -> bool
-    ensures { result ≡ table.is_plainly bytes.now marks.now }
+fn is_plainly(bytes: &[u8], notes: &[ByteNote]) -> bool
+    ensures { result ≡ table.is_plainly bytes.now notes.now }
 {
     match bytes {
-        [] => marks.is_empty(),
-        [byte, more @ ..] => match marks {
-            [Mark::Plain(plain, _), rest @ ..] => *plain == *byte && is_plainly(more, rest),
+        [] => notes.is_empty(),
+        [byte, more @ ..] => match notes {
+            [ByteNote::Plain(plain, _), rest @ ..] => *plain == *byte && is_plainly(more, rest),
             _ => false,
         },
     }
 }
 
 // The word `case`, which begins at a place, inside a substitution.
-fn subst_case(depth: usize, at: u32, marks: &[Mark]) -> Option<u32>
-    ensures { result ≡ table.subst_case depth at marks.now }
+fn subst_case(depth: usize, at: u32, notes: &[ByteNote]) -> Option<u32>
+    ensures { result ≡ table.subst_case depth at notes.now }
 {
-    if depth > 0 && is_plainly(b"case", marks) {
+    if depth > 0 && is_plainly(b"case", notes) {
         Some(at)
     } else {
         None
@@ -157,14 +158,14 @@ fn sooner(a: Option<(u32, Form)>, b: Option<(u32, Form)>) -> Option<(u32, Form)>
     }
 }
 
-// The form of a whole word with these marks, which begins at a place inside so many substitutions.
-pub(crate) fn late(depth: usize, at: u32, marks: &[Mark]) -> Option<LexFault>
-    ensures { result ≡ table.late depth at marks.now }
+// The form of a whole word with these notes, which begins at a place inside so many substitutions.
+pub(crate) fn late(depth: usize, at: u32, notes: &[ByteNote]) -> Option<LexFault>
+    ensures { result ≡ table.late depth at notes.now }
 {
-    let all = found(Form::AllArgs, all_args(marks));
-    let tilde = found(Form::Tilde, tilde(marks));
-    let brace = found(Form::Brace, brace(marks));
-    let case = found(Form::SubstCase, subst_case(depth, at, marks));
+    let all = found(Form::AllArgs, all_args(notes));
+    let tilde = found(Form::Tilde, tilde(notes));
+    let brace = found(Form::Brace, brace(notes));
+    let case = found(Form::SubstCase, subst_case(depth, at, notes));
     match sooner(all, sooner(tilde, sooner(brace, case))) {
         None => None,
         Some((at, form)) => Some(LexFault::Unsupported { form, at }),

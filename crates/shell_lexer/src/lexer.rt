@@ -9,9 +9,12 @@ use crate::scan::items;
 use crate::token::Lexed;
 use std::alloc::Global;
 
-/// Cuts a script's text into tokens (POSIX.1-2017, XCU 2.3 Token Recognition). A NUL is looked for first, then the first line is
-/// judged, then the text behind it is read from left to right, and its first fault is answered. Offsets are in bytes.
-/// A text of 2^32 bytes or more is answered as want of memory.
+// The length of a text from which on offsets are no `u32`.
+const TOO_LONG: usize = 4294967296;
+
+/// Cuts a script's text into tokens (POSIX.1-2017, XCU 2.3 Token Recognition). A NUL is looked for first, then the
+/// first line is judged, then the text behind it is read from left to right, and its first fault is answered. Offsets
+/// are in bytes. A text of 2^32 bytes or more is answered as want of memory.
 pub fn lex(alloc: Global, text: &[u8]) -> Result<Lexed, LexFault>
     ensures cut { IfOk result (Cut text.now) }
     ensures only { IfOk result (λ l. (other : Cutting) → Cut text.now other → other ≡ l) }
@@ -20,7 +23,7 @@ pub fn lex(alloc: Global, text: &[u8]) -> Result<Lexed, LexFault>
     ensures no_other { IfErr result (Caused (λ fault. (other : Fault) → Faulty text.now other → other ≡ fault)) }
     ensures no_cut { IfErr result (Caused (λ fault. (l : Cutting) → Cut text.now l → ⊥)) }
 {
-    if text.len() >= 4294967296 {
+    if text.len() >= TOO_LONG {
         return Err(LexFault::Memory);
     }
     match nul_of(text) {
@@ -32,12 +35,10 @@ pub fn lex(alloc: Global, text: &[u8]) -> Result<Lexed, LexFault>
         Some(strict) => strict,
         None => return Err(LexFault::Interpreter { at: 0 }),
     };
-    match items(alloc, text, begin, 0, 0) {
-        Ok((tokens, _end)) => Ok(Lexed {
-            strict,
-            tokens,
-            end: text.len() as u32,
-        }),
-        Err(fault) => Err(fault),
-    }
+    let (tokens, _end) = items(alloc, text, begin, 0, 0)?;
+    Ok(Lexed {
+        strict,
+        tokens,
+        end: text.len() as u32,
+    })
 }

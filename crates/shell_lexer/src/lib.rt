@@ -1,5 +1,6 @@
-//! Cuts a script's text into tokens, with exact faults (POSIX.1-2017, XCU 2.2 Quoting, 2.3 Token Recognition, 2.6 Word Expansions).
-//! It stands on shell_syntax and script_names. Begin with `lex`, and with specs/Lexed.antt for what a cut is; then specs/Reading.antt.
+//! Cuts a script's text into tokens, with exact faults (POSIX.1-2017, XCU 2.2 Quoting, 2.3 Token Recognition, 2.6
+//! Word Expansions). It stands on shell_syntax and script_names. Begin with `lex`, and with specs/Lexed.antt for what
+//! a cut is; then specs/Reading.antt.
 #![tactic(auto)]
 
 mod byte_kind;

@@ -4,11 +4,10 @@ ghost use Rattle.std.specs.Prelude.{◌≡◌, ◌≢◌, ◌≤◌, ◌<◌, �
 ghost use Rattle.shell_syntax.specs.declared.form.Form.TheVariants as form;
 ghost use Rattle.shell_lexer.specs.declared.fault.LexFault.TheVariants.{Unsupported};
 ghost use Rattle.shell_lexer.specs.declared.sight.Sight.TheVariants as shown;
-ghost use Rattle.shell_lexer.specs.declared.byte_kind.RunKind.TheVariants.{Digits};
 ghost use Rattle.shell_lexer.specs.declared.byte_kind.ByteKind.TheVariants.{Digit};
 ghost use Rattle.shell_lexer.specs.Text as bytes;
 ghost use Rattle.shell_lexer.specs.Operators as table;
-ghost use Rattle.shell_lexer.specs.Seen.{seen, Further, rest_at, OnFrom};
+ghost use Rattle.shell_lexer.specs.Seen.{seen, Sees, Further, rest_at, OnFrom};
 
 use crate::byte_kind::{ByteKind, RunKind};
 use crate::bytes::{after, ends_word, kind_of, skip};
@@ -179,7 +178,7 @@ fn greater(text: &[u8], angle: usize, number: &[u8]) -> Sight
 fn numbered(alloc: Global, text: &[u8], at: usize) -> Result<Sight, Memory>
     requires small { length text.now < 2 ^ 32 }
     requires within { at < length text.now }
-    ensures gives { IfOk result (λ s. seen text.now s ≡ table.numbered (length text.now) (bytes.run Digits (drop at text.now)) (bytes.skip (bytes.behind Digits (drop at text.now)))) }
+    ensures gives { Sees text.now (table.after_digits (length text.now) (drop at text.now)) result }
     ensures further { IfOk result (Further at (length text.now)) }
 {
     let (number, end) = read_run(alloc, text, at, RunKind::Digits)?;
@@ -198,7 +197,7 @@ fn numbered(alloc: Global, text: &[u8], at: usize) -> Result<Sight, Memory>
 pub(crate) fn sight(alloc: Global, text: &[u8], at: usize) -> Result<Sight, Memory>
     requires small { length text.now < 2 ^ 32 }
     requires within { at ≤ length text.now }
-    ensures gives { IfOk result (λ s. seen text.now s ≡ table.sight_at (length text.now) at (drop at text.now)) }
+    ensures gives { Sees text.now (table.sight_at (length text.now) at (drop at text.now)) result }
     ensures further { IfOk result (Further at (length text.now)) }
 {
     if at >= text.len() {
@@ -216,7 +215,8 @@ fn sight_by(text: &[u8], at: usize, kind: ByteKind) -> Sight
     requires small { length text.now < 2 ^ 32 }
     requires within { at < length text.now }
     requires other { kind ≢ Digit }
-    ensures gives { (b : ℕ) → seen text.now result ≡ table.sight_by (length text.now) at b kind (drop (at + 1) text.now) }
+    ensures gives { let rest = drop (at + 1) text.now in
+        (b : ℕ) → seen text.now result ≡ table.sight_by (length text.now) at b kind rest }
     ensures further { Further at (length text.now) result }
 {
     match kind {

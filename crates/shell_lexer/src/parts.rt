@@ -1,16 +1,14 @@
 //! What stands in a word, and in double quotes.
 
-ghost use Rattle.std.specs.Prelude.{◌≡◌, ◌≤◌, ◌<◌, ◌+◌, ◌-◌, ◌^◌, ℕ, length, drop, take, IfOk, MatchOption, true, false, None, slice_index_or};
-ghost use Rattle.shell_lexer.specs.declared.byte_kind.RunKind.TheVariants.{Names};
-ghost use Rattle.shell_lexer.specs.declared.token.RawPart.TheVariants.{Param};
-ghost use Rattle.shell_syntax.specs.declared.key.Key.TheVariants.{Named};
+ghost use Rattle.std.specs.Prelude.{◌≡◌, ◌≤◌, ◌<◌, ◌+◌, ◌-◌, ◌^◌, ℕ, length, drop, take, IfOk, MatchOption, true};
+ghost use Rattle.std.specs.Prelude.{false, None, slice_index_or};
 ghost use Rattle.shell_lexer.specs.declared.byte_kind.ByteKind.TheVariants as kinds;
 ghost use Rattle.shell_syntax.specs.declared.form.Form.TheVariants as form;
 ghost use Rattle.shell_lexer.specs.declared.fault.LexFault.TheVariants.{Unsupported};
 ghost use Rattle.shell_lexer.specs.declared.sight.Look.TheVariants as shown;
 ghost use Rattle.shell_lexer.specs.Text as bytes;
 ghost use Rattle.shell_lexer.specs.Parts as table;
-ghost use Rattle.shell_lexer.specs.Seen.{seen_look, FurtherLook};
+ghost use Rattle.shell_lexer.specs.Seen.{seen_look, Shows, FurtherLook, IsQuoteEnd};
 
 use crate::byte_kind::{ByteKind, RunKind};
 use crate::bytes::{after, kind_of, skip};
@@ -75,7 +73,7 @@ fn behind_colon(
     requires small { length text.now < 2 ^ 32 }
     requires on { dollar < at }
     requires within { at ≤ length text.now }
-    ensures gives { IfOk result (λ l. seen_look text.now l ≡ table.behind_colon quoted dollar key (bytes.skip (drop at text.now))) }
+    ensures gives { Shows text.now (table.behind_colon quoted dollar key (bytes.skip (drop at text.now))) result }
     ensures further { IfOk result (FurtherLook dollar (length text.now)) }
 {
     let here = skip(text, at);
@@ -101,7 +99,7 @@ fn behind_key(
     requires small { length text.now < 2 ^ 32 }
     requires on { dollar < at }
     requires within { at ≤ length text.now }
-    ensures gives { IfOk result (λ l. seen_look text.now l ≡ table.behind_key quoted dollar key (bytes.skip (drop at text.now))) }
+    ensures gives { Shows text.now (table.behind_key quoted dollar key (bytes.skip (drop at text.now))) result }
     ensures further { IfOk result (FurtherLook dollar (length text.now)) }
 {
     match after(text, at, b':') {
@@ -121,7 +119,7 @@ fn braced(
     requires small { length text.now < 2 ^ 32 }
     requires on { dollar < at }
     requires within { at ≤ length text.now }
-    ensures gives { IfOk result (λ l. seen_look text.now l ≡ table.braced quoted dollar (bytes.skip (drop at text.now))) }
+    ensures gives { Shows text.now (table.braced quoted dollar (bytes.skip (drop at text.now))) result }
     ensures further { IfOk result (FurtherLook dollar (length text.now)) }
 {
     let here = skip(text, at);
@@ -151,7 +149,8 @@ fn number_part(text: &[u8], dollar: usize, quoted: bool, here: usize) -> Look
     requires on { dollar < here }
     requires within { here < length text.now }
     requires digit { kinds.Digit ≡ bytes.kind (slice_index_or text.now here 0) }
-    ensures gives { seen_look text.now result ≡ table.number_part quoted dollar (slice_index_or text.now here 0) (drop (here + 1) text.now) }
+    ensures gives { let digit = slice_index_or text.now here 0 in
+        seen_look text.now result ≡ table.number_part quoted dollar digit (drop (here + 1) text.now) }
     ensures further { FurtherLook dollar (length text.now) result }
 {
     if text[here] == b'0' {
@@ -175,7 +174,7 @@ fn named_part(
 ) -> Result<Look, Memory>
     requires on { dollar < here }
     requires within { here < length text.now }
-    ensures gives { IfOk result (λ l. seen_look text.now l ≡ table.Piece (Param (Named (bytes.run Names (drop here text.now))) None quoted) (bytes.behind Names (drop here text.now))) }
+    ensures gives { Shows text.now (table.named_part quoted (drop here text.now)) result }
     ensures further { IfOk result (FurtherLook dollar (length text.now)) }
 {
     let (name, end) = read_run(alloc, text, here, RunKind::Names)?;
@@ -219,7 +218,8 @@ fn before_quote(text: &[u8], dollar: usize, quoted: bool) -> Look
 fn dollar_part(alloc: Global, text: &[u8], dollar: usize, quoted: bool) -> Result<Look, Memory>
     requires small { length text.now < 2 ^ 32 }
     requires within { dollar < length text.now }
-    ensures gives { IfOk result (λ l. seen_look text.now l ≡ table.dollar quoted dollar (drop (dollar + 1) text.now) (bytes.skip (drop (dollar + 1) text.now))) }
+    ensures gives { let behind = drop (dollar + 1) text.now in
+        Shows text.now (table.dollar quoted dollar behind (bytes.skip behind)) result }
     ensures further { IfOk result (FurtherLook dollar (length text.now)) }
 {
     let here = skip(text, dollar + 1);
@@ -251,7 +251,7 @@ fn dollar_part(alloc: Global, text: &[u8], dollar: usize, quoted: bool) -> Resul
 // The place of the closing single quote.
 fn quote_end(text: &[u8], at: usize) -> Option<usize>
     requires { at ≤ length text.now }
-    ensures { MatchOption result (table.has_quote (drop at text.now) ≡ false) (λ end. (at ≤ end) × (end < length text.now) × (table.has_quote (drop at text.now) ≡ true) × (table.quote_body (drop at text.now) ≡ take (end - at) (drop at text.now)) × (table.behind_quote (drop at text.now) ≡ drop (end + 1) text.now)) }
+    ensures { IsQuoteEnd text.now at result }
 {
     let mut place = at;
     while place < text.len() {
@@ -267,7 +267,8 @@ fn quote_end(text: &[u8], at: usize) -> Option<usize>
 fn single(alloc: Global, text: &[u8], at: usize) -> Result<Look, Memory>
     requires small { length text.now < 2 ^ 32 }
     requires within { at < length text.now }
-    ensures gives { IfOk result (λ l. (b : ℕ) → seen_look text.now l ≡ table.look_by at b kinds.Single (drop (at + 1) text.now)) }
+    ensures gives { let rest = drop (at + 1) text.now in
+        IfOk result (λ l. (b : ℕ) → seen_look text.now l ≡ table.look_by at b kinds.Single rest) }
     ensures further { IfOk result (FurtherLook at (length text.now)) }
 {
     match quote_end(text, at + 1) {
@@ -282,7 +283,7 @@ fn single(alloc: Global, text: &[u8], at: usize) -> Result<Look, Memory>
 // A backslash outside quotes.
 fn escaped(alloc: Global, text: &[u8], at: usize, byte: u8) -> Result<Look, Memory>
     requires within { at < length text.now }
-    ensures gives { IfOk result (λ l. seen_look text.now l ≡ table.escaped byte (drop (at + 1) text.now)) }
+    ensures gives { Shows text.now (table.escaped byte (drop (at + 1) text.now)) result }
     ensures further { IfOk result (FurtherLook at (length text.now)) }
 {
     if at + 1 >= text.len() {
@@ -296,7 +297,7 @@ fn escaped(alloc: Global, text: &[u8], at: usize, byte: u8) -> Result<Look, Memo
 pub(crate) fn look(alloc: Global, text: &[u8], at: usize) -> Result<Look, Memory>
     requires small { length text.now < 2 ^ 32 }
     requires within { at ≤ length text.now }
-    ensures gives { IfOk result (λ l. seen_look text.now l ≡ table.look_at at (drop at text.now)) }
+    ensures gives { Shows text.now (table.look_at at (drop at text.now)) result }
     ensures further { IfOk result (FurtherLook at (length text.now)) }
 {
     if at >= text.len() {
@@ -352,7 +353,7 @@ fn inner_escaped(text: &[u8], at: usize, byte: u8) -> Look
 pub(crate) fn inner(alloc: Global, text: &[u8], at: usize) -> Result<Look, Memory>
     requires small { length text.now < 2 ^ 32 }
     requires within { at ≤ length text.now }
-    ensures gives { IfOk result (λ l. seen_look text.now l ≡ table.inner_at at (drop at text.now)) }
+    ensures gives { Shows text.now (table.inner_at at (drop at text.now)) result }
     ensures further { IfOk result (FurtherLook at (length text.now)) }
 {
     if at >= text.len() {

@@ -1,6 +1,6 @@
 //! The scanner: a loop for tokens, one for a word and one for what stands in double quotes.
 
-ghost use Rattle.std.specs.Prelude.{◌≡◌, ◌≤◌, ◌<◌, ◌+◌, ◌^◌, ◌++◌, ◌∷◌, [], length, OnOk};
+ghost use Rattle.std.specs.Prelude.{◌≡◌, ◌≤◌, ◌<◌, ◌+◌, ◌^◌, ◌++◌, ◌∷◌, [], length, IfOk, OnOk};
 ghost use Rattle.shell_lexer.specs.declared.token.RawPart.TheVariants.{Run};
 ghost use Rattle.shell_lexer.specs.Reading as reading;
 ghost use Rattle.shell_lexer.specs.Reads.{ItemsRead, TokenRead, WordRead, InnerRead, SubRead};
@@ -10,12 +10,16 @@ use crate::fault::LexFault;
 use crate::late::late;
 use crate::operators::sight;
 use crate::parts::{inner, look};
-use crate::sight::{Look, Mark, Sight, Sign};
+use crate::sight::{ByteNote, Look, Sight, Sign};
 use crate::token::{RawPart, Token, TokenKind};
 use script_names::{Bytes, List, Memory};
 use std::alloc::Global;
 
-// The tokens from a place on, inside so many substitutions, of which the innermost began at `from`; and the place behind them.
+// How many substitutions one may stand inside.
+const DEEPEST: usize = 64;
+
+// The tokens from a place on, inside so many substitutions, of which the innermost began at `from`; and the place
+// behind them.
 #[cycle(scanning)]
 pub(crate) fn items(
     alloc: Global,
@@ -27,7 +31,7 @@ pub(crate) fn items(
     requires small { length text.now < 2 ^ 32 }
     requires within { at ≤ length text.now }
     requires began { from ≤ length text.now }
-    requires shallow { depth ≤ 64 }
+    requires shallow { depth ≤ DEEPEST }
     ensures { ItemsRead text.now depth from at result }
 {
     let mut out = List::new(alloc);
@@ -59,10 +63,7 @@ pub(crate) fn items(
             }
             Sight::Wrong(fault) => return Err(fault),
             Sight::Word => {
-                let (token, rest) = match whole_word(alloc, text, place, here, depth) {
-                    Ok(found) => found,
-                    Err(fault) => return Err(fault),
-                };
+                let (token, rest) = whole_word(alloc, text, place, here, depth)?;
                 out.add(token)?;
                 place = rest;
             }
@@ -140,20 +141,42 @@ fn flush_last(parts: &mut List<RawPart>, fresh: bool, run: Bytes) -> Result<(), 
     flush_quoted(parts, run)
 }
 
-// A part behind a run of plain bytes.
-fn add_part(parts: &mut List<RawPart>, run: Bytes, part: RawPart) -> Result<(), Memory>
-    ensures { OnOk result (parts.new ≡ parts.old ++ (reading.plain_run run ++ part ∷ [])) }
+// A part behind a run of plain bytes, with its note; then a run begins.
+fn add_part(
+    alloc: Global,
+    parts: &mut List<RawPart>,
+    notes: &mut List<ByteNote>,
+    run: Bytes,
+    part: RawPart,
+    note: ByteNote,
+) -> Result<Bytes, Memory>
+    ensures next { IfOk result (λ next. next ≡ []) }
+    ensures parts { OnOk result (parts.new ≡ parts.old ++ (reading.plain_run run ++ part ∷ [])) }
+    ensures notes { OnOk result (notes.new ≡ notes.old ++ note ∷ []) }
 {
     flush_plain(parts, run)?;
-    parts.add(part)
+    parts.add(part)?;
+    notes.add(note)?;
+    Ok(Bytes::new(alloc))
 }
 
-// A part in double quotes, behind a run of bytes that stand for themselves.
-fn add_quoted(parts: &mut List<RawPart>, run: Bytes, part: RawPart) -> Result<(), Memory>
-    ensures { OnOk result (parts.new ≡ parts.old ++ (reading.quoted_run run ++ part ∷ [])) }
+// A part in double quotes, behind a run of bytes that stand for themselves, with its note; then a run begins.
+fn add_quoted(
+    alloc: Global,
+    parts: &mut List<RawPart>,
+    notes: &mut List<ByteNote>,
+    run: Bytes,
+    part: RawPart,
+    note: ByteNote,
+) -> Result<Bytes, Memory>
+    ensures next { IfOk result (λ next. next ≡ []) }
+    ensures parts { OnOk result (parts.new ≡ parts.old ++ (reading.quoted_run run ++ part ∷ [])) }
+    ensures notes { OnOk result (notes.new ≡ notes.old ++ note ∷ []) }
 {
     flush_quoted(parts, run)?;
-    parts.add(part)
+    parts.add(part)?;
+    notes.add(note)?;
+    Ok(Bytes::new(alloc))
 }
 
 // The part that a substitution is.
@@ -180,14 +203,11 @@ fn whole_word(
     requires small { length text.now < 2 ^ 32 }
     requires within { place ≤ length text.now }
     requires here { here ≤ length text.now }
-    requires shallow { depth ≤ 64 }
+    requires shallow { depth ≤ DEEPEST }
     ensures { TokenRead text.now depth place here result }
 {
-    let (parts, marks, rest) = match word(alloc, text, place, depth) {
-        Ok(found) => found,
-        Err(fault) => return Err(fault),
-    };
-    match late(depth, here as u32, marks.as_slice()) {
+    let (parts, notes, rest) = word(alloc, text, place, depth)?;
+    match late(depth, here as u32, notes.as_slice()) {
         Some(fault) => return Err(fault),
         None => (),
     }
@@ -198,21 +218,21 @@ fn whole_word(
     Ok((token, rest))
 }
 
-// A word, its marks, and the place behind it.
+// A word, its notes, and the place behind it.
 #[cycle(scanning)]
 fn word(
     alloc: Global,
     text: &[u8],
     at: usize,
     depth: usize,
-) -> Result<(List<RawPart>, List<Mark>, usize), LexFault>
+) -> Result<(List<RawPart>, List<ByteNote>, usize), LexFault>
     requires small { length text.now < 2 ^ 32 }
     requires within { at ≤ length text.now }
-    requires shallow { depth ≤ 64 }
+    requires shallow { depth ≤ DEEPEST }
     ensures { WordRead text.now depth at result }
 {
     let mut parts = List::new(alloc);
-    let mut marks = List::new(alloc);
+    let mut notes = List::new(alloc);
     let mut run = Bytes::new(alloc);
     let mut place = at;
     'parts: loop {
@@ -220,43 +240,32 @@ fn word(
         match look(alloc, text, here)? {
             Look::Ends => {
                 flush_plain(&mut parts, run)?;
-                return Ok((parts, marks, place));
+                return Ok((parts, notes, place));
             }
             Look::Byte(byte, rest) => {
                 run.push(byte)?;
-                marks.add(Mark::Plain(byte, here as u32))?;
+                notes.add(ByteNote::Plain(byte, here as u32))?;
                 place = rest;
             }
             Look::Piece(part, rest) => {
-                add_part(&mut parts, run, part)?;
-                marks.add(Mark::Gap)?;
-                run = Bytes::new(alloc);
+                run = add_part(alloc, &mut parts, &mut notes, run, part, ByteNote::Gap)?;
                 place = rest;
             }
             Look::AllArgs(rest) => {
-                add_part(&mut parts, run, RawPart::All)?;
-                marks.add(Mark::All(here as u32, false))?;
-                run = Bytes::new(alloc);
+                let note = ByteNote::All(here as u32, false);
+                run = add_part(alloc, &mut parts, &mut notes, run, RawPart::All, note)?;
                 place = rest;
             }
             Look::DoubleQuote(begin) => {
                 flush_plain(&mut parts, run)?;
-                let rest = match quoted(alloc, text, begin, depth, here, &mut parts, &mut marks) {
-                    Ok(rest) => rest,
-                    Err(fault) => return Err(fault),
-                };
-                marks.add(Mark::Gap)?;
+                place = quoted(alloc, text, begin, depth, here, &mut parts, &mut notes)?;
+                notes.add(ByteNote::Gap)?;
                 run = Bytes::new(alloc);
-                place = rest;
             }
             Look::Substitution(begin) => {
-                let (tokens, rest) = match substitution(alloc, text, begin, depth, here) {
-                    Ok(found) => found,
-                    Err(fault) => return Err(fault),
-                };
-                add_part(&mut parts, run, run_part(here, tokens, false))?;
-                marks.add(Mark::Gap)?;
-                run = Bytes::new(alloc);
+                let (tokens, rest) = substitution(alloc, text, begin, depth, here)?;
+                let part = run_part(here, tokens, false);
+                run = add_part(alloc, &mut parts, &mut notes, run, part, ByteNote::Gap)?;
                 place = rest;
             }
             Look::Bad(fault) => return Err(fault),
@@ -264,7 +273,8 @@ fn word(
     }
 }
 
-// What stands in double quotes that began at `from`, added to the parts and marks of the word; the place behind the closing quote.
+// What stands in double quotes that began at `from`, added to the parts and notes of the word; the place behind the
+// closing quote.
 #[cycle(scanning)]
 fn quoted(
     alloc: Global,
@@ -273,13 +283,13 @@ fn quoted(
     depth: usize,
     from: usize,
     parts: &mut List<RawPart>,
-    marks: &mut List<Mark>,
+    notes: &mut List<ByteNote>,
 ) -> Result<usize, LexFault>
     requires small { length text.now < 2 ^ 32 }
     requires within { at ≤ length text.now }
     requires began { from ≤ length text.now }
-    requires shallow { depth ≤ 64 }
-    ensures { InnerRead text.now depth from at parts.old parts.new marks.old marks.new result }
+    requires shallow { depth ≤ DEEPEST }
+    ensures { InnerRead text.now depth from at parts.old parts.new notes.old notes.new result }
 {
     let mut run = Bytes::new(alloc);
     let mut fresh = true;
@@ -294,31 +304,24 @@ fn quoted(
             }
             Look::Byte(byte, rest) => {
                 run.push(byte)?;
-                marks.add(Mark::Gap)?;
+                notes.add(ByteNote::Gap)?;
                 place = rest;
             }
             Look::Piece(part, rest) => {
-                add_quoted(parts, run, part)?;
-                marks.add(Mark::Gap)?;
-                run = Bytes::new(alloc);
+                run = add_quoted(alloc, parts, notes, run, part, ByteNote::Gap)?;
                 fresh = false;
                 place = rest;
             }
             Look::AllArgs(rest) => {
-                add_quoted(parts, run, RawPart::All)?;
-                marks.add(Mark::All(here as u32, true))?;
-                run = Bytes::new(alloc);
+                let note = ByteNote::All(here as u32, true);
+                run = add_quoted(alloc, parts, notes, run, RawPart::All, note)?;
                 fresh = false;
                 place = rest;
             }
             Look::Substitution(begin) => {
-                let (tokens, rest) = match substitution(alloc, text, begin, depth, here) {
-                    Ok(found) => found,
-                    Err(fault) => return Err(fault),
-                };
-                add_quoted(parts, run, run_part(here, tokens, true))?;
-                marks.add(Mark::Gap)?;
-                run = Bytes::new(alloc);
+                let (tokens, rest) = substitution(alloc, text, begin, depth, here)?;
+                let part = run_part(here, tokens, true);
+                run = add_quoted(alloc, parts, notes, run, part, ByteNote::Gap)?;
                 fresh = false;
                 place = rest;
             }
@@ -339,14 +342,11 @@ fn substitution(
     requires small { length text.now < 2 ^ 32 }
     requires within { at ≤ length text.now }
     requires began { from ≤ length text.now }
-    requires shallow { depth ≤ 64 }
+    requires shallow { depth ≤ DEEPEST }
     ensures { SubRead text.now depth from at result }
 {
-    if depth >= 64 {
+    if depth >= DEEPEST {
         return Err(LexFault::Deep { at: from as u32 });
     }
-    match items(alloc, text, at, depth + 1, from) {
-        Ok(found) => Ok(found),
-        Err(fault) => Err(fault),
-    }
+    items(alloc, text, at, depth + 1, from)
 }

@@ -45,10 +45,10 @@ pub(crate) enum Look {
     Bad(LexFault),
 }
 
-/// What a whole word is looked over by: each plain byte with its place, each `$@` with its place and whether it is quoted,
-/// and what stands between two plain bytes that are no neighbours.
+/// What a whole word is looked over by: each plain byte with its place, each `$@` with its place and whether it is
+/// quoted, and what stands between two plain bytes that are no neighbours.
 #[derive(Clone, Copy, Debug, PartialEq, Eq)]
-pub(crate) enum Mark {
+pub(crate) enum ByteNote {
     Gap,
     Plain(u8, u32),
     All(u32, bool),

@@ -1,7 +1,8 @@
-//! Texts and their tokens by hand (tests/rows.rt), in a printed form: `strict ` where the first line has `-e`, and a token as its
-//! offset, `:` and its spelling. A word is its parts: `[plain]`, `<quoted>`, `$name`, `${name:-default}`, `$at(tokens)`, each
-//! expansion in `"` where it is quoted, and `"$@"`. A newline is `nl`, a redirection `>null`, `2>null`, `<null`, `>&2` or
-//! `2>&1`. A fault is its name and its offset. Where there is neither, `no tokens`.
+//! Texts and their tokens by hand (tests/rows.rt), in a printed form: `strict ` where the first line has `-e`, and a
+//! token as its offset, `:` and its spelling. A word is its parts: `[plain]`, `<quoted>`, `$name`,
+//! `${name:-default}`, `$at(tokens)`, each expansion in `"` where it is quoted, and `"$@"`. A newline is `nl`, a
+//! redirection `>null`, `2>null`, `<null`, `>&2` or `2>&1`. A fault is its name and its offset. Where there is
+//! neither, `no tokens`.
 
 mod rows;
 
@@ -15,6 +16,12 @@ use script_names::{Bytes, Copied, List, Memory};
 use shell_syntax::{Form, Key, Redirect};
 use std::alloc::Global;
 use std::test::Fail;
+
+// The first line of most texts.
+const FIRST_LINE: &[u8] = b"#!/bin/sh\n";
+
+// The offset behind it.
+const BODY: u32 = 10;
 
 // The name of a form.
 fn form_name(form: Form) -> &'static str {
@@ -59,7 +66,7 @@ fn show_fault(alloc: Global, out: &mut Bytes, fault: LexFault) -> Result<(), Mem
     show_number(alloc, out, at)
 }
 
-// Bytes between two marks.
+// Bytes between an opening and a closing byte.
 fn show_bytes(out: &mut Bytes, open: u8, bytes: &Bytes, close: u8) -> Result<(), Memory> {
     out.push(open)?;
     out.extend(bytes.as_slice())?;
@@ -149,10 +156,12 @@ fn show_token(alloc: Global, out: &mut Bytes, token: &Token) -> Result<(), Memor
     show_number(alloc, out, token.at)?;
     out.push(b':')?;
     out.extend(spelling(&token.kind).as_bytes())?;
-    match &token.kind {
+    let kind = token.kind.copy(alloc)?;
+    match &kind {
         TokenKind::Word(parts) => {
             for part in parts.as_slice() {
-                show_part(alloc, out, part)?;
+                let part = part.copy(alloc)?;
+                show_part(alloc, out, &part)?;
             }
             Ok(())
         }
@@ -244,7 +253,7 @@ fn texts_have_their_tokens_or_faults(rt: HostRuntime) -> Result<(), Fail> {
     let alloc = rt.alloc();
     for table in TABLES {
         for row in table.lines() {
-            let right = holds(alloc, b"#!/bin/sh\n", row)?;
+            let right = holds(alloc, FIRST_LINE, row)?;
             assert!(rt; right, "{row}");
         }
     }
@@ -278,7 +287,7 @@ fn repeat(out: &mut Bytes, piece: &str, count: u32) -> Result<(), Memory> {
 
 // A piece again and again, and what is left.
 fn opened(alloc: Global, piece: &str, count: u32, rest: &str) -> Result<Bytes, Memory> {
-    let mut text = Bytes::from_slice(alloc, b"#!/bin/sh\n")?;
+    let mut text = Bytes::from_slice(alloc, FIRST_LINE)?;
     repeat(&mut text, piece, count)?;
     text.extend(rest.as_bytes())?;
     Ok(text)
@@ -301,12 +310,33 @@ fn open_substitutions_have_their_faults(rt: HostRuntime) -> Result<(), Fail> {
     Ok(())
 }
 
+// How many tokens a text has, and its end.
+fn size(alloc: Global, text: &[u8]) -> Result<(usize, u32), Memory> {
+    match lex(alloc, text) {
+        Ok(lexed) => Ok((lexed.tokens.len(), lexed.end)),
+        Err(fault) => {
+            let (_name, at) = fault_parts(fault)?;
+            Ok((0, at))
+        }
+    }
+}
+
+#[test]
+fn a_text_of_a_mebibyte_has_its_tokens(rt: HostRuntime) -> Result<(), Fail> {
+    let alloc = rt.alloc();
+    let text = opened(alloc, "word ", 209_713, "a")?;
+    let (count, end) = size(alloc, text.as_slice())?;
+    assert!(rt; count == 209_714);
+    assert!(rt; end == 1_048_576);
+    Ok(())
+}
+
 // What 64 substitutions inside one another round the word `a` are cut into, each in double quotes or none.
 fn nested_form(alloc: Global, quoted: bool) -> Result<Bytes, Memory> {
     let step = if quoted { 3u32 } else { 2u32 };
     let mut out = Bytes::new(alloc);
     for level in 0..64u32 {
-        let at = 10 + level * step;
+        let at = BODY + level * step;
         show_number(alloc, &mut out, at)?;
         out.push(b':')?;
         show_quote(&mut out, quoted)?;
@@ -314,7 +344,7 @@ fn nested_form(alloc: Global, quoted: bool) -> Result<Bytes, Memory> {
         show_number(alloc, &mut out, at + step - 2)?;
         out.push(b'(')?;
     }
-    show_number(alloc, &mut out, 10 + 64 * step)?;
+    show_number(alloc, &mut out, BODY + 64 * step)?;
     out.extend(b":[a]")?;
     repeat(&mut out, if quoted { ")\"" } else { ")" }, 64)?;
     Ok(out)

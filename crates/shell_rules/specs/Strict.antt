@@ -15,7 +15,8 @@ use Rattle.shell_rules.specs.declared.run.End.TheVariants.{Status, Stopped, Boun
 use Rattle.shell_rules.specs.declared.run.Run.{Run}
 use Rattle.shell_rules.specs.declared.command.Command.{Command}
 
--- how an act ends its command: a success or a yes is success, or where it is negated failure; a stop ends it at its site
+-- how an act ends its command: a success or a yes is success, or where it is negated failure; a stop ends it at its
+-- site
 abbrev pub asked : Bool → Site → Done → End
 asked negate site done.Ok = Status (not negate)
 asked negate site done.Failed = Status negate

@@ -17,7 +17,8 @@ pub enum Form {
     Backquote,
     /// Any other parameter expansion (XCU 2.6.2 Parameter Expansion), or `$` before an opening quote outside quotes.
     Param,
-    /// `$@` elsewhere than as the word `"$@"`; that word as the word or as a pattern of a `case` (XCU 2.5.2 Special Parameters).
+    /// `$@` elsewhere than as the word `"$@"`; that word as the word or as a pattern of a `case` (XCU 2.5.2 Special
+    /// Parameters).
     AllArgs,
     /// Any other `<` or `>` (XCU 2.7 Redirection).
     Redirect,
@@ -25,7 +26,8 @@ pub enum Form {
     Tilde,
     /// An unquoted `{` with an unquoted `,` or `..` after it in one word, which some shells expand.
     Brace,
-    /// The unquoted word `case` in a command substitution (XCU 2.6.3 Command Substitution, 2.9.4.3 Case Conditional Construct).
+    /// The unquoted word `case` in a command substitution (XCU 2.6.3 Command Substitution, 2.9.4.3 Case Conditional
+    /// Construct).
     SubstCase,
     /// `set` with other words than the one word `-e` or `+e` (XCU 2.14 Special Built-In Utilities, set).
     Option,
@@ -35,9 +37,11 @@ pub enum Form {
     Prefix,
     /// An operand of `export` with an unquoted expansion (XCU 2.14 Special Built-In Utilities, export).
     Export,
-    /// `break` or `continue` with a further word, or outside a loop (XCU 2.14 Special Built-In Utilities, break, continue).
+    /// `break` or `continue` with a further word, or outside a loop (XCU 2.14 Special Built-In Utilities, break,
+    /// continue).
     LoopExit,
-    /// `return` outside a function's body, or in a subshell or substitution of it (XCU 2.14 Special Built-In Utilities, return).
+    /// `return` outside a function's body, or in a subshell or substitution of it (XCU 2.14 Special Built-In
+    /// Utilities, return).
     Return,
     /// A function that is defined elsewhere than in the script's own list (XCU 2.9.5 Function Definition Command).
     FunctionPlace,
@@ -45,7 +49,8 @@ pub enum Form {
     FunctionTwice,
     /// A definition of a name that a utility or a built-in has (XCU 2.9.5 Function Definition Command).
     FunctionName,
-    /// In a function's body, a call of itself or of a function that is defined later (XCU 2.9.5 Function Definition Command).
+    /// In a function's body, a call of itself or of a function that is defined later (XCU 2.9.5 Function Definition
+    /// Command).
     CallOrder,
 }
 

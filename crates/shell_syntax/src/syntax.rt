@@ -78,14 +78,15 @@ pub enum Command {
     },
     /// Commands that are run one after another (XCU 2.9.3 Lists, Sequential Lists).
     Seq(List<Command>),
-    /// The conditions of `if` and `elif` with their bodies, and the body of `else` (XCU 2.9.4.4 The if Conditional Construct).
+    /// The conditions of `if` and `elif` with their bodies, and the body of `else` (XCU 2.9.4.4 The if Conditional
+    /// Construct).
     If {
         at: u32,
         arms: List<IfArm>,
         otherwise: Option<Box<Command>>,
     },
-    /// A variable's name, the words that it goes over, and the body; without `in` it goes over the positional parameters
-    /// (XCU 2.9.4.2 The for Loop).
+    /// A variable's name, the words that it goes over, and the body; without `in` it goes over the positional
+    /// parameters (XCU 2.9.4.2 The for Loop).
     For {
         at: u32,
         name: Bytes,
@@ -134,7 +135,8 @@ pub struct IfArm {
     pub body: Command,
 }
 
-/// The patterns of an arm of `case`, and what is run where one of them matches (XCU 2.9.4.3 Case Conditional Construct).
+/// The patterns of an arm of `case`, and what is run where one of them matches (XCU 2.9.4.3 Case Conditional
+/// Construct).
 #[cycle(syntax)]
 #[derive(Drop)]
 pub struct CaseArm {

@@ -1,5 +1,8 @@
 pub mod Cuts
+pub mod KeptBytes
 pub mod Matching
 pub mod Named
+pub mod PlainPatterns
+pub mod QuotedWords
 pub mod Reading
 pub mod Trims

@@ -22,7 +22,7 @@ drop-none zero = refl
 drop-none (suc n) = refl
 
 -- without items, the string is empty
-only-none : (text : List ℕ) → Matches [] text → text ≡ []
+pub only-none : (text : List ℕ) → Matches [] text → text ≡ []
 only-none _ matches_end = refl
 
 -- a `*` stands for the first n bytes, for some n
@@ -36,13 +36,13 @@ by-star others text n m = matches_star (take n text) (drop n text) (sym (take-ap
 
 -- any other item stands for the first byte
 pub record First (item : Item) (others : List Item) (text : List ℕ) : Type 0 where
-  byte : ℕ
-  rest : List ℕ
-  is : text ≡ byte ∷ rest
-  stands : allows item byte ≡ true
-  matched : Matches others rest
+  pub byte : ℕ
+  pub rest : List ℕ
+  pub is : text ≡ byte ∷ rest
+  pub stands : allows item byte ≡ true
+  pub matched : Matches others rest
 
-only-byte : (item : Item) (others : List Item) (text : List ℕ) → Matches (item ∷ others) text → is_star item ≡ false → First item others text
+pub only-byte : (item : Item) (others : List Item) (text : List ℕ) → Matches (item ∷ others) text → is_star item ≡ false → First item others text
 only-byte item others _ (matches_byte h m) no_star = record { byte = _; rest = _; is = refl; stands = h; matched = m }
 only-byte _ others text (matches_star skipped rest e m) no_star = clash (sym no_star)
 
@@ -118,12 +118,12 @@ abbrev pub Left : Bool → List Item → List ℕ → Type 0
 Left true items text = Matches (Star ∷ items) text
 Left false items text = Matches items text
 
-pub left-matched : (floats : Bool) (items : List Item) (text : List ℕ) → Matches items text → Left floats items text
+pub left-matched : (behind_star : Bool) (items : List Item) (text : List ℕ) → Matches items text → Left behind_star items text
 left-matched true items text m = by-star items text 0 m
 left-matched false items text m = m
 
 -- no match here, and the string is at its end
-pub left-never : (floats : Bool) (items : List Item) (text : List ℕ) → (Matches items text → ⊥) → ((floats ≡ false) ⊎ (text ≡ [])) → Left floats items text → ⊥
+pub left-never : (behind_star : Bool) (items : List Item) (text : List ℕ) → (Matches items text → ⊥) → ((behind_star ≡ false) ⊎ (text ≡ [])) → Left behind_star items text → ⊥
 left-never true items text never (inl e) m = absurd (cc e)
 left-never true items text never (inr e) m =
     let s = only-star items text m in
@@ -148,10 +148,10 @@ later-enough items text m =
 
 -- up to the next `*`
 module _ (items others : List Item) (text : List ℕ) (n : ℕ) (stands : Stands n items text) (star : drop n items ≡ Star ∷ others) where
-  pub star-enough : (floats : Bool) → Matches (Star ∷ others) (drop n text) → Left floats items text
-  star-enough floats m = left-matched floats items text (by-stands n items text stands (subst (λ is. Matches is (drop n text)) (sym star) m))
+  pub star-enough : (behind_star : Bool) → Matches (Star ∷ others) (drop n text) → Left behind_star items text
+  star-enough behind_star m = left-matched behind_star items text (by-stands n items text stands (subst (λ is. Matches is (drop n text)) (sym star) m))
 
-  pub star-only : (floats : Bool) → Left floats items text → Matches (Star ∷ others) (drop n text)
+  pub star-only : (behind_star : Bool) → Left behind_star items text → Matches (Star ∷ others) (drop n text)
   star-only false m = subst (λ is. Matches is (drop n text)) star (skip n items text text stands m)
   star-only true m =
       let s = only-star items text m in
@@ -164,7 +164,7 @@ module _ (items others : List Item) (text : List ℕ) (n : ℕ) (stands : Stands
       turned a b c = omega arith
 
 -- the same of places in the items and in the string
-module _ (items : List Item) (text : List ℕ) (from at : ℕ) (floats : Bool) where
+module _ (items : List Item) (text : List ℕ) (from at : ℕ) (behind_star : Bool) where
   abbrev now_items : List Item
   now_items = take (length items - from) (drop from items)
 
@@ -172,7 +172,7 @@ module _ (items : List Item) (text : List ℕ) (from at : ℕ) (floats : Bool) w
   now_text = take (length text - at) (drop at text)
 
   abbrev pub Now : Type 0
-  Now = Left floats (drop from items) (drop at text)
+  Now = Left behind_star (drop from items) (drop at text)
 
   here-only : Matches now_items now_text → Matches (drop from items) (drop at text)
   here-only m = subst (λ is. Matches is (drop at text)) (take_rest items from) (subst (Matches now_items) (take_rest text at) m)
@@ -181,22 +181,22 @@ module _ (items : List Item) (text : List ℕ) (from at : ℕ) (floats : Bool) w
   here-enough m = subst (λ is. Matches is now_text) (sym (take_rest items from)) (subst (Matches (drop from items)) (sym (take_rest text at)) m)
 
   pub run-whole : (Now → Matches items text) → Matches now_items now_text → Matches items text
-  run-whole enough m = enough (left-matched floats (drop from items) (drop at text) (here-only m))
+  run-whole enough m = enough (left-matched behind_star (drop from items) (drop at text) (here-only m))
 
-  pub run-never : (Matches items text → Now) → (Matches now_items now_text → ⊥) → ((floats ≡ false) ⊎ (at ≡ length text)) → Matches items text → ⊥
-  run-never only never (inl e) m = left-never floats (drop from items) (drop at text) (λ k. never (here-enough k)) (inl e) (only m)
-  run-never only never (inr e) m = left-never floats (drop from items) (drop at text) (λ k. never (here-enough k)) (inr (drop_all at text (omega arith))) (only m)
+  pub run-never : (Matches items text → Now) → (Matches now_items now_text → ⊥) → ((behind_star ≡ false) ⊎ (at ≡ length text)) → Matches items text → ⊥
+  run-never only never (inl e) m = left-never behind_star (drop from items) (drop at text) (λ k. never (here-enough k)) (inl e) (only m)
+  run-never only never (inr e) m = left-never behind_star (drop from items) (drop at text) (λ k. never (here-enough k)) (inr (drop_all at text (omega arith))) (only m)
 
   one-later : drop 1 (drop at text) ≡ drop (at + 1) text
   one-later = drop-drop 1 at text
 
-  pub run-later-only : (Matches items text → Now) → (Matches now_items now_text → ⊥) → floats ≡ true → Matches items text → Left floats (drop from items) (drop (at + 1) text)
+  pub run-later-only : (Matches items text → Now) → (Matches now_items now_text → ⊥) → behind_star ≡ true → Matches items text → Left behind_star (drop from items) (drop (at + 1) text)
   run-later-only only never e m =
       let now : Left true (drop from items) (drop at text) = subst (λ f. Left f (drop from items) (drop at text)) e (only m) in
       let later = later-only (drop from items) (drop at text) (λ k. never (here-enough k)) now in
       subst (λ f. Left f (drop from items) (drop (at + 1) text)) (sym e) (subst (Left true (drop from items)) one-later later)
 
-  pub run-later-enough : (Now → Matches items text) → floats ≡ true → Left floats (drop from items) (drop (at + 1) text) → Matches items text
+  pub run-later-enough : (Now → Matches items text) → behind_star ≡ true → Left behind_star (drop from items) (drop (at + 1) text) → Matches items text
   run-later-enough enough e m =
       let later : Left true (drop from items) (drop (at + 1) text) = subst (λ f. Left f (drop from items) (drop (at + 1) text)) e m in
       enough (subst (λ f. Left f (drop from items) (drop at text)) (sym e) (later-enough (drop from items) (drop at text) (subst (Left true (drop from items)) (sym one-later) later)))
@@ -210,15 +210,15 @@ module _ (items : List Item) (text : List ℕ) (from at : ℕ) (floats : Bool) w
     behind-text : drop n now_text ≡ drop (at + n) text
     behind-text = ap (drop n) (take_rest text at) ∙ drop-drop n at text
 
-    now_left : Left floats now_items now_text ≡ Now
-    now_left = ap (λ is. Left floats is now_text) (take_rest items from) ∙ ap (Left floats (drop from items)) (take_rest text at)
+    now_left : Left behind_star now_items now_text ≡ Now
+    now_left = ap (λ is. Left behind_star is now_text) (take_rest items from) ∙ ap (Left behind_star (drop from items)) (take_rest text at)
 
     pub run-star-only : (Matches items text → Now) → Matches items text → Matches (Star ∷ drop ((from + n) + 1) items) (drop (at + n) text)
     run-star-only only m =
-        let here = star-only now_items others now_text n stands star floats (subst (λ t. t) (sym now_left) (only m)) in
+        let here = star-only now_items others now_text n stands star behind_star (subst (λ t. t) (sym now_left) (only m)) in
         subst (λ is. Matches (Star ∷ is) (drop (at + n) text)) behind-items (subst (Matches (Star ∷ others)) behind-text here)
 
     pub run-star-enough : (Now → Matches items text) → Matches (Star ∷ drop ((from + n) + 1) items) (drop (at + n) text) → Matches items text
     run-star-enough enough m =
         let here = subst (Matches (Star ∷ others)) (sym behind-text) (subst (λ is. Matches (Star ∷ is) (drop (at + n) text)) (sym behind-items) m) in
-        enough (subst (λ t. t) now_left (star-enough now_items others now_text n stands star floats here))
+        enough (subst (λ t. t) now_left (star-enough now_items others now_text n stands star behind_star here))

@@ -1,8 +1,10 @@
--- The fields of a word, and its string (POSIX.1-2017, XCU 2.6.5 Field Splitting; 2.6.6 for what an active glob byte would do).
-use Rattle.std.specs.Prelude.{◌≡◌, ℕ, Bool, true, false, List, [], ◌∷◌, ◌++◌, length, nat_lt, Result, Ok, Err, if◌then◌else◌}
+-- The fields of a word, and its string (POSIX.1-2017, XCU 2.6.5 Field Splitting; 2.6.6 on active glob bytes).
+use Rattle.std.specs.Prelude.{◌≡◌, ℕ, Bool, true, false, List, [], ◌∷◌, ◌++◌, length, nat_lt}
+use Rattle.std.specs.Prelude.{Result, Ok, Err, if◌then◌else◌}
 use Rattle.std.specs.List.{filter}
 use Rattle.shell_words.specs.declared.letter.Letter.{Letter}
 use Rattle.shell_words.specs.declared.fault.WordFault.{WordFault}
+use Rattle.shell_words.specs.declared.field.TheConstants.{STRING_LIMIT}
 use Rattle.shell_words.specs.declared.fault.WordFault.TheVariants.{Long, Glob, Pattern, Memory}
 use Rattle.shell_words.specs.Pieces.{PieceParts}
 use Rattle.shell_words.specs.Words.{is_blank, bytes_of, has_glob}
@@ -24,11 +26,14 @@ has_letter (x ∷ rest) = true
 
 -- a string, or Long where it has more than 65,536 bytes
 abbrev pub short : List ℕ → Result (List ℕ) WordFault
-short text = if nat_lt 65536 (length text) then Err Long else Ok text
+short text = if nat_lt STRING_LIMIT (length text) then Err Long else Ok text
 
 -- the bytes of a field, or its fault; that it is too long comes before its glob byte
 abbrev pub field_value : List Letter → Result (List ℕ) WordFault
-field_value part = if nat_lt 65536 (length (bytes_of part)) then Err Long else (if has_glob part then Err Glob else Ok (bytes_of part))
+field_value part =
+    if nat_lt STRING_LIMIT (length (bytes_of part))
+    then Err Long
+    else (if has_glob part then Err Glob else Ok (bytes_of part))
 
 -- a value, and then those of a list that is collected already; a fault of the first comes first
 abbrev pub then_all : Result (List ℕ) WordFault → Result (List (List ℕ)) WordFault → Result (List (List ℕ)) WordFault
@@ -66,8 +71,12 @@ behind fields (Err fault) = Err fault
 -- one more part was taken: the fields that are wanted from there on stay the same, whatever parts follow
 abbrev pub Adds : List (List ℕ) → List (List ℕ) → List Letter → Result (Unit {0}) WordFault → Type 0
 Adds old new part (Ok _) =
-    (rest : List (List Letter)) → behind old (collected (filter has_letter (part ∷ rest))) ≡ behind new (collected (filter has_letter rest))
-Adds old new part (Err Long) = (rest : List (List Letter)) → collected (filter has_letter (part ∷ rest)) ≡ Err Long
-Adds old new part (Err Glob) = (rest : List (List Letter)) → collected (filter has_letter (part ∷ rest)) ≡ Err Glob
-Adds old new part (Err Pattern) = (rest : List (List Letter)) → collected (filter has_letter (part ∷ rest)) ≡ Err Pattern
+    (rest : List (List Letter))
+    → behind old (collected (filter has_letter (part ∷ rest))) ≡ behind new (collected (filter has_letter rest))
+Adds old new part (Err Long) =
+    (rest : List (List Letter)) → collected (filter has_letter (part ∷ rest)) ≡ Err Long
+Adds old new part (Err Glob) =
+    (rest : List (List Letter)) → collected (filter has_letter (part ∷ rest)) ≡ Err Glob
+Adds old new part (Err Pattern) =
+    (rest : List (List Letter)) → collected (filter has_letter (part ∷ rest)) ≡ Err Pattern
 Adds old new part (Err Memory) = Unit {0}

@@ -1,4 +1,5 @@
 pub mod Fields
+pub mod Laws
 pub mod Named
 pub mod Patterns
 pub mod Pieces

@@ -1,5 +1,7 @@
 -- Patterns (POSIX.1-2017, XCU 2.13 Pattern Matching Notation).
-use Rattle.std.specs.Prelude.{◌≡◌, ◌↔◌, ℕ, suc, zero, ◌+◌, Bool, true, false, not, List, [], ◌∷◌, ◌++◌, take, drop, map, nat_eq, nat_le, nat_lt, ◌||◌, ◌&&◌, Option, Some, None, option_map, Result, Ok, Err, IsTrue, if◌then◌else◌}
+use Rattle.std.specs.Prelude.{◌≡◌, ◌↔◌, ℕ, suc, zero, ◌+◌, nat_eq, nat_le, nat_lt, List, [], ◌∷◌, ◌++◌, take, drop, map}
+use Rattle.std.specs.Prelude.{Bool, true, false, not, ◌||◌, ◌&&◌, IsTrue, if◌then◌else◌}
+use Rattle.std.specs.Prelude.{Option, Some, None, option_map, Result, Ok, Err}
 use Rattle.std.specs.List.{list_any}
 use Rattle.shell_words.specs.declared.letter.Letter.{Letter}
 use Rattle.shell_words.specs.declared.letter.Letter.TheVariants.{Quote, Quoted, Plain, Split}
@@ -33,10 +35,11 @@ begins_with byte [] = false
 begins_with byte (x ∷ rest) = is_unquoted byte x
 
 -- how many letters the `!` of a negated set takes behind its `[`: an unquoted `!` that comes first is one
-abbrev pub bangs : List Letter → ℕ
-bangs rest = if begins_with 33 rest then 1 else 0
+abbrev pub negation_size : List Letter → ℕ
+negation_size rest = if begins_with 33 rest then 1 else 0
 
--- how many letters the set has that begins with these: the first is one whatever it is, a `]` too, and then all before the next unquoted `]`
+-- how many letters the set has that begins with these: the first is one whatever it is, a `]` too, and then all before
+-- the next unquoted `]`
 abbrev pub set_size : List Letter → Option ℕ
 set_size [] = None
 set_size (x ∷ rest) = option_map suc (closes_at rest)
@@ -44,7 +47,7 @@ set_size (x ∷ rest) = option_map suc (closes_at rest)
 -- the set behind a `[`, and how many letters it takes behind the `[`; a `[` that no `]` closes stands for itself
 abbrev pub set_of : List Letter → Option ℕ → Item × ℕ
 set_of rest None = (Byte 91, 0)
-set_of rest (Some n) = (Set (begins_with 33 rest) (take n (drop (bangs rest) rest)), bangs rest + suc n)
+set_of rest (Some n) = (Set (begins_with 33 rest) (take n (drop (negation_size rest) rest)), negation_size rest + suc n)
 
 -- the item that a letter begins, by the letters behind it, and how many of those it takes
 abbrev pub item_at : Letter → List Letter → Item × ℕ
@@ -53,7 +56,7 @@ item_at x rest =
     then (Star, 0)
     else (if is_unquoted 63 x
     then (Any, 0)
-    else (if is_unquoted 91 x then set_of rest (set_size (drop (bangs rest) rest)) else (Byte (code x), 0)))
+    else (if is_unquoted 91 x then set_of rest (set_size (drop (negation_size rest) rest)) else (Byte (code x), 0)))
 
 -- the items of a pattern from left to right, behind letters that the item before has taken
 abbrev pub items_behind : ℕ → List Letter → List Item
@@ -65,12 +68,14 @@ items_behind (suc n) (x ∷ rest) = items_behind n rest
 abbrev pub items : List Letter → List Item
 items letters = items_behind 0 letters
 
--- the ranges that a set's letters spell: a letter, an unquoted `-` and a letter are one, any other letter is one of its own
+-- the ranges that a set's letters spell: a letter, an unquoted `-` and a letter are one, any other letter is one of its
+-- own
 abbrev pub ranges : List Letter → List (ℕ × ℕ)
 ranges [] = []
 ranges (x ∷ []) = (code x, code x) ∷ []
 ranges (x ∷ y ∷ []) = (code x, code x) ∷ (code y, code y) ∷ []
-ranges (x ∷ y ∷ z ∷ rest) = if is_unquoted 45 y then (code x, code z) ∷ ranges rest else (code x, code x) ∷ ranges (y ∷ z ∷ rest)
+ranges (x ∷ y ∷ z ∷ rest) =
+    if is_unquoted 45 y then (code x, code z) ∷ ranges rest else (code x, code x) ∷ ranges (y ∷ z ∷ rest)
 
 -- whether a byte is in a range
 abbrev pub is_within : ℕ → ℕ × ℕ → Bool
@@ -81,14 +86,17 @@ abbrev pub allows : Item → ℕ → Bool
 allows (Byte c) b = nat_eq c b
 allows Any b = true
 allows Star b = false
-allows (Set negated letters) b = if negated then not (list_any (is_within b) (ranges letters)) else list_any (is_within b) (ranges letters)
+allows (Set negated letters) b =
+    if negated then not (list_any (is_within b) (ranges letters)) else list_any (is_within b) (ranges letters)
 
--- which strings some items match: none is left on both sides; or the first item stands for the first byte, and the others match
--- the rest; or `*` stands for some bytes, and the others match the rest
+-- which strings some items match: none is left on both sides; or the first item stands for the first byte, and the
+-- others match the rest; or `*` stands for some bytes, and the others match the rest
 pub data Matches : List Item → List ℕ → Type 0 where
   matches_end : Matches [] []
-  matches_byte : {item : Item} {others : List Item} {b : ℕ} {rest : List ℕ} → allows item b ≡ true → Matches others rest → Matches (item ∷ others) (b ∷ rest)
-  matches_star : {others : List Item} {text : List ℕ} (skipped rest : List ℕ) → text ≡ skipped ++ rest → Matches others rest → Matches (Star ∷ others) text
+  matches_byte : {item : Item} {others : List Item} {b : ℕ} {rest : List ℕ}
+      → allows item b ≡ true → Matches others rest → Matches (item ∷ others) (b ∷ rest)
+  matches_star : {others : List Item} {text : List ℕ} (skipped rest : List ℕ)
+      → text ≡ skipped ++ rest → Matches others rest → Matches (Star ∷ others) text
 
 -- whether two unquoted bytes stand side by side somewhere
 abbrev pub has_pair : ℕ → ℕ → List Letter → Bool
@@ -114,9 +122,11 @@ is_left_out_item Star = false
 is_left_out_item (Set negated letters) =
     has_pair 91 58 letters || has_pair 91 46 letters || has_pair 91 61 letters || list_any is_falling (ranges letters)
 
--- a pattern with a shape that is left out, because shells read it differently: `[^` anywhere, a `\` that an expansion gave, or such a set
+-- a pattern with a shape that is left out, because shells read it differently: `[^` anywhere, a `\` that an expansion
+-- gave, or such a set
 abbrev pub is_left_out : List Letter → Bool
-is_left_out letters = has_pair 91 94 letters || list_any is_split_backslash letters || list_any is_left_out_item (items letters)
+is_left_out letters =
+    has_pair 91 94 letters || list_any is_split_backslash letters || list_any is_left_out_item (items letters)
 
 -- the answer on a pattern and a string: Pattern exactly where a shape is left out, else whether the pattern matches
 abbrev pub Decides : Result Bool WordFault → List Letter → List ℕ → Type 0

@@ -22,6 +22,7 @@ Stands (suc n) (item ∷ others) (b ∷ rest) = (allows item b ≡ true) × Stan
 
 -- where a run ends: at a `*` behind n items; with both sides; or there is no match
 abbrev pub Reaches : Reach → List Item → List ℕ → Type 0
-Reaches (UpToStar n) items text = (others : List Item) × (n < length items) × (n ≤ length text) × Stands n items text × (drop n items ≡ Star ∷ others)
+Reaches (UpToStar n) items text =
+    (others : List Item) × (n < length items) × (n ≤ length text) × Stands n items text × (drop n items ≡ Star ∷ others)
 Reaches Whole items text = Matches items text
 Reaches Nowhere items text = Matches items text → ⊥

@@ -1,7 +1,8 @@
 -- What a command substitution gives (POSIX.1-2017, XCU 2.6.3 Command Substitution).
 use Rattle.std.specs.Prelude.{◌≡◌, ℕ, List, [], ◌∷◌, ◌++◌, replicate}
 
--- a text without the newlines at its end: what is left and some newlines are the text, and what is left doesn't end in a newline
+-- a text without the newlines at its end: what is left and some newlines are the text, and what is left does not end
+-- in a newline
 pub record IsTrimmed (text left : List ℕ) : Type 0 where
   pub newlines : ℕ
   pub whole : text ≡ left ++ replicate newlines 10

@@ -9,7 +9,8 @@ use Rattle.shell_words.specs.Pieces.{PieceParts}
 abbrev pub marked : Bool → Bool → ℕ → Letter
 marked quoted split b = if quoted then Quoted b else (if split then Split b else Plain b)
 
--- the letters of a piece: its bytes with its mark. A quoted piece begins with a letter of its own, so that one without bytes is seen
+-- the letters of a piece: its bytes with its mark. A quoted piece begins with a letter of its own, so that one
+-- without bytes is seen
 abbrev pub letters_of : PieceParts → List Letter
 letters_of p = (if p.quoted then Quote ∷ [] else []) ++ map (marked p.quoted p.split) p.text
 
@@ -44,8 +45,10 @@ abbrev pub bytes_of : List Letter → List ℕ
 bytes_of [] = []
 bytes_of (x ∷ rest) = byte_of x ++ bytes_of rest
 
--- whether some letters have an active glob byte: an unquoted `*` or `?`, or an unquoted `[` with an unquoted `]` behind it
+-- whether some letters have an active glob byte: an unquoted `*` or `?`, or an unquoted `[` with an unquoted `]`
+-- behind it
 abbrev pub has_glob : List Letter → Bool
 has_glob [] = false
 has_glob (x ∷ rest) =
-    is_unquoted 42 x || is_unquoted 63 x || (is_unquoted 91 x && list_any (is_unquoted 93) rest) || has_glob rest
+    is_unquoted 42 x || is_unquoted 63 x || (is_unquoted 91 x && list_any (is_unquoted 93) rest)
+    || has_glob rest

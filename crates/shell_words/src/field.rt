@@ -1,5 +1,5 @@
-ghost use Rattle.std.specs.Prelude.{◌≡◌, ◌∷◌, ◌++◌, true, List as Letters};
-ghost use Rattle.shell_words.specs.Words.{word, bytes_of, has_glob, is_blank};
+ghost use Rattle.std.specs.Prelude.{◌≡◌};
+ghost use Rattle.shell_words.specs.Words.{word, bytes_of, has_glob};
 ghost use Rattle.shell_words.specs.Fields.{Gives, Adds, fields_of, field_value, short, joined};
 
 use crate::fault::WordFault;
@@ -8,23 +8,18 @@ use crate::piece::Piece;
 use script_names::{Bytes, List};
 use std::alloc::Global;
 
-// The most bytes that a string may have.
-const LIMIT: usize = 65536;
+// The most bytes that a string of a shell may have here.
+pub const STRING_LIMIT: usize = 65536;
 
 /// The fields of a word in a command or a `for` list (POSIX.1-2017, XCU 2.6.5 Field Splitting, with the usual IFS).
-/// The first field that has more than 65,536 bytes (Long) or an active glob byte (Glob) is the fault, in one field Long.
+/// The first field that has more than 65,536 bytes (Long) or an active glob byte (Glob) is the fault; in one field
+/// Long comes first.
 pub fn fields(alloc: Global, pieces: &List<Piece>) -> Result<List<Bytes>, WordFault>
     ensures { Gives result (fields_of (word pieces.now)) }
 {
     let word = letters(alloc, pieces.as_slice())?;
     cut(alloc, word.as_slice())
 }
-
-/// Says of a run of blanks that it counts once, however long it is: one blank more in front of a blank changes no field.
-pub fn a_run_cuts_once()
-    ensures { (front rest : Letters Letter) (a b : Letter) → is_blank a ≡ true → is_blank b ≡ true
-        → fields_of (front ++ a ∷ b ∷ rest) ≡ fields_of (front ++ b ∷ rest) }
-{}
 
 // The fields of a word's letters: the parts between its blanks that have a byte or a quoted piece.
 fn cut(alloc: Global, word: &[Letter]) -> Result<List<Bytes>, WordFault>
@@ -34,16 +29,12 @@ fn cut(alloc: Global, word: &[Letter]) -> Result<List<Bytes>, WordFault>
     let mut from = 0;
     for (at, letter) in word.iter().enumerate() {
         if is_blank(letter) {
-            match add_field(alloc, &mut fields, &word[from..at]) {
-                Ok(()) => from = at + 1,
-                Err(fault) => return Err(fault),
-            }
+            add_field(alloc, &mut fields, &word[from..at])?;
+            from = at + 1;
         }
     }
-    match add_field(alloc, &mut fields, &word[from..]) {
-        Ok(()) => Ok(fields),
-        Err(fault) => Err(fault),
-    }
+    add_field(alloc, &mut fields, &word[from..])?;
+    Ok(fields)
 }
 
 // The field of a part, behind those that are there; a part with nothing gives none.
@@ -53,29 +44,20 @@ fn add_field(alloc: Global, fields: &mut List<Bytes>, part: &[Letter]) -> Result
     if part.is_empty() {
         return Ok(());
     }
-    match field(alloc, part) {
-        Ok(text) => {
-            fields.add(text)?;
-            Ok(())
-        }
-        Err(fault) => Err(fault),
-    }
+    let text = field(alloc, part)?;
+    fields.add(text)?;
+    Ok(())
 }
 
 // The bytes of a part, or its fault: too long comes before an active glob byte.
 fn field(alloc: Global, part: &[Letter]) -> Result<Bytes, WordFault>
     ensures { Gives result (field_value part.now) }
 {
-    match bytes(alloc, part) {
-        Ok(text) => {
-            if has_glob(part) {
-                Err(WordFault::Glob)
-            } else {
-                Ok(text)
-            }
-        }
-        Err(fault) => Err(fault),
+    let text = bytes(alloc, part)?;
+    if has_glob(part) {
+        return Err(WordFault::Glob);
     }
+    Ok(text)
 }
 
 // The bytes of a part, at most 65,536.
@@ -87,7 +69,7 @@ fn bytes(alloc: Global, part: &[Letter]) -> Result<Bytes, WordFault>
         match letter {
             Letter::Quote => {}
             Letter::Quoted(b) | Letter::Plain(b) | Letter::Split(b) => {
-                if text.len() == LIMIT {
+                if text.len() == STRING_LIMIT {
                     return Err(WordFault::Long);
                 }
                 text.push(*b)?;
@@ -123,7 +105,7 @@ pub fn join(alloc: Global, pieces: &List<Piece>) -> Result<Bytes, WordFault>
 {
     let mut text = Bytes::new(alloc);
     for piece in pieces.as_slice() {
-        if piece.text.len() > LIMIT - text.len() {
+        if piece.text.len() > STRING_LIMIT - text.len() {
             return Err(WordFault::Long);
         }
         text.extend(piece.text.as_slice())?;

@@ -3,7 +3,7 @@ ghost use Rattle.shell_words.specs.Words.{word, letters_of, marked, is_blank, is
 ghost use Rattle.shell_words.specs.Patterns.{pattern_letters};
 
 use crate::piece::Piece;
-use script_names::{Copied, List, Memory};
+use script_names::{List, Memory};
 use std::alloc::Global;
 
 /// A letter of a word: a byte with the mark of its piece, or the place where a quoted piece begins.
@@ -13,12 +13,6 @@ pub enum Letter {
     Quoted(u8),
     Plain(u8),
     Split(u8),
-}
-
-impl Copied for Letter {
-    fn copy(&self, _alloc: Global) -> Result<Letter, Memory> {
-        Ok(*self)
-    }
 }
 
 // The letters of a word, in order.

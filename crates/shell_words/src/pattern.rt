@@ -1,6 +1,8 @@
 ghost use Rattle.std.specs.Prelude.{◌≡◌, ◌+◌, ◌<◌, ◌≤◌, ◌∷◌, None, false, length, drop, IfOk, IfSome};
 ghost use Rattle.std.specs.List.{list_any};
-ghost use Rattle.shell_words.specs.Patterns.{Decides, pattern_letters, code, closes_at, begins_with, bangs, set_size, set_of, item_at, items, ranges, is_within, allows, has_pair, is_split_backslash, is_falling, is_left_out_item};
+ghost use Rattle.shell_words.specs.Patterns.{Decides, pattern_letters, code, items, item_at, allows, negation_size};
+ghost use Rattle.shell_words.specs.Patterns.{closes_at, begins_with, set_size, set_of, ranges, is_within};
+ghost use Rattle.shell_words.specs.Patterns.{has_pair, is_split_backslash, is_falling, is_left_out_item};
 
 use crate::fault::WordFault;
 use crate::letter::{Letter, is_unquoted, pattern_letters};
@@ -34,7 +36,8 @@ pub fn matches(alloc: Global, pattern: &List<Piece>, subject: &[u8]) -> Result<b
     Ok(run(items.as_slice(), subject))
 }
 
-// The items of a pattern. Behind the last unquoted `]` no set is looked for, so that each letter is read a few times at most.
+// The items of a pattern. Behind the last unquoted `]` no set is looked for, so that each letter is read a few times
+// at most.
 fn items(alloc: Global, letters: &[Letter]) -> Result<List<Item>, Memory>
     ensures { IfOk result (λ found. found ≡ items letters.now) }
 {
@@ -78,7 +81,7 @@ fn item_at(
 
 // The set behind a `[`, and how many letters it takes; or the `[` itself, where no `]` closes it.
 fn set_of(alloc: Global, rest: &[Letter]) -> Result<(Item, usize), Memory>
-    ensures item { IfOk result (λ found. found ≡ set_of rest.now (set_size (drop (bangs rest.now) rest.now))) }
+    ensures item { IfOk result (λ found. found ≡ set_of rest.now (set_size (drop (negation_size rest.now) rest.now))) }
     ensures within { IfOk result (λ found. found.1 ≤ length rest.now) }
 {
     let negated = begins_with(rest, b'!');

@@ -60,7 +60,7 @@ impl Piece {
     }
 
     /// Says of the piece that it has at most one mark.
-    pub fn known(&self)
+    pub fn is_sound(&self)
         ensures { (self.now.split && self.now.quoted) ≡ false }
     {
         let _text = &self.text;

@@ -4,7 +4,8 @@ ghost use Rattle.shell_words.specs.Runs.{Reaches, is_star};
 
 use crate::pattern::{Item, allows};
 
-// How far the items up to the next `*` go along a string: to that `*`, behind so many of them; to the end of both; or there is no match.
+// How far the items up to the next `*` go along a string: to that `*`, behind so many of them; to the end of both; or
+// there is no match.
 #[derive(Clone, Copy)]
 pub enum Reach {
     UpToStar(usize),
@@ -19,17 +20,17 @@ pub fn run(items: &[Item], subject: &[u8]) -> bool
 {
     let mut from = 0;
     let mut at = 0;
-    let mut floats = false;
+    let mut behind_star = false;
     'tries: loop {
         match reached(&items[from..], &subject[at..]) {
             Reach::Whole => return true,
             Reach::UpToStar(n) => {
                 from = from + n + 1;
                 at += n;
-                floats = true;
+                behind_star = true;
             }
             Reach::Nowhere => {
-                if !floats || at == subject.len() {
+                if !behind_star || at == subject.len() {
                     return false;
                 }
                 at += 1;

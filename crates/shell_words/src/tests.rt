@@ -426,6 +426,34 @@ fn words_have_their_fields(rt: HostRuntime) -> Result<(), Fail> {
 }
 
 #[test]
+fn two_hundred_pieces_have_their_fields(rt: HostRuntime) -> Result<(), Fail> {
+    let alloc = rt.alloc();
+    let mut pieces = List::new(alloc);
+    for _ in 0..200 {
+        pieces.add(Piece::split(Bytes::from_slice(alloc, b"a ")?))?;
+    }
+    let Ok(found) = fields(alloc, &pieces) else {
+        return Err(Fail::from("no fields"));
+    };
+    assert_eq!(rt; found.len(), 200);
+    for field in found.as_slice() {
+        assert!(rt; field.as_slice() == b"a".as_slice());
+    }
+    Ok(())
+}
+
+#[test]
+fn a_copied_piece_is_the_piece(rt: HostRuntime) -> Result<(), Fail> {
+    let alloc = rt.alloc();
+    let piece = Piece::split(Bytes::from_slice(alloc, b"a b")?);
+    let twin = piece.copy(alloc)?;
+    assert!(rt; twin.text.as_slice() == b"a b".as_slice());
+    assert!(rt; twin.split);
+    assert!(rt; !twin.quoted);
+    Ok(())
+}
+
+#[test]
 fn strings_are_joined(rt: HostRuntime) -> Result<(), Fail> {
     let alloc = rt.alloc();
     for row in STRINGS.lines() {

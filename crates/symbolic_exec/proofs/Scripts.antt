@@ -123,6 +123,17 @@ left_push : (xs : List (Ended End)) (x : Ended End) → AllLeft xs → goes_on x
 left_push [] x h l = (l, tt)
 left_push (y ∷ xs) x h l = (h.0, left_push xs x h.1 l)
 
+-- a path that goes on is none of those on which no command more is done
+pub some_goes_on : (xs : List (Ended End)) (i : ℕ) (x : Ended End) → i < length xs → x ≡ get_or xs i x → goes_on x.end ≡ true → AllLeft xs → ⊥
+some_goes_on [] i x lt e g l = omega arith
+some_goes_on (y ∷ xs) zero x lt e g l = let bad : true ≡ false = sym g ∙ ap (λ (z : Ended End). goes_on z.end) e ∙ l.0 in cc
+some_goes_on (y ∷ xs) (suc i) x lt e g l = some_goes_on xs i x (omega arith) e g l.1
+
+pub left_all : (xs : List (Ended End)) (i : ℕ) → length xs ≤ i → AllLeft (take i xs) → AllLeft xs
+left_all [] i le l = tt
+left_all (x ∷ xs) zero le l = absurd (omega arith)
+left_all (x ∷ xs) (suc i) le l = (l.0, left_all xs i (omega arith) l.1)
+
 pub left_take : (xs : List (Ended End)) (i : ℕ) (x : Ended End) → i < length xs → x ≡ get_or xs i x → goes_on x.end ≡ false → AllLeft (take i xs) → AllLeft (take (i + 1) xs)
 left_take xs i x lt e l h =
     let n : i + 1 ≡ suc i = omega arith in

@@ -1,4 +1,4 @@
--- From the form that goes together to the form that is read.
+-- From the form that composes (specs/Points.antt) to the form that is read (specs/Exact.antt).
 use Rattle.std.proofs.Common.{inl, inr, ◌≡◌, ℕ, zero, suc, ◌≤◌, List, [], ◌∷◌, length, refl, sym, ap, ◌∙◌, subst, arith}
 use Rattle.std.specs.Prelude.{◌⊎◌}
 use Rattle.script_names.specs.declared.mark.Mark.{Mark}

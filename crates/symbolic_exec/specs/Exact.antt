@@ -21,7 +21,8 @@ IsAt (x ∷ xs) zero y = x ≡ y
 IsAt (x ∷ xs) (suc k) y = IsAt xs k y
 
 -- exactly one path has a pair with the start tree t; there the run of m from (t, u) is that path's run
-pub record Once {E : Type 0} (m : State → RunOf E) (p : PathState) (xs : List (Ended E)) (t : Key) (u : Value) : Type 0 where
+pub record Once {E : Type 0} (m : State → RunOf E) (p : PathState) (xs : List (Ended E))
+    (t : Key) (u : Value) : Type 0 where
   pub place : ℕ
   pub path : Ended E
   pub is_there : IsAt xs place path
@@ -30,8 +31,8 @@ pub record Once {E : Type 0} (m : State → RunOf E) (p : PathState) (xs : List 
   pub runs : m (at_tree p u) ≡ run_at path after
   pub alone : (j : ℕ) (y : Ended E) (v : Value) → IsAt xs j y → HasPair y.state.store t v → j ≡ place
 
--- these are the paths of m from the state p: each pair of p is on exactly one path, its run's; a path has no other pairs;
--- each path has a pair; the traces rise, and each begins with the trace of p
+-- these are the paths of m from the state p: each pair of p is on exactly one path, its run's; a path has no other
+-- pairs; each path has a pair; the traces rise, and each begins with the trace of p
 pub record AreThePaths {E : Type 0} (m : State → RunOf E) (p : PathState) (xs : List (Ended E)) : Type 0 where
   pub once : (t : Key) (u : Value) → HasPair p.store t u → Once m p xs t u
   pub none_else : (k : ℕ) (x : Ended E) (t : Key) (v : Value) → IsAt xs k x → HasPair x.state.store t v
@@ -43,7 +44,8 @@ pub record AreThePaths {E : Type 0} (m : State → RunOf E) (p : PathState) (xs 
 -- each of these is the trace of the run of a pair
 abbrev pub AllRun : {E : Type 0} → (State → RunOf E) → PathState → List (List Mark) → Type 0
 AllRun m p [] = Unit {0}
-AllRun m p (f ∷ fs) = ((t : Key) × (u : Value) × HasPair p.store t u × ((m (at_tree p u)).now.trace ≡ f)) × AllRun m p fs
+AllRun m p (f ∷ fs) =
+    ((t : Key) × (u : Value) × HasPair p.store t u × ((m (at_tree p u)).now.trace ≡ f)) × AllRun m p fs
 
 -- the runs of the pairs have more than `room` different traces
 pub record AreTooMany {E : Type 0} (m : State → RunOf E) (p : PathState) (room : ℕ) : Type 0 where

@@ -14,7 +14,9 @@ marked trace site n = trace ++ record { site = site; row = n } ∷ []
 
 -- what an act does whose row n ends as `end_of n`: its mark, and the tree after it
 abbrev pub fork_run : {E : Type 0} → Act → Site → (ℕ → E) → State → RunOf E
-fork_run act site end_of s = ends (end_of (row act s.tree)) (record { trace = marked s.trace site (row act s.tree); tree = tree_after act s.tree })
+fork_run act site end_of s =
+    ends (end_of (row act s.tree))
+    (record { trace = marked s.trace site (row act s.tree); tree = tree_after act s.tree })
 
 -- how a row of an act ends its command
 abbrev pub row_end : Act → Bool → Site → ℕ → End

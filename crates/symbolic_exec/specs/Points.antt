@@ -1,5 +1,5 @@
--- Which runs a list of paths stands for, in the form that goes together: from the paths of one part of a program to
--- the paths of that part and the next. E and F are what a part ends with; nothing here looks into them.
+-- Which runs a list of paths stands for, in a form that composes: from the paths of one part of a program come the
+-- paths of that part and the next. E and F are what a part ends with; nothing here looks into them.
 use Rattle.std.specs.Prelude.{◌≡◌, ℕ, ◌<◌, ◌≤◌, List, [], ◌∷◌, length, Result, Ok, Err, ◌⊎◌}
 use Rattle.script_names.specs.declared.mark.Mark.{Mark}
 use Rattle.feature_trees.specs.declared.value.Value.{Value}
@@ -63,7 +63,7 @@ pub record Reaches {E : Type 0} (goal : Key → RunOf E → Type 0) (q : List Ma
 abbrev pub Met : {E : Type 0} → (Key → RunOf E → Type 0) → List Mark → Type 0
 Met {E} goal f = (t : Key) × (r : RunOf E) × goal t r × Begins f r.now.trace
 
--- so for each of these
+-- for each of these, the trace of one of these points' runs begins with it
 abbrev pub AllMet : {E : Type 0} → (Key → RunOf E → Type 0) → List (List Mark) → Type 0
 AllMet goal [] = Unit {0}
 AllMet goal (f ∷ fs) = Met goal f × AllMet goal fs
@@ -77,7 +77,8 @@ pub record Many {E : Type 0} (goal : Key → RunOf E → Type 0) (q : List Mark)
   pub met : AllMet goal fronts
 
 -- the paths have these points and no others, and there are at most `room` paths
-pub record Within {E : Type 0} (goal : Key → RunOf E → Type 0) (q : List Mark) (room : ℕ) (xs : List (Ended E)) : Type 0 where
+pub record Within {E : Type 0} (goal : Key → RunOf E → Type 0) (q : List Mark) (room : ℕ)
+    (xs : List (Ended E)) : Type 0 where
   pub reaches : Reaches goal q xs
   pub count : length xs ≤ room
 

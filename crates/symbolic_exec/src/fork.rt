@@ -28,14 +28,9 @@ fn end_of_row(act: &Act, row: u8, negate: bool, site: Site) -> End
 fn with_mark(alloc: Global, trace: &List<Mark>, site: Site, row: u8) -> Result<List<Mark>, Memory>
     ensures { IfOk result (λ t. t ≡ marked trace.now site row) }
 {
-    let mut more = match trace.copy(alloc) {
-        Ok(more) => more,
-        Err(_) => return Err(Memory),
-    };
-    match more.add(Mark { site, row }) {
-        Ok(()) => Ok(more),
-        Err(_) => Err(Memory),
-    }
+    let mut more = trace.copy(alloc)?;
+    more.add(Mark { site, row })?;
+    Ok(more)
 }
 
 // The paths of an act from a state, by rising rows.
@@ -53,10 +48,7 @@ pub fn fork(
     act.path().names();
     let mut out = Queue::new(alloc);
     for row in 1..72_u8 {
-        let found = match take_row(alloc, &from.store, act, row) {
-            Ok(found) => found,
-            Err(_) => return Err(PathsFault::Memory),
-        };
+        let found = take_row(alloc, &from.store, act, row)?;
         let store = match found {
             Some(store) => store,
             None => continue,
@@ -64,16 +56,10 @@ pub fn fork(
         if out.len() >= room {
             return Err(PathsFault::Over);
         }
-        let trace = match with_mark(alloc, &from.trace, site, row) {
-            Ok(trace) => trace,
-            Err(_) => return Err(PathsFault::Memory),
-        };
+        let trace = with_mark(alloc, &from.trace, site, row)?;
         let end = end_of_row(act, row, negate, site);
         let state = PathState { store, trace };
-        match out.push(Ended { end, state }) {
-            Ok(()) => (),
-            Err(_) => return Err(PathsFault::Memory),
-        }
+        out.push(Ended { end, state })?;
     }
     Ok(out)
 }

@@ -1,4 +1,4 @@
-ghost use Rattle.std.specs.Prelude.{◌≡◌, ◌++◌, ◌∷◌, [], length, OnOk, MatchOption, IfSome, slice_index_or};
+ghost use Rattle.std.specs.Prelude.{◌≡◌, ◌≤◌, ◌++◌, ◌∷◌, [], length, OnOk, MatchOption, slice_index_or};
 
 use script_names::Memory;
 use std::alloc::Global;
@@ -36,9 +36,9 @@ impl<T: Drop> Queue<T> {
         self.inner.len()
     }
 
-    /// The item at a place, counted from 0.
+    /// The item at a place, counted from 0; None exactly where there are no more.
     pub fn get(&self, at: usize) -> Option<&T>
-        ensures { IfSome result (λ x. x.now ≡ slice_index_or self.now at x.now) }
+        ensures { MatchOption result (length self.now ≤ at) (λ x. x.now ≡ slice_index_or self.now at x.now) }
     {
         self.inner.get(at)
     }
@@ -57,19 +57,15 @@ impl<T: Drop> Queue<T> {
     pub fn push(&mut self, item: T) -> Result<(), Memory>
         ensures { OnOk result (self.new ≡ self.old ++ item ∷ []) }
     {
-        match self.inner.push_back(item) {
-            Ok(()) => Ok(()),
-            Err(_) => Err(Memory),
-        }
+        self.inner.push_back(item)?;
+        Ok(())
     }
 
     /// The items of another queue at the end.
     pub fn append(&mut self, mut more: Queue<T>) -> Result<(), Memory>
         ensures { OnOk result (self.new ≡ self.old ++ more) }
     {
-        match self.inner.append(&mut more.inner) {
-            Ok(()) => Ok(()),
-            Err(_) => Err(Memory),
-        }
+        self.inner.append(&mut more.inner)?;
+        Ok(())
     }
 }

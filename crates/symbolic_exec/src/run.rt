@@ -1,6 +1,6 @@
 //! The paths of the commands of a script, one command after the other, under the strict flag.
 
-ghost use Rattle.std.specs.Prelude.{◌≡◌, ◌≤◌, [], ◌∷◌, length, List as Items, IfOk, IfErr, false};
+ghost use Rattle.std.specs.Prelude.{◌≡◌, ◌≤◌, ◌↔◌, [], ◌∷◌, length, List as Items, IfOk, IfErr, false};
 ghost use Rattle.script_names.specs.declared.mark.Mark.{Mark};
 ghost use Rattle.clause_solver.specs.Stands.{Alive};
 ghost use Rattle.symbolic_exec.specs.Points.{AllAlive, Sound, Found, From, Going};
@@ -31,20 +31,18 @@ fn alone(alloc: Global, end: End, state: PathState) -> Result<Queue<Ended<End>>,
     ensures err { IfErr result (λ e. e ≡ PathsFault.Memory) }
 {
     let mut only = Queue::new(alloc);
-    match only.push(Ended { end, state }) {
-        Ok(()) => Ok(only),
-        Err(_) => Err(PathsFault::Memory),
-    }
+    only.push(Ended { end, state })?;
+    Ok(only)
 }
 
 // Whether a command is still done on some path.
 fn some_go_on(paths: &Queue<Ended<End>>) -> bool
-    ensures { result ≡ false → AllLeft paths.now }
+    ensures { (result ≡ false) ↔ AllLeft paths.now }
 {
     let mut at = 0;
     while at < paths.len() {
         match paths.get(at) {
-            None => return true,
+            None => unreachable!(),
             Some(path) => {
                 if is_success(path.end) {
                     return true;
@@ -89,7 +87,8 @@ fn each(
 ) -> Result<Queue<Ended<End>>, PathsFault>
     requires alive { AllAlive waiting }
     requires room { length waiting ≤ room }
-    ensures { (q : Items Mark) → Sound q waiting → Found (Going (strictly (one_run step command.now)) waiting) q room result }
+    ensures { (q : Items Mark) → Sound q waiting
+        → Found (Going (strictly (one_run step command.now)) waiting) q room result }
 {
     let mut done = Queue::new(alloc);
     'paths: loop {
@@ -107,10 +106,7 @@ fn each(
                         Err(_) => return Err(PathsFault::Memory),
                     }
                 } else {
-                    match done.push(path) {
-                        Ok(()) => (),
-                        Err(_) => return Err(PathsFault::Memory),
-                    }
+                    done.push(path)?;
                 }
             }
         }
@@ -129,10 +125,7 @@ pub fn every(
     requires room { 1 ≤ room }
     ensures { Found (From (script_run step commands.now) from) from.trace room result }
 {
-    let mut paths = match alone(alloc, End::Status(true), from) {
-        Ok(paths) => paths,
-        Err(fault) => return Err(fault),
-    };
+    let mut paths = alone(alloc, End::Status(true), from)?;
     for command in commands {
         if !some_go_on(&paths) {
             return Ok(paths);

@@ -38,10 +38,8 @@ pub fn paths(
         Ok(reached) => reached,
         Err(fault) => return Err(fault),
     };
-    match listed(alloc, reached) {
-        Ok(list) => Ok(list),
-        Err(_) => Err(PathsFault::Memory),
-    }
+    let list = listed(alloc, reached)?;
+    Ok(list)
 }
 
 // The items of a queue, as a list.
@@ -52,10 +50,7 @@ fn listed(alloc: Global, mut queue: Queue<Ended<End>>) -> Result<List<Ended<End>
     'items: loop {
         match queue.pop() {
             None => return Ok(list),
-            Some(item) => match list.add(item) {
-                Ok(()) => (),
-                Err(_) => return Err(Memory),
-            },
+            Some(item) => list.add(item)?,
         }
     }
 }

@@ -123,7 +123,8 @@ fn same_paths(paths: &List<Ended<End>>, want: &[Want]) -> bool {
     true
 }
 
-/// Whether the script has these paths where there is room for just so many, and too many where there is room for one less.
+/// Whether the script has these paths where there is room for just so many, and too many where there is room for one
+/// less.
 fn has_paths(alloc: Global, rows: &[Row], want: &[Want]) -> bool {
     let right = match answer(alloc, rows, want.len()) {
         Ok(list) => same_paths(&list, want),
@@ -136,129 +137,93 @@ fn has_paths(alloc: Global, rows: &[Row], want: &[Want]) -> bool {
     }
 }
 
-fn link(at: u32) -> End {
-    End::Stopped(Reason::Link, Site { step: 3, at })
-}
+/// A script and its paths, one less than which are too few.
+type Case = (&'static [Row<'static>], &'static [Want<'static>]);
 
 const OK: End = End::Status(true);
 
 const FAILED: End = End::Status(false);
 
-#[test]
-fn one_act(rt: HostRuntime) {
-    let alloc = rt.alloc();
-    let slash = End::Stopped(Reason::Slash, Site { step: 3, at: 9 });
-    let four: [Want; 4] = [
-        (&[(9, 1)], link(9)),
-        (&[(9, 65)], link(9)),
-        (&[(9, 66)], FAILED),
-        (&[(9, 67)], OK),
-    ];
-    let negated: [Want; 4] = [
-        (&[(9, 1)], link(9)),
-        (&[(9, 65)], link(9)),
-        (&[(9, 66)], OK),
-        (&[(9, 67)], FAILED),
-    ];
-    let with_slash: [Want; 4] = [
-        (&[(9, 1)], link(9)),
-        (&[(9, 64)], slash),
-        (&[(9, 66)], FAILED),
-        (&[(9, 67)], OK),
-    ];
-    assert!(rt; has_paths(alloc, &[], &[(&[], OK)]), "no command");
-    assert!(rt;
-        has_paths(
-            alloc,
-            &[(9, Call::Exists, ROOT, false)],
-            &[(&[(9, 67)], OK)]
-        ),
-        "the root"
-    );
-    assert!(rt;
-        has_paths(alloc, &[(9, Call::IsDir, A, false)], &four[1..]),
-        "one name"
-    );
-    assert!(rt;
-        has_paths(alloc, &[(9, Call::Exists, AB, false)], &four),
-        "two names"
-    );
-    assert!(rt;
-        has_paths(alloc, &[(9, Call::NotExists, AB, false)], &negated),
-        "negated"
-    );
-    assert!(rt;
-        has_paths(alloc, &[(9, Call::IsDir, AB, true)], &with_slash),
-        "with a slash"
-    );
-}
-
-#[test]
-fn two_acts(rt: HostRuntime) {
-    let alloc = rt.alloc();
-    let a_then_ab: [Want; 5] = [
-        (&[(1, 65)], link(1)),
-        (&[(1, 66)], FAILED),
-        (&[(1, 67), (2, 65)], link(2)),
-        (&[(1, 67), (2, 66)], FAILED),
-        (&[(1, 67), (2, 67)], OK),
-    ];
-    let ab_then_a: [Want; 4] = [
-        (&[(1, 1)], link(1)),
-        (&[(1, 65)], link(1)),
-        (&[(1, 66)], FAILED),
-        (&[(1, 67), (2, 67)], OK),
-    ];
-    let twice: [Want; 3] = [
-        (&[(1, 65)], link(1)),
-        (&[(1, 66)], FAILED),
-        (&[(1, 67), (2, 67)], OK),
-    ];
-    let absent_and_there: [Want; 3] = [
-        (&[(1, 65)], link(1)),
-        (&[(1, 66), (2, 66)], FAILED),
-        (&[(1, 67)], FAILED),
-    ];
-    assert!(rt;
-        has_paths(
-            alloc,
-            &[(1, Call::Exists, A, false), (2, Call::Exists, AB, false)],
-            &a_then_ab
-        ),
-        "prefix first"
-    );
-    assert!(rt;
-        has_paths(
-            alloc,
-            &[(1, Call::Exists, AB, false), (2, Call::Exists, A, false)],
-            &ab_then_a
-        ),
-        "prefix last"
-    );
-    assert!(rt;
-        has_paths(
-            alloc,
-            &[(1, Call::Exists, A, false), (2, Call::Exists, A, false)],
-            &twice
-        ),
-        "twice"
-    );
-    assert!(rt;
-        has_paths(
-            alloc,
-            &[(1, Call::NotExists, A, false), (2, Call::Exists, A, false)],
-            &absent_and_there
-        ),
-        "both"
-    );
-}
-
-/// A script and its paths, one less than which are too few.
-type Case = (&'static [Row<'static>], &'static [Want<'static>]);
-
 const LINK: End = End::Stopped(Reason::Link, Site { step: 3, at: 1 });
 
+const LATER_LINK: End = End::Stopped(Reason::Link, Site { step: 3, at: 9 });
+
 const SLASH: End = End::Stopped(Reason::Slash, Site { step: 3, at: 1 });
+
+const QUESTIONS: &[Case] = &[
+    (&[], &[(&[], OK)]),
+    (&[(1, Call::Exists, ROOT, false)], &[(&[(1, 67)], OK)]),
+    (
+        &[(1, Call::IsDir, A, false)],
+        &[(&[(1, 65)], LINK), (&[(1, 66)], FAILED), (&[(1, 67)], OK)],
+    ),
+    (
+        &[(1, Call::Exists, AB, false)],
+        &[
+            (&[(1, 1)], LINK),
+            (&[(1, 65)], LINK),
+            (&[(1, 66)], FAILED),
+            (&[(1, 67)], OK),
+        ],
+    ),
+    (
+        &[(1, Call::NotExists, AB, false)],
+        &[
+            (&[(1, 1)], LINK),
+            (&[(1, 65)], LINK),
+            (&[(1, 66)], OK),
+            (&[(1, 67)], FAILED),
+        ],
+    ),
+    (
+        &[(1, Call::IsDir, AB, true)],
+        &[
+            (&[(1, 1)], LINK),
+            (&[(1, 64)], SLASH),
+            (&[(1, 66)], FAILED),
+            (&[(1, 67)], OK),
+        ],
+    ),
+];
+
+// Where the one path is a beginning of the other, the later question has no row for what the first one saw.
+const TWO_QUESTIONS: &[Case] = &[
+    (
+        &[(1, Call::Exists, A, false), (9, Call::Exists, AB, false)],
+        &[
+            (&[(1, 65)], LINK),
+            (&[(1, 66)], FAILED),
+            (&[(1, 67), (9, 65)], LATER_LINK),
+            (&[(1, 67), (9, 66)], FAILED),
+            (&[(1, 67), (9, 67)], OK),
+        ],
+    ),
+    (
+        &[(1, Call::Exists, AB, false), (9, Call::Exists, A, false)],
+        &[
+            (&[(1, 1)], LINK),
+            (&[(1, 65)], LINK),
+            (&[(1, 66)], FAILED),
+            (&[(1, 67), (9, 67)], OK),
+        ],
+    ),
+    (
+        &[(1, Call::Exists, A, false), (9, Call::Exists, A, false)],
+        &[
+            (&[(1, 65)], LINK),
+            (&[(1, 66)], FAILED),
+            (&[(1, 67), (9, 67)], OK),
+        ],
+    ),
+    (
+        &[(1, Call::NotExists, A, false), (9, Call::Exists, A, false)],
+        &[
+            (&[(1, 65)], LINK),
+            (&[(1, 66), (9, 66)], FAILED),
+            (&[(1, 67)], FAILED),
+        ],
+    ),
+];
 
 const CHANGES: &[Case] = &[
     (
@@ -327,6 +292,16 @@ const CHANGES: &[Case] = &[
 ];
 
 #[test]
+fn questions(rt: HostRuntime) {
+    for case in QUESTIONS {
+        assert!(rt; has_paths(rt.alloc(), case.0, case.1));
+    }
+    for case in TWO_QUESTIONS {
+        assert!(rt; has_paths(rt.alloc(), case.0, case.1));
+    }
+}
+
+#[test]
 fn changes(rt: HostRuntime) {
     for case in CHANGES {
         assert!(rt; has_paths(rt.alloc(), case.0, case.1));
@@ -337,7 +312,7 @@ fn changes(rt: HostRuntime) {
 fn known_calls(rt: HostRuntime) {
     let alloc = rt.alloc();
     let three: [Want; 3] = [
-        (&[(1, 65)], link(1)),
+        (&[(1, 65)], LINK),
         (&[(1, 66)], FAILED),
         (&[(1, 67)], FAILED),
     ];

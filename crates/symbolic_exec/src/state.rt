@@ -1,7 +1,7 @@
 //! What a path is made of.
 
 use clause_solver::Store;
-use script_names::{List, Mark};
+use script_names::{List, Mark, Memory};
 
 /// Where a path stands: the pairs of trees that are on it, and the marks of its acts, in order.
 #[derive(Debug, Drop)]
@@ -22,4 +22,15 @@ pub struct Ended<E> {
 pub enum PathsFault {
     Over,
     Memory,
+}
+
+impl From<Memory> for PathsFault {
+    ghost use Rattle.std.specs.Prelude.{◌≡◌};
+    ghost use Rattle.symbolic_exec.specs.declared.state.PathsFault.TheVariants.{Memory as NoMemory};
+
+    ghost from_gives = { λ _ fault. fault ≡ NoMemory };
+
+    fn from(_refused: Memory) -> PathsFault {
+        PathsFault::Memory
+    }
 }

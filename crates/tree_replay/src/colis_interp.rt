@@ -28,7 +28,8 @@ fn run_act(
     trace: &mut List<Mark>,
     tree: &mut Value,
 ) -> Result<End, Memory>
-    ensures { IfOk result (λ end. act_run a.now negate site trace.old tree.old ≡ record { end = end; trace = trace.new; tree = tree.new }) }
+    ensures { IfOk result (λ end. act_run a.now negate site trace.old tree.old
+        ≡ record { end = end; trace = trace.new; tree = tree.new }) }
 {
     let (row, done) = act(alloc, a, tree)?;
     trace.add(Mark { site, row })?;
@@ -43,7 +44,8 @@ fn run_command(
     trace: &mut List<Mark>,
     tree: &mut Value,
 ) -> Result<End, Memory>
-    ensures { IfOk result (λ end. command_run step command.now trace.old tree.old ≡ record { end = end; trace = trace.new; tree = tree.new }) }
+    ensures { IfOk result (λ end. command_run step command.now trace.old tree.old
+        ≡ record { end = end; trace = trace.new; tree = tree.new }) }
 {
     let site = Site {
         step,

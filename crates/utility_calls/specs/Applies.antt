@@ -18,8 +18,8 @@ kind_at tree names k = kind_of (at tree (take k names))
 abbrev pub NoLinkOnWay : Value → List (List ℕ) → Type 0
 NoLinkOnWay tree names = (k : ℕ) → k < length names → kind_at tree names k ≢ Link
 
--- the rows of an act's own from 65 on, a line for each: whether the path is in a directory (`in_dir`), and which kinds of what stands at
--- the path, each is for
+-- the rows of an act's own from 65 on, a line for each: whether the path is in a directory (`in_dir`), and which
+-- kinds of what stands at the path, each is for
 pub data IsOwnRow : Act → ℕ → Bool → Kind → Type 0 where
   exists_link : (p : PathParts) (within : Bool) → IsOwnRow (Exists p) 65 within Link
   exists_not : (p : PathParts) (within : Bool) → IsOwnRow (Exists p) 66 within Absent
@@ -37,13 +37,16 @@ pub data IsOwnRow : Act → ℕ → Bool → Kind → Type 0 where
 -- the row applies to the act on the tree
 pub data Applies (act : Act) (tree : Value) : ℕ → Type 0 where
   -- row k, from 1 to one less than the path's count of names: a link stands at its first k names
-  on_way : (k : ℕ) → 1 ≤ k → k < length (path_of act).names → kind_at tree (path_of act).names k ≡ Link → Applies act tree k
+  on_way : (k : ℕ) → 1 ≤ k → k < length (path_of act).names → kind_at tree (path_of act).names k ≡ Link
+      → Applies act tree k
   -- row 64: the path ends in a slash, and what stands there is neither absent nor a directory
   at_slash : NoLinkOnWay tree (path_of act).names → IsTrue (path_of act).slash
-      → kind_of (at tree (path_of act).names) ≢ Absent → kind_of (at tree (path_of act).names) ≢ Dir → Applies act tree 64
+      → kind_of (at tree (path_of act).names) ≢ Absent → kind_of (at tree (path_of act).names) ≢ Dir
+      → Applies act tree 64
   -- a row of the act's own: where the path ends in a slash, what stands there is absent or a directory
   own : (n : ℕ) → NoLinkOnWay tree (path_of act).names
-      → (IsTrue (path_of act).slash → (kind_of (at tree (path_of act).names) ≡ Absent) ⊎ (kind_of (at tree (path_of act).names) ≡ Dir))
+      → (IsTrue (path_of act).slash
+      → (kind_of (at tree (path_of act).names) ≡ Absent) ⊎ (kind_of (at tree (path_of act).names) ≡ Dir))
       → IsOwnRow act n (in_dir tree (path_of act).names) (kind_of (at tree (path_of act).names)) → Applies act tree n
 
 -- the row of an act on a tree applies
@@ -56,4 +59,6 @@ NoOtherApplies = (act : Act) (tree : Value) (n : ℕ) → IsTree tree → Applie
 
 -- rows are 1 to 71, and those below 64 are below the count of names
 abbrev pub RowsAreFew : Type 0
-RowsAreFew = (act : Act) (tree : Value) → length (path_of act).names ≤ 64 → (1 ≤ row act tree) × (row act tree ≤ 71) × (row act tree < 64 → row act tree < length (path_of act).names)
+RowsAreFew =
+    (act : Act) (tree : Value) → length (path_of act).names ≤ 64
+    → (1 ≤ row act tree) × (row act tree ≤ 71) × (row act tree < 64 → row act tree < length (path_of act).names)

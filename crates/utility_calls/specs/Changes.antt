@@ -22,7 +22,8 @@ DirsStayDirs = (act : Act) (tree : Value) → kind_of tree ≡ kind.Dir → kind
 -- an act whose path is made of names leaves a sound value sound
 abbrev pub SoundStaysSound : Type 0
 SoundStaysSound =
-    (act : Act) (tree : Value) → IsTrue (sound tree) → All (λ f. IsTrue (is_name f)) (path_of act).names → IsTrue (sound (tree_after act tree))
+    (act : Act) (tree : Value) → IsTrue (sound tree) → All (λ f. IsTrue (is_name f)) (path_of act).names
+    → IsTrue (sound (tree_after act tree))
 
 -- an act that does not succeed changes nothing
 abbrev pub OnlySuccessChanges : Type 0
@@ -31,8 +32,10 @@ OnlySuccessChanges = (act : Act) (tree : Value) → answer act tree ≢ done.Ok 
 -- where `mkdir` makes a directory, its path is in a directory, and nothing stands there
 abbrev pub MakesInDirs : Type 0
 MakesInDirs =
-    (p : PathParts) (tree : Value) → length p.names ≤ 64 → row (MakeDir p) tree ≡ 68 → IsTrue (in_dir tree p.names) × (kind_of (at tree p.names) ≡ kind.Absent)
+    (p : PathParts) (tree : Value) → length p.names ≤ 64 → row (MakeDir p) tree ≡ 68
+    → IsTrue (in_dir tree p.names) × (kind_of (at tree p.names) ≡ kind.Absent)
 
 -- where `rm -f` takes something away, its path is in a directory
 abbrev pub RemovesInDirs : Type 0
-RemovesInDirs = (p : PathParts) (tree : Value) → length p.names ≤ 64 → row (Remove p) tree ≡ 71 → IsTrue (in_dir tree p.names)
+RemovesInDirs =
+    (p : PathParts) (tree : Value) → length p.names ≤ 64 → row (Remove p) tree ≡ 71 → IsTrue (in_dir tree p.names)

@@ -1,6 +1,7 @@
 -- The rows of an act: which one applies to a tree, what it answers, and the tree that it leaves
--- (POSIX.1-2017, XCU `test`, `mkdir`, `rm`; a link is not followed here: a question that meets one at its path is stopped, and so is
--- every act that meets one on the way; `mkdir` fails where a link stands at its path, and `rm -f` removes it).
+-- (POSIX.1-2017, XCU `test`, `mkdir`, `rm`; a link is not followed here: a question that meets one at its path is
+-- stopped, and so is every act that meets one on the way; `mkdir` fails where a link stands at its path, and `rm -f`
+-- removes it).
 use Rattle.std.specs.Prelude.{ℕ, suc, Bool, true, false, List, [], ◌∷◌, Option, Some, None, ◌==◌, nat_lt, if◌then◌else◌}
 use Rattle.script_names.specs.declared.reason.Reason.TheVariants as reason
 use Rattle.script_names.specs.declared.reason.Done.{Done}
@@ -27,9 +28,11 @@ at_link Dir count later = later
 abbrev pub link_on_way : ℕ → Value → List (List ℕ) → Option ℕ
 link_on_way count v [] = None
 link_on_way count v (f ∷ []) = None
-link_on_way count v (f ∷ g ∷ rest) = at_link (kind_of (entry v f)) (suc count) (link_on_way (suc count) (entry v f) (g ∷ rest))
+link_on_way count v (f ∷ g ∷ rest) =
+    at_link (kind_of (entry v f)) (suc count) (link_on_way (suc count) (entry v f) (g ∷ rest))
 
--- whether what holds the last name of a path is a directory: what stands at all names but the last; a path without names has nothing above it
+-- whether what holds the last name of a path is a directory: what stands at all names but the last; a path without
+-- names has nothing above it
 abbrev pub in_dir : Value → List (List ℕ) → Bool
 in_dir v [] = false
 in_dir v (f ∷ []) = is_dir v
@@ -96,7 +99,8 @@ kind_row (IsDir p) within k = is_dir_row k
 kind_row (MakeDir p) within k = make_dir_row within k
 kind_row (Remove p) within k = remove_row within k
 
--- the row of an act where no link stands on the way, by whether its path is in a directory, and by what stands at the path
+-- the row of an act where no link stands on the way, by whether its path is in a directory, and by what stands at the
+-- path
 abbrev pub end_row : Act → Bool → Kind → ℕ
 end_row act within k = slash_row (path_of act).slash k (kind_row act within k)
 
@@ -112,7 +116,8 @@ row act tree =
     let p = path_of act in
     way_row (link_on_way 0 tree p.names) (end_row act (in_dir tree p.names) (kind_of (at tree p.names)))
 
--- what a question answers at a row of its own: it is stopped at a link; row 66 is the answer no, and row 67 the answer yes
+-- what a question answers at a row of its own: it is stopped at a link; row 66 is the answer no, and row 67 the
+-- answer yes
 abbrev pub question_answer : ℕ → Done
 question_answer n =
     if n == 65 then done.Stopped reason.Link
@@ -126,7 +131,8 @@ own_answer (IsDir p) n = question_answer n
 own_answer (MakeDir p) n = if n == 68 then done.Ok else done.Failed
 own_answer (Remove p) n = if n == 67 then done.Failed else done.Ok
 
--- What a row of an act answers: a link on the way is not followed, and a slash behind what is no directory is not specified.
+-- What a row of an act answers: a link on the way is not followed, and a slash behind what is no directory is not
+-- specified.
 abbrev pub row_answer : Act → ℕ → Done
 row_answer act n =
     if nat_lt n 64 then done.Stopped reason.Link
@@ -137,8 +143,8 @@ row_answer act n =
 abbrev pub answer : Act → Value → Done
 answer act tree = row_answer act (row act tree)
 
--- The tree that a row of an act leaves. A question leaves it as it is; `mkdir` puts an empty directory at its path at row 68,
--- and `rm -f` takes away what stands at its path at row 71; every other row leaves it as it is.
+-- The tree that a row of an act leaves. A question leaves it as it is; `mkdir` puts an empty directory at its path at
+-- row 68, and `rm -f` takes away what stands at its path at row 71; every other row leaves it as it is.
 abbrev pub row_tree : Act → ℕ → Value → Value
 row_tree (Exists p) n tree = tree
 row_tree (IsDir p) n tree = tree

@@ -1,5 +1,6 @@
 ghost use Rattle.std.specs.Prelude.{◌≡◌, ℕ, true, if◌then◌else◌, IfOk};
-ghost use Rattle.utility_calls.specs.Rows.{path_of, end_row, slash_row, exists_row, is_dir_row, make_dir_row, gone_row, remove_row, question_answer, row_answer};
+ghost use Rattle.utility_calls.specs.Rows.{path_of, end_row, slash_row, exists_row, is_dir_row, make_dir_row};
+ghost use Rattle.utility_calls.specs.Rows.{gone_row, remove_row, question_answer, row_answer};
 
 use feature_trees::Kind;
 use script_names::{Copied, Done, Memory, Path, Reason};
@@ -39,8 +40,8 @@ impl Act {
         }
     }
 
-    /// The row of the act where no link stands on the way, by whether its path is in a directory (what holds the last name
-    /// is one; a path without names is in none), and by the kind of what stands at its path.
+    /// The row of the act where no link stands on the way, by whether its path is in a directory (what holds the last
+    /// name is one; a path without names is in none), and by the kind of what stands at its path.
     pub fn row_at(&self, in_dir: bool, kind: Kind) -> u8
         ensures { result ≡ end_row self.now in_dir kind }
     {

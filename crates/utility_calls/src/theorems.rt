@@ -1,7 +1,8 @@
 //! What holds of the rows of acts, for the layers above.
 
 ghost use Rattle.utility_calls.specs.Applies.{RowApplies, NoOtherApplies, RowsAreFew};
-ghost use Rattle.utility_calls.specs.Changes.{ParentsAreDirs, DirsStayDirs, SoundStaysSound, OnlySuccessChanges, MakesInDirs, RemovesInDirs};
+ghost use Rattle.utility_calls.specs.Changes.{ParentsAreDirs, DirsStayDirs, SoundStaysSound, OnlySuccessChanges};
+ghost use Rattle.utility_calls.specs.Changes.{MakesInDirs, RemovesInDirs};
 
 use feature_trees::theorems::puts_are_local;
 
@@ -21,8 +22,8 @@ pub fn parents_are_dirs()
     ensures { ParentsAreDirs }
 {}
 
-/// An act leaves a directory a directory and a sound tree sound, and one that does not succeed changes nothing. What is made or
-/// taken away is in a directory.
+/// An act leaves a directory a directory and a sound tree sound, and one that does not succeed changes nothing. What is
+/// made or taken away is in a directory.
 pub fn trees_stay_trees()
     ensures dir { DirsStayDirs }
     ensures sound { SoundStaysSound }

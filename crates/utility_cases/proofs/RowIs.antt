@@ -1,5 +1,6 @@
 -- Which trees take a row, by what stands at the places on the way.
 use Rattle.std.proofs.Common.{◌≡◌, ◌≢◌, ℕ, Bool, true, false, zero, suc, ◌+◌, ◌<◌, ◌≤◌, IsTrue, Some, List, length, take, refl, sym, ap, subst, ◌∙◌, arith, length-take-le}
+use Rattle.std.specs.Prelude.{not}
 use Rattle.std.proofs.lemmas.List.{take-take}
 use Rattle.feature_trees.specs.declared.value.Value.{Value}
 use Rattle.feature_trees.specs.declared.kind.Kind.{Kind}
@@ -7,7 +8,7 @@ use Rattle.feature_trees.specs.declared.kind.Kind.TheVariants.{Absent, Reg, Link
 use Rattle.feature_trees.specs.Tree.{at, kind_of}
 use Rattle.utility_calls.specs.declared.act.Act.{Act}
 use Rattle.utility_calls.specs.declared.act.Act.TheVariants.{Exists, IsDir, MakeDir, Remove}
-use Rattle.utility_calls.specs.Rows.{link_on_way, path_of, in_dir, slash_row, make_dir_row, remove_row, row, end_row, kind_row}
+use Rattle.utility_calls.specs.Rows.{link_on_way, path_of, in_dir, slash_row, make_dir_row, gone_row, remove_row, row, end_row, kind_row}
 use Rattle.utility_calls.specs.Applies.{kind_at, NoLinkOnWay, Applies, on_way, at_slash, own}
 use Rattle.utility_calls.proofs.OneRow.{counted, row_applies, no_other, end_is, slash_is, no_slash_is, own_is, kind_few}
 
@@ -51,7 +52,7 @@ module _ (act : Act) (u : Value) (dir : kind_of u ≡ Dir) where
   pub own_row_from : (n : ℕ) → NoLinkOnWay u names → end_row act (in_dir u names) (kind_of (at u names)) ≡ n → row act u ≡ n
   own_row_from n clear e = end_is act u clear ∙ e
 
--- A row of an act is for a set of holders of the last name and a set of kinds at the path: where the row is for one kind in a holder
+-- A row of an act is for a set of parents of the last name and a set of kinds at the path: where the row is for one kind in a parent
 -- of this sort, and for another kind in any, it is for that other kind in this one.
 made_not : (s : Bool) (k : Kind) (n : ℕ) → slash_row s k (make_dir_row true k) ≡ n → n ≢ 66
 made_not false Absent n e = λ h. omega (arith, e, h)
@@ -95,51 +96,39 @@ made_out true k Other n e f = f
 made_out true k Dir n e f = absurd (omega (arith, nowhere_few true k n e, f))
 
 -- `rm -f` takes row 71 in a directory alone, and row 70 in none
-gone_not : (within s : Bool) (k : Kind) (n : ℕ) → slash_row s k (remove_row within k) ≡ n → (IsTrue within → n ≢ 70) × (within ≡ false → n ≢ 71)
-gone_not true false Absent n e = (λ t h. omega (arith, e, h), λ f. cc)
-gone_not true false Reg n e = (λ t h. omega (arith, e, h), λ f. cc)
-gone_not true false Link n e = (λ t h. omega (arith, e, h), λ f. cc)
-gone_not true false Other n e = (λ t h. omega (arith, e, h), λ f. cc)
-gone_not true false Dir n e = (λ t h. omega (arith, e, h), λ f. cc)
-gone_not true true Absent n e = (λ t h. omega (arith, e, h), λ f. cc)
-gone_not true true Reg n e = (λ t h. omega (arith, e, h), λ f. cc)
-gone_not true true Link n e = (λ t h. omega (arith, e, h), λ f. cc)
-gone_not true true Other n e = (λ t h. omega (arith, e, h), λ f. cc)
-gone_not true true Dir n e = (λ t h. omega (arith, e, h), λ f. cc)
-gone_not false false Absent n e = (λ t. cc, λ f h. omega (arith, e, h))
-gone_not false false Reg n e = (λ t. cc, λ f h. omega (arith, e, h))
-gone_not false false Link n e = (λ t. cc, λ f h. omega (arith, e, h))
-gone_not false false Other n e = (λ t. cc, λ f h. omega (arith, e, h))
-gone_not false false Dir n e = (λ t. cc, λ f h. omega (arith, e, h))
-gone_not false true Absent n e = (λ t. cc, λ f h. omega (arith, e, h))
-gone_not false true Reg n e = (λ t. cc, λ f h. omega (arith, e, h))
-gone_not false true Link n e = (λ t. cc, λ f h. omega (arith, e, h))
-gone_not false true Other n e = (λ t. cc, λ f h. omega (arith, e, h))
-gone_not false true Dir n e = (λ t. cc, λ f h. omega (arith, e, h))
+gone_not : (within s : Bool) (k : Kind) (n : ℕ) → slash_row s k (remove_row within k) ≡ n → n ≢ gone_row (not within)
+gone_not true false Absent n e = λ h. omega (arith, e, h)
+gone_not true false Reg n e = λ h. omega (arith, e, h)
+gone_not true false Link n e = λ h. omega (arith, e, h)
+gone_not true false Other n e = λ h. omega (arith, e, h)
+gone_not true false Dir n e = λ h. omega (arith, e, h)
+gone_not true true Absent n e = λ h. omega (arith, e, h)
+gone_not true true Reg n e = λ h. omega (arith, e, h)
+gone_not true true Link n e = λ h. omega (arith, e, h)
+gone_not true true Other n e = λ h. omega (arith, e, h)
+gone_not true true Dir n e = λ h. omega (arith, e, h)
+gone_not false false Absent n e = λ h. omega (arith, e, h)
+gone_not false false Reg n e = λ h. omega (arith, e, h)
+gone_not false false Link n e = λ h. omega (arith, e, h)
+gone_not false false Other n e = λ h. omega (arith, e, h)
+gone_not false false Dir n e = λ h. omega (arith, e, h)
+gone_not false true Absent n e = λ h. omega (arith, e, h)
+gone_not false true Reg n e = λ h. omega (arith, e, h)
+gone_not false true Link n e = λ h. omega (arith, e, h)
+gone_not false true Other n e = λ h. omega (arith, e, h)
+gone_not false true Dir n e = λ h. omega (arith, e, h)
 
-gone_into : (s : Bool) (k j : Kind) (n : ℕ) → slash_row s k (remove_row true k) ≡ n → slash_row s j (remove_row false j) ≡ n → slash_row s j (remove_row true j) ≡ n
-gone_into false k Absent n e f = absurd ((gone_not true false k n e).0 refl (sym f))
-gone_into false k Reg n e f = absurd ((gone_not true false k n e).0 refl (sym f))
-gone_into false k Link n e f = absurd ((gone_not true false k n e).0 refl (sym f))
-gone_into false k Other n e f = absurd ((gone_not true false k n e).0 refl (sym f))
-gone_into false k Dir n e f = f
-gone_into true k Absent n e f = absurd ((gone_not true true k n e).0 refl (sym f))
-gone_into true k Reg n e f = f
-gone_into true k Link n e f = f
-gone_into true k Other n e f = f
-gone_into true k Dir n e f = f
-
-gone_out : (s : Bool) (k j : Kind) (n : ℕ) → slash_row s k (remove_row false k) ≡ n → slash_row s j (remove_row true j) ≡ n → slash_row s j (remove_row false j) ≡ n
-gone_out false k Absent n e f = absurd ((gone_not false false k n e).1 refl (sym f))
-gone_out false k Reg n e f = absurd ((gone_not false false k n e).1 refl (sym f))
-gone_out false k Link n e f = absurd ((gone_not false false k n e).1 refl (sym f))
-gone_out false k Other n e f = absurd ((gone_not false false k n e).1 refl (sym f))
-gone_out false k Dir n e f = f
-gone_out true k Absent n e f = absurd ((gone_not false true k n e).1 refl (sym f))
-gone_out true k Reg n e f = f
-gone_out true k Link n e f = f
-gone_out true k Other n e f = f
-gone_out true k Dir n e f = f
+gone_same : (here s : Bool) (k j : Kind) (n : ℕ) → slash_row s k (remove_row here k) ≡ n → slash_row s j (remove_row (not here) j) ≡ n → slash_row s j (remove_row here j) ≡ n
+gone_same here false k Absent n e f = absurd (gone_not here false k n e (sym f))
+gone_same here false k Reg n e f = absurd (gone_not here false k n e (sym f))
+gone_same here false k Link n e f = absurd (gone_not here false k n e (sym f))
+gone_same here false k Other n e f = absurd (gone_not here false k n e (sym f))
+gone_same here false k Dir n e f = f
+gone_same here true k Absent n e f = absurd (gone_not here true k n e (sym f))
+gone_same here true k Reg n e f = f
+gone_same here true k Link n e f = f
+gone_same here true k Other n e f = f
+gone_same here true k Dir n e f = f
 
 pub same_row : (act : Act) (here there : Bool) (k j : Kind) (n : ℕ) → end_row act here k ≡ n → end_row act there j ≡ n → end_row act here j ≡ n
 same_row (Exists p) here there k j n e f = f
@@ -149,6 +138,6 @@ same_row (MakeDir p) true false k j n e f = made_into p.slash k j n e f
 same_row (MakeDir p) false true k j n e f = made_out p.slash k j n e f
 same_row (MakeDir p) false false k j n e f = f
 same_row (Remove p) true true k j n e f = f
-same_row (Remove p) true false k j n e f = gone_into p.slash k j n e f
-same_row (Remove p) false true k j n e f = gone_out p.slash k j n e f
+same_row (Remove p) true false k j n e f = gone_same true p.slash k j n e f
+same_row (Remove p) false true k j n e f = gone_same false p.slash k j n e f
 same_row (Remove p) false false k j n e f = f

@@ -1,13 +1,14 @@
 -- The sets of kinds for which an act takes a row.
 use Rattle.std.proofs.Common.{◌≡◌, ◌≢◌, ℕ, ◌⊎◌, inl, inr, ◌↔◌, ◌||◌, Bool, true, false, IsTrue, refl, sym, ap, subst, ◌∙◌}
 use Rattle.std.specs.Prelude.{◌==◌}
-use Rattle.std.proofs.lemmas.Bool.{eqb-true, eq-eqb}
+use Rattle.std.proofs.lemmas.Bool.{eqb-true, eq-eqb, or_cases, or_left, or_right}
 use Rattle.feature_trees.specs.declared.kind.Kind.{Kind}
 use Rattle.feature_trees.specs.declared.kind.Kind.TheVariants.{Absent, Reg, Link, Other, Dir}
 use Rattle.feature_trees.specs.declared.kind.Kinds.{Kinds}
 use Rattle.feature_trees.specs.Kinds.{has, none, of, either}
 use Rattle.utility_calls.specs.declared.act.Act.{Act}
 use Rattle.utility_calls.specs.Rows.{end_row}
+use Rattle.clause_solver.proofs.KindSets.{of_dir}
 use Rattle.utility_cases.specs.Taken.{end_kinds, is_dir_kind, SomeEnd}
 
 -- the kinds at the end, one by one
@@ -24,18 +25,6 @@ end_from act within n k h = eqb-true (end_row act within k) n (sym (has_end act 
 pub end_to : (act : Act) (within : Bool) (n : ℕ) (k : Kind) → end_row act within k ≡ n → IsTrue (has (end_kinds act within n) k)
 end_to act within n k e = has_end act within n k ∙ eq-eqb (end_row act within k) n e
 
-or_cases : (a b : Bool) → IsTrue (a || b) → IsTrue a ⊎ IsTrue b
-or_cases true b h = inl refl
-or_cases false b h = inr h
-
-or_left : (a b : Bool) → IsTrue a → IsTrue (a || b)
-or_left true b h = refl
-or_left false b h = cc
-
-or_right : (a b : Bool) → IsTrue b → IsTrue (a || b)
-or_right true b h = refl
-or_right false b h = h
-
 -- a kind of one set or the other
 has_either : (s r : Kinds) (k : Kind) → has (either s r) k ≡ (has s k || has r k)
 has_either s r Absent = refl
@@ -50,13 +39,6 @@ either_from s r k h = or_cases (has s k) (has r k) (sym (has_either s r k) ∙ h
 pub either_to : (s r : Kinds) (k : Kind) → IsTrue (has s k) ⊎ IsTrue (has r k) → IsTrue (has (either s r) k)
 either_to s r k h = has_either s r k ∙ elim h [ inl a ↦ or_left (has s k) (has r k) a | inr b ↦ or_right (has s k) (has r k) b ]
 
-dir_of : (k : Kind) → IsTrue (has (of Dir) k) → k ≡ Dir
-dir_of Absent h = cc
-dir_of Reg h = cc
-dir_of Link h = cc
-dir_of Other h = cc
-dir_of Dir h = refl
-
 -- what is no link is a directory or neither
 pub not_link_has : (s others dirs : Kinds) → s ≡ either others dirs → ((k : Kind) → IsTrue (has others k) ↔ ((k ≢ Link) × (k ≢ Dir))) → dirs ≡ of Dir → (k : Kind) → IsTrue (has s k) ↔ (k ≢ Link)
 not_link_has s others dirs e o d k = (to, from k)
@@ -64,7 +46,7 @@ not_link_has s others dirs e o d k = (to, from k)
     to : IsTrue (has s k) → k ≢ Link
     to h = elim (either_from others dirs k (subst (λ x. IsTrue (has x k)) e h)) [
       | inl a ↦ ((o k).0 a).0
-      | inr b ↦ λ l. let is : k ≡ Dir = dir_of k (subst (λ x. IsTrue (has x k)) d b) in let bad : Dir ≡ Link = sym is ∙ l in cc
+      | inr b ↦ λ l. let is : k ≡ Dir = of_dir k (subst (λ x. IsTrue (has x k)) d b) in let bad : Dir ≡ Link = sym is ∙ l in cc
     ]
 
     one : (k : Kind) → k ≢ Link → IsTrue (has others k) ⊎ IsTrue (has dirs k)
@@ -95,16 +77,16 @@ path_has act n s inside outside e i o k = (to, from)
     from w = subst (λ x. IsTrue (has x k)) (sym e) (either_to inside outside k (one w.0 w.1))
 
 -- the kinds of what holds the last name
-pub holder_has : (act : Act) (n : ℕ) (s inside outside dirs others : Kinds) → s ≡ either inside outside
+pub parent_has : (act : Act) (n : ℕ) (s inside outside dirs others : Kinds) → s ≡ either inside outside
     → ((k : Kind) → IsTrue (has inside k) ↔ (IsTrue (has dirs k) × SomeEnd act true n)) → dirs ≡ of Dir
     → ((k : Kind) → IsTrue (has outside k) ↔ (IsTrue (has others k) × SomeEnd act false n)) → ((k : Kind) → IsTrue (has others k) ↔ ((k ≢ Link) × (k ≢ Dir)))
     → (k : Kind) → IsTrue (has s k) ↔ ((k ≢ Link) × SomeEnd act (is_dir_kind k) n)
-holder_has act n s inside outside dirs others e i d o q k = (to k, from k)
+parent_has act n s inside outside dirs others e i d o q k = (to k, from k)
   where
     inside_of : (k : Kind) → IsTrue (has inside k) → (k ≢ Link) × SomeEnd act (is_dir_kind k) n
     inside_of k h =
         let r = (i k).0 h in
-        let is : k ≡ Dir = dir_of k (subst (λ x. IsTrue (has x k)) d r.0) in
+        let is : k ≡ Dir = of_dir k (subst (λ x. IsTrue (has x k)) d r.0) in
         (λ l. let bad : Dir ≡ Link = sym is ∙ l in cc, subst (λ b. SomeEnd act b n) (ap is_dir_kind (sym is)) r.1)
 
     not_dir : (k : Kind) → k ≢ Dir → false ≡ is_dir_kind k

@@ -156,7 +156,7 @@ module _ (old mid new : Seen) (x y : ℕ) (names : List (List ℕ)) (f : List �
       let e : length names - 1 + 1 ≡ length names = omega (arith, some) in
       subst (IsAt new y) (sym (next names (length names - 1) f (omega (arith, some)) f_is) ∙ take_all (length names - 1 + 1) names (omega (arith, e))) (end (take (length names - 1) names) x_is)
 
-  pub last_keeps : (holder : Kinds) → Keeps old mid (λ u. NoLinkOnWay u (take (length names - 1) names)) → ((p : List (List ℕ)) → IsAt mid x p → Keeps mid new (λ u. IsTrue (has holder (kind_of (at u p))))) → Keeps old new (λ u. NoLinkOnWay u (above names) × IsTrue (has holder (kind_of (at u (above names)))))
-  last_keeps holder before pairs =
-      subst (λ (p : List (List ℕ)). Keeps old new (λ u. NoLinkOnWay u p × IsTrue (has holder (kind_of (at u p))))) (above_is names some)
+  pub last_keeps : (parent : Kinds) → Keeps old mid (λ u. NoLinkOnWay u (take (length names - 1) names)) → ((p : List (List ℕ)) → IsAt mid x p → Keeps mid new (λ u. IsTrue (has parent (kind_of (at u p))))) → Keeps old new (λ u. NoLinkOnWay u (above names) × IsTrue (has parent (kind_of (at u (above names)))))
+  last_keeps parent before pairs =
+      subst (λ (p : List (List ℕ)). Keeps old new (λ u. NoLinkOnWay u p × IsTrue (has parent (kind_of (at u p))))) (above_is names some)
       (keeps_same_after old mid new _ _ before (pairs (take (length names - 1) names) x_is))

@@ -73,9 +73,9 @@ dir_is value.Other = refl
 dir_is (value.Dir es) = refl
 
 -- what holds the last name
-holder_is : (u : Value) (f : List ℕ) (p : List (List ℕ)) → in_dir u (f ∷ p) ≡ is_dir_kind (kind_of (at u (above (f ∷ p))))
-holder_is u f [] = dir_is u
-holder_is u f (g ∷ rest) = holder_is (entry u f) g rest
+parent_is : (u : Value) (f : List ℕ) (p : List (List ℕ)) → in_dir u (f ∷ p) ≡ is_dir_kind (kind_of (at u (above (f ∷ p))))
+parent_is u f [] = dir_is u
+parent_is u f (g ∷ rest) = parent_is (entry u f) g rest
 
 abbrev HolderKinds : Act → ℕ → Kinds → Type 0
 HolderKinds act n s = (k : Kind) → IsTrue (has s k) ↔ ((k ≢ Link) × SomeEnd act (is_dir_kind k) n)
@@ -85,14 +85,14 @@ PathKinds act n s = (k : Kind) → IsTrue (has s k) ↔ ((within : Bool) × (end
 
 -- the row of a path with names is for a set of kinds of what holds the last name, and a set of kinds at the path
 module _ (act : Act) (n : ℕ) (u : Value) (dir : kind_of u ≡ Dir) (f : List ℕ) (p : List (List ℕ)) (names : f ∷ p ≡ (path_of act).names) (h k : Kinds) (h_is : HolderKinds act n h) (k_is : PathKinds act n k) where
-  abbrev held : Kind
-  held = kind_of (at u (above (f ∷ p)))
+  abbrev parent_kind : Kind
+  parent_kind = kind_of (at u (above (f ∷ p)))
 
   abbrev ends : Kind
   ends = kind_of (at u (f ∷ p))
 
   abbrev IsKept : Type 0
-  IsKept = (NoLinkOnWay u (above (f ∷ p)) × IsTrue (has h held)) × IsTrue (has k ends)
+  IsKept = (NoLinkOnWay u (above (f ∷ p)) × IsTrue (has h parent_kind)) × IsTrue (has k ends)
 
   row_to : 64 ≤ n → length (path_of act).names ≤ 64 → row act u ≡ n → IsKept
   row_to le few e =
@@ -101,17 +101,17 @@ module _ (act : Act) (n : ℕ) (u : Value) (dir : kind_of u ≡ Dir) (f : List �
       let clear : NoLinkOnWay u (f ∷ p) = subst (NoLinkOnWay u) (sym names) r.0 in
       let parts = no_link_from u (above (f ∷ p)) last.0 (subst (NoLinkOnWay u) last.1 clear) in
       let is : end_row act (in_dir u (f ∷ p)) ends ≡ n = ap (λ (q : List (List ℕ)). end_row act (in_dir u q) (kind_of (at u q))) names ∙ r.1 in
-      let by_holder : end_row act (is_dir_kind held) ends ≡ n = ap (λ b. end_row act b ends) (sym (holder_is u f p)) ∙ is in
-      ((parts.0, (h_is held).1 (parts.1, (ends, by_holder))), (k_is ends).1 (in_dir u (f ∷ p), is))
+      let by_parent : end_row act (is_dir_kind parent_kind) ends ≡ n = ap (λ b. end_row act b ends) (sym (parent_is u f p)) ∙ is in
+      ((parts.0, (h_is parent_kind).1 (parts.1, (ends, by_parent))), (k_is ends).1 (in_dir u (f ∷ p), is))
 
   row_from : IsKept → row act u ≡ n
   row_from w =
-      let o = (h_is held).0 w.0.1 in
+      let o = (h_is parent_kind).0 w.0.1 in
       let i = (k_is ends).0 w.1 in
       let last = last_of f p in
       let clear : NoLinkOnWay u (f ∷ p) = subst (NoLinkOnWay u) (sym last.1) (no_link_to u (above (f ∷ p)) last.0 (w.0.0, o.0)) in
-      let is : end_row act (is_dir_kind held) ends ≡ n = same_row act (is_dir_kind held) i.0 o.1.0 ends n o.1.1 i.1 in
-      let by_dir : end_row act (in_dir u (f ∷ p)) ends ≡ n = ap (λ b. end_row act b ends) (holder_is u f p) ∙ is in
+      let is : end_row act (is_dir_kind parent_kind) ends ≡ n = same_row act (is_dir_kind parent_kind) i.0 o.1.0 ends n o.1.1 i.1 in
+      let by_dir : end_row act (in_dir u (f ∷ p)) ends ≡ n = ap (λ b. end_row act b ends) (parent_is u f p) ∙ is in
       own_row_from act u dir n (subst (NoLinkOnWay u) names clear) (ap (λ (q : List (List ℕ)). end_row act (in_dir u q) (kind_of (at u q))) (sym names) ∙ by_dir)
 
 -- a row from 64 on, of a path with names

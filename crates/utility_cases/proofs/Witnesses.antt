@@ -5,7 +5,7 @@ use Rattle.feature_trees.specs.declared.value.Value.{Value}
 use Rattle.feature_trees.specs.declared.value.Value.TheVariants as value
 use Rattle.feature_trees.specs.declared.kind.Kind.{Kind}
 use Rattle.feature_trees.specs.declared.kind.Kind.TheVariants.{Absent, Reg, Link, Other, Dir}
-use Rattle.feature_trees.specs.Tree.{entry, at, kind_of, is_dir, held}
+use Rattle.feature_trees.specs.Tree.{entry, at, kind_of, is_dir, entry_if_present}
 use Rattle.feature_trees.proofs.Laws.{find-update_same}
 use Rattle.utility_calls.specs.declared.act.Act.{Act}
 use Rattle.utility_calls.specs.Rows.{path_of, in_dir, row, end_row}
@@ -17,7 +17,7 @@ use Rattle.utility_cases.proofs.RowIs.{link_row_to, link_row_from, own_row_to, o
 -- the directories on the way to these names, and a value at their end
 grow : List (List ℕ) → Value → Value
 grow [] v = v
-grow (f ∷ p) v = value.Dir (held f (grow p v))
+grow (f ∷ p) v = value.Dir (entry_if_present f (grow p v))
 
 entry_grow : (f : List ℕ) (p : List (List ℕ)) (v : Value) → entry (grow (f ∷ p) v) f ≡ grow p v
 unfolding grow

@@ -13,7 +13,8 @@ use Rattle.utility_calls.specs.Rows.{row, end_row, tree_after}
 abbrev pub Taken : Seen → Act → ℕ → Value → Value → Type 0
 Taken s act n t v = (u : Value) × HasPair s t u × (row act u ≡ n) × (v ≡ tree_after act u)
 
--- the kinds at the path for which the act takes row n, where no link stands on the way, by whether the path is in a directory
+-- the kinds at the path for which the act takes row n, where no link stands on the way, by whether the path is in a
+-- directory
 abbrev pub end_kinds : Act → Bool → ℕ → Kinds
 end_kinds act within n = record {
   absent = end_row act within kind.Absent == n;

@@ -1,4 +1,5 @@
--- A variable for a place of the tree now, and stores that keep some pairs of another or turn each tree now into another.
+-- A variable for a place of the tree now, and stores that keep some pairs of another or turn each tree now into
+-- another.
 use Rattle.std.specs.Prelude.{◌≡◌, ℕ, ◌<◌, ◌↔◌, IsTrue, List, [], ◌∷◌}
 use Rattle.feature_trees.specs.declared.value.Value.{Value}
 use Rattle.feature_trees.specs.Tree.{at, has_parents, put}
@@ -10,7 +11,8 @@ use Rattle.clause_solver.specs.Pairs.{HasPair}
 pub record IsAt (s : Seen) (x : ℕ) (names : List (List ℕ)) : Type 0 where
   pub known : x < s.count
   pub now_known : s.current < s.count
-  pub value : (t : Value) (g : Valuation) → Stands s t g → value_of_variable g x ≡ at (value_of_variable g s.current) names
+  pub value : (t : Value) (g : Valuation) → Stands s t g
+      → value_of_variable g x ≡ at (value_of_variable g s.current) names
 
 -- the new store has exactly the pairs of the old one in which the tree now is so
 abbrev pub Keeps : Seen → Seen → (Value → Type 0) → Type 0
@@ -33,4 +35,5 @@ HasParents s x names = (t : Value) (g : Valuation) → Stands s t g → IsTrue (
 -- in every pair the variable z is x with the value of y put at the names
 pub record HasPutAt (s : Seen) (x : ℕ) (names : List (List ℕ)) (y z : ℕ) : Type 0 where
   pub known : z < s.count
-  pub is : (t : Value) (g : Valuation) → Stands s t g → value_of_variable g z ≡ put (value_of_variable g x) names (value_of_variable g y)
+  pub is : (t : Value) (g : Valuation) → Stands s t g
+      → value_of_variable g z ≡ put (value_of_variable g x) names (value_of_variable g y)

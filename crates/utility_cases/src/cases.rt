@@ -17,10 +17,11 @@ use script_names::{Copied, Memory};
 use std::alloc::Global;
 use utility_calls::Act;
 
-/// The pairs of a store in which the act takes a row, each with the tree that the act leaves; None exactly where no pair
-/// takes it.
+/// The pairs of a store in which the act takes a row, each with the tree that the act leaves; None exactly where no
+/// pair takes it.
 pub fn take_row(alloc: Global, store: &Store, act: &Act, row: u8) -> Result<Option<Store>, Memory>
-    ensures exact { IfOk result (λ o. IfSome o (λ new. (t v : Value) → HasPair new t v ↔ Taken store.now act.now row t v)) }
+    ensures exact { IfOk result (λ o. IfSome o (λ new.
+        (t v : Value) → HasPair new t v ↔ Taken store.now act.now row t v)) }
     ensures alive { IfOk result (λ o. IfSome o Alive) }
     ensures none { IfOk result (λ o. IfNone o ((t u : Value) → HasPair store.now t u → row_of act.now u ≢ row)) }
 {
@@ -63,8 +64,8 @@ fn keep_taken(new: &mut Store, act: &Act, row: u8) -> Result<bool, Memory>
     Ok(left)
 }
 
-/// Whether the act takes a row on some tree.
-pub fn may_take(act: &Act, row: u8) -> bool
+// Whether the act takes a row on some tree.
+fn may_take(act: &Act, row: u8) -> bool
     ensures { IsTrue result ↔ ((tree : Value) × (kind_of tree ≡ kind.Dir) × (row_of act.now tree ≡ row)) }
 {
     let names = act.path().names();

@@ -25,7 +25,8 @@ pub(crate) enum Effect {
 // What a row of the act does to the tree; what it puts is put in a directory.
 fn row_effect(act: &Act, row: u8) -> Effect
     ensures tree { (tree : Value) → row_tree act.now row tree ≡ effect_on result (path_of act.now).names tree }
-    ensures in_dir { IsPut result → (tree : Value) → length (path_of act.now).names ≤ 64 → row_of act.now tree ≡ row → IsTrue (in_dir tree (path_of act.now).names) }
+    ensures in_dir { IsPut result → (tree : Value) → length (path_of act.now).names ≤ 64
+        → row_of act.now tree ≡ row → IsTrue (in_dir tree (path_of act.now).names) }
 {
     match act {
         Act::Exists(_) | Act::IsDir(_) => Effect::Nothing,
@@ -66,7 +67,8 @@ pub(crate) fn change(store: &mut Store, act: &Act, row: u8) -> Result<(), Memory
 fn put_at(store: &mut Store, names: &[Name], y: Var) -> Result<(), Memory>
     requires known { y.0 < store.old.count }
     requires in_dir { (t u : Value) → HasPair store.old t u → IsTrue (in_dir u names.now) }
-    ensures { (w : Value) → HasValue store.old y.0 w → OnOk result (Turns store.old store.new (λ u. put u names.now w)) }
+    ensures { (w : Value) → HasValue store.old y.0 w
+        → OnOk result (Turns store.old store.new (λ u. put u names.now w)) }
 {
     match names {
         // no pair is left

@@ -1,5 +1,6 @@
 //! Acts on a store of file trees: for each row of an act, the pairs of the store that take it.
-//! It stands on utility_calls, clause_solver, feature_trees and script_names. Begin with `cases`, and with specs/Taken.antt.
+//! It stands on utility_calls, clause_solver, feature_trees and script_names. Begin with `cases`, and with
+//! specs/Taken.antt.
 #![tactic(auto)]
 
 mod cases;
@@ -7,7 +8,7 @@ mod effects;
 mod kinds;
 mod ways;
 
-pub use cases::{may_take, take_row};
+pub use cases::take_row;
 
 #[cfg(test)]
 mod tests;

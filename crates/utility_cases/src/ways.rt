@@ -15,28 +15,31 @@ use script_names::{Memory, Name};
 // whether one is left.
 pub(crate) fn keep(store: &mut Store, names: &[Name], kinds: Kinds) -> Result<bool, Memory>
     ensures alive { IfOk result (λ left. IsTrue left ↔ Alive store.new) }
-    ensures pairs { IfOk result (λ left. Keeps store.old store.new (λ u. NoLinkOnWay u names.now × IsTrue (has kinds (kind_of (at u names.now))))) }
+    ensures pairs { IfOk result (λ left. Keeps store.old store.new (λ u.
+        NoLinkOnWay u names.now × IsTrue (has kinds (kind_of (at u names.now))))) }
 {
     let end = follow(store, names)?;
     let left = store.limit(end, kinds);
     Ok(left)
 }
 
-// Leaves the pairs in which no strict prefix of the names but the last is a link, what these lead to has one of the kinds
-// of the holder, and what all lead to has one of these kinds; says whether one is left.
+// Leaves the pairs in which no strict prefix of the names but the last is a link, what these lead to has one of the
+// kinds of the parent, and what all lead to has one of these kinds; says whether one is left.
 pub(crate) fn keep_within(
     store: &mut Store,
     names: &[Name],
-    holder: Kinds,
+    parent_kinds: Kinds,
     kinds: Kinds,
 ) -> Result<bool, Memory>
     requires { 0 < length names.now }
     ensures alive { IfOk result (λ left. IsTrue left ↔ Alive store.new) }
-    ensures pairs { IfOk result (λ left. Keeps store.old store.new (λ u. (NoLinkOnWay u (above names.now) × IsTrue (has holder (kind_of (at u (above names.now))))) × IsTrue (has kinds (kind_of (at u names.now))))) }
+    ensures pairs { IfOk result (λ left. Keeps store.old store.new (λ u.
+        (NoLinkOnWay u (above names.now) × IsTrue (has parent_kinds (kind_of (at u (above names.now)))))
+        × IsTrue (has kinds (kind_of (at u names.now))))) }
 {
     let last = names.len() - 1;
     let x = follow(store, &names[..last])?;
-    let end = down(store, x, &names[last], holder)?;
+    let end = down(store, x, &names[last], parent_kinds)?;
     let left = store.limit(end, kinds);
     Ok(left)
 }
@@ -57,12 +60,10 @@ fn follow(store: &mut Store, names: &[Name]) -> Result<Var, Memory>
 fn down(store: &mut Store, x: Var, f: &Name, kinds: Kinds) -> Result<Var, Memory>
     requires { x.0 < store.old.count }
     ensures end { IfOk result (λ y. (p : List (List ℕ)) → IsAt store.old x.0 p → IsAt store.new y.0 (p ++ f.now ∷ [])) }
-    ensures pairs { IfOk result (λ y. (p : List (List ℕ)) → IsAt store.old x.0 p → Keeps store.old store.new (λ u. IsTrue (has kinds (kind_of (at u p))))) }
+    ensures pairs { IfOk result (λ y. (p : List (List ℕ)) → IsAt store.old x.0 p
+        → Keeps store.old store.new (λ u. IsTrue (has kinds (kind_of (at u p))))) }
 {
     let _left = store.limit(x, kinds);
-    let y = match store.child(x, f) {
-        Ok(y) => y,
-        Err(e) => return Err(e),
-    };
+    let y = store.child(x, f)?;
     Ok(y)
 }

@@ -1,7 +1,7 @@
-//! Texts and their tokens or faults by hand, a row for each: from POSIX.1-2017, XCU 2.2, 2.3, 2.6 and 2.7, and from the list of
-//! forms that are not supported. In a row `N` stands for a newline, `T` for a tab, `R` for a carriage return and `Z` for a NUL;
-//! ` -> ` ends the text. The form of tokens and faults stands at the head of tests.rt. Apart from whole texts, a text stands
-//! behind `#!/bin/sh` and a newline, which are 10 bytes.
+//! Texts and their tokens or faults by hand, a row for each: from POSIX.1-2017, XCU 2.2, 2.3, 2.6 and 2.7, and from
+//! the list of forms that are not supported. In a row `N` stands for a newline, `T` for a tab, `R` for a carriage
+//! return and `Z` for a NUL; ` -> ` ends the text. The form of tokens and faults stands at the head of tests.rt.
+//! Apart from whole texts, a text stands behind `#!/bin/sh` and a newline, which are 10 bytes.
 
 // Blanks, comments, joined lines and plain words.
 pub const BLANKS_AND_COMMENTS: &str = r#"a -> 10:[a]

@@ -2,7 +2,7 @@ use Rattle.std.proofs.Common.{◌≡◌, ◌≢◌, ◌∙◌, ap}
 use Rattle.clause_solver.specs.declared.variable.Variable.{Variable}
 use Rattle.clause_solver.specs.declared.variable.Definition.TheVariants.{Derived}
 use Rattle.clause_solver.specs.Variables.{var_at, no_variable}
-use Rattle.clause_solver.proofs.Lives.{var_same}
+use Rattle.clause_solver.proofs.HasEntries.{var_same}
 use Rattle.clause_solver.proofs.Leads.{leads_here, leads_on, leads_before}
 use Rattle.clause_solver.proofs.appended.resolve.Goals as goal
 

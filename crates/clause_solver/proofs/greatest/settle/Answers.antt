@@ -1,5 +1,5 @@
 use Rattle.std.proofs.Common.{◌<◌, length, rules, arith, length-set}
-use Rattle.clause_solver.proofs.Lives.{settled_more}
+use Rattle.clause_solver.proofs.HasEntries.{settled_more}
 use Rattle.clause_solver.proofs.greatest.settle.Goals as goal
 
 pub loop-i-preserved : goal.loop-i-preserved

@@ -1,7 +1,7 @@
 use Rattle.std.proofs.Common.{◌≡◌, ◌∙◌, ap, length, sym, IsTrue, ℕ}
 use Rattle.std.proofs.lemmas.List.{with_items_is}
 use Rattle.clause_solver.specs.Opens.{mark_at}
-use Rattle.clause_solver.proofs.Opens.{lives_next}
+use Rattle.clause_solver.proofs.Opens.{has_entry_next}
 use Rattle.clause_solver.proofs.start_tree.open_places.Goals as goal
 
 pub loop-i-preserved : goal.loop-i-preserved
@@ -15,5 +15,5 @@ loop-i-preserved c =
     let more : (n : ℕ) → IsTrue (mark_at old n) → IsTrue (mark_at new n) = rw c.deref_mut.ensures.value at c.open_for.ensures.more in
     record {
       same = rw is (same ∙ c.loop-i.invariant.same);
-      lives = rw is (lives_next vars c.args.best.now old new c.loop-i.i more c.loop-i.invariant.lives c.open_for.ensures.lives);
+      filled = rw is (has_entry_next vars c.args.best.now old new c.loop-i.i more c.loop-i.invariant.filled c.open_for.ensures.filled);
     }

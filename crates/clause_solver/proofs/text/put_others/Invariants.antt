@@ -1,6 +1,6 @@
 use Rattle.std.proofs.Common.{◌≡◌, ◌++◌, take, map}
 use Rattle.std.specs.List.{flat_map}
-use Rattle.feature_trees.specs.Show.{show}
+use Rattle.shown_texts.specs.Show.{show}
 use Rattle.clause_solver.specs.ClauseText.{after_comma}
 use Rattle.clause_solver.proofs.text.put_others.Given as goal
 

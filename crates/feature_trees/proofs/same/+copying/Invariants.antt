@@ -1,5 +1,5 @@
 use Rattle.std.proofs.Common.{◌≡◌, take}
 use Rattle.feature_trees.proofs.same.+copying.Given as goal
 
-abbrev pub invariant-copy_held-loop-held : goal.invariant-copy_held-loop-held
-invariant-copy_held-loop-held l = l.out.items ≡ take l.held-index l.items
+abbrev pub invariant-copy_items-loop-item : goal.invariant-copy_items-loop-item
+invariant-copy_items-loop-item l = l.out.items ≡ take l.item-index l.items

@@ -10,10 +10,10 @@ use Rattle.package_files.proofs.package_files.require_directory.Goals as goal
 
 pub loop-f-preserved : goal.loop-f-preserved
 loop-f-preserved c =
-    let P : List (List ℕ) → Type 0 = λ names. Walked c.args.store.now c.child.new.self names c.in-Ok.y.0 in
+    let P : List (List ℕ) → Type 0 = λ names. Walked c.args.store.now c.child.new.self names c.in_ok-x.x.0 in
     subst P (sym (take_one c.names-f-items.result.now c.loop-f.f-index c.f-item.result c.loop-f-test.true c.f-item.is))
-    (walked_more c.args.store.now c.loop-f.store c.child.new.self (take c.loop-f.f-index c.names-f-items.result.now) c.f-item.result c.loop-f.x.0 c.in-Ok.y.0
-    c.loop-f.invariant c.in-Ok.ensures.extends c.in-Ok.ensures.entry)
+    (walked_more c.args.store.now c.loop-f.store c.child.new.self (take c.loop-f.f-index c.names-f-items.result.now) c.f-item.result c.loop-f.x.0 c.in_ok-x.x.0
+    c.loop-f.invariant c.in_ok-x.ensures.extends c.in_ok-x.ensures.entry)
 
 pub returns : goal.returns
 returns c =

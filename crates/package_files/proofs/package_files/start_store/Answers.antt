@@ -11,7 +11,7 @@ loop-path-preserved c =
     let P : List (List (List ℕ)) → Type 0 = λ paths. StartsWith c.require_directory.new.store paths in
     subst P (sym (map_take_one (λ (p : PathParts). p.names) c.as_slice-path-items.result.now c.loop-path.path-index c.path-item.result c.loop-path-test.true c.path-item.is))
     (starts_more c.loop-path.store c.require_directory.new.store (map (λ (p : PathParts). p.names) (take c.loop-path.path-index c.as_slice-path-items.result.now)) c.path-item.result.names
-    c.loop-path.invariant c.in-Ok.ensures)
+    c.loop-path.invariant c.in_ok-require_directory.ensures)
 
 pub returns : goal.returns
 returns c =

@@ -1,13 +1,13 @@
 use Rattle.std.proofs.Common.{rules, tests}
 use Rattle.std.proofs.lemmas.Iterator.Consumers.{YieldsList-at, YieldsList-from_filter, count_from_yields_List}
 use Rattle.std.proofs.lemmas.Iterator.Splits.{YieldsList-from_slice_split}
-use Rattle.script_names.specs.Paths.{leads_on, is_slash}
+use Rattle.script_names.specs.Paths.{names_entry, is_slash}
 use Rattle.script_names.proofs.component.count_names.Goals as goal
 
 pub returns : goal.returns
 returns c =
     count_from_yields_List _ _ c.count.ensures.ran
-    (YieldsList-from_filter _ leads_on
+    (YieldsList-from_filter _ names_entry
     (YieldsList-at c.filter.ensures.source
     (YieldsList-from_slice_split _ is_slash c.args.word.now c.split.ensures.rest c.split.ensures.done c.split.ensures.closure (λ x r q k. search (rules, tests))))
     c.filter.ensures.closure (λ x r q k. search (rules, tests)))

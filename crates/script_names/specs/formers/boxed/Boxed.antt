@@ -22,9 +22,11 @@ use Rattle.script_names.specs.declared.boxed.Boxed.TheView.{view, invariant}
 use Rattle.script_names.specs.contracts.boxed.Boxed as outside
 use Rattle.script_names.specs.contracts.boxed.Boxed.TheInside as inside
 
+-- the shape of a box: that of its value
 abbrev pub the_former : Former {0} → Former {0}
 the_former f = f
 
+-- how it weighs: as its value does
 abbrev pub the_weighed : {f : Former {0}} → Weighed f → Weighed (the_former f)
 the_weighed weighed = weighed
 
@@ -37,6 +39,7 @@ the_field = via (pair (const (Ptr × Global)) this) Inside (λ X b. ((b.inner.pt
 abbrev holding : {X Y : Type 0} → Box X Global → Y → Box Y Global
 holding b y = record { ptr = b.ptr; alloc = b.alloc; value = y }
 
+-- the pointer to a value of that type
 abbrev pointer_to : RattleType → RattleType
 pointer_to R = pointer.the_row R global.the_row ghosts
 

@@ -20,15 +20,18 @@ use Rattle.script_names.specs.declared.list.List.TheView.{view, invariant}
 use Rattle.script_names.specs.contracts.list.List as outside
 use Rattle.script_names.specs.contracts.list.List.TheInside as inside
 
+-- the shape of a list: items one after another
 abbrev pub the_former : Former {0} → Former {0}
 the_former f = list f
 
+-- how it weighs: as its items do together
 abbrev pub the_weighed : {f : Former {0}} → Weighed f → Weighed (the_former f)
 the_weighed weighed = w_list weighed
 
 pub the_empty : List ⊥
 the_empty = []
 
+-- its items, in order
 abbrev pub the_items : (X : Type 0) → List X → List X
 the_items X items = items
 

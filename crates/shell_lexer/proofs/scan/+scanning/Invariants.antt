@@ -24,13 +24,13 @@ abbrev pub decreases-items-tokens : goal.decreases-items-tokens
 decreases-items-tokens l = length l.text - l.place
 
 abbrev pub invariant-word-parts : goal.invariant-word-parts
-invariant-word-parts l = WordSoFar l.text l.depth l.fn.at l.place l.run l.parts l.marks
+invariant-word-parts l = WordSoFar l.text l.depth l.fn.at l.place l.run l.parts l.notes
 
 abbrev pub decreases-word-parts : goal.decreases-word-parts
 decreases-word-parts l = length l.text - l.place
 
 abbrev pub invariant-quoted-inside : goal.invariant-quoted-inside
-invariant-quoted-inside l = InnerSoFar l.text l.depth l.from l.fn.at l.place l.fresh l.run l.initial.parts l.parts l.initial.marks l.marks
+invariant-quoted-inside l = InnerSoFar l.text l.depth l.from l.fn.at l.place l.fresh l.run l.initial.parts l.parts l.initial.notes l.notes
 
 abbrev pub decreases-quoted-inside : goal.decreases-quoted-inside
 decreases-quoted-inside l = length l.text - l.place

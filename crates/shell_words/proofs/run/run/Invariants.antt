@@ -7,8 +7,8 @@ abbrev pub invariant-tries : goal.invariant-tries
 invariant-tries l = record {
   items_within : l.from ≤ length l.items;
   text_within : l.at ≤ length l.subject;
-  only : Matches l.items l.subject → Left l.floats (drop l.from l.items) (drop l.at l.subject);
-  enough : Left l.floats (drop l.from l.items) (drop l.at l.subject) → Matches l.items l.subject;
+  only : Matches l.items l.subject → Left l.behind_star (drop l.from l.items) (drop l.at l.subject);
+  enough : Left l.behind_star (drop l.from l.items) (drop l.at l.subject) → Matches l.items l.subject;
 }
 
 abbrev pub decreases-tries : goal.decreases-tries

@@ -41,6 +41,6 @@ paths-preserved c =
     let w = alone_within (strictly m x.end) x.state x.end left (x ∷ []) (room_left c.args.room c.paths.done c.paths.waiting x c.pop.new.self c.in-Some.ensures c.paths.invariant.count) a.0 (λ u. strictly_stays m x.end (at_tree x.state u) (sym c.if-is_success.ensures)) refl in
     record {
       alive = a.1;
-      count = go_count c.args.room left c.paths.done c.paths.waiting x c.pop.new.self (x ∷ []) c.push.new.self c.in-Some.ensures c.in-Ok-push.ensures refl c.paths.invariant.count w.count;
-      between = λ q s. each_go (Going (strictly m) c.args.waiting) (strictly m) q c.args.room left c.paths.done c.paths.waiting x c.pop.new.self (x ∷ []) c.push.new.self c.in-Some.ensures c.in-Ok-push.ensures (c.paths.invariant.between q s) w.reaches;
+      count = go_count c.args.room left c.paths.done c.paths.waiting x c.pop.new.self (x ∷ []) c.push.new.self c.in-Some.ensures c.in_ok-push-in-Some.ensures refl c.paths.invariant.count w.count;
+      between = λ q s. each_go (Going (strictly m) c.args.waiting) (strictly m) q c.args.room left c.paths.done c.paths.waiting x c.pop.new.self (x ∷ []) c.push.new.self c.in-Some.ensures c.in_ok-push-in-Some.ensures (c.paths.invariant.between q s) w.reaches;
     }

@@ -68,19 +68,19 @@ returns-in-Err-clause-over c =
     over_of (script_run c.args.step c.args.commands.now) c.args.from c.args.room (Err c.in-Err.fault)
     (found (goal.at.returns-in-Err-clause-over c).After-limit (Err c.in-Err.fault) c.in-Err.ensures)
 
-pub returns-in-Ok-listed-clause-found : goal.returns-in-Ok-listed-clause-found
-returns-in-Ok-listed-clause-found c =
-    subst (λ xs. Within (From (script_run c.args.step c.args.commands.now) c.args.from) c.args.from.trace c.args.room xs) (sym c.in-Ok-listed.ensures)
-    (found (goal.at.returns-in-Ok-listed-clause-found c).After-limit (Ok c.in-Ok.reached) c.in-Ok.ensures)
+pub returns-clause-found : goal.returns-clause-found
+returns-clause-found c =
+    subst (λ xs. Within (From (script_run c.args.step c.args.commands.now) c.args.from) c.args.from.trace c.args.room xs) (sym c.in_ok-list.ensures)
+    (found (goal.at.returns-clause-found c).After-limit (Ok c.in-Ok.reached) c.in-Ok.ensures)
 
-pub returns-in-Ok-listed-clause-exact : goal.returns-in-Ok-listed-clause-exact
-returns-in-Ok-listed-clause-exact c =
-    exact_of (script_run c.args.step c.args.commands.now) c.args.from c.args.room (Ok c.in-Ok-listed.list) (one_tree c.args.from.store c.now-now.ensures.unique)
-    (subst (λ xs. Within (From (script_run c.args.step c.args.commands.now) c.args.from) c.args.from.trace c.args.room xs) (sym c.in-Ok-listed.ensures)
-    (found (goal.at.returns-in-Ok-listed-clause-exact c).After-limit (Ok c.in-Ok.reached) c.in-Ok.ensures))
+pub returns-clause-exact : goal.returns-clause-exact
+returns-clause-exact c =
+    exact_of (script_run c.args.step c.args.commands.now) c.args.from c.args.room (Ok c.in_ok-list.list) (one_tree c.args.from.store c.now-now.ensures.unique)
+    (subst (λ xs. Within (From (script_run c.args.step c.args.commands.now) c.args.from) c.args.from.trace c.args.room xs) (sym c.in_ok-list.ensures)
+    (found (goal.at.returns-clause-exact c).After-limit (Ok c.in-Ok.reached) c.in-Ok.ensures))
 
-pub returns-in-Ok-listed-clause-few : goal.returns-in-Ok-listed-clause-few
-returns-in-Ok-listed-clause-few c =
-    few_of (script_run c.args.step c.args.commands.now) c.args.from c.args.room (Ok c.in-Ok-listed.list)
-    (subst (λ xs. Within (From (script_run c.args.step c.args.commands.now) c.args.from) c.args.from.trace c.args.room xs) (sym c.in-Ok-listed.ensures)
-    (found (goal.at.returns-in-Ok-listed-clause-few c).After-limit (Ok c.in-Ok.reached) c.in-Ok.ensures))
+pub returns-clause-few : goal.returns-clause-few
+returns-clause-few c =
+    few_of (script_run c.args.step c.args.commands.now) c.args.from c.args.room (Ok c.in_ok-list.list)
+    (subst (λ xs. Within (From (script_run c.args.step c.args.commands.now) c.args.from) c.args.from.trace c.args.room xs) (sym c.in_ok-list.ensures)
+    (found (goal.at.returns-clause-few c).After-limit (Ok c.in-Ok.reached) c.in-Ok.ensures))

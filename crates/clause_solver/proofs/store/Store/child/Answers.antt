@@ -20,7 +20,7 @@ returns-in-Some-clause-entry c =
     let child : IsChild c.self.inside.vars.items c.in-At.n c.args.f.now c.in-Some.y = rw c.deref-in-At.ensures.value at c.in-Some.ensures in
     rw (← c.self.view_is) (found_entry c.self.inside.vars.items c.self.inside.current c.args.x.0 c.in-At.n c.in-Some.y c.args.f.now c.self.invariant.order leads child)
 
-module _ (c : goal.In-Ok) where
+module _ (c : goal.In_ok-y-in-Nothing) where
   abbrev new_absent : Inside
   new_absent = record { vars = c.append.new.vars; best = c.append.new.best; current = c.self.inside.current }
 
@@ -30,19 +30,19 @@ module _ (c : goal.In-Ok) where
   leads_absent : LeadsTo c.self.inside.vars.items c.args.x.0 c.args.f.now Nothing
   leads_absent = rw c.deref.ensures.value at c.in-Nothing.ensures
 
-  is_absent : IsAppended c.self.inside.vars.items c.self.inside.best.items (Made made.Absent) c.append.new.vars.items c.append.new.best.items c.in-Ok.y
-  is_absent = c.in-Ok.ensures.ok
+  is_absent : IsAppended c.self.inside.vars.items c.self.inside.best.items (Made made.Absent) c.append.new.vars.items c.append.new.best.items c.in_ok-y-in-Nothing.y
+  is_absent = c.in_ok-y-in-Nothing.ensures.ok
 
 pub invariant_of-self-in-Nothing : goal.invariant_of-self-in-Nothing
-invariant_of-self-in-Nothing c = appended_settled c.self.inside (new_absent c) c.in-Ok.y (Made made.Absent) c.self.invariant tt (made_single c.self.inside.vars.items made.Absent) refl (is_absent c)
+invariant_of-self-in-Nothing c = appended_settled c.self.inside (new_absent c) c.in_ok-y-in-Nothing.y (Made made.Absent) c.self.invariant tt (made_single c.self.inside.vars.items made.Absent) refl (is_absent c)
 
-pub returns-in-Ok-clause-extends : goal.returns-in-Ok-clause-extends
-returns-in-Ok-clause-extends c = rw (← c.self.view_is) (appended_extends c.self.inside (new_absent c) c.in-Ok.y (Made made.Absent) c.self.invariant tt (made_single c.self.inside.vars.items made.Absent) refl (is_absent c))
+pub returns-in_ok-y-in-Nothing-clause-extends : goal.returns-in_ok-y-in-Nothing-clause-extends
+returns-in_ok-y-in-Nothing-clause-extends c = rw (← c.self.view_is) (appended_extends c.self.inside (new_absent c) c.in_ok-y-in-Nothing.y (Made made.Absent) c.self.invariant tt (made_single c.self.inside.vars.items made.Absent) refl (is_absent c))
 
-pub returns-in-Ok-clause-entry : goal.returns-in-Ok-clause-entry
-returns-in-Ok-clause-entry c = absent_is_entry c.self.inside (new_absent c) c.in-Ok.y c.args.x.0 c.args.f.now c.self.invariant (known_absent c) refl (is_absent c) (leads_absent c)
+pub returns-in_ok-y-in-Nothing-clause-entry : goal.returns-in_ok-y-in-Nothing-clause-entry
+returns-in_ok-y-in-Nothing-clause-entry c = absent_is_entry c.self.inside (new_absent c) c.in_ok-y-in-Nothing.y c.args.x.0 c.args.f.now c.self.invariant (known_absent c) refl (is_absent c) (leads_absent c)
 
-module _ (c : goal.In-Ok-append) where
+module _ (c : goal.In_ok-y-in-At) where
   abbrev new_child : Inside
   new_child = record { vars = c.append-in-At.new.vars; best = c.append-in-At.new.best; current = c.self.inside.current }
 
@@ -55,23 +55,23 @@ module _ (c : goal.In-Ok-append) where
   name_is : c.in_ok-name-in-At.name ≡ c.args.f.now
   name_is = c.in_ok-name-in-At.ensures
 
-  is_child : IsAppended c.self.inside.vars.items c.self.inside.best.items (Child c.in-At.n c.args.f.now) c.append-in-At.new.vars.items c.append-in-At.new.best.items c.in-Ok-append.y
-  is_child = rw name_is at c.in-Ok-append.ensures.ok
+  is_child : IsAppended c.self.inside.vars.items c.self.inside.best.items (Child c.in-At.n c.args.f.now) c.append-in-At.new.vars.items c.append-in-At.new.best.items c.in_ok-y-in-At.y
+  is_child = rw name_is at c.in_ok-y-in-At.ensures.ok
 
   none : (i : ℕ) → ¬ (IsChild c.self.inside.vars.items c.in-At.n c.args.f.now i)
   none i h = c.in_default.ensures i (rw c.deref-in-At.ensures.value h)
 
   before : Earlier c.self.inside.vars.items (length c.self.inside.vars.items) (Child c.in-At.n c.args.f.now)
-  before = child_before c.self.inside.vars.items c.args.x.0 c.in-At.n c.args.f.now c.known.ensures leads_child
+  before = child_before c.self.inside.vars.items c.args.x.0 c.in-At.n c.args.f.now c.is_sound.ensures leads_child
 
   single : IsSingle c.self.inside.vars.items (Child c.in-At.n c.args.f.now)
   single = child_single c.self.inside.vars.items c.in-At.n c.args.f.now none
 
 pub invariant_of-self-in-At : goal.invariant_of-self-in-At
-invariant_of-self-in-At c = appended_settled c.self.inside (new_child c) c.in-Ok-append.y (Child c.in-At.n c.args.f.now) c.self.invariant (before c) (single c) refl (is_child c)
+invariant_of-self-in-At c = appended_settled c.self.inside (new_child c) c.in_ok-y-in-At.y (Child c.in-At.n c.args.f.now) c.self.invariant (before c) (single c) refl (is_child c)
 
-pub returns-in-Ok-append-clause-extends : goal.returns-in-Ok-append-clause-extends
-returns-in-Ok-append-clause-extends c = rw (← c.self.view_is) (appended_extends c.self.inside (new_child c) c.in-Ok-append.y (Child c.in-At.n c.args.f.now) c.self.invariant (before c) (single c) refl (is_child c))
+pub returns-in_ok-y-in-At-clause-extends : goal.returns-in_ok-y-in-At-clause-extends
+returns-in_ok-y-in-At-clause-extends c = rw (← c.self.view_is) (appended_extends c.self.inside (new_child c) c.in_ok-y-in-At.y (Child c.in-At.n c.args.f.now) c.self.invariant (before c) (single c) refl (is_child c))
 
-pub returns-in-Ok-append-clause-entry : goal.returns-in-Ok-append-clause-entry
-returns-in-Ok-append-clause-entry c = child_is_entry c.self.inside (new_child c) c.in-Ok-append.y c.args.x.0 c.in-At.n c.args.f.now c.self.invariant (known_child c) c.known.ensures (none c) refl (is_child c) (leads_child c)
+pub returns-in_ok-y-in-At-clause-entry : goal.returns-in_ok-y-in-At-clause-entry
+returns-in_ok-y-in-At-clause-entry c = child_is_entry c.self.inside (new_child c) c.in_ok-y-in-At.y c.args.x.0 c.in-At.n c.args.f.now c.self.invariant (known_child c) c.is_sound.ensures (none c) refl (is_child c) (leads_child c)

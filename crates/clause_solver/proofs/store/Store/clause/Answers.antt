@@ -4,8 +4,8 @@ use Rattle.clause_solver.proofs.InOrder.{below, contains_below, in_order}
 use Rattle.clause_solver.proofs.Covering.{covers_iff}
 use Rattle.clause_solver.proofs.store.Store.clause.Goals as goal
 
-literals_are : (c : goal.In-Ok) → c.in-Ok.literals ≡ literals_from 0 c.self.inside.vars.items
-literals_are c = rw c.deref.ensures.value at c.in-Ok.ensures
+literals_are : (c : goal.In_ok-literals) → c.in_ok-literals.literals ≡ literals_from 0 c.self.inside.vars.items
+literals_are c = rw c.deref.ensures.value at c.in_ok-literals.ensures
 
 pub returns-clause-covers : goal.returns-clause-covers
 returns-clause-covers c t u =

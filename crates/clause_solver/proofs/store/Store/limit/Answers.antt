@@ -2,7 +2,7 @@ use Rattle.std.proofs.Common.{◌≡◌, ◌<◌, ◌≤◌, ◌↔◌, IsTrue, 
 use Rattle.std.specs.Vec.{with_items}
 use Rattle.std.proofs.lemmas.List.{with_items_is}
 use Rattle.clause_solver.specs.Variables.{limited}
-use Rattle.clause_solver.specs.Greatest.{IsBest, Fine, unfenced}
+use Rattle.clause_solver.specs.Greatest.{IsBest, IsSatisfied, unfenced}
 use Rattle.clause_solver.proofs.Alive.{alive_iff}
 use Rattle.clause_solver.proofs.Limited.{limited_order, limited_only, limited_always, limited_exact}
 use Rattle.clause_solver.proofs.store.Store.limit.Goals as goal
@@ -65,7 +65,7 @@ returns-clause-alive c =
     let vars = c.self.inside.vars.items in
     let inv = c.self.invariant in
     let new = limited vars c.args.x.0 c.args.k in
-    let fit : IsTrue c.decide.result ↔ Fine new c.decide.new.best (unfenced new) = rw (deref_is c) at c.decide.ensures.fine in
+    let fit : IsTrue c.decide.result ↔ IsSatisfied new c.decide.new.best (unfenced new) = rw (deref_is c) at c.decide.ensures.satisfied in
     let small : length new ≤ 4294967295 = rw length-set inv.small in
     let alive = alive_iff new c.decide.new.best c.self.inside.current small (limited_order vars c.args.x.0 c.args.k (known c) inv.order) (is_best c)
     (limited_always vars c.args.x.0 c.args.k (known c) c.self.inside.current inv.now_tree) (limited_only vars c.args.x.0 c.args.k (known c) 0 inv.start_tree) in

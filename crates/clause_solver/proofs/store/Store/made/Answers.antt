@@ -5,18 +5,18 @@ use Rattle.clause_solver.specs.Appends.{IsAppended}
 use Rattle.clause_solver.proofs.Settles.{appended_settled, appended_extends, made_single, made_is_value}
 use Rattle.clause_solver.proofs.store.Store.made.Goals as goal
 
-module _ (c : goal.In-Ok) where
+module _ (c : goal.In_ok-y) where
   abbrev after : Inside
   after = record { vars = c.append.new.vars; best = c.append.new.best; current = c.self.inside.current }
 
-  is : IsAppended c.self.inside.vars.items c.self.inside.best.items (Made c.args.value) c.append.new.vars.items c.append.new.best.items c.in-Ok.y
-  is = c.in-Ok.ensures.ok
+  is : IsAppended c.self.inside.vars.items c.self.inside.best.items (Made c.args.value) c.append.new.vars.items c.append.new.best.items c.in_ok-y.y
+  is = c.in_ok-y.ensures.ok
 
 pub invariant_of-self-2 : goal.invariant_of-self-2
-invariant_of-self-2 c = appended_settled c.self.inside (after c) c.in-Ok.y (Made c.args.value) c.self.invariant tt (made_single c.self.inside.vars.items c.args.value) refl (is c)
+invariant_of-self-2 c = appended_settled c.self.inside (after c) c.in_ok-y.y (Made c.args.value) c.self.invariant tt (made_single c.self.inside.vars.items c.args.value) refl (is c)
 
 pub returns-clause-extends : goal.returns-clause-extends
-returns-clause-extends c = rw (← c.self.view_is) (appended_extends c.self.inside (after c) c.in-Ok.y (Made c.args.value) c.self.invariant tt (made_single c.self.inside.vars.items c.args.value) refl (is c))
+returns-clause-extends c = rw (← c.self.view_is) (appended_extends c.self.inside (after c) c.in_ok-y.y (Made c.args.value) c.self.invariant tt (made_single c.self.inside.vars.items c.args.value) refl (is c))
 
 pub returns-clause-value : goal.returns-clause-value
-returns-clause-value c = made_is_value c.self.inside (after c) c.in-Ok.y c.args.value c.self.invariant refl (is c)
+returns-clause-value c = made_is_value c.self.inside (after c) c.in_ok-y.y c.args.value c.self.invariant refl (is c)

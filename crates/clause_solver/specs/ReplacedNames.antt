@@ -1,0 +1,13 @@
+-- The names that a chain of replaced names holds.
+use Rattle.std.specs.Prelude.{ℕ, List, [], ◌∷◌}
+use Rattle.clause_solver.specs.declared.greatest.ReplacedNames.{ReplacedNames, ReplacedNames-F, fold-ReplacedNames}
+use Rattle.clause_solver.specs.declared.greatest.ReplacedNames.TheOpen.{Nothing, Also}
+
+-- the names of one link of the chain, from those of the rest
+abbrev pub layer : ReplacedNames-F (List (List ℕ)) → List (List ℕ)
+layer Nothing = []
+layer (Also f below) = f.now ∷ below.now
+
+-- all names of the chain
+abbrev pub names : ReplacedNames → List (List ℕ)
+names = fold-ReplacedNames (List (List ℕ)) layer

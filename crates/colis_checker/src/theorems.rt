@@ -1,0 +1,10 @@
+//! What holds of the command line's form.
+
+ghost use Rattle.colis_checker.specs.CommandLines.{FormIsLine, FormIsLeast};
+
+/// The words spell a request exactly where they are a valid line; else the number that is named is the least one such that no
+/// valid line begins with the first so many words, and where all words begin one, their count and one more.
+pub fn forms_are_lines()
+    ensures line { FormIsLine }
+    ensures least { FormIsLeast }
+{}

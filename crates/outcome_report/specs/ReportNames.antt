@@ -1,0 +1,51 @@
+-- The names of scenarios, states, scripts and answers, as a report has them.
+use Rattle.std.specs.Prelude.{ℕ, List, Bool, true, false, codes}
+use Rattle.package_files.specs.declared.dpkg_scenarios.Scenario.{Scenario}
+use Rattle.package_files.specs.declared.dpkg_scenarios.Scenario.TheVariants.{Install, InstallAgain, Upgrade, Remove, Purge, PurgeLater}
+use Rattle.package_files.specs.declared.dpkg_scenarios.State.{State}
+use Rattle.package_files.specs.declared.dpkg_scenarios.State.TheVariants.{Installed, Unpacked, HalfConfigured, HalfInstalled, ConfigFiles, NotInstalled}
+use Rattle.package_files.specs.declared.dpkg_scenarios.ScriptKind.{ScriptKind}
+use Rattle.package_files.specs.declared.dpkg_scenarios.ScriptKind.TheVariants.{Preinst, Postinst, Prerm, Postrm}
+use Rattle.package_files.specs.declared.job_run.CallEnd.{CallEnd}
+use Rattle.package_files.specs.declared.job_run.CallEnd.TheVariants as how
+
+-- the name of a scenario
+abbrev pub scenario_name : Scenario → List ℕ
+scenario_name Install = codes "install"
+scenario_name InstallAgain = codes "install-again"
+scenario_name Upgrade = codes "upgrade"
+scenario_name Remove = codes "remove"
+scenario_name Purge = codes "purge"
+scenario_name PurgeLater = codes "purge-later"
+
+-- the name of a package's state, as dpkg spells it
+abbrev pub state_name : State → List ℕ
+state_name Installed = codes "Installed"
+state_name Unpacked = codes "Unpacked"
+state_name HalfConfigured = codes "Half-Configured"
+state_name HalfInstalled = codes "Half-Installed"
+state_name ConfigFiles = codes "Config-Files"
+state_name NotInstalled = codes "Not-Installed"
+
+-- the name of a maintainer script
+abbrev pub script_name : ScriptKind → List ℕ
+script_name Preinst = codes "preinst"
+script_name Postinst = codes "postinst"
+script_name Prerm = codes "prerm"
+script_name Postrm = codes "postrm"
+
+-- whether the replay agrees, in a word
+abbrev pub confirmed_name : Bool → List ℕ
+confirmed_name true = codes "yes"
+confirmed_name false = codes "no"
+
+-- which package's script was called
+abbrev pub side_name : Bool → List ℕ
+side_name true = codes "old"
+side_name false = codes "new"
+
+-- how a call ended
+abbrev pub call_end_name : CallEnd → List ℕ
+call_end_name how.Ok = codes "ok"
+call_end_name how.Failed = codes "failed"
+call_end_name how.Ended = codes "ended"

@@ -1,0 +1,70 @@
+// The names of scenarios, states, scripts and answers, as a report has them.
+ghost use Rattle.std.specs.Prelude.{◌≡◌};
+ghost use Rattle.outcome_report.specs.ReportNames.{scenario_name, state_name, script_name, side_name, call_end_name, confirmed_name};
+
+use package_files::{CallEnd, Scenario, ScriptKind, State};
+
+// The name of a scenario.
+pub(crate) fn scenario_name(scenario: Scenario) -> &'static [u8]
+    ensures { result.now ≡ scenario_name scenario }
+{
+    match scenario {
+        Scenario::Install => b"install",
+        Scenario::InstallAgain => b"install-again",
+        Scenario::Upgrade => b"upgrade",
+        Scenario::Remove => b"remove",
+        Scenario::Purge => b"purge",
+        Scenario::PurgeLater => b"purge-later",
+    }
+}
+
+// The name of a package's state, as dpkg spells it.
+pub(crate) fn state_name(state: State) -> &'static [u8]
+    ensures { result.now ≡ state_name state }
+{
+    match state {
+        State::Installed => b"Installed",
+        State::Unpacked => b"Unpacked",
+        State::HalfConfigured => b"Half-Configured",
+        State::HalfInstalled => b"Half-Installed",
+        State::ConfigFiles => b"Config-Files",
+        State::NotInstalled => b"Not-Installed",
+    }
+}
+
+// The name of a maintainer script.
+pub(crate) fn script_name(script: ScriptKind) -> &'static [u8]
+    ensures { result.now ≡ script_name script }
+{
+    match script {
+        ScriptKind::Preinst => b"preinst",
+        ScriptKind::Postinst => b"postinst",
+        ScriptKind::Prerm => b"prerm",
+        ScriptKind::Postrm => b"postrm",
+    }
+}
+
+// Which package's script was called.
+pub(crate) fn side_name(old: bool) -> &'static [u8]
+    ensures { result.now ≡ side_name old }
+{
+    if old { b"old" } else { b"new" }
+}
+
+// How a call ended.
+pub(crate) fn call_end_name(how: CallEnd) -> &'static [u8]
+    ensures { result.now ≡ call_end_name how }
+{
+    match how {
+        CallEnd::Ok => b"ok",
+        CallEnd::Failed => b"failed",
+        CallEnd::Ended => b"ended",
+    }
+}
+
+// Whether the replay agrees, in a word.
+pub(crate) fn confirmed_name(confirmed: bool) -> &'static [u8]
+    ensures { result.now ≡ confirmed_name confirmed }
+{
+    if confirmed { b"yes" } else { b"no" }
+}

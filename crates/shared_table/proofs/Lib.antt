@@ -1,0 +1,4 @@
+mod ChildPlaces
+mod Digits
+mod Opened
+mod Rows

@@ -1,0 +1,5 @@
+pub mod Children
+pub mod Cost
+pub mod Heights
+pub mod Nodes
+pub mod Roots

@@ -1,0 +1,23 @@
+use script_names::Memory;
+
+/// Why tokens give no script.
+#[derive(Clone, Copy, Debug, PartialEq, Eq, Drop)]
+pub enum ParseFault {
+    /// No script has these tokens; the byte offset of the first token that cannot stand where it stands, or that of the tokens' end.
+    Syntax { at: u32 },
+    /// A token opens the 65th level of nesting; its byte offset.
+    Deep { at: u32 },
+    /// Want of memory.
+    Memory,
+}
+
+impl From<Memory> for ParseFault {
+    ghost use Rattle.std.specs.Prelude.{◌≡◌};
+    ghost use Rattle.shell_grammar.specs.declared.fault.ParseFault.TheVariants.{Memory as MemoryFault};
+
+    ghost from_gives = { λ _ fault. fault ≡ MemoryFault };
+
+    fn from(_memory: Memory) -> ParseFault {
+        ParseFault::Memory
+    }
+}

@@ -1,0 +1,26 @@
+//! What holds of the grammar, for the layers above.
+
+ghost use Rattle.std.specs.Prelude.{◌≡◌, List as Items, ℕ};
+ghost use Rattle.shell_syntax.specs.declared.syntax.Command.{Command as Tree};
+ghost use Rattle.shell_lexer.specs.declared.token.Token.{Token as TokenValue};
+ghost use Rattle.shell_grammar.specs.declared.fault.ParseFault.{ParseFault as Fault};
+ghost use Rattle.shell_grammar.specs.declared.fault.ParseFault.TheVariants.{Syntax};
+ghost use Rattle.shell_grammar.specs.Spelling.{Spells, SpellsWithin, Stopped};
+
+/// Tokens spell at most one script.
+pub fn one_script()
+    ensures { (end : ℕ) (ts : Items TokenValue) (a b : Tree) → Spells end ts a → Spells end ts b → a ≡ b }
+{}
+
+/// What is spelled within 64 levels is spelled.
+pub fn within_the_limit()
+    ensures { (end : ℕ) (ts : Items TokenValue) (a : Tree) → SpellsWithin end ts a → Spells end ts a }
+{}
+
+/// A reading within 64 levels stops with one fault, and with none where a script is spelled within them; and where it stops with a
+/// fault of syntax, no script is spelled.
+pub fn one_fault()
+    ensures one { (end : ℕ) (ts : Items TokenValue) (f g : Fault) → Stopped end ts f → Stopped end ts g → f ≡ g }
+    ensures no_script { (end : ℕ) (ts : Items TokenValue) (a : Tree) (f : Fault) → SpellsWithin end ts a → Stopped end ts f → ⊥ }
+    ensures not_spelled { (end : ℕ) (ts : Items TokenValue) (at : ℕ) (a : Tree) → Stopped end ts (Syntax at) → Spells end ts a → ⊥ }
+{}

@@ -1,0 +1,139 @@
+-- The laws that src/theorems.rt proves: what holds of cuts, and that what the tables see in a text is what is spelled
+-- there.
+use Rattle.std.specs.Prelude.{◌≡◌, ◌↔◌, ◌⊎◌, ℕ, ◌+◌, Bool, true, false, not, ◌||◌, nat_eq, List, [], ◌∷◌, ◌++◌, map}
+use Rattle.std.specs.Prelude.{length}
+use Rattle.std.specs.Prelude.{Some, codes}
+use Rattle.std.specs.List.{list_all}
+use Rattle.shell_syntax.specs.declared.redirect.Redirect.{Redirect}
+use Rattle.shell_lexer.specs.declared.sight.Sign.{Sign}
+use Rattle.shell_lexer.specs.declared.sight.Sign.TheVariants as sign
+use Rattle.shell_lexer.specs.declared.fault.LexFault.{LexFault}
+use Rattle.shell_lexer.specs.declared.fault.LexFault.TheVariants.{Deep}
+use Rattle.shell_lexer.specs.declared.token.Lexed.{Lexed}
+use Rattle.shell_lexer.specs.declared.token.RawPart.{RawPart}
+use Rattle.shell_lexer.specs.declared.token.RawPart.TheVariants as part
+use Rattle.shell_lexer.specs.declared.token.TokenKind.TheVariants as token
+use Rattle.shell_lexer.specs.declared.sight.ByteNote.{ByteNote}
+use Rattle.shell_lexer.specs.declared.sight.ByteNote.TheVariants as note
+use Rattle.shell_lexer.specs.LongestRuns.{plain_runs_are_longest, quoted_runs_are_longest}
+use Rattle.shell_lexer.specs.Reading.{Whole, Read, IsInner, IsWord, token_at}
+use Rattle.shell_lexer.specs.Text.{Bytes, place}
+use Rattle.shell_lexer.specs.FirstLine.{behind_line, interpreter}
+use Rattle.shell_lexer.specs.Lexed.{Cut, CutAtAnyDepth, Faulty}
+use Rattle.shell_lexer.specs.Operators.{Operator, sight}
+use Rattle.shell_lexer.specs.Parts.{Look, AllArgs, DoubleQuote, Piece, Substitution}
+use Rattle.shell_lexer.specs.SpelledLine.{IsFirstLine}
+use Rattle.shell_lexer.specs.SpelledParts.{IsPiece, IsSubstitution}
+use Rattle.shell_lexer.specs.Tiled.{IsTiled, RiseFrom}
+use Rattle.shell_lexer.specs.Spelling.{IsOperator, IsRedirected, Stands}
+
+-- ---- cuts
+
+-- a text is cut into tokens in one way
+abbrev pub OneCut : Type 0
+OneCut = (text : Bytes) (l other : Lexed) → Cut text l → Cut text other → l ≡ other
+
+-- the same without a limit of substitutions
+abbrev pub OneCutAtAnyDepth : Type 0
+OneCutAtAnyDepth = (text : Bytes) (l other : Lexed) → CutAtAnyDepth text l → CutAtAnyDepth text other → l ≡ other
+
+-- a cut by the limit is one without it
+abbrev pub CutsWithinLimit : Type 0
+CutsWithinLimit = (text : Bytes) (l : Lexed) → Cut text l → CutAtAnyDepth text l
+
+-- a text that has a cut without the limit has no fault but a substitution that is too deep
+abbrev pub OnlyDeepIsRefused : Type 0
+OnlyDeepIsRefused =
+    (text : Bytes) (l : Lexed) (fault : LexFault)
+    → CutAtAnyDepth text l → Faulty text fault → (at : ℕ) × (fault ≡ Deep at)
+
+-- a cut has each byte behind the first line in a blank, a comment, a joined line or exactly one token
+abbrev pub CutsAreTiled : Type 0
+CutsAreTiled =
+    (text : Bytes) (l : Lexed)
+    → CutAtAnyDepth text l → IsTiled (place (length text) (behind_line text)) (behind_line text) l.tokens
+
+-- and its tokens' offsets rise strictly
+abbrev pub OffsetsRise : Type 0
+OffsetsRise = (text : Bytes) (l : Lexed) → CutAtAnyDepth text l → RiseFrom 0 l.tokens
+
+-- ---- double quotes
+
+-- a byte that stands for itself in double quotes, whatever stands round it: no NUL, `"`, `$`, backquote or backslash
+abbrev pub is_literal : ℕ → Bool
+is_literal b = not (nat_eq b 0 || nat_eq b 34 || nat_eq b 36 || nat_eq b 92 || nat_eq b 96)
+
+-- what a word's notes have for so many bytes in double quotes
+abbrev pub gaps : Bytes → List ByteNote
+gaps bytes = map (λ b. note.Gap) bytes
+
+-- double quotes round such bytes, wherever they stand, are one part that has these bytes, newlines too
+abbrev pub QuotesAreOnePart : Type 0
+QuotesAreOnePart =
+    (deep : ℕ → Bool) (len depth from : ℕ) (bytes rest : Bytes) → list_all is_literal bytes ≡ true
+    → IsInner deep len depth from true [] (bytes ++ 34 ∷ rest) (Whole (part.Quoted bytes ∷ [], gaps bytes) rest)
+
+-- the tokens of a script of so many bytes that has one word behind the line `#!/bin/sh`
+abbrev pub one_word : List RawPart → ℕ → Lexed
+one_word parts end = record { strict = false; tokens = token_at 10 (token.Word parts) ∷ []; end = end }
+
+-- a script that is such quotes behind the line `#!/bin/sh` is cut into the word of that part
+abbrev pub QuotesAreCut : Type 0
+QuotesAreCut =
+    (bytes : Bytes) → list_all is_literal bytes ≡ true
+    → Cut (codes "#!/bin/sh\n\"" ++ (bytes ++ codes "\"")) (one_word (part.Quoted bytes ∷ []) (12 + length bytes))
+
+-- ---- runs
+
+-- of the parts of a word no plain run is empty, and none stands directly behind another
+abbrev pub PlainRunsAreLongest : Type 0
+PlainRunsAreLongest =
+    (deep : ℕ → Bool) (len depth : ℕ) (text rest : Bytes) (v : Read)
+    → IsWord deep len depth [] text (Whole v rest) → plain_runs_are_longest false v.0 ≡ true
+
+-- what stands in double quotes is one empty part, or no quoted run of its parts is empty, and none stands directly
+-- behind another
+abbrev pub QuotedRunsAreLongest : Type 0
+QuotedRunsAreLongest =
+    (deep : ℕ → Bool) (len depth from : ℕ) (text rest : Bytes) (v : Read)
+    → IsInner deep len depth from true [] text (Whole v rest)
+    → (v.0 ≡ part.Quoted [] ∷ []) ⊎ (quoted_runs_are_longest false v.0 ≡ true)
+
+-- ---- what is seen is what is spelled
+
+-- what begins at a place is an operator, or a whole redirection, exactly where its spelling stands there and no
+-- longer operator does
+abbrev pub OperatorsAreLongest : Type 0
+OperatorsAreLongest =
+    (len : ℕ) (text rest : Bytes) (which : Sign) → (sight len text ≡ Operator which rest) ↔ IsOperator which text rest
+
+-- what begins at a place is a redirection exactly where one of its spellings stands there
+abbrev pub RedirectionsAreSpelled : Type 0
+RedirectionsAreSpelled =
+    (len : ℕ) (text rest : Bytes) (which : Redirect)
+    → (sight len text ≡ Operator (sign.Redirect which) rest) ↔ IsRedirected which text rest
+
+-- what the table sees in a word, or in double quotes, is a part that holds no others exactly where that part is
+-- spelled there
+abbrev pub PartsAreSpelled : (ℕ → Bytes → Look) → Bool → Type 0
+PartsAreSpelled sees inside =
+    (len : ℕ) (text rest : Bytes) (part : RawPart)
+    → (sees len text ≡ Piece part rest) ↔ IsPiece inside part text rest
+
+-- what the table sees is `$@` exactly where it stands
+abbrev pub AllArgsAreSpelled : (ℕ → Bytes → Look) → Type 0
+AllArgsAreSpelled sees = (len : ℕ) (text rest : Bytes) → (sees len text ≡ AllArgs rest) ↔ Stands (codes "$@") text rest
+
+-- it is the beginning of a substitution exactly where one is spelled
+abbrev pub SubstitutionsAreSpelled : (ℕ → Bytes → Look) → Type 0
+SubstitutionsAreSpelled sees =
+    (len : ℕ) (text rest : Bytes) → (sees len text ≡ Substitution rest) ↔ IsSubstitution text rest
+
+-- it is a double quote exactly where one stands
+abbrev pub DoubleQuotesAreSpelled : (ℕ → Bytes → Look) → Type 0
+DoubleQuotesAreSpelled sees =
+    (len : ℕ) (text rest : Bytes) → (sees len text ≡ DoubleQuote rest) ↔ Stands (codes "\"") text rest
+
+-- a first line is accepted, with `-e` or without, exactly where it is spelled as one
+abbrev pub FirstLinesAreSpelled : Type 0
+FirstLinesAreSpelled = (line : Bytes) (strict : Bool) → (interpreter line ≡ Some strict) ↔ IsFirstLine strict line

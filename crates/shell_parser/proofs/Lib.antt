@@ -1,0 +1,6 @@
+mod Compounds
+mod Lists
+mod Loops
+mod Simples
+mod Steps
+mod Words

@@ -1,0 +1,191 @@
+//! What stands at a place, and how a word looks.
+
+ghost use Rattle.std.specs.Prelude.{◌≡◌, ◌≤◌, length, drop, true};
+ghost use Rattle.shell_grammar.specs.Look.{look as look_of, kind_look as kind_look_of, word_look as word_look_of, seen_look, whole_look as whole_look_of, begun_look as begun_look_of, name_from, assigns_from, is_name_byte as is_name_byte_of, is_letter as is_letter_of, is_digit as is_digit_of, reserved as reserved_of};
+ghost use Rattle.shell_lexer.specs.declared.token.TokenKind.{out-TokenKind};
+ghost use Rattle.shell_lexer.specs.declared.token.RawPart.{out-RawPart};
+
+use shell_grammar::{Look, Reserved};
+use shell_lexer::{RawPart, Token, TokenKind};
+
+/// What stands there.
+pub fn look(ts: &[Token], at: usize) -> Look
+    requires { at ≤ length ts.now }
+    ensures { result ≡ look_of (drop at ts.now) }
+{
+    match ts.get(at) {
+        Some(token) => kind_look(&token.kind),
+        None => Look::AtEnd,
+    }
+}
+
+fn kind_look(kind: &TokenKind) -> Look
+    ensures { result ≡ kind_look_of (out-TokenKind kind.now) }
+{
+    match kind {
+        TokenKind::Word(raws) => word_look(raws.as_slice()),
+        TokenKind::Newline => Look::Newline,
+        TokenKind::Semi => Look::Semi,
+        TokenKind::DoubleSemi => Look::DoubleSemi,
+        TokenKind::AndAnd => Look::AndAnd,
+        TokenKind::OrOr => Look::OrOr,
+        TokenKind::Bar => Look::Bar,
+        TokenKind::LeftParen => Look::LeftParen,
+        TokenKind::RightParen => Look::RightParen,
+        TokenKind::Redirect(which) => Look::Redirection(*which),
+    }
+}
+
+fn word_look(raws: &[RawPart]) -> Look
+    ensures { result ≡ word_look_of raws.now }
+{
+    match raws.get(0) {
+        Some(first) => first_look(first, raws.len() == 1),
+        None => Look::Other,
+    }
+}
+
+/// A word by its first part, and whether that is all of it.
+fn first_look(first: &RawPart, alone: bool) -> Look
+    ensures { result ≡ seen_look (out-RawPart first.now) alone }
+{
+    match first {
+        RawPart::Plain(text) => {
+            if alone {
+                return whole_look(text.as_slice());
+            }
+            begun_look(text.as_slice())
+        }
+        RawPart::Quoted(_) => Look::Other,
+        RawPart::Param { .. } => Look::Other,
+        RawPart::All => Look::Other,
+        RawPart::Run { .. } => Look::Other,
+    }
+}
+
+fn whole_look(text: &[u8]) -> Look
+    ensures { result ≡ whole_look_of text.now (reserved_of text.now) }
+{
+    match reserved(text) {
+        Some(which) => Look::Keyword(which),
+        None => {
+            if is_name(text) {
+                return Look::Name;
+            }
+            begun_look(text)
+        }
+    }
+}
+
+fn begun_look(text: &[u8]) -> Look
+    ensures { result ≡ begun_look_of text.now }
+{
+    if assigns(text) {
+        return Look::Assignment;
+    }
+    Look::Other
+}
+
+fn is_name(text: &[u8]) -> bool
+    ensures { result ≡ name_from true text.now }
+{
+    let mut first = true;
+    let mut i = 0;
+    while i < text.len() {
+        if !is_name_byte(first, text[i]) {
+            return false;
+        }
+        first = false;
+        i += 1;
+    }
+    !first
+}
+
+fn assigns(text: &[u8]) -> bool
+    ensures { result ≡ assigns_from true text.now }
+{
+    let mut first = true;
+    let mut i = 0;
+    while i < text.len() {
+        let byte = text[i];
+        if !is_name_byte(first, byte) {
+            return !first && byte == b'=';
+        }
+        first = false;
+        i += 1;
+    }
+    false
+}
+
+fn is_name_byte(first: bool, byte: u8) -> bool
+    ensures { result ≡ is_name_byte_of first byte }
+{
+    is_letter(byte) || (!first && is_digit(byte))
+}
+
+fn is_letter(byte: u8) -> bool
+    ensures { result ≡ is_letter_of byte }
+{
+    (65 <= byte && byte <= 90) || byte == 95 || (97 <= byte && byte <= 122)
+}
+
+fn is_digit(byte: u8) -> bool
+    ensures { result ≡ is_digit_of byte }
+{
+    48 <= byte && byte <= 57
+}
+
+/// Which reserved word it is.
+fn reserved(text: &[u8]) -> Option<Reserved>
+    ensures { result ≡ reserved_of text.now }
+{
+    if text == b"{".as_slice() {
+        return Some(Reserved::Open);
+    }
+    if text == b"}".as_slice() {
+        return Some(Reserved::Close);
+    }
+    if text == b"!".as_slice() {
+        return Some(Reserved::Bang);
+    }
+    if text == b"if".as_slice() {
+        return Some(Reserved::If);
+    }
+    if text == b"then".as_slice() {
+        return Some(Reserved::Then);
+    }
+    if text == b"elif".as_slice() {
+        return Some(Reserved::Elif);
+    }
+    if text == b"else".as_slice() {
+        return Some(Reserved::Else);
+    }
+    if text == b"fi".as_slice() {
+        return Some(Reserved::Fi);
+    }
+    if text == b"for".as_slice() {
+        return Some(Reserved::For);
+    }
+    if text == b"in".as_slice() {
+        return Some(Reserved::In);
+    }
+    if text == b"do".as_slice() {
+        return Some(Reserved::Do);
+    }
+    if text == b"done".as_slice() {
+        return Some(Reserved::Done);
+    }
+    if text == b"while".as_slice() {
+        return Some(Reserved::While);
+    }
+    if text == b"until".as_slice() {
+        return Some(Reserved::Until);
+    }
+    if text == b"case".as_slice() {
+        return Some(Reserved::Case);
+    }
+    if text == b"esac".as_slice() {
+        return Some(Reserved::Esac);
+    }
+    None
+}
