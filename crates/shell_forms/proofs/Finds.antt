@@ -205,10 +205,10 @@ pub simple_found : (first : Text → Option ℕ) (at : ℕ) (assigns : List (Ass
     → h ≡ soonest a (simple_forms first at assigns words p)
 simple_found first at assigns words p a b c d e f g h one two three four five six last =
     seven a b c d e f g h
-        (when (is_name (static_name words) (codes "set") && not (is_one_flag (operands words))) form.Option at)
-        (when (sets_ifs assigns) form.Ifs at) (when (is_prefix first assigns words) form.Prefix at)
-        (when (is_name (static_name words) (codes "export") && some_unquoted (operands words)) form.Export at)
-        (when (is_named (static_name words) (codes "break" ∷ codes "continue" ∷ []) && (are_any (operands words) || not p.in_loop)) form.LoopExit at)
-        (when (is_name (static_name words) (codes "return") && not p.may_return) form.Return at)
-        (when (calls_later first p.defined_at (static_name words)) form.CallOrder at)
-        one two three four five six last
+    (when (is_name (static_name words) (codes "set") && not (is_one_flag (operands words))) form.Option at)
+    (when (sets_ifs assigns) form.Ifs at) (when (is_prefix first assigns words) form.Prefix at)
+    (when (is_name (static_name words) (codes "export") && some_unquoted (operands words)) form.Export at)
+    (when (is_named (static_name words) (codes "break" ∷ codes "continue" ∷ []) && (are_any (operands words) || not p.in_loop)) form.LoopExit at)
+    (when (is_name (static_name words) (codes "return") && not p.may_return) form.Return at)
+    (when (calls_later first p.defined_at (static_name words)) form.CallOrder at)
+    one two three four five six last

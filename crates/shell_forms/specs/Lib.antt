@@ -6,3 +6,4 @@ pub mod First
 pub mod Known
 pub mod Seen
 pub mod Soonest
+pub mod Spelled

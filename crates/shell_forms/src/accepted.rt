@@ -1,5 +1,6 @@
 ghost use Rattle.std.specs.Prelude.{◌≡◌, [], IfOk, IfErr};
 ghost use Rattle.shell_forms.specs.First.{script_forms, Refuses};
+ghost use Rattle.shell_forms.specs.Spelled.{IsSpelled};
 
 use crate::finding::first_form;
 use crate::functions::Functions;
@@ -8,7 +9,7 @@ use shell_syntax::{Form, Script};
 use std::alloc::Global;
 use std::marker::Model;
 
-/// A script in which no unsupported form stands.
+/// A script that some text spells, and in which no unsupported form stands.
 #[derive(Drop)]
 pub struct Accepted {
     script: Script,
@@ -18,6 +19,7 @@ impl Model for Accepted {
     ghost use Rattle.std.specs.Prelude.{◌≡◌, []};
     ghost use Rattle.shell_syntax.specs.declared.script.Script.{Script};
     ghost use Rattle.shell_forms.specs.First.{script_forms};
+    ghost use Rattle.shell_forms.specs.Spelled.{IsSpelled};
     ghost use Rattle.std.specs.Coded.{codes};
     ghost use Rattle.shell_syntax.specs.contracts.syntax.Command as command;
 
@@ -27,13 +29,14 @@ impl Model for Accepted {
 
     ghost view = { λ a. a.script };
 
-    ghost invariant = { λ a. script_forms a.script.body ≡ [] };
+    ghost invariant = { λ a. IsSpelled a.script × (script_forms a.script.body ≡ []) };
 }
 
 impl Accepted {
     /// The script.
     pub fn script(&self) -> &Script
         ensures same { result.now ≡ self.now }
+        ensures spelled { IsSpelled self.now }
         ensures accepted { script_forms self.now.body ≡ [] }
     {
         &self.script
@@ -48,9 +51,10 @@ pub enum FormFault {
     Memory,
 }
 
-/// The script, if no unsupported form stands in it; else the first one, which is the one of least offset, and at one offset the
+/// The script, which some text spells, if no unsupported form stands in it; else the first one, which is the one of least offset, and at one offset the
 /// one that is named first.
 pub fn accept(alloc: Global, script: Script) -> Result<Accepted, FormFault>
+    requires spelled { IsSpelled script }
     ensures same { IfOk result (λ accepted. accepted ≡ script) }
     ensures none { IfOk result (λ accepted. script_forms script.body ≡ []) }
     ensures fault { IfErr result (Refuses (script_forms script.body)) }

@@ -1,4 +1,5 @@
-//! Scripts in which no unsupported form stands: those that later layers take a meaning of. It stands on shell_syntax and script_names.
+//! Scripts in which no unsupported form stands: those that later layers take a meaning of. It stands on shell_parser
+//! and what that stands on.
 //! Begin with `accept` in `accepted`, and with specs/Forms.antt for what each form is.
 #![tactic(auto)]
 
@@ -7,6 +8,8 @@ mod finding;
 mod found;
 mod functions;
 mod place;
+#[cfg(test)]
+mod tests;
 mod words;
 
 pub use accepted::{Accepted, FormFault, accept};

@@ -138,15 +138,15 @@ in_command-returns-in_ok-first-in-Some-words t c =
 pub in_command-returns-in_ok-first-in-Simple-2 : goal.in_command-returns-in_ok-first-in-Simple-2
 in_command-returns-in_ok-first-in-Simple-2 t c =
     IfOk-weaker c.in_words.result _ _ (λ found later. then_more c.args.first c.in_ok-first-in-Simple.first found
-        (simple_forms (first_in c.args.functions.now) c.in-Simple.at (map (assign_says (first_in c.args.functions.now)) c.in-Simple.assigns) (map (word_says (first_in c.args.functions.now)) c.in-Simple.words) c.args.place)
-        (in_assigns (map (assign_says (first_in c.args.functions.now)) c.in-Simple.assigns) c.args.place ++ in_words (map (word_says (first_in c.args.functions.now)) c.in-Simple.words) c.args.place) (forms_of (first_in c.args.functions.now) c.args.command.now c.args.place)
-        (ap (λ x. forms_of (first_in c.args.functions.now) x c.args.place) c.in-Simple.is ∙ forms_simple (first_in c.args.functions.now) c.in-Simple.at c.in-Simple.assigns c.in-Simple.words c.args.place)
-        (c.in_ok-first-in-Simple.ensures
-            ∙ ap (λ xs. soonest c.args.first (simple_forms (first_in c.args.functions.now) c.in-Simple.at (map (assign_says (first_in c.args.functions.now)) xs) (map (word_says (first_in c.args.functions.now)) c.as_slice-words.result.now) c.args.place)) c.as_slice-assigns.ensures
-            ∙ ap (λ ws. soonest c.args.first (simple_forms (first_in c.args.functions.now) c.in-Simple.at (map (assign_says (first_in c.args.functions.now)) c.in-Simple.assigns) (map (word_says (first_in c.args.functions.now)) ws) c.args.place)) c.as_slice-words.ensures)
-        (then_more c.in_ok-first-in-Simple.first c.in_ok-first-in-Simple-2.first found
-            (in_assigns (map (assign_says (first_in c.args.functions.now)) c.in-Simple.assigns) c.args.place) (in_words (map (word_says (first_in c.args.functions.now)) c.in-Simple.words) c.args.place)
-            (in_assigns (map (assign_says (first_in c.args.functions.now)) c.in-Simple.assigns) c.args.place ++ in_words (map (word_says (first_in c.args.functions.now)) c.in-Simple.words) c.args.place) refl
-            (moved c.in_ok-first-in-Simple.first c.in_ok-first-in-Simple-2.first (λ xs. in_assigns (map (assign_says (first_in c.args.functions.now)) xs)) _ _ c.args.place c.args.place c.in_ok-first-in-Simple-2.ensures c.as_slice-assigns.ensures refl)
-            (moved c.in_ok-first-in-Simple-2.first found (λ ws. in_words (map (word_says (first_in c.args.functions.now)) ws)) _ _ c.args.place c.args.place later c.as_slice-words.ensures refl)))
-        c.in_words.ensures
+    (simple_forms (first_in c.args.functions.now) c.in-Simple.at (map (assign_says (first_in c.args.functions.now)) c.in-Simple.assigns) (map (word_says (first_in c.args.functions.now)) c.in-Simple.words) c.args.place)
+    (in_assigns (map (assign_says (first_in c.args.functions.now)) c.in-Simple.assigns) c.args.place ++ in_words (map (word_says (first_in c.args.functions.now)) c.in-Simple.words) c.args.place) (forms_of (first_in c.args.functions.now) c.args.command.now c.args.place)
+    (ap (λ x. forms_of (first_in c.args.functions.now) x c.args.place) c.in-Simple.is ∙ forms_simple (first_in c.args.functions.now) c.in-Simple.at c.in-Simple.assigns c.in-Simple.words c.args.place)
+    (c.in_ok-first-in-Simple.ensures
+    ∙ ap (λ xs. soonest c.args.first (simple_forms (first_in c.args.functions.now) c.in-Simple.at (map (assign_says (first_in c.args.functions.now)) xs) (map (word_says (first_in c.args.functions.now)) c.as_slice-words.result.now) c.args.place)) c.as_slice-assigns.ensures
+    ∙ ap (λ ws. soonest c.args.first (simple_forms (first_in c.args.functions.now) c.in-Simple.at (map (assign_says (first_in c.args.functions.now)) c.in-Simple.assigns) (map (word_says (first_in c.args.functions.now)) ws) c.args.place)) c.as_slice-words.ensures)
+    (then_more c.in_ok-first-in-Simple.first c.in_ok-first-in-Simple-2.first found
+    (in_assigns (map (assign_says (first_in c.args.functions.now)) c.in-Simple.assigns) c.args.place) (in_words (map (word_says (first_in c.args.functions.now)) c.in-Simple.words) c.args.place)
+    (in_assigns (map (assign_says (first_in c.args.functions.now)) c.in-Simple.assigns) c.args.place ++ in_words (map (word_says (first_in c.args.functions.now)) c.in-Simple.words) c.args.place) refl
+    (moved c.in_ok-first-in-Simple.first c.in_ok-first-in-Simple-2.first (λ xs. in_assigns (map (assign_says (first_in c.args.functions.now)) xs)) _ _ c.args.place c.args.place c.in_ok-first-in-Simple-2.ensures c.as_slice-assigns.ensures refl)
+    (moved c.in_ok-first-in-Simple-2.first found (λ ws. in_words (map (word_says (first_in c.args.functions.now)) ws)) _ _ c.args.place c.args.place later c.as_slice-words.ensures refl)))
+    c.in_words.ensures

@@ -16,9 +16,9 @@ returns-in-None c =
 pub loop-part-preserved : goal.loop-part-preserved
 loop-part-preserved c =
     ap (λ t. both_bytes (Some t) (static_of (drop (c.loop-part.part-index + 1) c.as_slice-part-items.result.now)))
-        (c.in_ok-extend-in-Some.ensures.ok ∙ ap (λ b. c.loop-part.text ++ b) c.as_slice.ensures)
+    (c.in_ok-extend-in-Some.ensures.ok ∙ ap (λ b. c.loop-part.text ++ b) c.as_slice.ensures)
     ∙ static_more (static_of c.as_slice-part-items.result.now) c.as_slice-part-items.result.now c.loop-part.part-index c.part-item.result c.loop-part.text c.in-Some.bytes.now
-        c.loop-part-test.true c.part-item.is (sym c.in-Some.ensures) c.loop-part.invariant
+    c.loop-part-test.true c.part-item.is (sym c.in-Some.ensures) c.loop-part.invariant
 
 pub returns : goal.returns
 returns c =
