@@ -71,7 +71,7 @@ fn run(alloc: Global) -> Result<Part, Memory> {
 }
 
 // A parameter without a default.
-fn without_default(key: Key) -> Part {
+fn bare(key: Key) -> Part {
     Part::Param {
         key,
         default: None,
@@ -85,8 +85,8 @@ fn part(alloc: Global, place: u32) -> Result<Part, Memory> {
         0 => Ok(Part::Plain(Bytes::from_slice(alloc, b"plain")?)),
         1 => Ok(Part::Quoted(Bytes::from_slice(alloc, b"quoted")?)),
         2 => named(alloc),
-        3 => Ok(without_default(Key::Arg(1))),
-        4 => Ok(without_default(Key::Count)),
+        3 => Ok(bare(Key::Arg(1))),
+        4 => Ok(bare(Key::Count)),
         5 => Ok(Part::All),
         _ => run(alloc),
     }
@@ -282,63 +282,6 @@ fn others_are_equal(alloc: Global) -> Result<bool, Memory> {
     let whole = script(alloc, 100)?;
     let other = script(alloc, 101)?;
     Ok(whole.equal(&other))
-}
-
-// Whether each command, word and part of a kind equals its copy.
-fn trees_are_copied(alloc: Global) -> Result<bool, Memory> {
-    let command = assigned(alloc)?;
-    let word = every_part(alloc)?;
-    let part = named(alloc)?;
-    Ok(
-        command.equal(&command.copy(alloc)?)
-            && word.equal(&word.copy(alloc)?)
-            && part.equal(&part.copy(alloc)?),
-    )
-}
-
-// Whether an assignment and a key equal their copies.
-fn assignment_is_copied(alloc: Global) -> Result<bool, Memory> {
-    let key = Key::Named(Bytes::from_slice(alloc, b"name")?);
-    let assign = Assign {
-        name: Bytes::from_slice(alloc, b"name")?,
-        value: plain(alloc, 2, b"value")?,
-    };
-    Ok(key.equal(&key.copy(alloc)?) && assign.equal(&assign.copy(alloc)?))
-}
-
-// Whether a link and an arm of a conditional equal their copies.
-fn link_and_arm_are_copied(alloc: Global) -> Result<bool, Memory> {
-    let link = Link {
-        and: true,
-        command: simple(alloc, 24, b"next")?,
-    };
-    let arm = IfArm {
-        cond: simple(alloc, 33, b"cond")?,
-        body: simple(alloc, 38, b"body")?,
-    };
-    Ok(link.equal(&link.copy(alloc)?) && arm.equal(&arm.copy(alloc)?))
-}
-
-// Whether an arm of a choice equals its copy.
-fn case_arm_is_copied(alloc: Global) -> Result<bool, Memory> {
-    let arm = CaseArm {
-        patterns: words(alloc, plain(alloc, 75, b"*")?)?,
-        body: simple(alloc, 78, b"body")?,
-    };
-    Ok(arm.equal(&arm.copy(alloc)?))
-}
-
-#[test]
-fn each_type_is_copied(rt: HostRuntime) -> Result<(), Fail> {
-    let alloc = rt.alloc();
-    assert!(rt; trees_are_copied(alloc)?);
-    assert!(rt; assignment_is_copied(alloc)?);
-    assert!(rt; link_and_arm_are_copied(alloc)?);
-    assert!(rt; case_arm_is_copied(alloc)?);
-    for redirect in REDIRECTS {
-        assert!(rt; redirect.copy(alloc)? == *redirect);
-    }
-    Ok(())
 }
 
 #[test]
