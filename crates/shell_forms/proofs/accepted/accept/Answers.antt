@@ -4,7 +4,7 @@ use Rattle.shell_forms.proofs.Firsts.{is_first, there_is_none}
 use Rattle.shell_forms.proofs.accepted.accept.Goals as goal
 
 pub invariant_of-result : goal.invariant_of-result
-invariant_of-result c = (c.requires, there_is_none (script_forms c.args.script.body) (sym c.in-Ok.ensures ∙ c.in-None.is))
+invariant_of-result c = (c.requires.spelled, there_is_none (script_forms c.args.script.body) (sym c.in-Ok.ensures ∙ c.in-None.is))
 
 pub returns-in-None-clause-none : goal.returns-in-None-clause-none
 returns-in-None-clause-none c = there_is_none (script_forms c.args.script.body) (sym c.in-Ok.ensures ∙ c.in-None.is)
