@@ -11,3 +11,6 @@ mod tokens;
 mod trees;
 
 pub use script::parse;
+
+#[cfg(test)]
+mod tests;
