@@ -7,7 +7,7 @@ use Rattle.shell_grammar.specs.declared.fault.ParseFault.TheVariants.{Syntax, De
 use Rattle.shell_grammar.specs.declared.look.Look.{Look}
 use Rattle.shell_grammar.specs.Look.{Tokens, look, word, behind, place}
 use Rattle.shell_grammar.specs.Grammar.{Rule, Script, Sign, Is, Opens, AWord, Here, Never, Of, Inside, Tree, Value, Values, Production, production}
-use Rattle.shell_grammar.specs.Reading.{Out, Whole, Stop, turned, Judged, Fine, Faulty, after, IsRule, rule, IsAll, no_more, one_more, one_stops, IsSign, is, is_not, opens, opens_not, too_deep, a_word, a_word_stops, no_word, here, never, of, inside, IsParts, no_parts, plain_part, run_part, run_stops, run_deep}
+use Rattle.shell_grammar.specs.Reading.{Out, Whole, Stop, turned, Judged, Faultless, Faulty, after, IsRule, rule, IsAll, no_more, one_more, one_stops, IsSign, is, is_not, opens, opens_not, too_deep, a_word, a_word_stops, no_word, here, never, of, inside, IsParts, no_parts, plain_part, run_part, run_stops, run_deep}
 use Rattle.shell_grammar.specs.Spelling.{no_limit, deep_64, Spells, Stopped}
 use Rattle.shell_grammar.proofs.Unique.{clash, not_both, wholes, stops, same_rule}
 
@@ -21,7 +21,7 @@ is_deep (Whole v r) = false
 is_deep (Stop f r) = is_deep_fault f
 
 abbrev is_deep_part : Judged → Bool
-is_deep_part (Fine ps) = false
+is_deep_part (Faultless ps) = false
 is_deep_part (Faulty f) = is_deep_fault f
 
 deep_turned : {A B : Type 0} (f : A → B) (q : Out A) → is_deep (turned f q) ≡ is_deep q
@@ -29,7 +29,7 @@ deep_turned f (Whole v r) = refl
 deep_turned f (Stop g r) = refl
 
 deep_after : (p : _) (q : Judged) → is_deep_part (after p q) ≡ is_deep_part q
-deep_after p (Fine ps) = refl
+deep_after p (Faultless ps) = refl
 deep_after p (Faulty f) = refl
 
 module _ (deep : ℕ → Bool) where

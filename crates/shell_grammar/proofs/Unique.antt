@@ -13,7 +13,7 @@ use Rattle.shell_grammar.specs.declared.look.Look.{Look}
 use Rattle.shell_grammar.specs.Look.{Tokens, look, word, behind, place}
 use Rattle.shell_grammar.specs.Grammar.{Rule, Script, Sign, Is, Opens, AWord, Here, Never, Of, Inside, Tree, Value, Values, Production, production}
 use Rattle.shell_grammar.specs.Trees.{word_at}
-use Rattle.shell_grammar.specs.Reading.{Out, Whole, Stop, turned, Judged, Fine, Faulty, after, plainly, IsRule, rule, IsAll, no_more, one_more, one_stops, IsSign, is, is_not, opens, opens_not, too_deep, a_word, a_word_stops, no_word, here, never, of, inside, IsParts, no_parts, plain_part, run_part, run_stops, run_deep}
+use Rattle.shell_grammar.specs.Reading.{Out, Whole, Stop, turned, Judged, Faultless, Faulty, after, plainly, IsRule, rule, IsAll, no_more, one_more, one_stops, IsSign, is, is_not, opens, opens_not, too_deep, a_word, a_word_stops, no_word, here, never, of, inside, IsParts, no_parts, plain_part, run_part, run_stops, run_deep}
 
 pub clash : {b : Bool} → b ≡ false → b ≡ true → ⊥
 clash e f = cc
@@ -31,7 +31,7 @@ stops h = (cc, cc)
 pub somes : {A : Type 0} {a b : A} → Some a ≡ Some b → a ≡ b
 somes h = cc
 
-pub fines : {ps ps' : List Part} → Fine ps ≡ Fine ps' → ps ≡ ps'
+pub fines : {ps ps' : List Part} → Faultless ps ≡ Faultless ps' → ps ≡ ps'
 fines h = cc
 
 pub faulties : {f f' : ParseFault} → Faulty f ≡ Faulty f' → f ≡ f'
@@ -84,11 +84,11 @@ module _ (deep : ℕ → Bool) where
     same_sign (too_deep l d e) (opens_not m f) = absurd (m l)
     same_sign (too_deep l d e) (too_deep m g f) = e ∙ sym f
     same_sign {d = d} {end = end} {ts = ts} (a_word raws ps w x e) (a_word raws2 ps2 w2 x2 f) =
-        let h = fines (same_parts x (subst (λ r. IsParts deep d r (Fine ps2)) (somes (sym w2 ∙ w)) x2)) in
+        let h = fines (same_parts x (subst (λ r. IsParts deep d r (Faultless ps2)) (somes (sym w2 ∙ w)) x2)) in
         e ∙ ap (λ ps. Whole (word_at (place end ts) ps) (behind ts)) h ∙ sym f
     same_sign {d = d} (a_word raws ps w x e) (a_word_stops raws2 fault w2 x2 f) = absurd (cc (same_parts x (subst (λ r. IsParts deep d r (Faulty fault)) (somes (sym w2 ∙ w)) x2)))
     same_sign (a_word raws ps w x e) (no_word w2 f) = absurd (none_some w2 w)
-    same_sign {d = d} (a_word_stops raws fault w x e) (a_word raws2 ps2 w2 x2 f) = absurd (cc (same_parts x (subst (λ r. IsParts deep d r (Fine ps2)) (somes (sym w2 ∙ w)) x2)))
+    same_sign {d = d} (a_word_stops raws fault w x e) (a_word raws2 ps2 w2 x2 f) = absurd (cc (same_parts x (subst (λ r. IsParts deep d r (Faultless ps2)) (somes (sym w2 ∙ w)) x2)))
     same_sign {d = d} {ts = ts} (a_word_stops raws fault w x e) (a_word_stops raws2 fault2 w2 x2 f) =
         let h = faulties (same_parts x (subst (λ r. IsParts deep d r (Faulty fault2)) (somes (sym w2 ∙ w)) x2)) in
         e ∙ ap (λ g. Stop g (behind ts)) h ∙ sym f

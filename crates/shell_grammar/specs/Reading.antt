@@ -28,17 +28,17 @@ turned f (Stop fault rest) = Stop fault rest
 
 -- the parts of a word, or the first fault in them
 pub data Judged : Type 0 where
-  Fine : (parts : List Part) → Judged
+  Faultless : (parts : List Part) → Judged
   Faulty : (fault : ParseFault) → Judged
 
 -- one part before the others
 abbrev pub after : Part → Judged → Judged
-after p (Fine ps) = Fine (p ∷ ps)
+after p (Faultless ps) = Faultless (p ∷ ps)
 after p (Faulty fault) = Faulty fault
 
 -- the same behind first parts
 abbrev pub afters : List Part → Judged → Judged
-afters first (Fine ps) = Fine (first ++ ps)
+afters first (Faultless ps) = Faultless (first ++ ps)
 afters first (Faulty fault) = Faulty fault
 
 -- a part that holds no substitution
@@ -79,7 +79,7 @@ module _ (deep : ℕ → Bool) where
       too_deep : {d end : ℕ} {l : Look} {ts : Tokens} {q : Out (Value (Opens l))} → look ts ≡ l → deep d ≡ true
           → q ≡ Stop (Deep (place end ts)) ts → IsSign d end (Opens l) ts q
       a_word : {d end : ℕ} {ts : Tokens} {q : Out (Value AWord)} (raws : List RawPart) (ps : List Part)
-          → word ts ≡ Some raws → IsParts d raws (Fine ps) → q ≡ Whole (word_at (place end ts) ps) (behind ts)
+          → word ts ≡ Some raws → IsParts d raws (Faultless ps) → q ≡ Whole (word_at (place end ts) ps) (behind ts)
           → IsSign d end AWord ts q
       a_word_stops : {d end : ℕ} {ts : Tokens} {q : Out (Value AWord)} (raws : List RawPart) (fault : ParseFault)
           → word ts ≡ Some raws → IsParts d raws (Faulty fault) → q ≡ Stop fault (behind ts)
@@ -96,7 +96,7 @@ module _ (deep : ℕ → Bool) where
 
     -- the parts of a word; the tokens of a substitution are a script, one level further in, and end at the substitution's offset
     pub data IsParts : ℕ → List RawPart → Judged → Type 0 where
-      no_parts : {d : ℕ} {q : Judged} → q ≡ Fine [] → IsParts d [] q
+      no_parts : {d : ℕ} {q : Judged} → q ≡ Faultless [] → IsParts d [] q
       plain_part : {d : ℕ} {p : RawPart} {ps : List RawPart} {q : Judged} (x : Part) (q1 : Judged)
           → plainly (out-RawPart p) ≡ Some x → IsParts d ps q1 → q ≡ after x q1 → IsParts d (p ∷ ps) q
       run_part : {d : ℕ} {p : RawPart} {ps : List RawPart} {q : Judged} (at : ℕ) (ts : Tokens) (quoted : Bool) (body : Command) (rest : Tokens) (q1 : Judged)

@@ -25,7 +25,7 @@ use Rattle.shell_grammar.specs.Forms as form
 use Rattle.shell_grammar.specs.Trees as tree
 use Rattle.shell_grammar.specs.Grammar as g
 use Rattle.shell_grammar.specs.Grammar.{Rule, Sign, Is, Opens, AWord, Here, Never, Of, Inside, Tree, Value, Values, Production, production}
-use Rattle.shell_grammar.specs.Reading.{Out, Whole, Stop, turned, Judged, Fine, Faulty, after, plainly, IsParts, no_parts, plain_part, run_part, run_stops, run_deep, IsRule, rule, IsAll, no_more, one_more, one_stops, IsSign, is, is_not, opens, opens_not, too_deep, a_word, a_word_stops, no_word, here, never, of, inside}
+use Rattle.shell_grammar.specs.Reading.{Out, Whole, Stop, turned, Judged, Faultless, Faulty, after, plainly, IsParts, no_parts, plain_part, run_part, run_stops, run_deep, IsRule, rule, IsAll, no_more, one_more, one_stops, IsSign, is, is_not, opens, opens_not, too_deep, a_word, a_word_stops, no_word, here, never, of, inside}
 use Rattle.shell_grammar.specs.Spelling.{deep_64}
 use Rattle.shell_parser.specs.Reads as r
 use Rattle.shell_parser.specs.Reads.{Caused, Stops, Gives, SignStops, Reads, Takes}

@@ -22,7 +22,7 @@ use Rattle.shell_grammar.specs.Look.{Text, Tokens, place}
 use Rattle.shell_grammar.specs.Forms.{has_word}
 use Rattle.shell_grammar.specs.Trees.{seq_of, chain_of, pipe_of, joined, assigned, Defines}
 use Rattle.shell_grammar.specs.Grammar.{Rule, Script, Members, More, AndOr, Links, Piped, Bars, Redirects, Arms, Clause, Each, Apart, OneArm, ArmRest, CaseArms, MorePatterns, Patterns, Named, SimpleItems, Sign, AWord, Tree, Value}
-use Rattle.shell_grammar.specs.Reading.{Out, Whole, Stop, turned, Judged, Fine, Faulty, after, IsRule, IsSign, IsParts}
+use Rattle.shell_grammar.specs.Reading.{Out, Whole, Stop, turned, Judged, Faultless, Faulty, after, IsRule, IsSign, IsParts}
 use Rattle.shell_grammar.specs.Spelling.{deep_64}
 
 -- this of a fault, unless it is want of memory
@@ -81,7 +81,7 @@ ArmBegins d end ts at next = (at ≤ next) × (next ≤ length ts)
 -- the parts of a word behind others
 pub record PartsGiven (d : ℕ) (begun : List Part) (raws : List RawPart) (all : List Part) : Type 0 where
   pub parts : List Part
-  pub reads : IsParts deep_64 d raws (Fine parts)
+  pub reads : IsParts deep_64 d raws (Faultless parts)
   pub joins : all ≡ begun ++ parts
 
 abbrev pub PartsRead : ℕ → List Part → List RawPart → Result (List Part) ParseFault → Type 0
@@ -90,7 +90,7 @@ PartsRead d begun raws (Err fault) = Caused (λ fault. IsParts deep_64 d raws (F
 
 -- what the loop over them keeps
 pub record PartsFrom (d : ℕ) (begun : List Part) (all : List RawPart) (now : List Part) (rest : List RawPart) : Type 0 where
-  pub fine : (parts : List Part) → IsParts deep_64 d rest (Fine parts) → PartsGiven d begun all (now ++ parts)
+  pub fine : (parts : List Part) → IsParts deep_64 d rest (Faultless parts) → PartsGiven d begun all (now ++ parts)
   pub faulty : (fault : ParseFault) → IsParts deep_64 d rest (Faulty fault) → IsParts deep_64 d all (Faulty fault)
 
 -- a part, before others
