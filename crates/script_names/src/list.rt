@@ -1,4 +1,4 @@
-ghost use Rattle.std.specs.Prelude.{◌≡◌, [], ◌∷◌, ◌++◌, ◌<◌, length, slice_get, IfErr, OnOk, OnErr, OnSome};
+ghost use Rattle.std.specs.Prelude.{◌≡◌, [], ◌∷◌, ◌++◌, ◌<◌, length, slice_get, IfOk, IfErr, OnOk, OnErr, OnSome};
 ghost use Rattle.std.specs.Option.{option_copied};
 
 use crate::copied::Copied;
@@ -30,6 +30,16 @@ impl<T> List<T> {
     {
         List {
             items: Vec::new(alloc),
+        }
+    }
+
+    /// The empty list with room for `items` items, so that the first ones are added without a growth.
+    pub fn with_room(alloc: Global, items: usize) -> Result<List<T>, Memory>
+        ensures { IfOk result (λ list. list ≡ []) }
+    {
+        match Vec::with_capacity(alloc, items) {
+            Ok(items) => Ok(List { items }),
+            Err(_) => Err(Memory),
         }
     }
 
