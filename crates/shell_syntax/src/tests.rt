@@ -284,11 +284,75 @@ fn others_are_equal(alloc: Global) -> Result<bool, Memory> {
     Ok(whole.equal(&other))
 }
 
+// Whether a copy of a key, and of a redirection, is made.
+fn keys_are_copied(alloc: Global) -> Result<bool, Memory> {
+    let key = Key::Arg(3).copy(alloc)?;
+    let redirect = Redirect::ErrToOut.copy(alloc)?;
+    Ok(matches!(key, Key::Arg(3)) && redirect == Redirect::ErrToOut)
+}
+
+// Whether a copy of a part, and of a word with each kind of part, is made.
+fn words_are_copied(alloc: Global) -> Result<bool, Memory> {
+    let part = run(alloc)?;
+    let twin = part.copy(alloc)?;
+    let word = every_part(alloc)?;
+    let other = word.copy(alloc)?;
+    Ok(matches!(twin, Part::Run { at: 5, .. }) && other.parts.len() == 7)
+}
+
+// Whether a copy of an assignment is made.
+fn assigns_are_copied(alloc: Global) -> Result<bool, Memory> {
+    let name = Bytes::from_slice(alloc, b"name")?;
+    let value = plain(alloc, 2, b"value")?;
+    let assign = Assign { name, value };
+    let twin = assign.copy(alloc)?;
+    Ok(twin.value.at == 2)
+}
+
+// Whether a copy of a link is made.
+fn links_are_copied(alloc: Global) -> Result<bool, Memory> {
+    let command = simple(alloc, 24, b"next")?;
+    let link = Link { and: true, command };
+    let twin = link.copy(alloc)?;
+    Ok(twin.and)
+}
+
+// Whether a copy of an arm of `if` is made.
+fn if_arms_are_copied(alloc: Global) -> Result<bool, Memory> {
+    let cond = simple(alloc, 33, b"cond")?;
+    let body = simple(alloc, 38, b"body")?;
+    let arm = IfArm { cond, body };
+    let twin = arm.copy(alloc)?;
+    Ok(matches!(twin.body, Command::Simple { at: 38, .. }))
+}
+
+// Whether a copy of an arm of `case` is made.
+fn case_arms_are_copied(alloc: Global) -> Result<bool, Memory> {
+    let pattern = plain(alloc, 75, b"*")?;
+    let patterns = words(alloc, pattern)?;
+    let body = simple(alloc, 78, b"body")?;
+    let arm = CaseArm { patterns, body };
+    let twin = arm.copy(alloc)?;
+    Ok(twin.patterns.len() == 1)
+}
+
 #[test]
 fn each_form_is_copied_and_compared(rt: HostRuntime) -> Result<(), Fail> {
     let alloc = rt.alloc();
     assert!(rt; copy_is_equal(alloc)?);
     assert!(rt; !others_are_equal(alloc)?);
     assert!(rt; Form::CallOrder.copy(alloc)? == Form::CallOrder);
+    Ok(())
+}
+
+#[test]
+fn each_type_is_copied(rt: HostRuntime) -> Result<(), Fail> {
+    let alloc = rt.alloc();
+    assert!(rt; keys_are_copied(alloc)?);
+    assert!(rt; words_are_copied(alloc)?);
+    assert!(rt; assigns_are_copied(alloc)?);
+    assert!(rt; links_are_copied(alloc)?);
+    assert!(rt; if_arms_are_copied(alloc)?);
+    assert!(rt; case_arms_are_copied(alloc)?);
     Ok(())
 }
