@@ -1,7 +1,7 @@
 -- Parts that are joined by a byte are cut apart again.
-use Rattle.std.proofs.Common.{◌≡◌, ℕ, Bool, true, false, List, [], ◌∷◌, ◌++◌, cond, refl, ap, ◌∙◌, nat_eq}
+use Rattle.std.proofs.Common.{◌≡◌, ℕ, Bool, true, false, List, [], ◌∷◌, ◌++◌, cond, refl, ap, ◌∙◌}
 use Rattle.std.specs.Prelude.{not, ◌==◌}
-use Rattle.std.specs.List.{list_all, slice_split, onto_first, join_with_byte}
+use Rattle.std.specs.List.{list_all, onto_first, join_with_byte}
 use Rattle.std.proofs.lemmas.Bool.{and_parts, eq-eqb}
 use Rattle.shown_texts.specs.Parts.{parts, lacks}
 

@@ -1,7 +1,7 @@
 -- The lines of a text are read back.
 use Rattle.std.proofs.Common.{◌≡◌, ℕ, Bool, true, false, List, [], ◌∷◌, ◌++◌, Option, Some, None, refl, sym, ap, ◌∙◌, append_assoc, append-nil}
 use Rattle.std.specs.Prelude.{if◌then◌else◌}
-use Rattle.std.specs.List.{flat_map, list_all, join_with_byte}
+use Rattle.std.specs.List.{list_all, join_with_byte}
 use Rattle.std.specs.Option.{option_map}
 use Rattle.std.proofs.lemmas.List.Splits.{join_with_byte-slice_split}
 use Rattle.script_names.specs.Paths.{is_filled}

@@ -1,12 +1,12 @@
 -- The spelling of bytes is read as the bytes, and of which bytes it is made.
-use Rattle.std.proofs.Common.{◌≡◌, ℕ, ◌+◌, ◌-◌, ◌*◌, ◌/◌, ◌%◌, ◌<◌, ◌≤◌, Bool, true, false, nat_lt, nat_le, List, [], ◌∷◌, ◌++◌, length, Option, Some, None, refl, sym, ap, ◌∙◌, subst, arith}
-use Rattle.std.specs.Prelude.{◌&&◌, ◌==◌, not, codes, if◌then◌else◌}
+use Rattle.std.proofs.Common.{◌≡◌, ℕ, ◌+◌, ◌-◌, ◌*◌, ◌/◌, ◌%◌, ◌<◌, ◌≤◌, Bool, true, false, nat_lt, List, [], ◌∷◌, ◌++◌, length, Some, None, refl, sym, ap, ◌∙◌, subst, arith}
+use Rattle.std.specs.Prelude.{◌==◌, codes, if◌then◌else◌}
 use Rattle.std.specs.List.{flat_map, list_all}
 use Rattle.std.specs.Str.{bytes_eq}
 use Rattle.std.proofs.lemmas.Bool.{ltb-true, lt-ltb, le-ltb, eqb-true, and_parts, and_from}
 use Rattle.std.proofs.lemmas.Slice.Eq.{bytes_eq-Decides}
 use Rattle.script_names.specs.Paths.{is_filled}
-use Rattle.shown_texts.specs.Show.{is_shown, is_literal, hex_digit, hex_value, shown_byte, show, are_bytes, escaped, bytes_after, if_spelled, shown_of}
+use Rattle.shown_texts.specs.Show.{is_shown, is_literal, hex_digit, hex_value, shown_byte, show, escaped, bytes_after, if_spelled, shown_of}
 use Rattle.shown_texts.proofs.Apart.{shown_apart}
 use Rattle.shown_texts.proofs.Lists.{all_both}
 

@@ -2,9 +2,6 @@
 use Rattle.std.specs.Prelude.{◌≡◌, ℕ, ◌<◌, ◌^◌, Bool, true, IsTrue, List, ◌∷◌, length, nat_le, Option, Some, None}
 use Rattle.std.specs.List.{join_with_byte, list_all}
 use Rattle.std.specs.Fmt.{decimal}
-use Rattle.script_names.specs.declared.mark.Mark.{Mark}
-use Rattle.script_names.specs.declared.mark.Site.{Site}
-use Rattle.script_names.specs.declared.reason.Reason.{Reason}
 use Rattle.shown_texts.specs.Parts.{parts, lacks}
 use Rattle.shown_texts.specs.Show.{is_shown, show, are_bytes, shown_of}
 use Rattle.shown_texts.specs.Numbers.{number_of}

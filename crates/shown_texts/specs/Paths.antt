@@ -1,5 +1,5 @@
 -- Paths as they are shown.
-use Rattle.std.specs.Prelude.{ℕ, Bool, ◌&&◌, ◌==◌, List, [], ◌∷◌, ◌++◌, codes, map, Option, Some, None, if◌then◌else◌}
+use Rattle.std.specs.Prelude.{ℕ, Bool, ◌&&◌, ◌==◌, List, [], ◌∷◌, ◌++◌, map, Option, Some, None, if◌then◌else◌}
 use Rattle.std.specs.List.{join_with_byte, list_all}
 use Rattle.std.specs.Option.{option_and_then}
 use Rattle.script_names.specs.Names.{is_name}
