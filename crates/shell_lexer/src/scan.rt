@@ -231,7 +231,8 @@ fn word(
     requires shallow { depth ≤ DEEPEST }
     ensures { WordRead text.now depth at result }
 {
-    let mut parts = List::new(alloc);
+    // Most words have one part.
+    let mut parts = List::with_room(alloc, 1)?;
     let mut notes = List::new(alloc);
     let mut run = Bytes::new(alloc);
     let mut place = at;
