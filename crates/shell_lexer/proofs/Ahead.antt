@@ -27,7 +27,7 @@ pub ahead_then : (text middle rest : Bytes) → Ahead text middle → Behind mid
 ahead_then text middle rest h g = (h.0, h.1 ++ g.0, h.2 ∙ ap (λ t. h.0 ∷ (h.1 ++ t)) g.1 ∙ ap (λ t. h.0 ∷ t) (sym (append_assoc h.1 g.0 rest)))
 
 -- joined lines at the front
-skip_behind : (text : Bytes) → Behind text (skip text)
+pub skip_behind : (text : Bytes) → Behind text (skip text)
 skip_behind [] = ([], refl)
 skip_behind (a ∷ []) = ([], refl)
 skip_behind (a ∷ b ∷ rest) =
@@ -39,7 +39,7 @@ ahead_behind text rest h = behind_then text (skip text) rest (skip_behind text) 
 
 -- ---- what is spelled
 
-stands_behind : (bytes text rest : Bytes) → Stands bytes text rest → Behind text rest
+pub stands_behind : (bytes text rest : Bytes) → Stands bytes text rest → Behind text rest
 stands_behind [] text rest h = ([], h)
 stands_behind (b ∷ bytes) text rest h =
     let more = stands_behind bytes h.0 rest h.2 in

@@ -10,7 +10,7 @@ abbrev pub first_cell : Bytes → List (ℕ × Bytes)
 first_cell [] = []
 first_cell (a ∷ rest) = (a, rest) ∷ cells rest
 
-if_both : {A B : Type 0} (f : A → B) (b : Bool) (u v : B) (x y : A) → (b ≡ true → u ≡ f x) → (b ≡ false → v ≡ f y) → (if b then u else v) ≡ f (if b then x else y)
+pub if_both : {A B : Type 0} (f : A → B) (b : Bool) (u v : B) (x y : A) → (b ≡ true → u ≡ f x) → (b ≡ false → v ≡ f y) → (if b then u else v) ≡ f (if b then x else y)
 if_both f true u v x y h k = h refl
 if_both f false u v x y h k = k refl
 

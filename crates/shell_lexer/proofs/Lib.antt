@@ -1,4 +1,5 @@
 mod Ahead
+mod BeforeNewline
 mod Begun
 mod Causes
 mod Cells
@@ -22,5 +23,6 @@ mod SpelledRedirects
 mod SpelledRuns
 mod Steps
 mod Tiles
+mod TwoCuts
 mod Unique
 mod Unlimited

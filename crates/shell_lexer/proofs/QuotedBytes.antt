@@ -23,7 +23,7 @@ use Rattle.shell_lexer.proofs.SpelledKinds.{KindOf, kind_of}
 -- ---- bytes that stand for themselves
 
 -- a byte before which no joined line is left
-skip_first : (a : ℕ) (t : Bytes) → nat_eq a 92 ≡ false → skip (a ∷ t) ≡ a ∷ t
+pub skip_first : (a : ℕ) (t : Bytes) → nat_eq a 92 ≡ false → skip (a ∷ t) ≡ a ∷ t
 skip_first a [] e = refl
 skip_first a (b ∷ t) e = if_false (nat_eq a 92 && nat_eq b 10) _ _ (ap (λ x. x && nat_eq b 10) e)
 

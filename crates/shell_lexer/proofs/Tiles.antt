@@ -29,14 +29,14 @@ use Rattle.shell_lexer.proofs.SpelledParts.{look_seen, inner_seen}
 -- ---- the end, blanks and comments
 
 -- a comment from behind its `#` on: the rest is its line's end
-record IsComment (more rest : Bytes) : Type 0 where
+pub record IsComment (more rest : Bytes) : Type 0 where
   pub bytes : Bytes
   pub is : more ≡ bytes ++ rest
   pub line : list_all (λ b. not (nat_eq b 10)) bytes ≡ true
   pub ended : at_line_end rest ≡ true
 
 -- what is passed over is a blank or a comment, and the end is the text's
-abbrev Fits : Bytes → Sight → Type 0
+abbrev pub Fits : Bytes → Sight → Type 0
 Fits t End = t ≡ []
 Fits t (Passed rest) = ((b : ℕ) × (t ≡ b ∷ rest) × (is_blank b ≡ true)) ⊎ ((more : Bytes) × (t ≡ 35 ∷ more) × IsComment more rest)
 Fits t _ = Unit {0}
@@ -110,17 +110,17 @@ at_fits : (len at : ℕ) (t : Bytes) → Fits t (sight_at len at t)
 at_fits len at [] = refl
 at_fits len at (b ∷ rest) = by_fits len at b (kind b) rest (kind_of b)
 
-fits : (len : ℕ) (text : Bytes) (s : Sight) → sight len text ≡ s → Fits (skip text) s
+pub fits : (len : ℕ) (text : Bytes) (s : Sight) → sight len text ≡ s → Fits (skip text) s
 fits len text s e = subst (Fits (skip text)) e (at_fits len (place len (skip text)) (skip text))
 
 -- what is passed over is at least one byte
-passed_ahead : (text rest : Bytes) → Fits (skip text) (Passed rest) → Ahead text rest
+pub passed_ahead : (text rest : Bytes) → Fits (skip text) (Passed rest) → Ahead text rest
 passed_ahead text rest (inl f) = (f.0, [], f.1)
 passed_ahead text rest (inr f) = (35, f.2.bytes, f.1 ∙ ap (λ t. 35 ∷ t) f.2.is)
 
 -- ---- a reading leaves an end of its text
 
-abbrev Leaves : {A : Type 0} → Bytes → Out A → Type 0
+abbrev pub Leaves : {A : Type 0} → Bytes → Out A → Type 0
 Leaves text (Whole v rest) = Behind text rest
 Leaves text (Stop fault) = Unit {0}
 
@@ -162,7 +162,7 @@ mutual
   items_leave {deep} {len} {depth} {from} {parens} {text} {q} (items_late v t f h w l e) = subst (Leaves text) (sym e) tt
   items_leave {deep} {len} {depth} {from} {parens} {text} {q} (items_bad f h w e) = subst (Leaves text) (sym e) tt
 
-  word_leave : {deep : ℕ → Bool} {len depth : ℕ} {run text : Bytes} {q : Out Read} → IsWord deep len depth run text q → Leaves text q
+  pub word_leave : {deep : ℕ → Bool} {len depth : ℕ} {run text : Bytes} {q : Out Read} → IsWord deep len depth run text q → Leaves text q
   word_leave {deep} {len} {depth} {run} {text} {q} (word_ends h e) = subst (Leaves text) (sym e) ([], refl)
   word_leave {deep} {len} {depth} {run} {text} {q} (word_byte b t q1 h x e) = subst (Leaves text) (sym e) (leaves_grown text t [] (note.Plain b (offset len text) ∷ []) q1 (ahead_behind text t (look_seen len text (Byte b t) h)) (word_leave x))
   word_leave {deep} {len} {depth} {run} {text} {q} (word_piece p t q1 h x e) = subst (Leaves text) (sym e) (leaves_grown text t (plain_run run ++ p ∷ []) (note.Gap ∷ []) q1 (ahead_behind text t (piece_ahead false p text t (look_seen len text (Piece p t) h))) (word_leave x))
@@ -177,7 +177,7 @@ mutual
   word_leave {deep} {len} {depth} {run} {text} {q} (word_bad_double g f h i e) = subst (Leaves text) (sym e) tt
   word_leave {deep} {len} {depth} {run} {text} {q} (word_bad_run g f h i e) = subst (Leaves text) (sym e) tt
 
-  inner_leave : {deep : ℕ → Bool} {len depth from : ℕ} {fresh : Bool} {run text : Bytes} {q : Out Read} → IsInner deep len depth from fresh run text q → Leaves text q
+  pub inner_leave : {deep : ℕ → Bool} {len depth from : ℕ} {fresh : Bool} {run text : Bytes} {q : Out Read} → IsInner deep len depth from fresh run text q → Leaves text q
   inner_leave {deep} {len} {depth} {from} {fresh} {run} {text} {q} (inner_open h e) = subst (Leaves text) (sym e) tt
   inner_leave {deep} {len} {depth} {from} {fresh} {run} {text} {q} (inner_ends t h e) = subst (Leaves text) (sym e) (ahead_behind text t (stands_ahead 34 [] text t (inner_seen len text (DoubleQuote t) h)))
   inner_leave {deep} {len} {depth} {from} {fresh} {run} {text} {q} (inner_byte b t q1 h x e) = subst (Leaves text) (sym e) (leaves_grown text t [] (note.Gap ∷ []) q1 (ahead_behind text t (inner_seen len text (Byte b t) h)) (inner_leave x))
@@ -191,7 +191,7 @@ mutual
   inner_leave {deep} {len} {depth} {from} {fresh} {run} {text} {q} (inner_wrong f h e) = subst (Leaves text) (sym e) tt
   inner_leave {deep} {len} {depth} {from} {fresh} {run} {text} {q} (inner_bad_run g f h i e) = subst (Leaves text) (sym e) tt
 
-  sub_leave : {deep : ℕ → Bool} {len depth from : ℕ} {text : Bytes} {q : Out (List Token)} → IsSub deep len depth from text q → Leaves text q
+  pub sub_leave : {deep : ℕ → Bool} {len depth from : ℕ} {text : Bytes} {q : Out (List Token)} → IsSub deep len depth from text q → Leaves text q
   sub_leave {deep} {len} {depth} {from} {text} {q} (sub_deep l e) = subst (Leaves text) (sym e) tt
   sub_leave {deep} {len} {depth} {from} {text} {q} (sub_items l x) = items_leave x
 

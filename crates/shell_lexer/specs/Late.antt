@@ -1,7 +1,7 @@
 -- The forms that are looked for once a word is whole, by the notes of its bytes: `$@` elsewhere than as the word
 -- `"$@"`, a tilde, a brace, and the word `case` in a substitution. The least offset decides.
-use Rattle.std.specs.Prelude.{ℕ, zero, suc, Bool, true, false, if◌then◌else◌, ◌&&◌, ◌||◌, nat_eq, nat_le, List, [], ◌∷◌}
-use Rattle.std.specs.Prelude.{Option, Some, None, codes}
+use Rattle.std.specs.Prelude.{ℕ, zero, suc, Bool, true, false, if◌then◌else◌, ◌&&◌, ◌||◌, nat_eq, nat_le, List, []}
+use Rattle.std.specs.Prelude.{◌∷◌, Option, Some, None, codes}
 use Rattle.shell_syntax.specs.declared.form.Form.{Form}
 use Rattle.shell_syntax.specs.declared.form.Form.TheVariants as form
 use Rattle.shell_lexer.specs.declared.fault.LexFault.{LexFault}

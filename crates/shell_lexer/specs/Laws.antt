@@ -2,7 +2,7 @@
 -- there.
 use Rattle.std.specs.Prelude.{◌≡◌, ◌↔◌, ◌⊎◌, ℕ, ◌+◌, Bool, true, false, not, ◌||◌, nat_eq, List, [], ◌∷◌, ◌++◌, map}
 use Rattle.std.specs.Prelude.{length}
-use Rattle.std.specs.Prelude.{Some, codes}
+use Rattle.std.specs.Prelude.{Some, None, codes}
 use Rattle.std.specs.List.{list_all}
 use Rattle.shell_syntax.specs.declared.redirect.Redirect.{Redirect}
 use Rattle.shell_lexer.specs.declared.sight.Sign.{Sign}
@@ -10,16 +10,17 @@ use Rattle.shell_lexer.specs.declared.sight.Sign.TheVariants as sign
 use Rattle.shell_lexer.specs.declared.fault.LexFault.{LexFault}
 use Rattle.shell_lexer.specs.declared.fault.LexFault.TheVariants.{Deep}
 use Rattle.shell_lexer.specs.declared.token.Lexed.{Lexed}
+use Rattle.shell_lexer.specs.declared.token.Token.{Token}
 use Rattle.shell_lexer.specs.declared.token.RawPart.{RawPart}
 use Rattle.shell_lexer.specs.declared.token.RawPart.TheVariants as part
 use Rattle.shell_lexer.specs.declared.token.TokenKind.TheVariants as token
 use Rattle.shell_lexer.specs.declared.sight.ByteNote.{ByteNote}
 use Rattle.shell_lexer.specs.declared.sight.ByteNote.TheVariants as note
 use Rattle.shell_lexer.specs.LongestRuns.{plain_runs_are_longest, quoted_runs_are_longest}
-use Rattle.shell_lexer.specs.Reading.{Whole, Read, IsInner, IsWord, token_at}
+use Rattle.shell_lexer.specs.Reading.{Whole, Read, IsItems, IsInner, IsWord, token_at}
 use Rattle.shell_lexer.specs.Text.{Bytes, place}
-use Rattle.shell_lexer.specs.FirstLine.{behind_line, interpreter}
-use Rattle.shell_lexer.specs.Lexed.{Cut, CutAtAnyDepth, Faulty}
+use Rattle.shell_lexer.specs.FirstLine.{behind_line, interpreter, nul_of}
+use Rattle.shell_lexer.specs.Lexed.{CutBy, Cut, CutAtAnyDepth, Faulty}
 use Rattle.shell_lexer.specs.Operators.{Operator, sight}
 use Rattle.shell_lexer.specs.Parts.{Look, AllArgs, DoubleQuote, Piece, Substitution}
 use Rattle.shell_lexer.specs.SpelledLine.{IsFirstLine}
@@ -56,6 +57,37 @@ CutsAreTiled =
 -- and its tokens' offsets rise strictly
 abbrev pub OffsetsRise : Type 0
 OffsetsRise = (text : Bytes) (l : Lexed) → CutAtAnyDepth text l → RiseFrom 0 l.tokens
+
+-- ---- two texts with a newline between
+
+-- whether a text's last byte is this one
+abbrev pub last_is : ℕ → Bytes → Bool
+last_is b [] = false
+last_is b (a ∷ []) = nat_eq a b
+last_is b (a ∷ c ∷ rest) = last_is b (c ∷ rest)
+
+-- a text, of which the first byte has this offset, is read as these tokens, outside every substitution
+abbrev pub IsReadAt : (ℕ → Bool) → ℕ → Bytes → List Token → Type 0
+IsReadAt deep at text ts = IsItems deep (at + length text) 0 0 0 text (Whole ts [])
+
+-- a cut with a newline behind its text, and behind that a text with these tokens
+abbrev pub with_line : Lexed → Bytes → List Token → Lexed
+with_line l text ts = record {
+  strict = l.strict;
+  tokens = l.tokens ++ token_at l.end token.Newline ∷ ts;
+  end = l.end + 1 + length text;
+}
+
+-- A cut text, a newline and a second text are cut, by each limit of substitutions, into the tokens of the cut, the
+-- newline's, and those of the second text as they are read behind the newline. The first text has a newline, so that
+-- more than its first line stands before the newline between; and it does not end in a backslash, with which this
+-- newline could be a joined line.
+abbrev pub TextsAreCutApart : Type 0
+TextsAreCutApart =
+    (deep : ℕ → Bool) (text second : Bytes) (l : Lexed) (ts : List Token)
+    → CutBy deep text l → list_all (λ b. not (nat_eq b 10)) text ≡ false → last_is 92 text ≡ false
+    → nul_of second ≡ None → IsReadAt deep (length text + 1) second ts
+    → CutBy deep (text ++ 10 ∷ second) (with_line l second ts)
 
 -- ---- double quotes
 

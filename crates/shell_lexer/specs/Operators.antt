@@ -10,8 +10,8 @@ use Rattle.shell_syntax.specs.declared.form.Form.TheVariants as form
 use Rattle.shell_lexer.specs.declared.fault.LexFault.{LexFault}
 use Rattle.shell_lexer.specs.declared.fault.LexFault.TheVariants.{Unsupported}
 use Rattle.shell_lexer.specs.declared.byte_kind.ByteKind.{ByteKind}
-use Rattle.shell_lexer.specs.declared.byte_kind.ByteKind.TheVariants.{Blank, Newline, Semi, Amp, Bar, Open, Close, Less}
-use Rattle.shell_lexer.specs.declared.byte_kind.ByteKind.TheVariants.{Greater, Hash, Digit}
+use Rattle.shell_lexer.specs.declared.byte_kind.ByteKind.TheVariants.{Blank, Newline, Semi, Amp, Bar, Open, Close}
+use Rattle.shell_lexer.specs.declared.byte_kind.ByteKind.TheVariants.{Less, Greater, Hash, Digit}
 use Rattle.shell_lexer.specs.declared.byte_kind.RunKind.TheVariants.{Blanks, Digits}
 use Rattle.shell_lexer.specs.declared.sight.Sign.{Sign}
 use Rattle.shell_lexer.specs.declared.sight.Sign.TheVariants as sign
@@ -48,7 +48,8 @@ copy_of number b =
     if (bytes_eq number [] || bytes_eq number (codes "1")) && nat_eq b 50 then Some OutToErr
     else (if bytes_eq number (codes "2") && nat_eq b 49 then Some ErrToOut else None)
 
--- the redirection where it is one and its word is whole, else the form that is not supported at the place of `<` or `>`
+-- the redirection where it is one and its word is whole, else the form that is not supported, at the place of `<` or
+-- `>`
 abbrev pub redirected : ℕ → Option Redirect → Option Bytes → Sight
 redirected at None rest = Wrong (Unsupported form.Redirect at)
 redirected at (Some which) None = Wrong (Unsupported form.Redirect at)

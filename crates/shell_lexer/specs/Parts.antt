@@ -9,9 +9,9 @@ use Rattle.shell_lexer.specs.declared.fault.LexFault.TheVariants.{OpenQuote, Ope
 use Rattle.shell_lexer.specs.declared.token.RawPart.{RawPart}
 use Rattle.shell_lexer.specs.declared.token.RawPart.TheVariants.{Quoted, Param}
 use Rattle.shell_lexer.specs.declared.byte_kind.ByteKind.{ByteKind}
-use Rattle.shell_lexer.specs.declared.byte_kind.ByteKind.TheVariants.{Blank, Newline, Semi, Amp, Bar, Open, Close, Less}
-use Rattle.shell_lexer.specs.declared.byte_kind.ByteKind.TheVariants.{Greater, Hash, Single, Double, Back, Tick, Dollar}
-use Rattle.shell_lexer.specs.declared.byte_kind.ByteKind.TheVariants.{Brace, At, Special, Digit, Name}
+use Rattle.shell_lexer.specs.declared.byte_kind.ByteKind.TheVariants.{Blank, Newline, Semi, Amp, Bar, Open, Close}
+use Rattle.shell_lexer.specs.declared.byte_kind.ByteKind.TheVariants.{Less, Greater, Hash, Single, Double, Back}
+use Rattle.shell_lexer.specs.declared.byte_kind.ByteKind.TheVariants.{Tick, Dollar, Brace, At, Special, Digit, Name}
 use Rattle.shell_lexer.specs.declared.byte_kind.RunKind.TheVariants.{Names, Defaults}
 use Rattle.shell_lexer.specs.Text.{Bytes, kind, skip, place, head_is, run, behind}
 

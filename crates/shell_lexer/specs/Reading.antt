@@ -171,7 +171,8 @@ module _ (deep : ℕ → Bool) (len : ℕ) where
           → look len text ≡ Substitution begin → IsSub depth (offset len text) begin (Stop fault)
           → q ≡ Stop fault → IsWord depth run text q
 
-    -- the rest of what stands in double quotes that began at `from`, behind a run of its bytes; fresh: no part came yet
+    -- the rest of what stands in double quotes that began at `from`, behind a run of its bytes; fresh: no part came
+    -- yet
     pub data IsInner : ℕ → ℕ → Bool → Bytes → Bytes → Out Read → Type 0 where
       -- the text ends
       inner_open : {depth from : ℕ} {fresh : Bool} {run text : Bytes} {q : Out Read}

@@ -1,8 +1,8 @@
 -- How the parts of a word are spelled that hold no others (POSIX.1-2017, XCU 2.2 Quoting, 2.5 Parameters and
 -- Variables, 2.6.2 Parameter Expansion, 2.6.3 Command Substitution): by their bytes, where joined lines are left out
 -- but in single quotes. src/theorems.rt proves that the tables of specs/Parts.antt see exactly what is spelled so.
-use Rattle.std.specs.Prelude.{◌≡◌, ℕ, ◌+◌, ◌≤◌, Bool, true, false, not, ◌&&◌, nat_eq, [], ◌∷◌, ◌++◌, Option, Some, None}
-use Rattle.std.specs.Prelude.{codes}
+use Rattle.std.specs.Prelude.{◌≡◌, ℕ, ◌+◌, ◌≤◌, Bool, true, false, not, ◌&&◌, nat_eq, [], ◌∷◌, ◌++◌, Option, Some}
+use Rattle.std.specs.Prelude.{None, codes}
 use Rattle.std.specs.List.{list_all}
 use Rattle.shell_syntax.specs.declared.key.Key.{Key}
 use Rattle.shell_syntax.specs.declared.key.Key.TheVariants.{Named, Arg, Count}

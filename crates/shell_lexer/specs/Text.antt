@@ -3,9 +3,10 @@
 use Rattle.std.specs.Prelude.{ℕ, ◌-◌, Bool, true, false, if◌then◌else◌, not, ◌&&◌, ◌||◌, nat_eq, nat_le, List, [], ◌∷◌}
 use Rattle.std.specs.Prelude.{length, Option, Some, None}
 use Rattle.shell_lexer.specs.declared.byte_kind.ByteKind.{ByteKind}
-use Rattle.shell_lexer.specs.declared.byte_kind.ByteKind.TheVariants.{Blank, Newline, Semi, Amp, Bar, Open, Close, Less}
-use Rattle.shell_lexer.specs.declared.byte_kind.ByteKind.TheVariants.{Greater, Hash, Single, Double, Back, Tick, Dollar}
-use Rattle.shell_lexer.specs.declared.byte_kind.ByteKind.TheVariants.{Brace, At, Special, Digit, Name, Other}
+use Rattle.shell_lexer.specs.declared.byte_kind.ByteKind.TheVariants.{Blank, Newline, Semi, Amp, Bar, Open, Close}
+use Rattle.shell_lexer.specs.declared.byte_kind.ByteKind.TheVariants.{Less, Greater, Hash, Single, Double, Back}
+use Rattle.shell_lexer.specs.declared.byte_kind.ByteKind.TheVariants.{Tick, Dollar, Brace, At, Special, Digit}
+use Rattle.shell_lexer.specs.declared.byte_kind.ByteKind.TheVariants.{Name, Other}
 use Rattle.shell_lexer.specs.declared.byte_kind.RunKind.{RunKind}
 use Rattle.shell_lexer.specs.declared.byte_kind.RunKind.TheVariants.{Blanks, Digits, Names, Defaults}
 

@@ -95,7 +95,7 @@ fn copy_part(alloc: Global, part: &RawPart) -> Result<RawPart, Memory>
 fn copy_parts(alloc: Global, parts: &[RawPart]) -> Result<List<RawPart>, Memory>
     ensures { IfOk result (λ twins. twins ≡ parts.now) }
 {
-    let mut twins = List::new(alloc);
+    let mut twins = List::with_room(alloc, parts.len())?;
     for part in parts {
         let twin = copy_part(alloc, part)?;
         twins.add(twin)?;
@@ -107,7 +107,7 @@ fn copy_parts(alloc: Global, parts: &[RawPart]) -> Result<List<RawPart>, Memory>
 fn copy_tokens(alloc: Global, tokens: &[Token]) -> Result<List<Token>, Memory>
     ensures { IfOk result (λ twins. twins ≡ tokens.now) }
 {
-    let mut twins = List::new(alloc);
+    let mut twins = List::with_room(alloc, tokens.len())?;
     for token in tokens {
         let twin = copy_token(alloc, token)?;
         twins.add(twin)?;

@@ -218,7 +218,7 @@ fn whole_word(
     Ok((token, rest))
 }
 
-// A word, its notes, and the place behind it.
+// A word, its notes, and the place behind it. The list of its parts begins with room for one, since most have one.
 #[cycle(scanning)]
 fn word(
     alloc: Global,
@@ -231,7 +231,7 @@ fn word(
     requires shallow { depth ≤ DEEPEST }
     ensures { WordRead text.now depth at result }
 {
-    let mut parts = List::new(alloc);
+    let mut parts = List::with_room(alloc, 1)?;
     let mut notes = List::new(alloc);
     let mut run = Bytes::new(alloc);
     let mut place = at;

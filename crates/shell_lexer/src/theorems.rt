@@ -4,7 +4,7 @@
 
 ghost use Rattle.std.specs.Prelude.{false, true};
 ghost use Rattle.shell_lexer.specs.Laws.{OneCut, OneCutAtAnyDepth, CutsWithinLimit, OnlyDeepIsRefused};
-ghost use Rattle.shell_lexer.specs.Laws.{CutsAreTiled, OffsetsRise};
+ghost use Rattle.shell_lexer.specs.Laws.{CutsAreTiled, OffsetsRise, TextsAreCutApart};
 ghost use Rattle.shell_lexer.specs.Laws.{QuotesAreOnePart, QuotesAreCut};
 ghost use Rattle.shell_lexer.specs.Laws.{PlainRunsAreLongest, QuotedRunsAreLongest};
 ghost use Rattle.shell_lexer.specs.Laws.{OperatorsAreLongest, RedirectionsAreSpelled, FirstLinesAreSpelled};
@@ -18,8 +18,8 @@ pub fn one_cut()
     ensures at_any_depth { OneCutAtAnyDepth }
 {}
 
-/// The limit only refuses: what is cut with it is cut the same way without it, and a text that is cut without it has no
-/// fault but a substitution inside 64 others.
+/// The limit only refuses: what is cut with it is cut the same way without it, and a text that is cut without it has
+/// no fault but a substitution inside 64 others.
 pub fn limit_only_refuses()
     ensures cuts { CutsWithinLimit }
     ensures faults { OnlyDeepIsRefused }
@@ -30,6 +30,13 @@ pub fn limit_only_refuses()
 pub fn cuts_are_tiled()
     ensures tiled { CutsAreTiled }
     ensures rise { OffsetsRise }
+{}
+
+/// What stands before a newline does not see what is behind it (XCU 2.3 Token Recognition): a text that is cut, a
+/// newline and a second text are cut into the tokens of the cut, the newline's, and those of the second text, with the
+/// offsets that they have there. The first text has a whole first line and does not end in a backslash.
+pub fn texts_are_cut_apart()
+    ensures { TextsAreCutApart }
 {}
 
 /// Double quotes round bytes without `$`, backquote, backslash and `"` are one quoted part that has these bytes (XCU
@@ -46,8 +53,8 @@ pub fn runs_are_longest()
     ensures quoted { QuotedRunsAreLongest }
 {}
 
-/// What begins at a place is an operator, or a whole redirection, exactly where its spelling stands there and no longer
-/// operator does (XCU 2.3 Token Recognition, 2.10.2 Shell Grammar Rules).
+/// What begins at a place is an operator, or a whole redirection, exactly where its spelling stands there and no
+/// longer operator does (XCU 2.3 Token Recognition, 2.10.2 Shell Grammar Rules).
 pub fn operators_are_longest()
     ensures { OperatorsAreLongest }
 {}
@@ -67,8 +74,8 @@ pub fn parts_are_spelled()
     ensures inside { PartsAreSpelled inner true }
 {}
 
-/// `$@` (XCU 2.5.2 Special Parameters), the beginning of a substitution (2.6.3 Command Substitution) and a double quote
-/// (2.2.3) are seen exactly where they are spelled, outside double quotes and inside them.
+/// `$@` (XCU 2.5.2 Special Parameters), the beginning of a substitution (2.6.3 Command Substitution) and a double
+/// quote (2.2.3) are seen exactly where they are spelled, outside double quotes and inside them.
 pub fn openings_are_spelled()
     ensures all_args { AllArgsAreSpelled look }
     ensures all_args_inside { AllArgsAreSpelled inner }

@@ -701,8 +701,8 @@ pub const TEMPLATE_TOKENS: &str = "10:[set] 14:[-e] 16:nl 17:[case] 22:\"$1\" 27
 129:[*] 130:) 131:nl 136:[echo] 141:<postinst called with unknown argument `>\"$1\"<'> 187:>&2 190:nl \
 195:[exit] 200:[1] 201:nl 204:;; 206:nl 207:[esac] 211:nl 212:[exit] 217:[0] 218:nl";
 
-// Substitutions inside one another: what opens one, how many times, and the fault where what is left follows. The first
-// of these begins at 10; a `$(` takes two bytes, and one in double quotes three.
+// Substitutions inside one another: what opens one, how many times, and the fault where what is left follows. The
+// first of these begins at 10; a `$(` takes two bytes, and one in double quotes three.
 pub const OPENED: &[(&str, u32, &str, &str)] = &[
     ("$(", 64, "", "open-substitution 136"),
     ("$(", 64, "a", "open-substitution 136"),
