@@ -1,0 +1,2 @@
+pub mod PrintedParts
+pub mod Printed

@@ -6,6 +6,9 @@ mod copies;
 mod equality;
 mod form;
 mod key;
+mod level;
+mod printed_parts;
+mod printing;
 mod redirect;
 mod script;
 mod syntax;
@@ -14,6 +17,7 @@ mod tests;
 
 pub use form::Form;
 pub use key::Key;
+pub use printing::print_script;
 pub use redirect::Redirect;
 pub use script::Script;
 pub use syntax::{Assign, CaseArm, Command, IfArm, Link, Part, Word};
