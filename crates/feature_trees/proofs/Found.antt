@@ -26,7 +26,7 @@ not_present (Link b) h = cc
 not_present Other h = cc
 not_present (Dir es) h = cc
 
-at_Absent : (p : List (List ℕ)) → at Absent p ≡ Absent
+pub at_Absent : (p : List (List ℕ)) → at Absent p ≡ Absent
 at_Absent [] = refl
 at_Absent (f ∷ p) = at_Absent p
 

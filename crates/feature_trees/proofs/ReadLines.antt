@@ -33,7 +33,7 @@ root_dir n Other more w e d = cc
 root_dir n (Dir es) more w e d = cc
 
 -- a directory with a line is a directory
-stays_dir : (n : ℕ) (tree more : Value) (line : Option TreeLine) → with_line n tree line ≡ Ok more → kind_of tree ≡ kind.Dir → kind_of more ≡ kind.Dir
+pub stays_dir : (n : ℕ) (tree more : Value) (line : Option TreeLine) → with_line n tree line ≡ Ok more → kind_of tree ≡ kind.Dir → kind_of more ≡ kind.Dir
 stays_dir n tree more None e d = cc
 stays_dir n tree more (Some line) e d = step line.names e
   where

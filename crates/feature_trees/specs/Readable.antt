@@ -1,4 +1,4 @@
--- Which trees have a text that is read again: how many names their paths have, and whether names and targets are bytes.
+-- How many names the paths of a tree have, and whether its names and targets are bytes.
 use Rattle.std.specs.Prelude.{ℕ, ◌+◌, Bool, true, ◌&&◌, List, [], ◌∷◌, map, max}
 use Rattle.std.specs.List.{list_all}
 use Rattle.shown_texts.specs.Show.{are_bytes}

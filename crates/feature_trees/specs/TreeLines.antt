@@ -1,5 +1,6 @@
 -- A tree from its text: what a line says, and the tree of lines of which each stands behind its parent's.
-use Rattle.std.specs.Prelude.{◌≡◌, ℕ, ◌+◌, Bool, true, false, ◌&&◌, nat_lt, nat_le, List, [], ◌∷◌, length, codes, Option, Some, None, Result, Ok, Err, if◌then◌else◌}
+use Rattle.std.specs.Prelude.{◌≡◌, ℕ, ◌+◌, Bool, true, false, ◌&&◌, nat_lt, nat_le, List, [], ◌∷◌, length, codes}
+use Rattle.std.specs.Prelude.{Option, Some, None, Result, Ok, Err, if◌then◌else◌}
 use Rattle.std.specs.Option.{option_map, option_and_then}
 use Rattle.std.specs.Str.{bytes_eq}
 use Rattle.script_names.specs.Paths.{is_filled}
@@ -24,20 +25,22 @@ whole_lines (part ∷ next ∷ texts) = part ∷ whole_lines (next ∷ texts)
 abbrev pub text_lines : List ℕ → List (List ℕ)
 text_lines text = whole_lines (parts 10 text)
 
--- what a line without a target says of its path, by its letter: `d` a directory, without entries as yet, `f` a file, `o` another thing
+-- what stands at the path of a line without a target: `d` a directory, empty as yet, `f` a file, `o` another thing
 abbrev pub letter_value : List ℕ → Option Value
 letter_value letter =
     if bytes_eq letter (codes "d") then Some (Dir [])
     else (if bytes_eq letter (codes "f") then Some Reg else (if bytes_eq letter (codes "o") then Some Other else None))
 
--- what a line with a target says of its path: `l` a link
+-- what stands at the path of a line with a target: `l` a link
 abbrev pub link_value : List ℕ → List ℕ → Option Value
-link_value letter target = if bytes_eq letter (codes "l") then option_map (λ bytes. Link bytes) (shown_of target) else None
+link_value letter target =
+    if bytes_eq letter (codes "l") then option_map (λ bytes. Link bytes) (shown_of target) else None
 
 -- an entry's names, of which there is one at least, and 4,096 at most
 abbrev pub line_of_names : Value → List (List ℕ) → Option TreeLine
 line_of_names value names =
-    if nat_lt 0 (length names) && nat_le (length names) MOST_NAMES then Some (record { names = names; value = value }) else None
+    if nat_lt 0 (length names) && nat_le (length names) MOST_NAMES then Some (record { names = names; value = value })
+    else None
 
 -- what a line says, from its path and what stands there
 abbrev pub line_at : List ℕ → Value → Option TreeLine
@@ -63,8 +66,8 @@ is_there (Link target) = true
 is_there Other = true
 is_there (Dir es) = true
 
--- the tree with what line n says, or why it cannot stand there: 1, it is not of the form; 2, its path is named already;
--- 3, its parent is no directory
+-- the tree with what line n says, or why it cannot stand there: 1, it is not of the form; 2, its path is named
+-- already; 3, its parent is no directory
 abbrev pub with_line : ℕ → Value → Option TreeLine → Result Value TreeFault
 with_line n tree None = Err (Line n 1)
 with_line n tree (Some line) =

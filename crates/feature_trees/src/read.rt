@@ -3,7 +3,8 @@ ghost use Rattle.std.specs.Option.{option_and_then};
 ghost use Rattle.feature_trees.specs.declared.value.Value.TheVariants.{Dir};
 ghost use Rattle.feature_trees.specs.declared.read.TreeFault.TheVariants.{Line};
 ghost use Rattle.feature_trees.specs.Sound.{IsTree};
-ghost use Rattle.feature_trees.specs.TreeLines.{whole_lines, letter_value, link_value, line_of_names, line_at, line_of_words, line_says};
+ghost use Rattle.feature_trees.specs.TreeLines.{whole_lines, letter_value, link_value, line_of_names, line_at};
+ghost use Rattle.feature_trees.specs.TreeLines.{line_of_words, line_says};
 ghost use Rattle.feature_trees.specs.TreeLines.{with_line, with_lines, tree_of, IsAnswer, IsLeft};
 
 use crate::put::{PutFault, put_at};
