@@ -1,7 +1,7 @@
 -- What stands at a place among a directory's entries, and what an edit there does.
-use Rattle.std.proofs.Common.{◌≡◌, ℕ, zero, suc, ◌<◌, List, [], ◌∷◌, length, drop, set, add-one, ◌+◌, get_or, Some, None, refl, sym, ap, subst, ◌∙◌, arith}
+use Rattle.std.proofs.Common.{◌≡◌, ℕ, zero, suc, ◌<◌, List, [], ◌∷◌, length, drop, set, ◌+◌, get_or, Some, None, refl, sym, ap, subst, ◌∙◌, arith}
 use Rattle.std.specs.Prelude.{remove, insert, slice_get}
-use Rattle.std.specs.declared.cmp.Ordering.TheVariants.{Less, Equal, Greater}
+use Rattle.std.specs.declared.cmp.Ordering.TheVariants.{Equal}
 use Rattle.std.proofs.lemmas.Grind.{common_steps}
 use Rattle.std.specs.FinMap.{slice_cmp-IsAntisymmetric, nat_cmp-IsAntisymmetric}
 use Rattle.feature_trees.specs.declared.shape.Entry.{Entry}
@@ -26,7 +26,7 @@ not_present (Link b) h = cc
 not_present Other h = cc
 not_present (Dir es) h = cc
 
-at_Absent : (p : List (List ℕ)) → at Absent p ≡ Absent
+pub at_Absent : (p : List (List ℕ)) → at Absent p ≡ Absent
 at_Absent [] = refl
 at_Absent (f ∷ p) = at_Absent p
 
@@ -41,29 +41,12 @@ stops v p i f w lt is gone e =
 pub same_name : (f g : List ℕ) → name_cmp f g ≡ Equal → f ≡ g
 same_name f g = slice_cmp-IsAntisymmetric nat_cmp-IsAntisymmetric f g
 
--- the scan
-
-pub passed_more : (hs : List NamedValue) (f : List ℕ) (i : ℕ) (d : NamedValue) → Passed hs f i → i < length hs → name_cmp f (get_or hs i d).name ≡ Greater → Passed hs f (i + 1)
-passed_more hs f i d p lt g = rw add-one (more hs f i p lt g)
-  where
-    more : (hs : List NamedValue) (f : List ℕ) (i : ℕ) → Passed hs f i → i < length hs → name_cmp f (get_or hs i d).name ≡ Greater → Passed hs f (suc i)
-    more [] f i p lt g = absurd (omega arith)
-    more (h ∷ hs) f zero p lt g = (g, tt)
-    more (h ∷ hs) f (suc i) p lt g = (p.0, more hs f i p.1 (omega arith) g)
+-- where a name is
 
 pub begins_at : (hs : List NamedValue) (f : List ℕ) (i : ℕ) (d : NamedValue) → i < length hs → name_cmp f (get_or hs i d).name ≡ Equal → BeginsAt (drop i hs) f
 begins_at [] f i d lt e = absurd (omega arith)
 begins_at (h ∷ hs) f zero d lt e = e
 begins_at (h ∷ hs) f (suc i) d lt e = begins_at hs f i d (omega arith) e
-
-pub begins_after : (hs : List NamedValue) (f : List ℕ) (i : ℕ) (d : NamedValue) → i < length hs → name_cmp f (get_or hs i d).name ≡ Less → BeginsAfter (drop i hs) f
-begins_after [] f i d lt e = absurd (omega arith)
-begins_after (h ∷ hs) f zero d lt e = e
-begins_after (h ∷ hs) f (suc i) d lt e = begins_after hs f i d (omega arith) e
-
-pub begins_end : (hs : List NamedValue) (f : List ℕ) → BeginsAfter (drop (length hs) hs) f
-begins_end [] f = tt
-begins_end (h ∷ hs) f = begins_end hs f
 
 -- what is found
 

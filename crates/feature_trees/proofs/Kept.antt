@@ -77,7 +77,7 @@ above_update n (e ∷ es) f w lt a r = step (name_cmp f e.name)
     step Equal = above_inserted n f w es lt (above_more n e.name es a r.0)
     step Greater = a
 
-rises_update : (es : List Entry) (f : List ℕ) (w : Value) → Rises es → Rises (update es f w)
+pub rises_update : (es : List Entry) (f : List ℕ) (w : Value) → Rises es → Rises (update es f w)
 rises_update [] f w r = subst Rises (append-nil (entry_if_present f w)) (rises_inserted f w [] tt tt)
 rises_update (e ∷ es) f w r = step (rises_update es f w r.1) (name_cmp f e.name) refl
   where
@@ -101,7 +101,7 @@ sound-update es f w h n s = made (update es f w) (rises_update es f w (rises_of 
 
 -- what stands in a directory determines it
 
-node_of-value_of : (n : Node) → node_of (value_of n) ≡ n
+pub node_of-value_of : (n : Node) → node_of (value_of n) ≡ n
 node_of-value_of n = layer (out-Node n) ∙ roll-out-Node n
   where
     layer : (x : Open.Node-F Node Entry) → node_of (value_layer x) ≡ roll-Node x
@@ -110,7 +110,7 @@ node_of-value_of n = layer (out-Node n) ∙ roll-out-Node n
     layer Open.Other = sym N.rolls-Other
     layer (Open.Dir es) = sym (N.rolls-Dir es)
 
-value_there : (n : Node) → IsThere (value_of n)
+pub value_there : (n : Node) → IsThere (value_of n)
 value_there n = layer (out-Node n)
   where
     layer : (x : Open.Node-F Node Entry) → IsThere (value_layer x)
@@ -119,7 +119,7 @@ value_there n = layer (out-Node n)
     layer Open.Other = tt
     layer (Open.Dir es) = tt
 
-find_first : (e : Entry) (es : List Entry) → find (e ∷ es) e.name ≡ value_of e.node
+pub find_first : (e : Entry) (es : List Entry) → find (e ∷ es) e.name ≡ value_of e.node
 find_first e es = ap (λ o. by_order o Absent (value_of e.node) (find es e.name)) (tied_itself ord e.name)
 
 not_absent : {A : Type 0} (n : Node) → value_of n ≡ Absent → A
@@ -160,7 +160,7 @@ same_finds (e ∷ es) (d ∷ ds) r t h = step (name_cmp e.name d.name) refl (sam
         both : e ∷ es ≡ d ∷ ds
         both = λ i. record { name = name i; node = node i } ∷ rest i
 
-sound_entries : (v : Value) → IsTrue (sound v) → IsTrue (sound_all (entries_of v))
+pub sound_entries : (v : Value) → IsTrue (sound v) → IsTrue (sound_all (entries_of v))
 sound_entries Absent s = refl
 sound_entries Reg s = refl
 sound_entries (Link b) s = refl

@@ -73,7 +73,7 @@ rises_v (Link b) s = tt
 rises_v Other s = tt
 rises_v (Dir es) s = rises_of es s
 
-sound_value : (n : Node) → IsTrue (sound_node n) → IsTrue (sound (value_of n))
+pub sound_value : (n : Node) → IsTrue (sound_node n) → IsTrue (sound (value_of n))
 sound_value n h = layer (out-Node n) (subst (λ x. IsTrue (sound_node x)) (sym (roll-out-Node n)) h)
   where
     layer : (x : Open.Node-F Node Entry) → IsTrue (sound_node (roll-Node x)) → IsTrue (sound (value_layer x))

@@ -18,7 +18,7 @@ use Rattle.feature_trees.specs.TreeText.{Lines, in_turn, node_layer, entry_layer
 abbrev pub item_text : List ℕ → NamedValue → List ℕ
 item_text path h = value_text h.value (path_below path h.name)
 
-entry_text_of : (e : Entry) (path : List ℕ) → entry_text e path ≡ node_text e.node (path_below path e.name)
+pub entry_text_of : (e : Entry) (path : List ℕ) → entry_text e path ≡ node_text e.node (path_below path e.name)
 entry_text_of e path =
     ap (λ (x : Entry). entry_text x path) (sym (rolls-Entry' (record { name = e.name; node = e.node })))
     ∙ ap (λ (f : Lines). f path) (fold-roll-Entry Lines Lines node_layer entry_layer (record { name = e.name; node = e.node }))

@@ -7,3 +7,6 @@ pub mod Sound
 pub mod Falls
 pub mod Laws
 pub mod TreeText
+pub mod TreeLines
+pub mod Readable
+pub mod TextLaws

@@ -5,6 +5,7 @@
 mod kind;
 mod print;
 mod put;
+mod read;
 mod same;
 pub mod shape;
 pub mod theorems;
@@ -13,7 +14,10 @@ mod value;
 pub use kind::{Kind, Kinds};
 pub use print::{print_tree, put_tree};
 pub use put::PutFault;
+pub use read::{MOST_NAMES, TreeFault, read_tree};
 pub use value::{Entries, Value};
 
+#[cfg(test)]
+mod read_tests;
 #[cfg(test)]
 mod tests;

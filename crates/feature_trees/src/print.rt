@@ -1,7 +1,5 @@
 ghost use Rattle.std.specs.Prelude.{◌≡◌, ◌++◌, ◌∷◌, [], ℕ, List, IfOk, OnOk, OnErr, codes};
 ghost use Rattle.std.specs.List.{flat_map};
-ghost use Rattle.feature_trees.specs.declared.kind.Kind.TheVariants as kind;
-ghost use Rattle.feature_trees.specs.Tree.{kind_of};
 ghost use Rattle.feature_trees.specs.View.{seen, AllThere};
 ghost use Rattle.shown_texts.specs.Lines.{line};
 ghost use Rattle.shown_texts.specs.Show.{show};
@@ -14,8 +12,8 @@ use std::alloc::Global;
 
 /// The text of a tree: one line per entry but the root, by names in byte order, a directory before its entries.
 /// A line is `d PATH`, `f PATH`, `o PATH` or `l PATH TARGET`; a path is `/` and its shown names joined by `/`.
+/// A value that is no directory has no entries, so its text has no lines.
 pub fn print_tree(alloc: Global, tree: &Value) -> Result<Bytes, Memory>
-    requires { kind_of tree.now ≡ kind.Dir }
     ensures { IfOk result (λ text. text ≡ tree_text tree.now) }
 {
     let mut text = Bytes::new(alloc);
@@ -24,13 +22,12 @@ pub fn print_tree(alloc: Global, tree: &Value) -> Result<Bytes, Memory>
             put_entries(alloc, &mut text, b"", entries.items.as_slice())?;
             Ok(text)
         }
-        _ => unreachable!(),
+        _ => Ok(text),
     }
 }
 
 /// Adds the text of a tree to a text; for want of memory the text is as before.
 pub fn put_tree(alloc: Global, text: &mut Bytes, tree: &Value) -> Result<(), Memory>
-    requires { kind_of tree.now ≡ kind.Dir }
     ensures ok { OnOk result (text.new ≡ text.old ++ tree_text tree.now) }
     ensures kept { OnErr result (text.new ≡ text.old) }
 {

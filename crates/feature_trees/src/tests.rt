@@ -55,15 +55,10 @@ fn sample<R: Abort + AllocGlobal>(rt: &R) -> Result<Value, Fail> {
 }
 
 fn expect<R: Abort + AllocGlobal>(rt: &R, tree: &Value, text: &str) -> Result<(), Fail> {
-    match tree {
-        Value::Dir(_) => {
-            let mut printed = print_tree(rt.alloc(), tree)?;
-            assert_eq!(rt; printed.as_slice(), text.as_bytes());
-            put_tree(rt.alloc(), &mut printed, tree)?;
-            assert_eq!(rt; printed.len(), text.len() + text.len());
-        }
-        _ => assert!(rt; false),
-    }
+    let mut printed = print_tree(rt.alloc(), tree)?;
+    assert_eq!(rt; printed.as_slice(), text.as_bytes());
+    put_tree(rt.alloc(), &mut printed, tree)?;
+    assert_eq!(rt; printed.len(), text.len() + text.len());
     Ok(())
 }
 
@@ -83,8 +78,10 @@ fn stands<R: Abort + AllocGlobal>(
 
 #[test]
 fn prints(rt: HostRuntime) -> Result<(), Fail> {
-    let empty = value(&rt, Kind::Dir)?;
-    expect(&rt, &empty, "")?;
+    for kind in [Kind::Dir, Kind::Reg, Kind::Link, Kind::Absent] {
+        let empty = value(&rt, kind)?;
+        expect(&rt, &empty, "")?;
+    }
     let tree = sample(&rt)?;
     expect(
         &rt,

@@ -2,6 +2,7 @@
 
 ghost use Rattle.feature_trees.specs.Laws.{StandsWherePut, StandsElsewhere, StandsBelow, StandsAbove, PutsStaySound};
 ghost use Rattle.feature_trees.specs.Laws.{EntriesDetermine};
+ghost use Rattle.feature_trees.specs.TextLaws.{LinesStand, FirstFaults, TreesReadBack};
 
 /// A put changes what stands at its path, and what stands elsewhere stays.
 pub fn puts_are_local()
@@ -15,4 +16,16 @@ pub fn puts_are_local()
 /// A directory is the map of its entries: two with the same entry under every name are the same.
 pub fn entries_determine()
     ensures { EntriesDetermine }
+{}
+
+/// The tree of a text is what its lines say, in whatever allowed order they stand; and a text that is no tree's is
+/// refused for the first line that cannot stand behind those before it, for the least reason.
+pub fn texts_are_trees()
+    ensures stand { LinesStand }
+    ensures faults { FirstFaults }
+{}
+
+/// The text of a tree is read as the tree, where no path of it has more than 4,096 names.
+pub fn trees_read_back()
+    ensures { TreesReadBack }
 {}

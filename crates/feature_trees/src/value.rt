@@ -7,7 +7,6 @@ ghost use Rattle.feature_trees.specs.Tree.{find, entry, at, present, update};
 
 use script_names::{Bytes, Copied, Memory, Name, Path};
 use std::alloc::Global;
-use std::cmp::Ordering;
 use std::marker::Model;
 
 /// What stands at a place.
@@ -122,7 +121,8 @@ impl Entries {
 
 // What stands under a name.
 fn value_under<'a>(items: &'a [NamedValue], f: &Name) -> Option<&'a Value>
-    requires { AllThere items.now }
+    requires all { AllThere items.now }
+    requires sound { IsTrue (sound_all (seen items.now)) }
     ensures { option_copied result ≡ present (find (seen items.now) f.now) }
 {
     match place(items, f) {
@@ -153,7 +153,8 @@ pub(crate) fn set_value(items: &mut Vec<NamedValue>, f: &Name, v: Value) -> Resu
 
 // Takes away what stands under a name.
 fn take_away(items: &mut Vec<NamedValue>, f: &Name)
-    requires { AllThere items.old.items }
+    requires all { AllThere items.old.items }
+    requires sound { IsTrue (sound_all (seen items.old.items)) }
     ensures there { AllThere items.new.items }
     ensures gone { seen items.new.items ≡ update (seen items.old.items) f.now Value.Absent }
 {
@@ -168,6 +169,7 @@ fn take_away(items: &mut Vec<NamedValue>, f: &Name)
 // Puts a value that is there under a name.
 fn put_there(items: &mut Vec<NamedValue>, f: &Name, v: Value) -> Result<(), Memory>
     requires all { AllThere items.old.items }
+    requires sound { IsTrue (sound_all (seen items.old.items)) }
     requires there { IsThere v }
     ensures there { AllThere items.new.items }
     ensures ok { OnOk result (seen items.new.items ≡ update (seen items.old.items) f.now v) }
@@ -187,18 +189,12 @@ fn put_there(items: &mut Vec<NamedValue>, f: &Name, v: Value) -> Result<(), Memo
     }
 }
 
-// Where the name is, or where it would go.
+// Where the name is, or where it would go, by halving.
 pub(crate) fn place(items: &[NamedValue], f: &Name) -> Result<usize, usize>
+    requires { IsTrue (sound_all (seen items.now)) }
     ensures { MatchResult result (IsAt items.now f.now) (IsGap items.now f.now) }
 {
-    for (at, item) in items.iter().enumerate() {
-        match f.compare(&item.name) {
-            Ordering::Less => return Err(at),
-            Ordering::Equal => return Ok(at),
-            Ordering::Greater => {}
-        }
-    }
-    Err(items.len())
+    items.binary_search_by(|item| item.name.compare(f))
 }
 
 impl Value {
@@ -226,16 +222,23 @@ impl Value {
     pub fn at(&self, p: &Path) -> Option<&Value>
         ensures { option_copied result ≡ present (at self.now p.now.names) }
     {
-        let mut here = self;
-        for f in p.names() {
-            match here.entry(f) {
-                None => return None,
-                Some(next) => here = next,
-            }
+        value_at(self, p.names())
+    }
+}
+
+// What stands at the path of these names, from a value on.
+pub(crate) fn value_at<'a>(from: &'a Value, names: &[Name]) -> Option<&'a Value>
+    ensures { option_copied result ≡ present (at from.now names.now) }
+{
+    let mut here = from;
+    for f in names {
+        match here.entry(f) {
+            None => return None,
+            Some(next) => here = next,
         }
-        match here {
-            Value::Absent => None,
-            _ => Some(here),
-        }
+    }
+    match here {
+        Value::Absent => None,
+        _ => Some(here),
     }
 }

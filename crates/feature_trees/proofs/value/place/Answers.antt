@@ -1,11 +1,13 @@
-use Rattle.std.proofs.Common.{sym, ap, ◌∙◌}
+use Rattle.std.proofs.Common.{rules}
+use Rattle.std.proofs.lemmas.Fn.{always_returns_same}
 use Rattle.feature_trees.specs.declared.value.NamedValue.{NamedValue}
 use Rattle.feature_trees.specs.Tree.{name_cmp}
-use Rattle.feature_trees.proofs.Found.{passed_more}
+use Rattle.feature_trees.proofs.Searched.{searched}
 use Rattle.feature_trees.proofs.value.place.Goals as goal
 
--- one more name is passed
-pub loop-at-preserved : goal.loop-at-preserved
-loop-at-preserved c =
-    passed_more c.args.items.now c.args.f.now c.loop-at.at c.index-items-at.result c.loop-at.invariant c.loop-at-test.true
-    (ap (λ (h : NamedValue). name_cmp c.args.f.now h.name) (sym c.index-items-at.is) ∙ sym c.compare.ensures ∙ c.in-Greater.is)
+-- the names rise, and the closure compares one with the name
+pub returns : goal.returns
+returns c =
+    let facts = c.binary_search_by.ensures in
+    let compared = facts.position (λ (h : NamedValue). name_cmp h.name c.args.f.now) (always_returns_same _ _ _ (λ a r g called. search rules)) in
+    searched c.args.items.now c.args.f.now c.requires _ facts.bound compared

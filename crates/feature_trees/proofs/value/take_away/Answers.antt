@@ -2,7 +2,7 @@ use Rattle.feature_trees.proofs.Found.{there-remove, seen-remove, seen-gap}
 use Rattle.feature_trees.proofs.value.take_away.Goals as goal
 
 pub returns-in-Ok-clause-there : goal.returns-in-Ok-clause-there
-returns-in-Ok-clause-there c = rw c.remove-gone.ensures.items (there-remove c.args.items.now.items c.in-Ok.at c.requires)
+returns-in-Ok-clause-there c = rw c.remove-gone.ensures.items (there-remove c.args.items.now.items c.in-Ok.at c.requires.all)
 
 pub returns-in-Ok-clause-gone : goal.returns-in-Ok-clause-gone
 returns-in-Ok-clause-gone c =

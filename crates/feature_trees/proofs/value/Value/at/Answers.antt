@@ -1,6 +1,0 @@
-use Rattle.feature_trees.proofs.Found.{stops}
-use Rattle.feature_trees.proofs.value.Value.at.Goals as goal
-
--- nothing stands below
-pub returns-in-None : goal.returns-in-None
-returns-in-None c = stops c.loop-f.here.now c.names-f-items.result.now c.loop-f.f-index c.f-item.result _ c.loop-f-test.true c.f-item.is c.in-None.ensures c.loop-f.invariant
