@@ -2,14 +2,14 @@ ghost use Rattle.std.specs.Prelude.{◌≡◌, IfOk, IfErr};
 ghost use Rattle.shell_grammar.specs.Spelling.{Spells, Stopped};
 ghost use Rattle.shell_parser.specs.Reads.{Caused};
 
-use crate::parser::script;
+use crate::parser::lists::script;
 use shell_grammar::ParseFault;
 use shell_lexer::Lexed;
 use shell_syntax::Script;
 use std::alloc::Global;
 
-/// The script that the tokens spell. Else the fault with which their reading from left to right stops: of syntax, or of the 65th level of
-/// nesting; a word's substitutions are read behind the word and before the next token.
+/// The script that the tokens spell. Else the fault with which their reading from left to right stops: of syntax, or
+/// of the 65th level of nesting; a word's substitutions are read behind the word and before the next token.
 pub fn parse(alloc: Global, lexed: &Lexed) -> Result<Script, ParseFault>
     ensures spelled { IfOk result (λ script. Spells lexed.now.end lexed.now.tokens script.body) }
     ensures strict { IfOk result (λ script. script.strict ≡ lexed.now.strict) }
