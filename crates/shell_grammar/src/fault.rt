@@ -3,7 +3,8 @@ use script_names::Memory;
 /// Why tokens give no script.
 #[derive(Clone, Copy, Debug, PartialEq, Eq, Drop)]
 pub enum ParseFault {
-    /// No script has these tokens; the byte offset of the first token that cannot stand where it stands, or that of the tokens' end.
+    /// No script has these tokens; the byte offset of the first token that cannot stand where it stands, or that of
+    /// the tokens' end.
     Syntax { at: u32 },
     /// A token opens the 65th level of nesting; its byte offset.
     Deep { at: u32 },

@@ -24,7 +24,8 @@ pub enum Reserved {
     Esac,
 }
 
-/// The kinds of tokens that the grammar tells apart, and the tokens' end (XCU 2.10.1 Shell Grammar Lexical Conventions).
+/// The kinds of tokens that the grammar tells apart, and the tokens' end (XCU 2.10.1 Shell Grammar Lexical
+/// Conventions).
 #[derive(Clone, Copy, Debug, PartialEq, Eq)]
 pub enum Look {
     AtEnd,
