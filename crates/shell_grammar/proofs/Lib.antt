@@ -1,2 +1,10 @@
+pub mod Bared
+pub mod Begun
+pub mod Faults
+pub mod Fits
+pub mod Fronts
+pub mod Levels
 pub mod Limits
+pub mod Prefixes
+pub mod Told
 pub mod Unique

@@ -1,17 +1,16 @@
 -- What is read within a limit is read without one, unless a token is too deep.
-use Rattle.std.proofs.Common.{◌≡◌, ℕ, zero, suc, Bool, true, false, List, [], ◌∷◌, ◌++◌, Option, Some, None, refl, sym, ap, ◌∙◌, subst}
+use Rattle.std.proofs.Common.{◌≡◌, ℕ, Bool, true, false, List, refl, sym, ap, ◌∙◌}
 use Rattle.shell_syntax.specs.declared.syntax.Command.{Command}
 use Rattle.shell_lexer.specs.declared.token.RawPart.{RawPart}
 use Rattle.shell_grammar.specs.declared.fault.ParseFault.{ParseFault}
 use Rattle.shell_grammar.specs.declared.fault.ParseFault.TheVariants.{Syntax, Deep, Memory}
-use Rattle.shell_grammar.specs.declared.look.Look.{Look}
-use Rattle.shell_grammar.specs.Look.{Tokens, look, word, behind, place}
-use Rattle.shell_grammar.specs.Grammar.{Rule, Script, Sign, Is, Opens, AWord, Here, Never, Of, Inside, Tree, Value, Values, Production, production}
+use Rattle.shell_grammar.specs.Look.{Tokens, look}
+use Rattle.shell_grammar.specs.Grammar.{Rule, Script, Sign, Tree, Value, Values, production}
 use Rattle.shell_grammar.specs.Reading.{Out, Whole, Stop, turned, Judged, Faultless, Faulty, after, IsRule, rule, IsAll, no_more, one_more, one_stops, IsSign, is, is_not, opens, opens_not, too_deep, a_word, a_word_stops, no_word, here, never, of, inside, IsParts, no_parts, plain_part, run_part, run_stops, run_deep}
 use Rattle.shell_grammar.specs.Spelling.{no_limit, deep_64, Spells, Stopped}
 use Rattle.shell_grammar.proofs.Unique.{clash, not_both, wholes, stops, same_rule}
 
-abbrev is_deep_fault : ParseFault → Bool
+abbrev pub is_deep_fault : ParseFault → Bool
 is_deep_fault (Syntax at) = false
 is_deep_fault (Deep at) = true
 is_deep_fault Memory = false

@@ -1,17 +1,16 @@
 -- Tokens have one reading.
-use Rattle.std.proofs.Common.{◌≡◌, ℕ, zero, suc, Bool, true, false, List, [], ◌∷◌, Option, Some, None, refl, sym, ap, ◌∙◌, subst}
+use Rattle.std.proofs.Common.{◌≡◌, ℕ, suc, Bool, true, false, List, Option, Some, None, sym, ap, ◌∙◌, subst}
 use Rattle.shell_syntax.specs.declared.syntax.Command.{Command}
 use Rattle.shell_syntax.specs.declared.syntax.Part.{Part}
 use Rattle.shell_syntax.specs.declared.syntax.Part.TheVariants as part
 use Rattle.shell_lexer.specs.declared.token.Token.{Token}
 use Rattle.shell_lexer.specs.declared.token.TokenKind.{TokenKind}
-use Rattle.shell_lexer.specs.declared.token.RawPart.{RawPart, out-RawPart}
+use Rattle.shell_lexer.specs.declared.token.RawPart.{RawPart}
 use Rattle.shell_lexer.specs.declared.token.RawPart.TheOpen as raw
 use Rattle.shell_grammar.specs.declared.fault.ParseFault.{ParseFault}
-use Rattle.shell_grammar.specs.declared.fault.ParseFault.TheVariants.{Syntax, Deep}
-use Rattle.shell_grammar.specs.declared.look.Look.{Look}
-use Rattle.shell_grammar.specs.Look.{Tokens, look, word, behind, place}
-use Rattle.shell_grammar.specs.Grammar.{Rule, Script, Sign, Is, Opens, AWord, Here, Never, Of, Inside, Tree, Value, Values, Production, production}
+use Rattle.shell_grammar.specs.declared.fault.ParseFault.TheVariants.{Deep}
+use Rattle.shell_grammar.specs.Look.{Tokens, look, behind, place}
+use Rattle.shell_grammar.specs.Grammar.{Rule, Script, Sign, Tree, Value, Values, production}
 use Rattle.shell_grammar.specs.Trees.{word_at}
 use Rattle.shell_grammar.specs.Reading.{Out, Whole, Stop, turned, Judged, Faultless, Faulty, after, plainly, IsRule, rule, IsAll, no_more, one_more, one_stops, IsSign, is, is_not, opens, opens_not, too_deep, a_word, a_word_stops, no_word, here, never, of, inside, IsParts, no_parts, plain_part, run_part, run_stops, run_deep}
 
@@ -49,7 +48,7 @@ none_some e f = cc
 
 module _ (deep : ℕ → Bool) where
   -- a substitution whose tokens were read so
-  run_moved : {o : raw.RawPart-F RawPart TokenKind Token} {at at' : ℕ} {ts ts' : Tokens} {b b' : Bool} {d : ℕ} {q : Out Command} → o ≡ raw.Run at ts b → o ≡ raw.Run at' ts' b' → IsRule deep (suc d) at' Script ts' q → IsRule deep (suc d) at Script ts q
+  pub run_moved : {o : raw.RawPart-F RawPart TokenKind Token} {at at' : ℕ} {ts ts' : Tokens} {b b' : Bool} {d : ℕ} {q : Out Command} → o ≡ raw.Run at ts b → o ≡ raw.Run at' ts' b' → IsRule deep (suc d) at' Script ts' q → IsRule deep (suc d) at Script ts q
   run_moved {at = at} {ts' = ts'} {d = d} {q = q} e f x =
       let h = runs (sym f ∙ e) in
       let y = subst (λ at. IsRule deep (suc d) at Script ts' q) h.0 x in

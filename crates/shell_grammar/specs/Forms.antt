@@ -8,15 +8,14 @@ use Rattle.shell_grammar.specs.declared.form.CompoundForm.TheVariants as compoun
 use Rattle.shell_grammar.specs.declared.form.Item.{Item}
 use Rattle.shell_grammar.specs.declared.form.Item.TheVariants as an
 use Rattle.shell_grammar.specs.declared.look.Look.{Look}
-use Rattle.shell_grammar.specs.declared.look.Look.TheVariants.{AtEnd, Newline, Semi, DoubleSemi, AndAnd, OrOr, Bar}
-use Rattle.shell_grammar.specs.declared.look.Look.TheVariants.{LeftParen, RightParen, Redirection, Keyword, Name}
+use Rattle.shell_grammar.specs.declared.look.Look.TheVariants.{AtEnd, Newline, Semi, DoubleSemi, AndAnd, OrOr}
+use Rattle.shell_grammar.specs.declared.look.Look.TheVariants.{LeftParen, Redirection, Keyword, Name}
 use Rattle.shell_grammar.specs.declared.look.Look.TheVariants.{Assignment, Other}
-use Rattle.shell_grammar.specs.declared.look.Reserved.{Reserved}
-use Rattle.shell_grammar.specs.declared.look.Reserved.TheVariants.{Open, Close, Bang, If, Then, Elif, Else, Fi, For}
-use Rattle.shell_grammar.specs.declared.look.Reserved.TheVariants.{In, Do, Done, While, Until, Case, Esac}
+use Rattle.shell_grammar.specs.declared.look.Reserved.TheVariants.{Open, Close, Bang, If, For}
+use Rattle.shell_grammar.specs.declared.look.Reserved.TheVariants.{While, Until, Case, Esac}
 
--- a compound command begins with `(` or one of the reserved words `{ if while until for case`; a command of another form begins with a
--- word that is not reserved, or with a redirection; no command begins otherwise
+-- a compound command begins with `(` or one of the reserved words `{ if while until for case`; a command of another
+-- form begins with a word that is not reserved, or with a redirection; no command begins otherwise
 abbrev pub command_form : Look → Option CommandForm
 command_form LeftParen = Some command.Compound
 command_form (Keyword Open) = Some command.Compound
@@ -41,8 +40,8 @@ compound_form (Keyword While) = compound.Loop false
 compound_form (Keyword Until) = compound.Loop true
 compound_form _ = compound.Braces
 
--- what a token is to a simple command, before its first word, or behind it: there, an assignment is a word; a reserved word is a word at
--- either place; no other token belongs to it
+-- what a token is to a simple command, before its first word, or behind it: there, an assignment is a word; a
+-- reserved word is a word at either place; no other token belongs to it
 abbrev pub item : Bool → Look → Option Item
 item false Assignment = Some an.Assignment
 item true Assignment = Some an.Word

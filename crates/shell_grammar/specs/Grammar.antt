@@ -15,12 +15,12 @@ use Rattle.shell_grammar.specs.declared.form.Item.{Item}
 use Rattle.shell_grammar.specs.declared.form.Item.TheVariants as an
 use Rattle.shell_grammar.specs.declared.items.Items.{Items}
 use Rattle.shell_grammar.specs.declared.look.Look.{Look}
-use Rattle.shell_grammar.specs.declared.look.Look.TheVariants.{AtEnd, Newline, Semi, DoubleSemi, AndAnd, OrOr, Bar}
+use Rattle.shell_grammar.specs.declared.look.Look.TheVariants.{AtEnd, Newline, Semi, DoubleSemi, Bar}
 use Rattle.shell_grammar.specs.declared.look.Look.TheVariants.{LeftParen, RightParen, Redirection, Keyword}
 use Rattle.shell_grammar.specs.declared.look.Reserved.TheVariants.{Open, Close, Bang, If, Then, Elif, Else, Fi, For}
 use Rattle.shell_grammar.specs.declared.look.Reserved.TheVariants.{In, Do, Done, Case, Esac}
 use Rattle.shell_grammar.specs.Look.{Text}
-use Rattle.shell_grammar.specs.Forms.{command_form, compound_form, item, has_word, starts, loop_word, is_name_word}
+use Rattle.shell_grammar.specs.Forms.{command_form, compound_form, item, starts, loop_word, is_name_word}
 use Rattle.shell_grammar.specs.Forms.{is_word, is_separator, link_and, redirection, ends_arm}
 use Rattle.shell_grammar.specs.Trees.{seq_of, pipe_of, chain_of, redirected, link, if_arm, case_arm, no_items}
 use Rattle.shell_grammar.specs.Trees.{an_assign, a_word, a_redirect, joined, simple, word_text, assigned, Tail}
@@ -178,8 +178,8 @@ production_command (Some command.Simple) =
     record { signs = Here ∷ Of (SimpleItems false) ∷ []; tree = λ v. simple v.0 v.1.0 }
 production_command None = record { signs = Never ∷ []; tree = λ v. c.Seq [] }
 
--- a compound command (XCU 2.10.2 compound_command; 2.9.4.1 Grouping Commands, 2.9.4.2 The for Loop, 2.9.4.3 Case Conditional Construct,
--- 2.9.4.4 The if Conditional Construct, 2.9.4.5 The while Loop, 2.9.4.6 The until Loop)
+-- a compound command (XCU 2.10.2 compound_command; 2.9.4.1 Grouping Commands, 2.9.4.2 The for Loop, 2.9.4.3 Case
+-- Conditional Construct, 2.9.4.4 The if Conditional Construct, 2.9.4.5 The while Loop, 2.9.4.6 The until Loop)
 abbrev pub production_compound : CompoundForm → Production Compound
 production_compound compound.Subshell =
     record { signs = Opens LeftParen ∷ Inside Block ∷ Is RightParen ∷ []; tree = λ v. c.Sub v.0 v.1.0 }

@@ -1,6 +1,10 @@
+pub mod Bare
+pub mod Begins
 pub mod Forms
 pub mod Grammar
+pub mod Laws
 pub mod Look
+pub mod Places
 pub mod Reading
 pub mod Spelling
 pub mod Trees

@@ -1,9 +1,8 @@
--- What stands at the front of tokens (POSIX.1-2017, XCU 2.4 Reserved Words, 2.10.1 Shell Grammar Lexical Conventions; XBD 3.235 Name).
-use Rattle.std.specs.Prelude.{◌≡◌, ℕ, Bool, true, false, List, [], ◌∷◌, ◌++◌, Option, Some, None, codes}
+-- What stands at the front of tokens (POSIX.1-2017, XCU 2.4 Reserved Words, 2.10.1 Shell Grammar Lexical Conventions;
+-- XBD 3.235 Name).
+use Rattle.std.specs.Prelude.{ℕ, Bool, true, false, List, [], ◌∷◌, Option, Some, None, codes}
 use Rattle.std.specs.Prelude.{if◌then◌else◌, leb, eqb}
 use Rattle.std.specs.Str.{bytes_eq}
-use Rattle.std.specs.List.{list_all}
-use Rattle.shell_syntax.specs.declared.redirect.Redirect.{Redirect}
 use Rattle.shell_grammar.specs.declared.look.Look.{Look}
 use Rattle.shell_grammar.specs.declared.look.Look.TheVariants.{AtEnd, Newline, Semi, DoubleSemi, AndAnd, OrOr, Bar}
 use Rattle.shell_grammar.specs.declared.look.Look.TheVariants.{LeftParen, RightParen, Redirection, Keyword, Name}
@@ -27,16 +26,28 @@ Tokens = List Token
 -- the reserved word that these bytes are (XCU 2.4)
 abbrev pub reserved : Text → Option Reserved
 reserved w =
-    if bytes_eq w (codes "{") then Some Open else (if bytes_eq w (codes "}") then Some Close else (if bytes_eq w (codes "!") then Some Bang else
-    (if bytes_eq w (codes "if") then Some If else (if bytes_eq w (codes "then") then Some Then else (if bytes_eq w (codes "elif") then Some Elif else
-    (if bytes_eq w (codes "else") then Some Else else (if bytes_eq w (codes "fi") then Some Fi else (if bytes_eq w (codes "for") then Some For else
-    (if bytes_eq w (codes "in") then Some In else (if bytes_eq w (codes "do") then Some Do else (if bytes_eq w (codes "done") then Some Done else
-    (if bytes_eq w (codes "while") then Some While else (if bytes_eq w (codes "until") then Some Until else (if bytes_eq w (codes "case") then Some Case else
+    if bytes_eq w (codes "{") then Some Open else
+    (if bytes_eq w (codes "}") then Some Close else
+    (if bytes_eq w (codes "!") then Some Bang else
+    (if bytes_eq w (codes "if") then Some If else
+    (if bytes_eq w (codes "then") then Some Then else
+    (if bytes_eq w (codes "elif") then Some Elif else
+    (if bytes_eq w (codes "else") then Some Else else
+    (if bytes_eq w (codes "fi") then Some Fi else
+    (if bytes_eq w (codes "for") then Some For else
+    (if bytes_eq w (codes "in") then Some In else
+    (if bytes_eq w (codes "do") then Some Do else
+    (if bytes_eq w (codes "done") then Some Done else
+    (if bytes_eq w (codes "while") then Some While else
+    (if bytes_eq w (codes "until") then Some Until else
+    (if bytes_eq w (codes "case") then Some Case else
     (if bytes_eq w (codes "esac") then Some Esac else None)))))))))))))))
 
 -- `A` to `Z`, `_` and `a` to `z`
 abbrev pub is_letter : ℕ → Bool
-is_letter b = if leb 65 b then (if leb b 90 then true else (if eqb b 95 then true else (if leb 97 b then leb b 122 else false))) else false
+is_letter b =
+    if leb 65 b then (if leb b 90 then true else (if eqb b 95 then true else (if leb 97 b then leb b 122 else false)))
+    else false
 
 -- `0` to `9`
 abbrev pub is_digit : ℕ → Bool
@@ -58,7 +69,8 @@ is_name w = name_from true w
 -- a name, and a `=` behind it
 abbrev pub assigns_from : Bool → Text → Bool
 assigns_from first [] = false
-assigns_from first (b ∷ bs) = if is_name_byte first b then assigns_from false bs else (if first then false else eqb b 61)
+assigns_from first (b ∷ bs) =
+    if is_name_byte first b then assigns_from false bs else (if first then false else eqb b 61)
 
 -- a word that begins with plain bytes: an assignment begins with a name and `=`
 abbrev pub begun_look : Text → Look

@@ -1,7 +1,7 @@
--- How the grammar reads tokens: one relation for every table, with the value and the tokens behind it, or the first fault.
+-- How the grammar reads tokens: one relation for every table, with the value and the tokens behind it, or the first
+-- fault.
 use Rattle.std.specs.Prelude.{◌≡◌, ℕ, suc, Bool, true, false, List, [], ◌∷◌, ◌++◌, Option, Some, None}
 use Rattle.shell_syntax.specs.declared.syntax.Command.{Command}
-use Rattle.shell_syntax.specs.declared.syntax.Word.{Word}
 use Rattle.shell_syntax.specs.declared.syntax.Part.{Part}
 use Rattle.shell_syntax.specs.declared.syntax.Part.TheVariants as part
 use Rattle.shell_lexer.specs.declared.token.Token.{Token}
@@ -13,7 +13,7 @@ use Rattle.shell_grammar.specs.declared.fault.ParseFault.TheVariants.{Syntax, De
 use Rattle.shell_grammar.specs.declared.look.Look.{Look}
 use Rattle.shell_grammar.specs.Look.{Tokens, look, word, behind, place}
 use Rattle.shell_grammar.specs.Grammar.{Rule, Script, Sign, Is, Opens, AWord, Here, Never, Of, Inside, Tree, Value}
-use Rattle.shell_grammar.specs.Grammar.{Values, Production, production}
+use Rattle.shell_grammar.specs.Grammar.{Values, production}
 use Rattle.shell_grammar.specs.Trees.{word_at}
 
 -- what is read, with the tokens behind it; or the first fault, with the tokens from where it was met
@@ -49,7 +49,8 @@ plainly (raw.Param key default quoted) = Some (part.Param key default quoted)
 plainly raw.All = Some part.All
 plainly (raw.Run at ts quoted) = None
 
--- Readings inside so many levels, of tokens that end at an offset. `deep` says of each count of levels whether another is too deep.
+-- Readings inside so many levels, of tokens that end at an offset. `deep` says of each count of levels whether
+-- another is too deep.
 module _ (deep : ℕ → Bool) where
   mutual
     -- a rule is what its production is, which the first token chooses
@@ -61,10 +62,12 @@ module _ (deep : ℕ → Bool) where
     -- one sign after the other
     pub data IsAll : ℕ → ℕ → (ss : List Sign) → Tokens → Out (Values ss) → Type 0 where
       no_more : {d end : ℕ} {ts : Tokens} {q : Out (Values [])} → q ≡ Whole tt ts → IsAll d end [] ts q
-      one_more : {d end : ℕ} {s : Sign} {ss : List Sign} {ts : Tokens} {q : Out (Values (s ∷ ss))} (v : Value s) (rest : Tokens) (q1 : Out (Values ss))
+      one_more : {d end : ℕ} {s : Sign} {ss : List Sign} {ts : Tokens} {q : Out (Values (s ∷ ss))} (v : Value s)
+          (rest : Tokens) (q1 : Out (Values ss))
           → IsSign d end s ts (Whole v rest) → IsAll d end ss rest q1 → q ≡ turned (λ vs. (v, vs)) q1
           → IsAll d end (s ∷ ss) ts q
-      one_stops : {d end : ℕ} {s : Sign} {ss : List Sign} {ts : Tokens} {q : Out (Values (s ∷ ss))} (fault : ParseFault) (rest : Tokens)
+      one_stops : {d end : ℕ} {s : Sign} {ss : List Sign} {ts : Tokens} {q : Out (Values (s ∷ ss))}
+          (fault : ParseFault) (rest : Tokens)
           → IsSign d end s ts (Stop fault rest) → q ≡ Stop fault rest → IsAll d end (s ∷ ss) ts q
 
     pub data IsSign : ℕ → ℕ → (s : Sign) → Tokens → Out (Value s) → Type 0 where
@@ -94,16 +97,19 @@ module _ (deep : ℕ → Bool) where
       inside : {d end : ℕ} {n : Rule} {ts : Tokens} {q : Out (Value (Inside n))} → IsRule (suc d) end n ts q
           → IsSign d end (Inside n) ts q
 
-    -- the parts of a word; the tokens of a substitution are a script, one level further in, and end at the substitution's offset
+    -- the parts of a word; the tokens of a substitution are a script, one level further in, and end at the
+    -- substitution's offset
     pub data IsParts : ℕ → List RawPart → Judged → Type 0 where
       no_parts : {d : ℕ} {q : Judged} → q ≡ Faultless [] → IsParts d [] q
       plain_part : {d : ℕ} {p : RawPart} {ps : List RawPart} {q : Judged} (x : Part) (q1 : Judged)
           → plainly (out-RawPart p) ≡ Some x → IsParts d ps q1 → q ≡ after x q1 → IsParts d (p ∷ ps) q
-      run_part : {d : ℕ} {p : RawPart} {ps : List RawPart} {q : Judged} (at : ℕ) (ts : Tokens) (quoted : Bool) (body : Command) (rest : Tokens) (q1 : Judged)
+      run_part : {d : ℕ} {p : RawPart} {ps : List RawPart} {q : Judged} (at : ℕ) (ts : Tokens) (quoted : Bool)
+          (body : Command) (rest : Tokens) (q1 : Judged)
           → out-RawPart p ≡ raw.Run at ts quoted → deep d ≡ false
           → IsRule (suc d) at Script ts (Whole body rest) → IsParts d ps q1
           → q ≡ after (part.Run at body quoted) q1 → IsParts d (p ∷ ps) q
-      run_stops : {d : ℕ} {p : RawPart} {ps : List RawPart} {q : Judged} (at : ℕ) (ts : Tokens) (quoted : Bool) (fault : ParseFault) (rest : Tokens)
+      run_stops : {d : ℕ} {p : RawPart} {ps : List RawPart} {q : Judged} (at : ℕ) (ts : Tokens) (quoted : Bool)
+          (fault : ParseFault) (rest : Tokens)
           → out-RawPart p ≡ raw.Run at ts quoted → deep d ≡ false
           → IsRule (suc d) at Script ts (Stop fault rest) → q ≡ Faulty fault → IsParts d (p ∷ ps) q
       run_deep : {d : ℕ} {p : RawPart} {ps : List RawPart} {q : Judged} (at : ℕ) (ts : Tokens) (quoted : Bool)

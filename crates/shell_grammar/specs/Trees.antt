@@ -1,5 +1,5 @@
 -- How a command's tree is made from those of its members.
-use Rattle.std.specs.Prelude.{ℕ, Bool, List, [], ◌∷◌, ◌++◌, Option, Some, None, if◌then◌else◌, eqb}
+use Rattle.std.specs.Prelude.{ℕ, Bool, List, [], ◌∷◌, ◌++◌, if◌then◌else◌, eqb}
 use Rattle.shell_syntax.specs.declared.redirect.Redirect.{Redirect}
 use Rattle.shell_syntax.specs.declared.syntax.Command.{Command}
 use Rattle.shell_syntax.specs.declared.syntax.Command.TheVariants as c
@@ -74,7 +74,8 @@ a_redirect x = record { assigns = []; words = []; redirects = x ∷ [] }
 
 -- the first ones, then the others
 abbrev pub joined : Items → Items → Items
-joined x y = record { assigns = x.assigns ++ y.assigns; words = x.words ++ y.words; redirects = x.redirects ++ y.redirects }
+joined x y =
+    record { assigns = x.assigns ++ y.assigns; words = x.words ++ y.words; redirects = x.redirects ++ y.redirects }
 
 -- a simple command, with the redirections among its items round it
 abbrev pub simple : ℕ → Items → Command

@@ -1,4 +1,5 @@
 ghost use Rattle.std.specs.Prelude.{◌≡◌, IfOk, IfErr};
+ghost use Rattle.shell_grammar.specs.Places.{FirstFault, NoFault};
 ghost use Rattle.shell_grammar.specs.Spelling.{Spells, Stopped};
 ghost use Rattle.shell_parser.specs.Reads.{Caused};
 
@@ -8,12 +9,16 @@ use shell_lexer::Lexed;
 use shell_syntax::Script;
 use std::alloc::Global;
 
-/// The script that the tokens spell. Else the fault with which their reading from left to right stops: of syntax, or
-/// of the 65th level of nesting; a word's substitutions are read behind the word and before the next token.
+/// The script that the tokens spell. Else the first fault in their order from left to right: of syntax at the first
+/// token such that no script's tokens begin with those up to it, or at the text's end where all begin some script's;
+/// of depth at a token that opens the 65th level. A word is judged before its substitutions, and these before the next
+/// token; the tokens of a substitution are judged as a list of their own, which ends at the substitution's offset.
 pub fn parse(alloc: Global, lexed: &Lexed) -> Result<Script, ParseFault>
     ensures spelled { IfOk result (λ script. Spells lexed.now.end lexed.now.tokens script.body) }
     ensures strict { IfOk result (λ script. script.strict ≡ lexed.now.strict) }
     ensures fault { IfErr result (Caused (Stopped lexed.now.end lexed.now.tokens)) }
+    ensures place { IfErr result (Caused (FirstFault 0 lexed.now.end lexed.now.tokens)) }
+    ensures no_fault { IfOk result (λ _. NoFault lexed.now.end lexed.now.tokens) }
 {
     let body = match script(alloc, 0, lexed.end, lexed.tokens.as_slice()) {
         Ok(body) => body,

@@ -5,10 +5,10 @@ mod rows;
 mod show;
 
 use crate::parse;
-use rows::TABLES;
+use rows::{TABLES, TEMPLATE};
 use script_names::{Bytes, Memory};
 use shell_grammar::ParseFault;
-use shell_lexer::lex;
+use shell_lexer::{LexFault, lex};
 use show::{show_command, show_number};
 use std::alloc::Global;
 use std::test::Fail;
@@ -93,5 +93,52 @@ fn texts_have_their_trees_or_faults(rt: HostRuntime) -> Result<(), Fail> {
             assert!(rt; right, "{row}");
         }
     }
+    Ok(())
+}
+
+// Where a text is at fault, if it is.
+fn fault_place(alloc: Global, text: &[u8]) -> Result<Option<u32>, Memory> {
+    let lexed = match lex(alloc, text) {
+        Ok(lexed) => lexed,
+        Err(LexFault::Nul { at }) => return Ok(Some(at)),
+        Err(LexFault::Interpreter { at }) => return Ok(Some(at)),
+        Err(LexFault::OpenQuote { at }) => return Ok(Some(at)),
+        Err(LexFault::OpenSubstitution { at }) => return Ok(Some(at)),
+        Err(LexFault::Unsupported { form: _, at }) => return Ok(Some(at)),
+        Err(LexFault::Deep { at }) => return Ok(Some(at)),
+        Err(LexFault::Memory) => return Err(Memory),
+    };
+    match parse(alloc, &lexed) {
+        Ok(_) => Ok(None),
+        Err(ParseFault::Syntax { at }) => Ok(Some(at)),
+        Err(ParseFault::Deep { at }) => Ok(Some(at)),
+        Err(ParseFault::Memory) => Err(Memory),
+    }
+}
+
+// Whether no place stands behind the end of a text's first bytes, of whatever length.
+fn places_stand_inside(alloc: Global, text: &[u8]) -> Result<bool, Memory> {
+    let mut inside = true;
+    for end in 0..text.len() {
+        let front = match text.get(..end) {
+            Some(front) => front,
+            None => return Ok(false),
+        };
+        let place = fault_place(alloc, front)?;
+        inside = inside && place.is_none_or(|at| at as usize <= end);
+    }
+    Ok(inside)
+}
+
+#[test]
+fn a_text_cut_short_is_at_fault_inside(rt: HostRuntime) -> Result<(), Fail> {
+    let alloc = rt.alloc();
+    let mut text = Bytes::new(alloc);
+    text.extend(b"#!/bin/sh\n")?;
+    let row = TEMPLATE.split_once(" -> ").map_or("", |parts| parts.0);
+    spelled(&mut text, row)?;
+    let inside = places_stand_inside(alloc, text.as_slice())?;
+    assert!(rt; text.len() == 219);
+    assert!(rt; inside);
     Ok(())
 }

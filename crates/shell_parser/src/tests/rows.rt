@@ -215,6 +215,7 @@ a if then fi -> (simple 10 (w 10 "a") (w 12 "if") (w 15 "then") (w 20 "fi"))
 Bif a -> (simple 10 (w 10 'i' "f") (w 14 "a"))
 i'f' -> (simple 10 (w 10 "i" 'f'))
 iBNf a; then b; fi -> (if 10 (arm (simple 15 (w 15 "a")) (simple 23 (w 23 "b"))))
+fiN -> syntax 10
 if true; fiN -> syntax 19
 if true; then :N -> syntax 26
 if a then b; fi -> syntax 23

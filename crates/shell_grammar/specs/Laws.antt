@@ -1,0 +1,31 @@
+-- Laws of the places of faults.
+use Rattle.std.specs.Prelude.{◌≡◌, ℕ, [], ◌∷◌, ◌++◌}
+use Rattle.shell_syntax.specs.declared.syntax.Command.{Command}
+use Rattle.shell_lexer.specs.declared.token.Token.{Token}
+use Rattle.shell_grammar.specs.declared.fault.ParseFault.{ParseFault}
+use Rattle.shell_grammar.specs.Begins.{Begins}
+use Rattle.shell_grammar.specs.Look.{Tokens}
+use Rattle.shell_grammar.specs.Places.{Pass, FirstFault, NoFault}
+use Rattle.shell_grammar.specs.Spelling.{SpellsWithin, Stopped}
+
+-- the fault with which a reading within 64 levels stops is the first fault of the tokens
+abbrev pub StopsAtTheFirst : Type 0
+StopsAtTheFirst = (end : ℕ) (ts : Tokens) (fault : ParseFault) → Stopped end ts fault → FirstFault 0 end ts fault
+
+-- tokens have at most one first fault
+abbrev pub OneFirstFault : Type 0
+OneFirstFault = (end : ℕ) (ts : Tokens) (f g : ParseFault) → FirstFault 0 end ts f → FirstFault 0 end ts g → f ≡ g
+
+-- where they spell a script within 64 levels, each of them passes, and they have no fault
+abbrev pub ScriptsPass : Type 0
+ScriptsPass = (end : ℕ) (ts : Tokens) (body : Command) → SpellsWithin end ts body → Pass 0 end ts × NoFault end ts
+
+-- the first tokens of those that begin some script begin one
+abbrev pub FewerBegin : Type 0
+FewerBegin = (end : ℕ) (front later : Tokens) (level : ℕ) → Begins 0 end (front ++ later) level
+    → (fewer : ℕ) × Begins 0 end front fewer
+
+-- tokens, of which there is one, begin a script with one number of levels open
+abbrev pub OneLevel : Type 0
+OneLevel = (end : ℕ) (front : Tokens) (t : Token) (l l2 : ℕ) → Begins 0 end (front ++ t ∷ []) l
+    → Begins 0 end (front ++ t ∷ []) l2 → l ≡ l2
