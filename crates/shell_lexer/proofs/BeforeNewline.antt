@@ -13,7 +13,7 @@ use Rattle.shell_lexer.specs.declared.byte_kind.RunKind.{RunKind}
 use Rattle.shell_lexer.specs.declared.byte_kind.RunKind.TheVariants.{Blanks, Digits, Names, Defaults}
 use Rattle.shell_lexer.specs.Laws.{last_is}
 use Rattle.shell_lexer.specs.Text.{Bytes, kind, skip, place, tail, head_is, behind_next, behind_bytes, run, behind, passes, ends_word}
-use Rattle.shell_lexer.specs.Operators.{Sight, End, Passed, Operator, Wrong, Word, sight, sight_at, sight_by, after_line, redirected, whole_word, null_word, copied, less, greater, numbered, numbered_by, after_digits, twice, out_to, in_from, copy_of}
+use Rattle.shell_lexer.specs.Operators.{Sight, Passed, Operator, Wrong, Word, sight, sight_at, sight_by, after_line, redirected, whole_word, null_word, copied, less, greater, numbered, numbered_by, after_digits, twice, out_to, in_from, copy_of}
 use Rattle.shell_lexer.specs.Parts as parts
 use Rattle.shell_lexer.specs.Parts.{Look, Ends, Byte, Piece, AllArgs, DoubleQuote, Substitution, Bad, bad_param, look, look_at, look_by, inner, inner_at, inner_by, has_quote, quote_body, behind_quote, is_escapable}
 use Rattle.shell_lexer.specs.Spelling.{Stands, begins}

@@ -1,4 +1,5 @@
 mod Ahead
+mod AnyOffset
 mod BeforeNewline
 mod Begun
 mod Causes
@@ -7,10 +8,12 @@ mod CutOnce
 mod Fronts
 mod Insides
 mod LongestRuns
+mod MovedReadings
 mod Numbers
 mod Pieces
 mod QuotedBytes
 mod Quotes
+mod Rests
 mod Skips
 mod SoFar
 mod SpelledCases

@@ -232,7 +232,7 @@ tiled_skip len (a ∷ b ∷ rest) ts le x =
     if_case (λ t. IsTiled (place len t) t ts → IsTiled (place len (a ∷ b ∷ rest)) (a ∷ b ∷ rest) ts) (nat_eq a 92 && nat_eq b 10) (skip rest) (a ∷ b ∷ rest)
     (λ e x. joined_by len a b rest ts le e (tiled_skip len rest ts (shorter len a b rest le) x)) (λ e x. x) x
 
-skip_length : (text : Bytes) → length (skip text) ≤ length text
+pub skip_length : (text : Bytes) → length (skip text) ≤ length text
 skip_length [] = omega arith
 skip_length (a ∷ []) = omega arith
 skip_length (a ∷ b ∷ rest) = if_case (λ t. length t ≤ length (a ∷ b ∷ rest)) (nat_eq a 92 && nat_eq b 10) (skip rest) (a ∷ b ∷ rest) (λ e. let l = skip_length rest in omega arith) (λ e. omega arith)

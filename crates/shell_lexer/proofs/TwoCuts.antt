@@ -1,7 +1,6 @@
 -- A cut text, a newline and a second text are cut into the tokens of the cut, the newline's, and those of the second text.
-use Rattle.std.proofs.Common.{◌≡◌, ℕ, zero, suc, ◌+◌, ◌-◌, Bool, true, false, if◌then◌else◌, ◌&&◌, not, nat_eq, List, [], ◌∷◌, ◌++◌, append_assoc, length, length-append, Some, None, refl, sym, ap, ◌∙◌, subst, arith}
+use Rattle.std.proofs.Common.{◌≡◌, ℕ, suc, ◌+◌, Bool, true, false, if◌then◌else◌, ◌&&◌, not, nat_eq, List, [], ◌∷◌, ◌++◌, append_assoc, length, length-append, Some, None, refl, sym, ap, ◌∙◌, subst, arith}
 use Rattle.std.specs.List.{list_all}
-use Rattle.shell_lexer.specs.declared.sight.Sign.{Sign}
 use Rattle.shell_lexer.specs.declared.sight.Sign.TheVariants as sign
 use Rattle.shell_lexer.specs.declared.sight.ByteNote.{ByteNote}
 use Rattle.shell_lexer.specs.declared.sight.ByteNote.TheVariants as note
@@ -14,18 +13,17 @@ use Rattle.shell_lexer.specs.FirstLine.{first_line, behind_line, interpreter, nu
 use Rattle.shell_lexer.specs.Late.{late}
 use Rattle.shell_lexer.specs.Laws.{last_is, IsReadAt, with_line}
 use Rattle.shell_lexer.specs.Lexed.{CutBy}
-use Rattle.shell_lexer.specs.Operators.{End, Passed, Operator, Word, sight}
-use Rattle.shell_lexer.specs.Parts.{Ends, Byte, Piece, AllArgs, DoubleQuote, Substitution, look, inner}
-use Rattle.shell_lexer.specs.Reading.{Out, Whole, Stop, Read, behind, grown, token_at, kind_of_sign, opened, plain_run, quoted_run, last_run, IsItems, items_end, items_pass, items_wrong, items_close, items_sign, items_word, items_late, items_bad, IsWord, word_ends, word_byte, word_piece, word_all, word_double, word_run, word_wrong, word_bad_double, word_bad_run, IsInner, inner_open, inner_ends, inner_byte, inner_piece, inner_all, inner_run, inner_wrong, inner_bad_run, IsSub, sub_deep, sub_items}
+use Rattle.shell_lexer.specs.Operators.{End, Passed, Operator, Word}
+use Rattle.shell_lexer.specs.Parts.{Ends, Byte, Piece, AllArgs, DoubleQuote, Substitution}
+use Rattle.shell_lexer.specs.Reading.{Out, Whole, Stop, Read, behind, grown, token_at, kind_of_sign, opened, plain_run, quoted_run, IsItems, items_end, items_pass, items_wrong, items_close, items_sign, items_word, items_late, items_bad, IsWord, word_ends, word_byte, word_piece, word_all, word_double, word_run, word_wrong, word_bad_double, word_bad_run, IsInner, inner_open, inner_ends, inner_byte, inner_piece, inner_all, inner_run, inner_wrong, inner_bad_run, IsSub, sub_deep, sub_items}
 use Rattle.shell_lexer.specs.Text.{Bytes, skip, place, offset}
-use Rattle.shell_lexer.proofs.Ahead.{Behind, ahead_behind, operator_ahead, piece_ahead, stands_ahead}
+use Rattle.shell_lexer.proofs.Ahead.{Behind}
 use Rattle.shell_lexer.proofs.BeforeNewline.{Unjoined, unjoined_behind, skip_before, sight_before, look_before, inner_before}
 use Rattle.shell_lexer.proofs.Cells.{if_both}
+use Rattle.shell_lexer.proofs.Rests.{passed_rest, operator_rest, byte_rest, piece_rest, all_rest, double_rest, run_rest, inner_byte_rest, inner_piece_rest, inner_all_rest, inner_run_rest}
 use Rattle.shell_lexer.proofs.SpelledCases.{if_case, if_false, false_true, true_false, none_some}
 use Rattle.shell_lexer.proofs.SpelledFronts.{shown}
-use Rattle.shell_lexer.proofs.SpelledOperators.{operator_seen}
-use Rattle.shell_lexer.proofs.SpelledParts.{look_seen, inner_seen}
-use Rattle.shell_lexer.proofs.Tiles.{fits, passed_ahead, word_leave, inner_leave, sub_leave}
+use Rattle.shell_lexer.proofs.Tiles.{fits, word_leave, inner_leave, sub_leave}
 
 -- ---- whole outcomes
 
@@ -43,42 +41,6 @@ whole_grown ps ms q (Stop f) e w = subst IsWhole e w
 
 no_whole : {A B : Type 0} (q r : Out A) → q ≡ r → (IsWhole r → ⊥) → IsWhole q → B
 no_whole q r e n w = absurd (n (subst IsWhole e w))
-
--- ---- what is left of a text that does not end in a backslash
-
-module _ (len : ℕ) (text : Bytes) (u : Unjoined text) where
-  passed_left : (t : Bytes) → sight len text ≡ Passed t → Unjoined t
-  passed_left t h = unjoined_behind text t (ahead_behind text t (passed_ahead text t (fits len text (Passed t) h))) u
-
-  operator_left : (s : Sign) (t : Bytes) → sight len text ≡ Operator s t → Unjoined t
-  operator_left s t h = unjoined_behind text t (ahead_behind text t (operator_ahead s text t (operator_seen len text t s h))) u
-
-  byte_left : (c : ℕ) (t : Bytes) → look len text ≡ Byte c t → Unjoined t
-  byte_left c t h = unjoined_behind text t (ahead_behind text t (look_seen len text (Byte c t) h)) u
-
-  piece_left : (p : RawPart) (t : Bytes) → look len text ≡ Piece p t → Unjoined t
-  piece_left p t h = unjoined_behind text t (ahead_behind text t (piece_ahead false p text t (look_seen len text (Piece p t) h))) u
-
-  all_left : (t : Bytes) → look len text ≡ AllArgs t → Unjoined t
-  all_left t h = unjoined_behind text t (ahead_behind text t (stands_ahead 36 (64 ∷ []) text t (look_seen len text (AllArgs t) h))) u
-
-  double_left : (t : Bytes) → look len text ≡ DoubleQuote t → Unjoined t
-  double_left t h = unjoined_behind text t (ahead_behind text t (stands_ahead 34 [] text t (look_seen len text (DoubleQuote t) h))) u
-
-  run_left : (t : Bytes) → look len text ≡ Substitution t → Unjoined t
-  run_left t h = unjoined_behind text t (ahead_behind text t (stands_ahead 36 (40 ∷ []) text t (look_seen len text (Substitution t) h).stands)) u
-
-  byte_left_inside : (c : ℕ) (t : Bytes) → inner len text ≡ Byte c t → Unjoined t
-  byte_left_inside c t h = unjoined_behind text t (ahead_behind text t (inner_seen len text (Byte c t) h)) u
-
-  piece_left_inside : (p : RawPart) (t : Bytes) → inner len text ≡ Piece p t → Unjoined t
-  piece_left_inside p t h = unjoined_behind text t (ahead_behind text t (piece_ahead true p text t (inner_seen len text (Piece p t) h))) u
-
-  all_left_inside : (t : Bytes) → inner len text ≡ AllArgs t → Unjoined t
-  all_left_inside t h = unjoined_behind text t (ahead_behind text t (stands_ahead 36 (64 ∷ []) text t (inner_seen len text (AllArgs t) h))) u
-
-  run_left_inside : (t : Bytes) → inner len text ≡ Substitution t → Unjoined t
-  run_left_inside t h = unjoined_behind text t (ahead_behind text t (stands_ahead 36 (40 ∷ []) text t (inner_seen len text (Substitution t) h).stands)) u
 
 -- ---- readings of a text, in one of so many bytes that has a newline and more behind it
 
@@ -106,14 +68,14 @@ module _ (deep : ℕ → Bool) (after : Bytes) (len total : ℕ) (sum : total �
         → IsItems deep total (suc depth) start parens (text ++ 10 ∷ after) (extended q)
     items_before {depth} {start} {parens} {text} {q} (items_end h e) w u = no_whole q _ e (λ n. n) w
     items_before {depth} {start} {parens} {text} {q} (items_pass t h x) w u =
-        items_pass (t ++ 10 ∷ after) (sight_before after len total text (Passed t) h u) (items_before x w (passed_left len text u t h))
+        items_pass (t ++ 10 ∷ after) (sight_before after len total text (Passed t) h u) (items_before x w (unjoined_behind text t (passed_rest len text t h) u))
     items_before {depth} {start} {parens} {text} {q} (items_wrong f h e) w u = no_whole q _ e (λ n. n) w
     items_before {depth} {start} {parens} {text} {q} (items_close s t h c e) w u =
         items_close s (t ++ 10 ∷ after) (sight_before after len total text (Operator s t) h u) c (ap extended e)
     items_before {depth} {start} {parens} {text} {q} (items_sign s t q1 h c x e) w u =
         let first = token_at (offset len text) (kind_of_sign s) ∷ [] in
         items_sign s (t ++ 10 ∷ after) (extended q1) (sight_before after len total text (Operator s t) h u) c
-        (items_before x (whole_behind first q q1 e w) (operator_left len text u s t h))
+        (items_before x (whole_behind first q q1 e w) (unjoined_behind text t (operator_rest len text s t h) u))
         (ap extended e ∙ extended_behind first q1 ∙ ap (λ n. behind (token_at n (kind_of_sign s) ∷ []) (extended q1)) (sym (offset_before text u)))
     items_before {depth} {start} {parens} {text} {q} (items_word v t q1 h i l x e) w u =
         let first = token_at (offset len text) (token.Word v.0) ∷ [] in
@@ -128,25 +90,25 @@ module _ (deep : ℕ → Bool) (after : Bytes) (len total : ℕ) (sum : total �
     word_before {depth} {run} {text} {q} (word_ends h e) w u = word_ends (look_before after len total text Ends h u) (ap extended e)
     word_before {depth} {run} {text} {q} (word_byte c t q1 h x e) w u =
         word_byte c (t ++ 10 ∷ after) (extended q1) (look_before after len total text (Byte c t) h u)
-        (word_before x (whole_grown [] (note.Plain c (offset len text) ∷ []) q q1 e w) (byte_left len text u c t h))
+        (word_before x (whole_grown [] (note.Plain c (offset len text) ∷ []) q q1 e w) (unjoined_behind text t (byte_rest len text c t h) u))
         (ap extended e ∙ extended_grown [] (note.Plain c (offset len text) ∷ []) q1 ∙ ap (λ n. grown [] (note.Plain c n ∷ []) (extended q1)) (sym (offset_before text u)))
     word_before {depth} {run} {text} {q} (word_piece p t q1 h x e) w u =
         word_piece p (t ++ 10 ∷ after) (extended q1) (look_before after len total text (Piece p t) h u)
-        (word_before x (whole_grown (plain_run run ++ p ∷ []) (note.Gap ∷ []) q q1 e w) (piece_left len text u p t h))
+        (word_before x (whole_grown (plain_run run ++ p ∷ []) (note.Gap ∷ []) q q1 e w) (unjoined_behind text t (piece_rest len text p t h) u))
         (ap extended e ∙ extended_grown (plain_run run ++ p ∷ []) (note.Gap ∷ []) q1)
     word_before {depth} {run} {text} {q} (word_all t q1 h x e) w u =
         word_all (t ++ 10 ∷ after) (extended q1) (look_before after len total text (AllArgs t) h u)
-        (word_before x (whole_grown (plain_run run ++ part.All ∷ []) (note.All (offset len text) false ∷ []) q q1 e w) (all_left len text u t h))
+        (word_before x (whole_grown (plain_run run ++ part.All ∷ []) (note.All (offset len text) false ∷ []) q q1 e w) (unjoined_behind text t (all_rest len text t h) u))
         (ap extended e ∙ extended_grown (plain_run run ++ part.All ∷ []) (note.All (offset len text) false ∷ []) q1
         ∙ ap (λ n. grown (plain_run run ++ part.All ∷ []) (note.All n false ∷ []) (extended q1)) (sym (offset_before text u)))
     word_before {depth} {run} {text} {q} (word_double g v t q1 h i x e) w u =
-        let begun = double_left len text u g h in
+        let begun = unjoined_behind text g (double_rest len text g h) u in
         word_double (g ++ 10 ∷ after) v (t ++ 10 ∷ after) (extended q1) (look_before after len total text (DoubleQuote g) h u)
         (subst (λ n. IsInner deep total depth n true [] (g ++ 10 ∷ after) (Whole v (t ++ 10 ∷ after))) (sym (offset_before text u)) (inside_before i tt begun))
         (word_before x (whole_grown (plain_run run ++ v.0) (v.1 ++ note.Gap ∷ []) q q1 e w) (unjoined_behind g t (inner_leave i) begun))
         (ap extended e ∙ extended_grown (plain_run run ++ v.0) (v.1 ++ note.Gap ∷ []) q1)
     word_before {depth} {run} {text} {q} (word_run g ts t q1 h i x e) w u =
-        let begun = run_left len text u g h in
+        let begun = unjoined_behind text g (run_rest len text g h) u in
         word_run (g ++ 10 ∷ after) ts (t ++ 10 ∷ after) (extended q1) (look_before after len total text (Substitution g) h u)
         (subst (λ n. IsSub deep total depth n (g ++ 10 ∷ after) (Whole ts (t ++ 10 ∷ after))) (sym (offset_before text u)) (sub_before i tt begun))
         (word_before x (whole_grown (plain_run run ++ part.Run (offset len text) ts false ∷ []) (note.Gap ∷ []) q q1 e w) (unjoined_behind g t (sub_leave i) begun))
@@ -163,19 +125,19 @@ module _ (deep : ℕ → Bool) (after : Bytes) (len total : ℕ) (sum : total �
         inner_ends (t ++ 10 ∷ after) (inner_before after len total text (DoubleQuote t) h (λ n. cc) u) (ap extended e)
     inside_before {depth} {start} {fresh} {run} {text} {q} (inner_byte c t q1 h x e) w u =
         inner_byte c (t ++ 10 ∷ after) (extended q1) (inner_before after len total text (Byte c t) h (λ n. cc) u)
-        (inside_before x (whole_grown [] (note.Gap ∷ []) q q1 e w) (byte_left_inside len text u c t h))
+        (inside_before x (whole_grown [] (note.Gap ∷ []) q q1 e w) (unjoined_behind text t (inner_byte_rest len text c t h) u))
         (ap extended e ∙ extended_grown [] (note.Gap ∷ []) q1)
     inside_before {depth} {start} {fresh} {run} {text} {q} (inner_piece p t q1 h x e) w u =
         inner_piece p (t ++ 10 ∷ after) (extended q1) (inner_before after len total text (Piece p t) h (λ n. cc) u)
-        (inside_before x (whole_grown (quoted_run run ++ p ∷ []) (note.Gap ∷ []) q q1 e w) (piece_left_inside len text u p t h))
+        (inside_before x (whole_grown (quoted_run run ++ p ∷ []) (note.Gap ∷ []) q q1 e w) (unjoined_behind text t (inner_piece_rest len text p t h) u))
         (ap extended e ∙ extended_grown (quoted_run run ++ p ∷ []) (note.Gap ∷ []) q1)
     inside_before {depth} {start} {fresh} {run} {text} {q} (inner_all t q1 h x e) w u =
         inner_all (t ++ 10 ∷ after) (extended q1) (inner_before after len total text (AllArgs t) h (λ n. cc) u)
-        (inside_before x (whole_grown (quoted_run run ++ part.All ∷ []) (note.All (offset len text) true ∷ []) q q1 e w) (all_left_inside len text u t h))
+        (inside_before x (whole_grown (quoted_run run ++ part.All ∷ []) (note.All (offset len text) true ∷ []) q q1 e w) (unjoined_behind text t (inner_all_rest len text t h) u))
         (ap extended e ∙ extended_grown (quoted_run run ++ part.All ∷ []) (note.All (offset len text) true ∷ []) q1
         ∙ ap (λ n. grown (quoted_run run ++ part.All ∷ []) (note.All n true ∷ []) (extended q1)) (sym (offset_before text u)))
     inside_before {depth} {start} {fresh} {run} {text} {q} (inner_run g ts t q1 h i x e) w u =
-        let begun = run_left_inside len text u g h in
+        let begun = unjoined_behind text g (inner_run_rest len text g h) u in
         inner_run (g ++ 10 ∷ after) ts (t ++ 10 ∷ after) (extended q1) (inner_before after len total text (Substitution g) h (λ n. cc) u)
         (subst (λ n. IsSub deep total depth n (g ++ 10 ∷ after) (Whole ts (t ++ 10 ∷ after))) (sym (offset_before text u)) (sub_before i tt begun))
         (inside_before x (whole_grown (quoted_run run ++ part.Run (offset len text) ts true ∷ []) (note.Gap ∷ []) q q1 e w) (unjoined_behind g t (sub_leave i) begun))
@@ -220,13 +182,13 @@ module _ (deep : ℕ → Bool) (after : Bytes) (len total : ℕ) (sum : total �
           last : place total (10 ∷ after) ≡ len
           last = omega arith
     top_before {parens} {text} {q} (items_pass t h x) w u =
-        items_pass (t ++ 10 ∷ after) (sight_before after len total text (Passed t) h u) (top_before x w (passed_left len text u t h))
+        items_pass (t ++ 10 ∷ after) (sight_before after len total text (Passed t) h u) (top_before x w (unjoined_behind text t (passed_rest len text t h) u))
     top_before {parens} {text} {q} (items_wrong f h e) w u = no_whole q _ e (λ n. n) w
     top_before {parens} {text} {q} (items_close s t h c e) w u = absurd (cc c)
     top_before {parens} {text} {q} (items_sign s t q1 h c x e) w u =
         let first = token_at (offset len text) (kind_of_sign s) ∷ [] in
         items_sign s (t ++ 10 ∷ after) (followed q1) (sight_before after len total text (Operator s t) h u) c
-        (top_before x (whole_behind first q q1 e w) (operator_left len text u s t h))
+        (top_before x (whole_behind first q q1 e w) (unjoined_behind text t (operator_rest len text s t h) u))
         (ap followed e ∙ followed_behind first q1 ∙ ap (λ n. behind (token_at n (kind_of_sign s) ∷ []) (followed q1)) (sym (offset_before text u)))
     top_before {parens} {text} {q} (items_word v t q1 h i l x e) w u =
         let first = token_at (offset len text) (token.Word v.0) ∷ [] in

@@ -21,6 +21,7 @@ use Rattle.shell_lexer.specs.Reading.{Whole, Read, IsItems, IsInner, IsWord, tok
 use Rattle.shell_lexer.specs.Text.{Bytes, place}
 use Rattle.shell_lexer.specs.FirstLine.{behind_line, interpreter, nul_of}
 use Rattle.shell_lexer.specs.Lexed.{CutBy, Cut, CutAtAnyDepth, Faulty}
+use Rattle.shell_lexer.specs.Moved.{AreMoved}
 use Rattle.shell_lexer.specs.Operators.{Operator, sight}
 use Rattle.shell_lexer.specs.Parts.{Look, AllArgs, DoubleQuote, Piece, Substitution}
 use Rattle.shell_lexer.specs.SpelledLine.{IsFirstLine}
@@ -88,6 +89,12 @@ TextsAreCutApart =
     → CutBy deep text l → list_all (λ b. not (nat_eq b 10)) text ≡ false → last_is 92 text ≡ false
     → nul_of second ≡ None → IsReadAt deep (length text + 1) second ts
     → CutBy deep (text ++ 10 ∷ second) (with_line l second ts)
+
+-- a text is read the same way at an offset greater by so many bytes, but that its tokens' offsets are greater too
+abbrev pub ReadingsMove : Type 0
+ReadingsMove =
+    (deep : ℕ → Bool) (bytes at : ℕ) (text : Bytes) (ts : List Token)
+    → IsReadAt deep at text ts → (us : List Token) × AreMoved bytes ts us × IsReadAt deep (at + bytes) text us
 
 -- ---- double quotes
 

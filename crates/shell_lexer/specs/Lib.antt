@@ -4,6 +4,7 @@ pub mod Late
 pub mod Laws
 pub mod Lexed
 pub mod LongestRuns
+pub mod Moved
 pub mod Operators
 pub mod Parts
 pub mod Reading

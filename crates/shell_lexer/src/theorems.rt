@@ -4,7 +4,7 @@
 
 ghost use Rattle.std.specs.Prelude.{false, true};
 ghost use Rattle.shell_lexer.specs.Laws.{OneCut, OneCutAtAnyDepth, CutsWithinLimit, OnlyDeepIsRefused};
-ghost use Rattle.shell_lexer.specs.Laws.{CutsAreTiled, OffsetsRise, TextsAreCutApart};
+ghost use Rattle.shell_lexer.specs.Laws.{CutsAreTiled, OffsetsRise, TextsAreCutApart, ReadingsMove};
 ghost use Rattle.shell_lexer.specs.Laws.{QuotesAreOnePart, QuotesAreCut};
 ghost use Rattle.shell_lexer.specs.Laws.{PlainRunsAreLongest, QuotedRunsAreLongest};
 ghost use Rattle.shell_lexer.specs.Laws.{OperatorsAreLongest, RedirectionsAreSpelled, FirstLinesAreSpelled};
@@ -34,9 +34,11 @@ pub fn cuts_are_tiled()
 
 /// What stands before a newline does not see what is behind it (XCU 2.3 Token Recognition): a text that is cut, a
 /// newline and a second text are cut into the tokens of the cut, the newline's, and those of the second text, with the
-/// offsets that they have there. The first text has a whole first line and does not end in a backslash.
+/// offsets that they have there, which are those of the second text alone, moved. The first text has a whole first
+/// line and does not end in a backslash.
 pub fn texts_are_cut_apart()
-    ensures { TextsAreCutApart }
+    ensures apart { TextsAreCutApart }
+    ensures moved { ReadingsMove }
 {}
 
 /// Double quotes round bytes without `$`, backquote, backslash and `"` are one quoted part that has these bytes (XCU

@@ -1,5 +1,9 @@
+use Rattle.shell_lexer.proofs.MovedReadings.{readings_move}
 use Rattle.shell_lexer.proofs.TwoCuts.{cut_apart}
 use Rattle.shell_lexer.proofs.theorems.texts_are_cut_apart.Goals as goal
 
-pub returns : goal.returns
-returns c = cut_apart
+pub returns-clause-apart : goal.returns-clause-apart
+returns-clause-apart c = cut_apart
+
+pub returns-clause-moved : goal.returns-clause-moved
+returns-clause-moved c = readings_move
