@@ -1,8 +1,6 @@
 -- What it is for a report to be the job's, and the verdict of a report.
 use Rattle.std.specs.Prelude.{◌≡◌, ℕ, List, [], ◌∷◌, map, Bool, true, ◌==◌, if◌then◌else◌}
 use Rattle.std.specs.List.{list_any}
-use Rattle.feature_trees.specs.declared.kind.Kind.TheVariants.{Dir}
-use Rattle.feature_trees.specs.Tree.{kind_of}
 use Rattle.package_files.specs.declared.dpkg_scenarios.Ending.{Ending}
 use Rattle.package_files.specs.declared.dpkg_scenarios.Ending.TheVariants.{Done, Failed, Incomplete, Bound}
 use Rattle.package_files.specs.declared.dpkg_scenarios.Scenario.TheVariants.{Install}
@@ -46,21 +44,6 @@ AllParts [] [] = Unit {0}
 AllParts [] (part ∷ parts) = ⊥
 AllParts (job ∷ jobs) [] = ⊥
 AllParts (job ∷ jobs) (part ∷ parts) = IsPartOf job part × AllParts jobs parts
-
--- the entry's trees are directories, so that they can be printed
-pub record ShowsTrees (entry : ReportEntry) : Type 0 where
-  pub shown : kind_of entry.outcome.shown ≡ Dir
-  pub after : kind_of entry.replayed.after ≡ Dir
-
--- those of each entry are
-abbrev pub AllShowTrees : List ReportEntry → Type 0
-AllShowTrees [] = Unit {0}
-AllShowTrees (entry ∷ entries) = ShowsTrees entry × AllShowTrees entries
-
--- those of each part are
-abbrev pub PartsShowTrees : List ReportPart → Type 0
-PartsShowTrees [] = Unit {0}
-PartsShowTrees (part ∷ parts) = AllShowTrees part.entries × PartsShowTrees parts
 
 -- what an ending alone makes of the verdict: 1 where the scenario failed, 2 where it ended without a state, else 0
 abbrev pub ending_verdict : Ending → ℕ

@@ -1,13 +1,12 @@
 ghost use Rattle.std.specs.Prelude.{◌≡◌, ◌↔◌, ◌∷◌, [], map, IsTrue, IfOk};
 ghost use Rattle.scenario_paths.specs.ScenarioPaths.{IsExact};
-ghost use Rattle.outcome_report.specs.OutcomeReport.{Agrees, AllEntries, AllParts, AllShowTrees, PartsShowTrees, ending_verdict, part_has, report_has, verdict_of};
+ghost use Rattle.outcome_report.specs.OutcomeReport.{Agrees, AllEntries, AllParts, ending_verdict, part_has, report_has, verdict_of};
 
 use package_files::{Ending, Job, Replayed, Scenario};
 use scenario_paths::{Outcome, outcomes};
 use script_names::{List, Mark, Memory};
 use std::alloc::Global;
 use tree_replay::replay;
-use utility_calls::theorems::trees_stay_trees;
 
 /// An outcome, the run from the tree that it shows, and whether that run ends as the outcome says.
 #[derive(Drop)]
@@ -68,9 +67,7 @@ fn make_entries(
     requires { IsExact job.now outcomes }
     ensures outcomes { IfOk result (λ entries. map (λ entry. entry.outcome) entries ≡ outcomes) }
     ensures entries { IfOk result (AllEntries job.now) }
-    ensures trees { IfOk result AllShowTrees }
 {
-    trees_stay_trees();
     let mut entries = List::new(alloc);
     for outcome in outcomes.into_vec() {
         let replayed = replay(alloc, job, &outcome.shown)?;
@@ -81,8 +78,7 @@ fn make_entries(
 
 /// The report of a job.
 pub fn make_report(alloc: Global, job: &Job) -> Result<Report, Memory>
-    ensures parts { IfOk result (λ report. AllParts (job.now ∷ []) report.parts) }
-    ensures trees { IfOk result (λ report. PartsShowTrees report.parts) }
+    ensures { IfOk result (λ report. AllParts (job.now ∷ []) report.parts) }
 {
     let outcomes = outcomes(alloc, job)?;
     let entries = make_entries(alloc, job, outcomes)?;

@@ -1,6 +1,5 @@
 ghost use Rattle.std.specs.Prelude.{◌≡◌, ◌++◌, IfOk, OnOk};
 ghost use Rattle.std.specs.List.{flat_map};
-ghost use Rattle.outcome_report.specs.OutcomeReport.{ShowsTrees, AllShowTrees, PartsShowTrees};
 ghost use Rattle.outcome_report.specs.ReportText.{stop_text, result_text, outcome_line, trace_mark, trace_line, confirmed_line, call_word, call_line, trees_text, entry_text, part_text, report_text};
 
 use crate::outcome_report::{Report, ReportEntry, ReportPart, verdict};
@@ -110,7 +109,6 @@ fn put_confirmed(text: &mut Bytes, confirmed: bool) -> Result<(), Memory>
 
 #[tactic(auto, unfolding(crate::specs::ReportText::trees_text))]
 fn put_trees(alloc: Global, text: &mut Bytes, entry: &ReportEntry) -> Result<(), Memory>
-    requires { ShowsTrees entry.now }
     ensures { OnOk result (text.new ≡ text.old ++ trees_text entry.now) }
 {
     push_line(text, b"shown")?;
@@ -121,7 +119,6 @@ fn put_trees(alloc: Global, text: &mut Bytes, entry: &ReportEntry) -> Result<(),
 
 #[tactic(auto, unfolding(crate::specs::ReportText::entry_text))]
 fn put_entry(alloc: Global, text: &mut Bytes, entry: &ReportEntry) -> Result<(), Memory>
-    requires { ShowsTrees entry.now }
     ensures { OnOk result (text.new ≡ text.old ++ entry_text entry.now) }
 {
     put_outcome(text, entry)?;
@@ -133,7 +130,6 @@ fn put_entry(alloc: Global, text: &mut Bytes, entry: &ReportEntry) -> Result<(),
 }
 
 fn put_entries(alloc: Global, text: &mut Bytes, entries: &[ReportEntry]) -> Result<(), Memory>
-    requires { AllShowTrees entries.now }
     ensures { OnOk result (text.new ≡ text.old ++ flat_map entry_text entries.now) }
 {
     for entry in entries {
@@ -144,7 +140,6 @@ fn put_entries(alloc: Global, text: &mut Bytes, entries: &[ReportEntry]) -> Resu
 
 #[tactic(auto, unfolding(crate::specs::ReportText::part_text))]
 fn put_part(alloc: Global, text: &mut Bytes, part: &ReportPart) -> Result<(), Memory>
-    requires { AllShowTrees part.now.entries }
     ensures { OnOk result (text.new ≡ text.old ++ part_text part.now) }
 {
     text.extend(b"scenario ")?;
@@ -156,7 +151,6 @@ fn put_part(alloc: Global, text: &mut Bytes, part: &ReportPart) -> Result<(), Me
 }
 
 fn put_parts(alloc: Global, text: &mut Bytes, parts: &[ReportPart]) -> Result<(), Memory>
-    requires { PartsShowTrees parts.now }
     ensures { OnOk result (text.new ≡ text.old ++ flat_map part_text parts.now) }
 {
     for part in parts {
@@ -168,7 +162,6 @@ fn put_parts(alloc: Global, text: &mut Bytes, parts: &[ReportPart]) -> Result<()
 /// The text of a report.
 #[tactic(auto, unfolding(crate::specs::ReportText::report_text))]
 pub fn render_text(alloc: Global, report: &Report) -> Result<Bytes, Memory>
-    requires { PartsShowTrees report.now.parts }
     ensures { IfOk result (λ text. text ≡ report_text report.now) }
 {
     let mut text = Bytes::new(alloc);

@@ -1,8 +1,3 @@
-ghost use Rattle.std.specs.Prelude.{◌≡◌, IfOk};
-ghost use Rattle.feature_trees.specs.declared.kind.Kind.TheVariants.{Dir};
-ghost use Rattle.feature_trees.specs.Tree.{kind_of};
-ghost use Rattle.outcome_report.specs.OutcomeReport.{ShowsTrees, AllShowTrees, PartsShowTrees};
-
 use crate::{Report, ReportEntry, ReportPart, make_entry, render_text, verdict};
 use clause_solver::{Clause, Literal, Var};
 use feature_trees::{Entries, Kind, Kinds, Value};
@@ -23,9 +18,7 @@ fn trace(alloc: Global, acts: &[(u32, u8)]) -> Result<List<Mark>, Fail> {
 }
 
 // The directory with one entry.
-fn tree(alloc: Global, name: &[u8], value: Value) -> Result<Value, Fail>
-    ensures { IfOk result (λ tree. kind_of tree ≡ Dir) }
-{
+fn tree(alloc: Global, name: &[u8], value: Value) -> Result<Value, Fail> {
     let mut entries = Entries::new(alloc);
     let name = Name::read(alloc, name)?;
     entries.set(&name, value)?;
@@ -62,9 +55,7 @@ fn call(alloc: Global, how: CallEnd) -> Result<List<ScriptCall>, Fail> {
 }
 
 // An outcome whose replay agrees: a link stands where the script looks.
-fn link_entry(alloc: Global) -> Result<ReportEntry, Fail>
-    ensures { IfOk result ShowsTrees }
-{
+fn link_entry(alloc: Global) -> Result<ReportEntry, Fail> {
     let ending = Ending::Incomplete(Reason::Link, Site { step: 3, at: 17 });
     let outcome = Outcome {
         number: 1,
@@ -87,9 +78,7 @@ fn link_entry(alloc: Global) -> Result<ReportEntry, Fail>
 }
 
 // An outcome whose replay takes another row.
-fn failed_entry(alloc: Global) -> Result<ReportEntry, Fail>
-    ensures { IfOk result ShowsTrees }
-{
+fn failed_entry(alloc: Global) -> Result<ReportEntry, Fail> {
     let ending = Ending::Failed(State::HalfConfigured);
     let outcome = Outcome {
         number: 2,
@@ -108,9 +97,7 @@ fn failed_entry(alloc: Global) -> Result<ReportEntry, Fail>
 }
 
 // The entries of both.
-fn entries(alloc: Global) -> Result<List<ReportEntry>, Fail>
-    ensures { IfOk result AllShowTrees }
-{
+fn entries(alloc: Global) -> Result<List<ReportEntry>, Fail> {
     let first = link_entry(alloc)?;
     let second = failed_entry(alloc)?;
     let mut entries = List::new(alloc);
@@ -120,9 +107,7 @@ fn entries(alloc: Global) -> Result<List<ReportEntry>, Fail>
 }
 
 // The report of both.
-fn report(alloc: Global) -> Result<Report, Fail>
-    ensures { IfOk result (λ report. PartsShowTrees report.parts) }
-{
+fn report(alloc: Global) -> Result<Report, Fail> {
     let entries = entries(alloc)?;
     let mut parts = List::new(alloc);
     parts.add(ReportPart {

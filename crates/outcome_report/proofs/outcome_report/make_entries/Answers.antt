@@ -9,7 +9,7 @@ loop-outcome-init c =
     let items : c.into_iter-outcome-iterator.result.rest.items ≡ c.args.outcomes = c.into_iter-outcome-iterator.ensures.into_iter_gives.0 ∙ c.into_vec-outcome-items.ensures in
     let P : List Outcome → Type 0 = λ os. EntriesSoFar c.args.job.now c.args.outcomes [] os in
     let Q : List ReportEntry → Type 0 = λ es. EntriesSoFar c.args.job.now c.args.outcomes es c.into_iter-outcome-iterator.result.rest.items in
-    let start : P c.args.outcomes = record { joined = refl; left = all_replay c.trees_stay_trees.ensures.dir c.args.job.now c.args.outcomes c.requires; entries = tt; trees = tt } in
+    let start : P c.args.outcomes = record { joined = refl; left = all_replay c.args.job.now c.args.outcomes c.requires; entries = tt } in
     subst Q (sym c.new-entries.ensures) (subst P (sym items) start)
 
 pub loop-outcome-preserved : goal.loop-outcome-preserved
