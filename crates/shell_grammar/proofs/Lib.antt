@@ -1,10 +1,13 @@
 pub mod Bared
 pub mod Begun
+pub mod Behind
 pub mod Faults
 pub mod Fits
+pub mod FromTable
 pub mod Fronts
 pub mod Levels
 pub mod Limits
 pub mod Prefixes
+pub mod ToTable
 pub mod Told
 pub mod Unique

@@ -21,7 +21,8 @@ module _ (end : ℕ) where
       begins_first : {d : ℕ} {s : Sign} {ss : List Sign} {ts : Tokens} {l : ℕ} → BeginsSign d s ts l
           → BeginsAll d (s ∷ ss) ts l
       begins_later : {d : ℕ} {s : Sign} {ss : List Sign} {ts : Tokens} {l : ℕ} (v : Value s) (t : Token)
-          (rest : Tokens) → IsSign no_limit d end s ts (Whole v (t ∷ rest)) → BeginsAll d ss (t ∷ rest) l → BeginsAll d (s ∷ ss) ts l
+          (rest : Tokens) → IsSign no_limit d end s ts (Whole v (t ∷ rest)) → BeginsAll d ss (t ∷ rest) l
+          → BeginsAll d (s ∷ ss) ts l
 
     -- A token begins itself.
     pub data BeginsSign : ℕ → Sign → Tokens → ℕ → Type 0 where

@@ -1,12 +1,17 @@
--- Laws of the places of faults.
-use Rattle.std.specs.Prelude.{◌≡◌, ℕ, [], ◌∷◌, ◌++◌}
+-- Laws of the grammar and of the places of faults.
+use Rattle.std.specs.Prelude.{◌≡◌, ◌↔◌, ℕ, [], ◌∷◌, ◌++◌}
 use Rattle.shell_syntax.specs.declared.syntax.Command.{Command}
 use Rattle.shell_lexer.specs.declared.token.Token.{Token}
 use Rattle.shell_grammar.specs.declared.fault.ParseFault.{ParseFault}
 use Rattle.shell_grammar.specs.Begins.{Begins}
 use Rattle.shell_grammar.specs.Look.{Tokens}
 use Rattle.shell_grammar.specs.Places.{Pass, FirstFault, NoFault}
-use Rattle.shell_grammar.specs.Spelling.{SpellsWithin, Stopped}
+use Rattle.shell_grammar.specs.PlainGrammar.{IsScript}
+use Rattle.shell_grammar.specs.Spelling.{Spells, SpellsWithin, Stopped}
+
+-- by the table tokens spell the scripts of the plain grammar, and no others
+abbrev pub OneGrammar : Type 0
+OneGrammar = (end : ℕ) (ts : Tokens) (body : Command) → Spells end ts body ↔ IsScript end ts body
 
 -- the fault with which a reading within 64 levels stops is the first fault of the tokens
 abbrev pub StopsAtTheFirst : Type 0

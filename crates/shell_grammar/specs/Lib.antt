@@ -5,6 +5,7 @@ pub mod Grammar
 pub mod Laws
 pub mod Look
 pub mod Places
+pub mod PlainGrammar
 pub mod Reading
 pub mod Spelling
 pub mod Trees

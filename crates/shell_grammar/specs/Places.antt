@@ -57,7 +57,8 @@ mutual
   pub data FaultIn : ℕ → List RawPart → ParseFault → Type 0 where
     -- the first part is a substitution that opens the 65th level
     at_substitution : {level : ℕ} {p : RawPart} {ps : List RawPart} {fault : ParseFault} (at : ℕ) (ts : Tokens)
-        (quoted : Bool) → out-RawPart p ≡ raw.Run at ts quoted → 64 ≤ level → fault ≡ Deep at → FaultIn level (p ∷ ps) fault
+        (quoted : Bool) → out-RawPart p ≡ raw.Run at ts quoted → 64 ≤ level → fault ≡ Deep at
+        → FaultIn level (p ∷ ps) fault
     -- it is a substitution whose tokens are at fault; they count as ending at its own offset, which is thus the place
     -- where they are cut short
     in_substitution : {level : ℕ} {p : RawPart} {ps : List RawPart} {fault : ParseFault} (at : ℕ) (ts : Tokens)

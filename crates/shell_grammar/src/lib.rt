@@ -1,6 +1,6 @@
-//! The grammar of shell scripts over tokens (POSIX.1-2017, XCU 2.10 Shell Grammar): what it reads, where it stops,
-//! and which script tokens spell. It stands on shell_lexer and shell_syntax. Begin with specs/Spelling.antt, then
-//! specs/Reading.antt and the table in specs/Grammar.antt.
+//! The grammar of shell scripts over tokens (POSIX.1-2017, XCU 2.10 Shell Grammar): which script tokens spell, and
+//! where they are at fault. It stands on shell_lexer and shell_syntax. Begin with specs/PlainGrammar.antt, and for
+//! faults with specs/Places.antt; what a parser reads by is the table in specs/Grammar.antt with specs/Reading.antt.
 #![tactic(auto)]
 
 mod fault;

@@ -5,8 +5,14 @@ ghost use Rattle.shell_syntax.specs.declared.syntax.Command.{Command as Tree};
 ghost use Rattle.shell_lexer.specs.declared.token.Token.{Token as TokenValue};
 ghost use Rattle.shell_grammar.specs.declared.fault.ParseFault.{ParseFault as Fault};
 ghost use Rattle.shell_grammar.specs.declared.fault.ParseFault.TheVariants.{Syntax};
-ghost use Rattle.shell_grammar.specs.Laws.{FewerBegin, OneFirstFault, OneLevel, ScriptsPass, StopsAtTheFirst};
+ghost use Rattle.shell_grammar.specs.Laws.{FewerBegin, OneFirstFault, OneGrammar, OneLevel};
+ghost use Rattle.shell_grammar.specs.Laws.{ScriptsPass, StopsAtTheFirst};
 ghost use Rattle.shell_grammar.specs.Spelling.{Spells, SpellsWithin, Stopped};
+
+/// The table, by which the parser reads, and the plain grammar say the same of all tokens.
+pub fn the_table_is_the_grammar()
+    ensures { OneGrammar }
+{}
 
 /// Tokens spell at most one script.
 pub fn one_script()
