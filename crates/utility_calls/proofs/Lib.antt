@@ -1,2 +1,4 @@
 pub mod OneRow
 pub mod Changes
+pub mod Lasts
+pub mod Plans
