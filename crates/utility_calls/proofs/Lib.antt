@@ -2,3 +2,4 @@ pub mod OneRow
 pub mod Changes
 pub mod Lasts
 pub mod Plans
+pub mod ActRow

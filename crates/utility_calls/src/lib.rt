@@ -14,6 +14,8 @@ mod pairs;
 mod plan_tests;
 mod planned;
 mod questions;
+pub mod sights;
+mod table;
 pub mod theorems;
 
 pub use act::{Act, Planned};
