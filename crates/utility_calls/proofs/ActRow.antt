@@ -217,33 +217,17 @@ abbrev SecondFound : Act → Value → Option ℕ → Type 0
 SecondFound act tree None = LooksAtWay act tree → NoLinkOnWay tree (place_of act)
 SecondFound act tree (Some n) = LooksAtWay act tree × IsFirstLink (place_of act) tree 128 n
 
-move_found : (a b : PathParts) (tree : Value) → kind_of tree ≡ Dir → LooksAtWay (Move a b) tree → (o : Option ℕ) → Found b.names tree 128 o → SecondFound (Move a b) tree o
-move_found a b tree t looks None f = λ l. clear_way tree b.names 128 t f
-move_found a b tree t looks (Some n) f = (looks, f)
+way_found : (act : Act) (tree : Value) → kind_of tree ≡ Dir → LooksAtWay act tree → (o : Option ℕ) → Found (place_of act) tree 128 o → SecondFound act tree o
+way_found act tree t looks None f = λ l. clear_way tree (place_of act) 128 t f
+way_found act tree t looks (Some n) f = (looks, f)
 
-move_second : (a b : PathParts) (tree : Value) → kind_of tree ≡ Dir → (c : Bool) → (is_below (Move a b) || is_there (source_of (Move a b) tree)) ≡ c
-    → SecondFound (Move a b) tree (if c then link_on_way 128 tree b.names else None)
-move_second a b tree t true e = move_found a b tree t e (link_on_way 128 tree b.names) (found b.names tree 128)
-move_second a b tree t false e = λ looks. let x : true ≡ false = sym looks ∙ e in absurd (cc)
+second_by : (act : Act) (tree : Value) → kind_of tree ≡ Dir → (c : Bool) → (is_below act || is_there (source_of act tree)) ≡ c
+    → SecondFound act tree (if c then link_on_way 128 tree (place_of act) else None)
+second_by act tree t true e = way_found act tree t e (link_on_way 128 tree (place_of act)) (found (place_of act) tree 128)
+second_by act tree t false e = λ looks. let x : true ≡ false = sym looks ∙ e in absurd (cc)
 
 second_found : (act : Act) (tree : Value) → kind_of tree ≡ Dir → SecondFound act tree (second_link act tree)
-second_found (Exists p) tree t = λ looks. absurd looks
-second_found (IsReg p) tree t = λ looks. absurd looks
-second_found (IsDir p) tree t = λ looks. absurd looks
-second_found (IsLink p) tree t = λ looks. absurd looks
-second_found (CanRun p) tree t = λ looks. absurd looks
-second_found (MakeDir p) tree t = λ looks. absurd looks
-second_found (EnsureDir p) tree t = λ looks. absurd looks
-second_found (RemoveDir p) tree t = λ looks. absurd looks
-second_found (Remove p force deep) tree t = λ looks. absurd looks
-second_found (Touch p) tree t = λ looks. absurd looks
-second_found (Symlink p target last force) tree t = λ looks. absurd looks
-second_found (PlaceFile p) tree t = λ looks. absurd looks
-second_found (PlaceLink p target) tree t = λ looks. absurd looks
-second_found (PlaceConf p) tree t = λ looks. absurd looks
-second_found (Discard p) tree t = λ looks. absurd looks
-second_found (DiscardDir p) tree t = λ looks. absurd looks
-second_found (Move a b) tree t = move_second a b tree t (is_below (Move a b) || is_there (source_of (Move a b) tree)) refl
+second_found act tree t = second_by act tree t (is_below act || is_there (source_of act tree)) refl
 
 none_second : (act : Act) (tree : Value) (o : Option ℕ) → SecondFound act tree o → (LooksAtWay act tree → NoLinkOnWay tree (place_of act)) → o ≡ None
 none_second act tree None f clear = refl
@@ -251,24 +235,8 @@ none_second act tree (Some n) f clear = absurd (clear f.0 f.1.k f.1.high f.1.lin
 
 second_counted : (act : Act) (tree : Value) (k : ℕ) → LooksAtWay act tree → 1 ≤ k → k < length (place_of act) → kind_at tree (place_of act) k ≡ Link
     → second_link act tree ≡ Some (128 + k)
-second_counted (Exists p) tree k looks low high e = absurd looks
-second_counted (IsReg p) tree k looks low high e = absurd looks
-second_counted (IsDir p) tree k looks low high e = absurd looks
-second_counted (IsLink p) tree k looks low high e = absurd looks
-second_counted (CanRun p) tree k looks low high e = absurd looks
-second_counted (MakeDir p) tree k looks low high e = absurd looks
-second_counted (EnsureDir p) tree k looks low high e = absurd looks
-second_counted (RemoveDir p) tree k looks low high e = absurd looks
-second_counted (Remove p force deep) tree k looks low high e = absurd looks
-second_counted (Touch p) tree k looks low high e = absurd looks
-second_counted (Symlink p target last force) tree k looks low high e = absurd looks
-second_counted (PlaceFile p) tree k looks low high e = absurd looks
-second_counted (PlaceLink p target) tree k looks low high e = absurd looks
-second_counted (PlaceConf p) tree k looks low high e = absurd looks
-second_counted (Discard p) tree k looks low high e = absurd looks
-second_counted (DiscardDir p) tree k looks low high e = absurd looks
-second_counted (Move a b) tree k looks low high e =
-    ap (λ (c : Bool). if c then link_on_way 128 tree b.names else None) looks ∙ counted b.names tree 128 k low high e
+second_counted act tree k looks low high e =
+    ap (λ (c : Bool). if c then link_on_way 128 tree (place_of act) else None) looks ∙ counted (place_of act) tree 128 k low high e
 
 -- ---- the slash
 

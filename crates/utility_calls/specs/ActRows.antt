@@ -6,7 +6,6 @@ use Rattle.feature_trees.specs.declared.kind.Kind.TheVariants.{Absent, Link, Dir
 use Rattle.feature_trees.specs.Sound.{IsTree}
 use Rattle.feature_trees.specs.Tree.{at, kind_of}
 use Rattle.utility_calls.specs.declared.acts.Act.{Act}
-use Rattle.utility_calls.specs.declared.acts.Act.TheVariants.{Move}
 use Rattle.utility_calls.specs.Applies.{kind_at, NoLinkOnWay}
 use Rattle.utility_calls.specs.Table.{Rule, rules, rule_holds}
 use Rattle.utility_calls.specs.Acts.{path_of, place_of, is_below, is_there, source_of, sight_on, IsPerformed, row}
@@ -28,8 +27,7 @@ Reaches act tree = NoLinkOnWay tree (path_of act).names × FitsSlash act tree
 
 -- A move looks at the way of its second path where it moves something, or where that path is below the first.
 abbrev pub LooksAtWay : Act → Value → Type 0
-LooksAtWay (Move a b) tree = IsTrue (is_below (Move a b) || is_there (source_of (Move a b) tree))
-LooksAtWay act tree = ⊥
+LooksAtWay act tree = IsTrue (is_below act || is_there (source_of act tree))
 
 -- the row of this number applies to the act on the tree
 pub data Applies (act : Act) (tree : Value) : ℕ → Type 0 where

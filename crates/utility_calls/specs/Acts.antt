@@ -75,10 +75,19 @@ inner_at v (Some f) = entry v f
 abbrev pub inner_of : Act → Value → Value
 inner_of act tree = inner_at (at tree (place_of act)) (inner_name act)
 
+-- the path of what is moved, where something is
+abbrev pub moved : Act → Option PathParts
+moved (Move a b) = Some a
+moved act = None
+
+-- the kind of what stands at a path, where there is one
+abbrev pub kind_at_path : Option PathParts → Value → Kind
+kind_at_path None tree = kind.Absent
+kind_at_path (Some p) tree = kind_of (at tree p.names)
+
 -- the kind of what is moved
 abbrev pub source_of : Act → Value → Kind
-source_of (Move a b) tree = kind_of (at tree a.names)
-source_of act tree = kind.Absent
+source_of act tree = kind_at_path (moved act) tree
 
 -- whether names begin others, which have at least one more
 abbrev pub is_prefix : List (List ℕ) → List (List ℕ) → Bool
@@ -86,10 +95,14 @@ is_prefix p [] = false
 is_prefix [] (g ∷ q) = true
 is_prefix (f ∷ p) (g ∷ q) = bytes_eq f g && is_prefix p q
 
+-- whether a path begins names
+abbrev pub begins : Option PathParts → List (List ℕ) → Bool
+begins None names = false
+begins (Some p) names = is_prefix p.names names
+
 -- whether a move's second path is below its first
 abbrev pub is_below : Act → Bool
-is_below (Move a b) = is_prefix a.names b.names
-is_below act = false
+is_below act = begins (moved act) (place_of act)
 
 -- whether something is there
 abbrev pub is_there : Kind → Bool
@@ -98,9 +111,8 @@ is_there k = has (but kind.Absent) k
 -- the link on the way of a move's second path, which is looked at where something is moved, or the path is below the
 -- first; its row is 128 and the count of names
 abbrev pub second_link : Act → Value → Option ℕ
-second_link (Move a b) tree =
-    if is_prefix a.names b.names || is_there (kind_of (at tree a.names)) then link_on_way 128 tree b.names else None
-second_link act tree = None
+second_link act tree =
+    if is_below act || is_there (source_of act tree) then link_on_way 128 tree (place_of act) else None
 
 -- the row of a link on the way, else the later one
 abbrev pub by_way : Option ℕ → Row → Row

@@ -10,6 +10,7 @@ mod fault;
 mod operands;
 mod options;
 mod pairs;
+mod places;
 #[cfg(test)]
 mod plan_tests;
 mod planned;

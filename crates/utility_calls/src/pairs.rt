@@ -13,7 +13,7 @@ use script_names::{Bytes, Copied, MAX_NAMES, Memory, Name, NameFault, Path, Path
 use std::alloc::Global;
 
 // Whether two names are the same.
-fn same_name(f: &Name, g: &Name) -> bool
+pub(crate) fn same_name(f: &Name, g: &Name) -> bool
     ensures { result ≡ bytes_eq f.now g.now }
 {
     f.as_slice() == g.as_slice()

@@ -61,7 +61,7 @@ fn stops() -> Row
 
 // The row of `test -e`.
 fn exists_row(kind: Kind) -> Row
-    ensures { (d : Bool) (e : Bool) (l : Kind) (m : Bool) (source : Kind) → result ≡ first_row exists_rules source (sight d kind e l m) }
+    ensures { (d e m : Bool) (l source : Kind) → result ≡ first_row exists_rules source (sight d kind e l m) }
 {
     match kind {
         Kind::Link => stops(),
@@ -72,7 +72,7 @@ fn exists_row(kind: Kind) -> Row
 
 // The row of `test -f`.
 fn is_reg_row(kind: Kind) -> Row
-    ensures { (d : Bool) (e : Bool) (l : Kind) (m : Bool) (source : Kind) → result ≡ first_row is_reg_rules source (sight d kind e l m) }
+    ensures { (d e m : Bool) (l source : Kind) → result ≡ first_row is_reg_rules source (sight d kind e l m) }
 {
     match kind {
         Kind::Link => stops(),
@@ -83,7 +83,7 @@ fn is_reg_row(kind: Kind) -> Row
 
 // The row of `test -d`.
 fn is_dir_row(kind: Kind) -> Row
-    ensures { (d : Bool) (e : Bool) (l : Kind) (m : Bool) (source : Kind) → result ≡ first_row is_dir_rules source (sight d kind e l m) }
+    ensures { (d e m : Bool) (l source : Kind) → result ≡ first_row is_dir_rules source (sight d kind e l m) }
 {
     match kind {
         Kind::Link => stops(),
@@ -94,7 +94,7 @@ fn is_dir_row(kind: Kind) -> Row
 
 // The row of `test -h`.
 fn is_link_row(kind: Kind) -> Row
-    ensures { (d : Bool) (e : Bool) (l : Kind) (m : Bool) (source : Kind) → result ≡ first_row is_link_rules source (sight d kind e l m) }
+    ensures { (d e m : Bool) (l source : Kind) → result ≡ first_row is_link_rules source (sight d kind e l m) }
 {
     match kind {
         Kind::Absent | Kind::Reg | Kind::Other | Kind::Dir => fails(66),
@@ -104,7 +104,7 @@ fn is_link_row(kind: Kind) -> Row
 
 // The row of `test -x`.
 fn can_run_row(kind: Kind) -> Row
-    ensures { (d : Bool) (e : Bool) (l : Kind) (m : Bool) (source : Kind) → result ≡ first_row can_run_rules source (sight d kind e l m) }
+    ensures { (d e m : Bool) (l source : Kind) → result ≡ first_row can_run_rules source (sight d kind e l m) }
 {
     match kind {
         Kind::Link => stops(),
@@ -116,7 +116,7 @@ fn can_run_row(kind: Kind) -> Row
 
 // The row of `mkdir`.
 fn make_dir_row(in_dir: bool, kind: Kind) -> Row
-    ensures { (e : Bool) (l : Kind) (m : Bool) (source : Kind) → result ≡ first_row make_dir_rules source (sight in_dir kind e l m) }
+    ensures { (e m : Bool) (l source : Kind) → result ≡ first_row make_dir_rules source (sight in_dir kind e l m) }
 {
     if !in_dir {
         return fails(66);
@@ -129,7 +129,7 @@ fn make_dir_row(in_dir: bool, kind: Kind) -> Row
 
 // The row of one directory of `mkdir -p`.
 fn ensure_dir_row(in_dir: bool, kind: Kind) -> Row
-    ensures { (e : Bool) (l : Kind) (m : Bool) (source : Kind) → result ≡ first_row ensure_dir_rules source (sight in_dir kind e l m) }
+    ensures { (e m : Bool) (l source : Kind) → result ≡ first_row ensure_dir_rules source (sight in_dir kind e l m) }
 {
     match kind {
         Kind::Link => stops(),
@@ -150,7 +150,7 @@ fn ensure_dir_row(in_dir: bool, kind: Kind) -> Row
 
 // The row of `rmdir`.
 fn remove_dir_row(kind: Kind, filled: bool) -> Row
-    ensures { (d : Bool) (l : Kind) (m : Bool) (source : Kind) → result ≡ first_row remove_dir_rules source (sight d kind filled l m) }
+    ensures { (d m : Bool) (l source : Kind) → result ≡ first_row remove_dir_rules source (sight d kind filled l m) }
 {
     match kind {
         Kind::Absent | Kind::Reg | Kind::Link | Kind::Other => fails(66),
@@ -166,7 +166,7 @@ fn remove_dir_row(kind: Kind, filled: bool) -> Row
 
 // The row of `rm`.
 fn remove_row(kind: Kind) -> Row
-    ensures { (d : Bool) (e : Bool) (l : Kind) (m : Bool) (source : Kind) → result ≡ first_row remove_rules source (sight d kind e l m) }
+    ensures { (d e m : Bool) (l source : Kind) → result ≡ first_row remove_rules source (sight d kind e l m) }
 {
     match kind {
         Kind::Absent => fails(66),
@@ -177,7 +177,7 @@ fn remove_row(kind: Kind) -> Row
 
 // The row of `rm -r`.
 fn remove_deep_row(kind: Kind) -> Row
-    ensures { (d : Bool) (e : Bool) (l : Kind) (m : Bool) (source : Kind) → result ≡ first_row remove_deep_rules source (sight d kind e l m) }
+    ensures { (d e m : Bool) (l source : Kind) → result ≡ first_row remove_deep_rules source (sight d kind e l m) }
 {
     match kind {
         Kind::Absent => fails(66),
@@ -187,7 +187,7 @@ fn remove_deep_row(kind: Kind) -> Row
 
 // The row of `rm -f`.
 fn remove_force_row(in_dir: bool, kind: Kind) -> Row
-    ensures { (e : Bool) (l : Kind) (m : Bool) (source : Kind) → result ≡ first_row remove_force_rules source (sight in_dir kind e l m) }
+    ensures { (e m : Bool) (l source : Kind) → result ≡ first_row remove_force_rules source (sight in_dir kind e l m) }
 {
     match kind {
         Kind::Dir => fails(67),
@@ -202,7 +202,7 @@ fn remove_force_row(in_dir: bool, kind: Kind) -> Row
 
 // The row of `rm -rf`.
 fn remove_force_deep_row(in_dir: bool) -> Row
-    ensures { (k : Kind) (e : Bool) (l : Kind) (m : Bool) (source : Kind) → result ≡ first_row remove_force_deep_rules source (sight in_dir k e l m) }
+    ensures { (e m : Bool) (k l source : Kind) → result ≡ first_row remove_force_deep_rules source (sight in_dir k e l m) }
 {
     if in_dir {
         does(72, Effect::TakesAway)
@@ -213,7 +213,7 @@ fn remove_force_deep_row(in_dir: bool) -> Row
 
 // The row of `touch`.
 fn touch_row(in_dir: bool, kind: Kind) -> Row
-    ensures { (e : Bool) (l : Kind) (m : Bool) (source : Kind) → result ≡ first_row touch_rules source (sight in_dir kind e l m) }
+    ensures { (e m : Bool) (l source : Kind) → result ≡ first_row touch_rules source (sight in_dir kind e l m) }
 {
     match kind {
         Kind::Link => stops(),
@@ -234,7 +234,7 @@ fn touch_row(in_dir: bool, kind: Kind) -> Row
 
 // The row where a file is placed.
 fn place_file_row(in_dir: bool, kind: Kind) -> Row
-    ensures { (e : Bool) (l : Kind) (m : Bool) (source : Kind) → result ≡ first_row place_file_rules source (sight in_dir kind e l m) }
+    ensures { (e m : Bool) (l source : Kind) → result ≡ first_row place_file_rules source (sight in_dir kind e l m) }
 {
     if !in_dir {
         return fails(66);
@@ -247,7 +247,7 @@ fn place_file_row(in_dir: bool, kind: Kind) -> Row
 
 // The row where a link is placed.
 fn place_link_row(in_dir: bool, kind: Kind) -> Row
-    ensures { (e : Bool) (l : Kind) (m : Bool) (source : Kind) → result ≡ first_row place_link_rules source (sight in_dir kind e l m) }
+    ensures { (e m : Bool) (l source : Kind) → result ≡ first_row place_link_rules source (sight in_dir kind e l m) }
 {
     if !in_dir {
         return fails(66);
@@ -260,7 +260,7 @@ fn place_link_row(in_dir: bool, kind: Kind) -> Row
 
 // The row where a configuration file is placed.
 fn place_conf_row(in_dir: bool, kind: Kind) -> Row
-    ensures { (e : Bool) (l : Kind) (m : Bool) (source : Kind) → result ≡ first_row place_conf_rules source (sight in_dir kind e l m) }
+    ensures { (e m : Bool) (l source : Kind) → result ≡ first_row place_conf_rules source (sight in_dir kind e l m) }
 {
     if !in_dir {
         return fails(66);
@@ -274,7 +274,7 @@ fn place_conf_row(in_dir: bool, kind: Kind) -> Row
 
 // The row where what is no directory is discarded.
 fn discard_row(in_dir: bool, kind: Kind) -> Row
-    ensures { (e : Bool) (l : Kind) (m : Bool) (source : Kind) → result ≡ first_row discard_rules source (sight in_dir kind e l m) }
+    ensures { (e m : Bool) (l source : Kind) → result ≡ first_row discard_rules source (sight in_dir kind e l m) }
 {
     if !in_dir {
         return succeeds(66);
@@ -287,7 +287,7 @@ fn discard_row(in_dir: bool, kind: Kind) -> Row
 
 // The row where an empty directory is discarded.
 fn discard_dir_row(kind: Kind, filled: bool) -> Row
-    ensures { (d : Bool) (l : Kind) (m : Bool) (source : Kind) → result ≡ first_row discard_dir_rules source (sight d kind filled l m) }
+    ensures { (d m : Bool) (l source : Kind) → result ≡ first_row discard_dir_rules source (sight d kind filled l m) }
 {
     match kind {
         Kind::Absent | Kind::Reg | Kind::Link | Kind::Other => succeeds(66),
@@ -303,7 +303,7 @@ fn discard_dir_row(kind: Kind, filled: bool) -> Row
 
 // The row of `ln -s`.
 fn symlink_row(in_dir: bool, kind: Kind, inner: Kind) -> Row
-    ensures { (e : Bool) (m : Bool) (source : Kind) → result ≡ first_row symlink_rules source (sight in_dir kind e inner m) }
+    ensures { (e m : Bool) (source : Kind) → result ≡ first_row symlink_rules source (sight in_dir kind e inner m) }
 {
     match kind {
         Kind::Link => stops(),
@@ -333,7 +333,7 @@ fn symlink_row(in_dir: bool, kind: Kind, inner: Kind) -> Row
 
 // The row of `ln -sf`.
 fn symlink_force_row(in_dir: bool, kind: Kind, inner: Kind) -> Row
-    ensures { (e : Bool) (m : Bool) (source : Kind) → result ≡ first_row symlink_force_rules source (sight in_dir kind e inner m) }
+    ensures { (e m : Bool) (source : Kind) → result ≡ first_row symlink_force_rules source (sight in_dir kind e inner m) }
 {
     match kind {
         Kind::Link => stops(),
@@ -360,7 +360,7 @@ fn symlink_force_row(in_dir: bool, kind: Kind, inner: Kind) -> Row
 
 // The row of `mv` to a path below the moved one.
 fn move_below_row(kind: Kind) -> Row
-    ensures { (d : Bool) (e : Bool) (l : Kind) (m : Bool) (source : Kind) → result ≡ first_row move_below_rules source (sight d kind e l m) }
+    ensures { (d e m : Bool) (l source : Kind) → result ≡ first_row move_below_rules source (sight d kind e l m) }
 {
     match kind {
         Kind::Link => stops(),
@@ -370,8 +370,8 @@ fn move_below_row(kind: Kind) -> Row
 
 // The row of `mv` of a file.
 fn move_file_row(in_dir: bool, kind: Kind, inner: Kind) -> Row
-    ensures reg_source { (e : Bool) (m : Bool) → result ≡ first_row move_rules Reg (sight in_dir kind e inner m) }
-    ensures other_source { (e : Bool) (m : Bool) → result ≡ first_row move_rules Other (sight in_dir kind e inner m) }
+    ensures reg_source { (e m : Bool) → result ≡ first_row move_rules Reg (sight in_dir kind e inner m) }
+    ensures other_source { (e m : Bool) → result ≡ first_row move_rules Other (sight in_dir kind e inner m) }
 {
     match kind {
         Kind::Link => stops(),
@@ -403,7 +403,7 @@ fn move_file_row(in_dir: bool, kind: Kind, inner: Kind) -> Row
 
 // The row of `mv` of a link.
 fn move_link_row(in_dir: bool, kind: Kind, inner: Kind) -> Row
-    ensures { (e : Bool) (m : Bool) → result ≡ first_row move_rules Link (sight in_dir kind e inner m) }
+    ensures { (e m : Bool) → result ≡ first_row move_rules Link (sight in_dir kind e inner m) }
 {
     match kind {
         Kind::Link => stops(),

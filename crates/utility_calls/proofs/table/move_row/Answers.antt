@@ -5,10 +5,8 @@ use Rattle.utility_calls.proofs.table.move_row.Goals as goal
 
 pub returns-in-Reg : goal.returns-in-Reg
 returns-in-Reg c = elim c.in-Reg.is [
-  | inl e ↦ c.move_file_row.ensures.reg_source c.args.seen.now.filled c.args.seen.now.inner_filled
-      ∙ ap (λ (source : Kind). first_row move_rules source c.args.seen.now) (sym e)
-  | inr e ↦ c.move_file_row.ensures.other_source c.args.seen.now.filled c.args.seen.now.inner_filled
-      ∙ ap (λ (source : Kind). first_row move_rules source c.args.seen.now) (sym e)
+  | inl e ↦ c.move_file_row.ensures.reg_source c.args.seen.now.filled c.args.seen.now.inner_filled ∙ ap (λ (source : Kind). first_row move_rules source c.args.seen.now) (sym e)
+  | inr e ↦ c.move_file_row.ensures.other_source c.args.seen.now.filled c.args.seen.now.inner_filled ∙ ap (λ (source : Kind). first_row move_rules source c.args.seen.now) (sym e)
 ]
 
 pub returns-in-Link : goal.returns-in-Link
