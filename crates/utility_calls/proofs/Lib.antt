@@ -1,2 +1,5 @@
 pub mod OneRow
 pub mod Changes
+pub mod Lasts
+pub mod Plans
+pub mod ActRow

@@ -3,6 +3,7 @@
 ghost use Rattle.utility_calls.specs.Applies.{RowApplies, NoOtherApplies, RowsAreFew};
 ghost use Rattle.utility_calls.specs.Changes.{ParentsAreDirs, DirsStayDirs, SoundStaysSound, OnlySuccessChanges};
 ghost use Rattle.utility_calls.specs.Changes.{MakesInDirs, RemovesInDirs};
+ghost use Rattle.utility_calls.specs.ActRows.{RowApplies as ActRowApplies, NoOtherApplies as NoOtherActRow};
 
 use feature_trees::theorems::puts_are_local;
 
@@ -33,3 +34,9 @@ pub fn trees_stay_trees()
 {
     puts_are_local();
 }
+
+/// To each act that meets its conditions, on each tree, exactly one row of the table applies.
+pub fn one_act_row()
+    ensures applies { ActRowApplies }
+    ensures alone { NoOtherActRow }
+{}

@@ -1,0 +1,151 @@
+-- What a call of a utility comes to, by its words alone (POSIX.1-2017, XCU).
+use Rattle.std.specs.Prelude.{ℕ, Bool, true, false, ◌||◌, ◌==◌, List, [], ◌∷◌, ◌++◌, Option, Some, None, if◌then◌else◌, codes}
+use Rattle.std.specs.Str.{bytes_eq}
+use Rattle.std.specs.List.{list_any}
+use Rattle.script_names.specs.declared.reason.Reason.{Reason}
+use Rattle.script_names.specs.declared.reason.Reason.TheVariants as reason
+use Rattle.utility_calls.specs.declared.acts.Act.{Act}
+use Rattle.utility_calls.specs.declared.planned.Planned.{Planned}
+use Rattle.utility_calls.specs.declared.planned.Planned.TheVariants.{Known, Print, Change, Unspecified}
+use Rattle.utility_calls.specs.declared.operands.Each.{Each}
+use Rattle.utility_calls.specs.declared.operands.Each.TheVariants as each
+use Rattle.utility_calls.specs.declared.calls.Utility.{Utility}
+use Rattle.utility_calls.specs.declared.calls.Utility.TheVariants as utility
+use Rattle.utility_calls.specs.Options.{options, behind, is_ended, unended, options_fit, option_with, has_option}
+use Rattle.utility_calls.specs.Operands.{first_of, first_reason, all_acts}
+use Rattle.utility_calls.specs.Pairs.{ln_reason, ln_act, mv_reason, mv_act}
+use Rattle.utility_calls.specs.Questions.{test_call, bracket_call}
+
+-- the utility of a name
+abbrev pub utility_named : List ℕ → Option Utility
+utility_named name =
+    if bytes_eq name (codes "true") || bytes_eq name (codes ":") then Some utility.True
+    else (if bytes_eq name (codes "false") then Some utility.False
+    else (if bytes_eq name (codes "echo") then Some utility.Echo
+    else (if bytes_eq name (codes "mkdir") then Some utility.MakeDir
+    else (if bytes_eq name (codes "rmdir") then Some utility.RemoveDir
+    else (if bytes_eq name (codes "rm") then Some utility.Remove
+    else (if bytes_eq name (codes "touch") then Some utility.Touch
+    else (if bytes_eq name (codes "ln") then Some utility.Link
+    else (if bytes_eq name (codes "mv") then Some utility.Move
+    else (if bytes_eq name (codes "test") then Some utility.Test
+    else (if bytes_eq name (codes "[") then Some utility.Bracket
+    else None))))))))))
+
+-- the plan where there is no reason against it
+abbrev pub unless : Option Reason → Planned → Planned
+unless (Some why) planned = Unspecified why
+unless None planned = planned
+
+-- the bytes of the words of `echo` from the second on, each behind a space, and a newline
+abbrev pub echo_rest : List (List ℕ) → List ℕ
+echo_rest [] = 10 ∷ []
+echo_rest (word ∷ words) = 32 ∷ (word ++ echo_rest words)
+
+-- what `echo` writes: the words joined by spaces, and a newline
+abbrev pub echo_text : List (List ℕ) → List ℕ
+echo_text [] = 10 ∷ []
+echo_text (word ∷ words) = word ++ echo_rest words
+
+-- whether the first word begins with `-`
+abbrev pub begins_with_dash : List (List ℕ) → Bool
+begins_with_dash [] = false
+begins_with_dash ([] ∷ words) = false
+begins_with_dash ((b ∷ bs) ∷ words) = b == 45
+
+-- whether a word has a `\`
+abbrev pub has_backslash : List ℕ → Bool
+has_backslash word = list_any (λ b. b == 92) word
+
+-- `echo`, which has no specified meaning where the first word looks like an option, or some word has a `\`
+abbrev pub echo_call : List (List ℕ) → Planned
+echo_call words =
+    if begins_with_dash words || list_any has_backslash words then Unspecified reason.Echo
+    else Print (echo_text words)
+
+-- why there are no operands
+abbrev pub some_reason : List (List ℕ) → Option Reason
+some_reason [] = Some reason.Call
+some_reason (word ∷ words) = None
+
+-- a utility that goes through its operands
+abbrev pub each_call : Each → Bool → List (List ℕ) → Planned
+each_call e ended words =
+    unless (first_of (some_reason words) (first_reason e ended words)) (Change (all_acts e words))
+
+-- a utility with one act
+abbrev pub act_call : Option Reason → Act → Planned
+act_call why act = unless why (Change ((act ∷ []) ∷ []))
+
+-- the plan where each option is one of these
+abbrev pub with_options : Bool → List ℕ → List (List ℕ) → Planned → Planned
+with_options joined letters words planned =
+    if options_fit joined letters words then planned else Unspecified reason.Call
+
+-- `mkdir`, with or without `-p`
+abbrev pub mkdir_each : Bool → Each
+mkdir_each false = each.MakeDir
+mkdir_each true = each.EnsureDirs
+
+-- the words behind the options of a utility that goes through its operands
+abbrev pub each_behind : Each → List (List ℕ) → Planned
+each_behind e words = each_call e (is_ended words) (unended words)
+
+-- the words of `mkdir`; 112 is `p`
+abbrev pub mkdir_call : List (List ℕ) → Planned
+mkdir_call words = with_options false (codes "p") words (each_behind (mkdir_each (has_option 112 words)) (behind words))
+
+-- the words of `rmdir`
+abbrev pub rmdir_call : List (List ℕ) → Planned
+rmdir_call words = with_options false [] words (each_behind each.RemoveDir (behind words))
+
+-- whether one of these options is `-r` or `-R`; 114 and 82 are `r` and `R`
+abbrev pub is_deep : List (List ℕ) → Bool
+is_deep given = option_with 114 given || option_with 82 given
+
+-- the words of `rm`; 102 is `f`
+abbrev pub rm_call : List (List ℕ) → Planned
+rm_call words =
+    with_options true (codes "frR") words
+    (each_behind (each.Remove (has_option 102 words) (is_deep (options words))) (behind words))
+
+-- the words of `touch`
+abbrev pub touch_call : List (List ℕ) → Planned
+touch_call words = with_options false [] words (each_behind each.Touch (behind words))
+
+-- the operands of `ln`
+abbrev pub ln_behind : Bool → Bool → List (List ℕ) → Planned
+ln_behind symbolic force words =
+    act_call (ln_reason symbolic force (is_ended words) (unended words)) (ln_act force (unended words))
+
+-- the words of `ln`; 115 and 102 are `s` and `f`
+abbrev pub ln_call : List (List ℕ) → Planned
+ln_call words = with_options true (codes "sf") words (ln_behind (has_option 115 words) (has_option 102 words) (behind words))
+
+-- the operands of `mv`
+abbrev pub mv_behind : List (List ℕ) → Planned
+mv_behind words = act_call (mv_reason (is_ended words) (unended words)) (mv_act (unended words))
+
+-- the words of `mv`
+abbrev pub mv_call : List (List ℕ) → Planned
+mv_call words = with_options false (codes "f") words (mv_behind (behind words))
+
+-- the words of a utility
+abbrev pub utility_call : Option Utility → List (List ℕ) → Planned
+utility_call None words = Unspecified reason.Call
+utility_call (Some utility.True) words = Known true
+utility_call (Some utility.False) words = Known false
+utility_call (Some utility.Echo) words = echo_call words
+utility_call (Some utility.MakeDir) words = mkdir_call words
+utility_call (Some utility.RemoveDir) words = rmdir_call words
+utility_call (Some utility.Remove) words = rm_call words
+utility_call (Some utility.Touch) words = touch_call words
+utility_call (Some utility.Link) words = ln_call words
+utility_call (Some utility.Move) words = mv_call words
+utility_call (Some utility.Test) words = test_call words
+utility_call (Some utility.Bracket) words = bracket_call words
+
+-- What a command's words come to; the first of them is the utility's name. No words come to no call.
+abbrev pub call : List (List ℕ) → Planned
+call [] = Unspecified reason.Call
+call (name ∷ words) = utility_call (utility_named name) words

@@ -1,0 +1,234 @@
+-- The table of the acts: for each act its rows, with number, condition, answer and effect (POSIX.1-2017, XCU; a link is
+-- followed nowhere). Below 64 a row is for a link on the way; row 64 is for a slash behind what is no directory.
+use Rattle.std.specs.Prelude.{ℕ, Bool, true, false, ◌&&◌, List, [], ◌∷◌, Option, Some, None, if◌then◌else◌}
+use Rattle.script_names.specs.declared.reason.Reason.TheVariants as reason
+use Rattle.script_names.specs.declared.reason.Done.{Done}
+use Rattle.script_names.specs.declared.reason.Done.TheVariants.{Ok, Failed, Stopped}
+use Rattle.feature_trees.specs.declared.kind.Kind.{Kind}
+use Rattle.feature_trees.specs.declared.kind.Kind.TheVariants.{Absent, Reg, Link, Other, Dir}
+use Rattle.feature_trees.specs.declared.kind.Kinds.{Kinds}
+use Rattle.feature_trees.specs.Kinds.{has, of}
+use Rattle.utility_calls.specs.declared.acts.Act.{Act}
+use Rattle.utility_calls.specs.declared.acts.Act.TheVariants.{Exists, IsReg, IsDir, IsLink, CanRun, MakeDir, EnsureDir, RemoveDir, Remove, Touch, Symlink, Move, PlaceFile, PlaceLink, PlaceConf, Discard, DiscardDir}
+use Rattle.utility_calls.specs.declared.sights.Sight.{Sight}
+use Rattle.utility_calls.specs.declared.sights.Effect.{Effect}
+use Rattle.utility_calls.specs.declared.sights.Effect.TheVariants.{Nothing, MakesDir, KeepsDir, MakesFile, MakesLink, LinksInside, TakesAway, Moves, MovesInside}
+use Rattle.utility_calls.specs.declared.sights.Row.{Row}
+use Rattle.utility_calls.specs.Sights.{Where, anything, is, within, inside, outside, empty, full, into, into_empty, into_full, holds, but, two, three}
+
+-- a row of the table; `source` are the kinds of what is moved, where they matter
+pub record Rule : Type 0 where
+  pub number : ℕ
+  pub source : Option Kinds
+  pub place : Where
+  pub answer : Done
+  pub effect : Effect
+
+-- a row that changes nothing
+abbrev pub leaves : ℕ → Where → Done → Rule
+leaves n place answer = record { number = n; source = None; place = place; answer = answer; effect = Nothing }
+
+-- a row that succeeds and changes the tree
+abbrev pub does : ℕ → Where → Effect → Rule
+does n place effect = record { number = n; source = None; place = place; answer = Ok; effect = effect }
+
+-- the same of a move, for what it moves
+abbrev pub leaves_from : ℕ → Kinds → Where → Done → Rule
+leaves_from n source place answer = record { number = n; source = Some source; place = place; answer = answer; effect = Nothing }
+
+abbrev pub does_from : ℕ → Kinds → Where → Effect → Rule
+does_from n source place effect = record { number = n; source = Some source; place = place; answer = Ok; effect = effect }
+
+-- where an act does not follow a link
+abbrev pub stop : Done
+stop = Stopped reason.Link
+
+-- `test -e`
+abbrev pub exists_rules : List Rule
+exists_rules = leaves 65 (is (of Link)) stop ∷ leaves 66 (is (of Absent)) Failed ∷ leaves 67 (is (three Reg Other Dir)) Ok ∷ []
+
+-- `test -f`
+abbrev pub is_reg_rules : List Rule
+is_reg_rules = leaves 65 (is (of Link)) stop ∷ leaves 66 (is (three Absent Other Dir)) Failed ∷ leaves 67 (is (of Reg)) Ok ∷ []
+
+-- `test -d`
+abbrev pub is_dir_rules : List Rule
+is_dir_rules = leaves 65 (is (of Link)) stop ∷ leaves 66 (is (three Absent Reg Other)) Failed ∷ leaves 67 (is (of Dir)) Ok ∷ []
+
+-- `test -h`
+abbrev pub is_link_rules : List Rule
+is_link_rules = leaves 66 (is (but Link)) Failed ∷ leaves 67 (is (of Link)) Ok ∷ []
+
+-- `test -x`; nothing says whether a file may be run
+abbrev pub can_run_rules : List Rule
+can_run_rules =
+    leaves 65 (is (of Link)) stop ∷ leaves 66 (is (of Absent)) Failed ∷ leaves 67 (is (of Dir)) Ok
+    ∷ leaves 68 (is (two Reg Other)) (Stopped reason.Run) ∷ []
+
+-- `mkdir`
+abbrev pub make_dir_rules : List Rule
+make_dir_rules =
+    leaves 66 outside Failed ∷ leaves 67 (is (but Absent)) Failed ∷ does 68 (inside (of Absent)) MakesDir ∷ []
+
+-- one directory of `mkdir -p`
+abbrev pub ensure_dir_rules : List Rule
+ensure_dir_rules =
+    leaves 65 (is (of Link)) stop ∷ leaves 66 outside Failed ∷ leaves 67 (is (two Reg Other)) Failed
+    ∷ does 68 (inside (two Absent Dir)) KeepsDir ∷ []
+
+-- `rmdir`
+abbrev pub remove_dir_rules : List Rule
+remove_dir_rules = leaves 66 (is (but Dir)) Failed ∷ leaves 67 full Failed ∷ does 68 empty TakesAway ∷ []
+
+-- `rm`
+abbrev pub remove_rules : List Rule
+remove_rules =
+    leaves 66 (is (of Absent)) Failed ∷ leaves 67 (is (of Dir)) Failed ∷ does 68 (is (three Reg Link Other)) TakesAway ∷ []
+
+-- `rm -r`
+abbrev pub remove_deep_rules : List Rule
+remove_deep_rules = leaves 66 (is (of Absent)) Failed ∷ does 69 (is (but Absent)) TakesAway ∷ []
+
+-- `rm -f`
+abbrev pub remove_force_rules : List Rule
+remove_force_rules =
+    leaves 67 (is (of Dir)) Failed ∷ leaves 70 outside Ok ∷ does 71 (inside (but Dir)) TakesAway ∷ []
+
+-- `rm -rf`
+abbrev pub remove_force_deep_rules : List Rule
+remove_force_deep_rules = leaves 70 outside Ok ∷ does 72 within TakesAway ∷ []
+
+-- `touch`
+abbrev pub touch_rules : List Rule
+touch_rules =
+    leaves 65 (is (of Link)) stop ∷ leaves 66 outside Failed ∷ does 67 (inside (two Absent Reg)) MakesFile
+    ∷ leaves 68 (is (two Other Dir)) Ok ∷ []
+
+-- a regular file of a package is placed
+abbrev pub place_file_rules : List Rule
+place_file_rules =
+    leaves 66 outside Failed ∷ leaves 67 (is (of Dir)) Failed ∷ does 68 (inside (but Dir)) MakesFile ∷ []
+
+-- a link of a package is placed
+abbrev pub place_link_rules : List Rule
+place_link_rules =
+    leaves 66 outside Failed ∷ leaves 67 (is (of Dir)) stop ∷ does 68 (inside (but Dir)) MakesLink ∷ []
+
+-- a configuration file of a package is placed
+abbrev pub place_conf_rules : List Rule
+place_conf_rules =
+    leaves 66 outside Failed ∷ leaves 67 (is (of Dir)) Failed ∷ does 68 (inside (two Absent Reg)) MakesFile
+    ∷ leaves 69 (is (two Link Other)) (Stopped reason.Conffile) ∷ []
+
+-- what is no directory is discarded
+abbrev pub discard_rules : List Rule
+discard_rules =
+    leaves 66 outside Ok ∷ leaves 67 (is (of Dir)) Ok ∷ does 68 (inside (but Dir)) TakesAway ∷ []
+
+-- an empty directory is discarded
+abbrev pub discard_dir_rules : List Rule
+discard_dir_rules = leaves 66 (is (but Dir)) Ok ∷ leaves 67 full Ok ∷ does 68 empty TakesAway ∷ []
+
+-- `ln -s`; W is what stands under the target's last name
+abbrev pub symlink_rules : List Rule
+symlink_rules =
+    leaves 65 (is (of Link)) stop ∷ leaves 66 outside Failed ∷ leaves 67 (is (two Reg Other)) Failed
+    ∷ does 68 (inside (of Absent)) MakesLink ∷ leaves 70 (into (but Absent)) Failed
+    ∷ does 71 (into (of Absent)) LinksInside ∷ []
+
+-- `ln -sf`
+abbrev pub symlink_force_rules : List Rule
+symlink_force_rules =
+    leaves 65 (is (of Link)) stop ∷ leaves 66 outside Failed ∷ does 69 (inside (three Absent Reg Other)) MakesLink
+    ∷ leaves 72 (into (of Dir)) Failed ∷ does 73 (into (but Dir)) LinksInside ∷ []
+
+-- `mv` to a path below the moved one
+abbrev pub move_below_rules : List Rule
+move_below_rules = leaves 65 (is (of Link)) stop ∷ leaves 66 (is (but Link)) Failed ∷ []
+
+-- what may be moved: all but nothing; what is no directory; a file; a link
+abbrev pub some : Kinds
+some = but Absent
+
+abbrev pub no_dir : Kinds
+no_dir = three Reg Link Other
+
+abbrev pub file : Kinds
+file = two Reg Other
+
+-- `mv` to another path; W is what stands there under the moved path's last name
+abbrev pub move_rules : List Rule
+move_rules =
+    leaves_from 66 (of Absent) anything Failed
+    ∷ leaves_from 65 some (is (of Link)) stop
+    ∷ leaves_from 67 some outside Failed
+    ∷ does_from 68 no_dir (inside (of Absent)) Moves
+    ∷ does_from 69 (of Dir) (inside (of Absent)) Moves
+    ∷ leaves_from 70 (of Dir) (is file) Failed
+    ∷ does_from 77 file (is file) Moves
+    ∷ leaves_from 78 (of Link) (is file) (Stopped reason.Same)
+    ∷ does_from 71 no_dir (into (of Absent)) MovesInside
+    ∷ leaves_from 72 no_dir (into (of Dir)) Failed
+    ∷ does_from 73 (of Dir) (into (of Absent)) MovesInside
+    ∷ leaves_from 74 (of Dir) (into no_dir) Failed
+    ∷ leaves_from 75 (of Dir) into_full Failed
+    ∷ does_from 76 (of Dir) into_empty MovesInside
+    ∷ does_from 79 file (into file) MovesInside
+    ∷ leaves_from 80 (of Link) (into no_dir) (Stopped reason.Same)
+    ∷ leaves_from 81 file (into (of Link)) (Stopped reason.Same)
+    ∷ []
+
+-- the rows of `rm` by its options
+abbrev pub remove_by : Bool → Bool → List Rule
+remove_by false false = remove_rules
+remove_by false true = remove_deep_rules
+remove_by true false = remove_force_rules
+remove_by true true = remove_force_deep_rules
+
+-- the rows of `ln -s` by its option
+abbrev pub symlink_by : Bool → List Rule
+symlink_by false = symlink_rules
+symlink_by true = symlink_force_rules
+
+-- the rows of `mv` by whether its second path is below its first
+abbrev pub move_by : Bool → List Rule
+move_by false = move_rules
+move_by true = move_below_rules
+
+-- the rows of an act; those of `mv` by whether its second path is below the first
+abbrev pub rules : Bool → Act → List Rule
+rules below (Exists p) = exists_rules
+rules below (IsReg p) = is_reg_rules
+rules below (IsDir p) = is_dir_rules
+rules below (IsLink p) = is_link_rules
+rules below (CanRun p) = can_run_rules
+rules below (MakeDir p) = make_dir_rules
+rules below (EnsureDir p) = ensure_dir_rules
+rules below (RemoveDir p) = remove_dir_rules
+rules below (Remove p force deep) = remove_by force deep
+rules below (Touch p) = touch_rules
+rules below (Symlink p target last force) = symlink_by force
+rules below (Move a b) = move_by below
+rules below (PlaceFile p) = place_file_rules
+rules below (PlaceLink p target) = place_link_rules
+rules below (PlaceConf p) = place_conf_rules
+rules below (Discard p) = discard_rules
+rules below (DiscardDir p) = discard_dir_rules
+
+-- whether what is moved is of one of these kinds, where they matter
+abbrev pub is_source : Option Kinds → Kind → Bool
+is_source None k = true
+is_source (Some kinds) k = has kinds k
+
+-- whether a row applies to what is moved and seen
+abbrev pub rule_holds : Kind → Sight → Rule → Bool
+rule_holds source s r = is_source r.source source && holds r.place s
+
+-- what a row comes to
+abbrev pub row_of : Rule → Row
+row_of r = record { number = r.number; answer = r.answer; effect = r.effect }
+
+-- the row that applies, of which there is one
+abbrev pub first_row : List Rule → Kind → Sight → Row
+first_row [] source s = record { number = 0; answer = Failed; effect = Nothing }
+first_row (r ∷ rs) source s = if rule_holds source s r then row_of r else first_row rs source s

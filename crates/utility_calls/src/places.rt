@@ -1,0 +1,95 @@
+ghost use Rattle.std.specs.Prelude.{◌≡◌, ◌≤◌, length};
+ghost use Rattle.std.specs.Option.{option_copied};
+ghost use Rattle.utility_calls.specs.Acts.{path_of, place_of, inner_name, moved, is_prefix, is_below};
+
+use crate::acts::Act;
+use crate::pairs::same_name;
+use script_names::{Name, Path};
+
+impl Act {
+    /// The path of the act; of a move that of what is moved.
+    pub fn path(&self) -> &Path
+        ensures { result.now ≡ path_of self.now }
+    {
+        match self {
+            Act::Exists(p) | Act::IsReg(p) | Act::IsDir(p) | Act::IsLink(p) | Act::CanRun(p) => p,
+            Act::MakeDir(p) | Act::EnsureDir(p) | Act::RemoveDir(p) | Act::Touch(p) => p,
+            Act::Remove { p, .. } | Act::Symlink { p, .. } | Act::PlaceLink { p, .. } => p,
+            Act::Move { a, .. } => a,
+            Act::PlaceFile(p) | Act::PlaceConf(p) | Act::Discard(p) | Act::DiscardDir(p) => p,
+        }
+    }
+
+    /// The path of the place that the act looks at; of a move its second path.
+    pub fn place(&self) -> &Path
+        ensures { result.now.names ≡ place_of self.now }
+    {
+        match self {
+            Act::Exists(p) | Act::IsReg(p) | Act::IsDir(p) | Act::IsLink(p) | Act::CanRun(p) => p,
+            Act::MakeDir(p) | Act::EnsureDir(p) | Act::RemoveDir(p) | Act::Touch(p) => p,
+            Act::Remove { p, .. } | Act::Symlink { p, .. } | Act::PlaceLink { p, .. } => p,
+            Act::Move { b, .. } => b,
+            Act::PlaceFile(p) | Act::PlaceConf(p) | Act::Discard(p) | Act::DiscardDir(p) => p,
+        }
+    }
+
+    /// The name under which a link or a moved thing is put in a directory at that place.
+    pub fn inner_name(&self) -> Option<&Name>
+        ensures { option_copied result ≡ inner_name self.now }
+    {
+        match self {
+            Act::Symlink { last, .. } => Some(last),
+            Act::Move { a, .. } => a.last(),
+            Act::Exists(_) | Act::IsReg(_) | Act::IsDir(_) | Act::IsLink(_) | Act::CanRun(_) =>
+                None,
+            Act::MakeDir(_) | Act::EnsureDir(_) | Act::RemoveDir(_) | Act::Touch(_) => None,
+            Act::Remove { .. } | Act::PlaceLink { .. } => None,
+            Act::PlaceFile(_) | Act::PlaceConf(_) | Act::Discard(_) | Act::DiscardDir(_) => None,
+        }
+    }
+
+    /// The path of what is moved, for a move alone.
+    pub fn moved(&self) -> Option<&Path>
+        ensures { option_copied result ≡ moved self.now }
+    {
+        match self {
+            Act::Move { a, .. } => Some(a),
+            Act::Exists(_) | Act::IsReg(_) | Act::IsDir(_) | Act::IsLink(_) | Act::CanRun(_) =>
+                None,
+            Act::MakeDir(_) | Act::EnsureDir(_) | Act::RemoveDir(_) | Act::Touch(_) => None,
+            Act::Remove { .. } | Act::Symlink { .. } | Act::PlaceLink { .. } => None,
+            Act::PlaceFile(_) | Act::PlaceConf(_) | Act::Discard(_) | Act::DiscardDir(_) => None,
+        }
+    }
+
+    /// Whether a move's second path is below its first.
+    pub fn is_below(&self) -> bool
+        ensures { result ≡ is_below self.now }
+    {
+        match self.moved() {
+            Some(a) => is_prefix(a.names(), self.place().names()),
+            None => false,
+        }
+    }
+}
+
+// Whether names begin others, which have at least one more.
+fn is_prefix(p: &[Name], q: &[Name]) -> bool
+    ensures { result ≡ is_prefix p.now q.now }
+{
+    let mut left = p;
+    let mut right = q;
+    while let [g, more @ ..] = right {
+        match left {
+            [] => return true,
+            [f, rest @ ..] => {
+                if !same_name(f, g) {
+                    return false;
+                }
+                left = rest;
+                right = more;
+            }
+        }
+    }
+    false
+}
