@@ -8,6 +8,12 @@ mod Insides
 mod LongestRuns
 mod Numbers
 mod Pieces
+mod PrintedBytes
+mod PrintedParams
+mod PrintedQuotes
+mod PrintedRedirections
+mod PrintedRuns
+mod PrintedWords
 mod QuotedBytes
 mod Quotes
 mod Skips

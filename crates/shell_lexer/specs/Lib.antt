@@ -14,3 +14,4 @@ pub mod SpelledParts
 pub mod Spelling
 pub mod Text
 pub mod Tiled
+pub mod PrintedLaws
