@@ -11,6 +11,12 @@ mod LongestRuns
 mod MovedReadings
 mod Numbers
 mod Pieces
+mod PrintedBytes
+mod PrintedParams
+mod PrintedQuotes
+mod PrintedRedirections
+mod PrintedRuns
+mod PrintedWords
 mod QuotedBytes
 mod Quotes
 mod Rests

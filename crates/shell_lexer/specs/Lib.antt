@@ -15,3 +15,4 @@ pub mod SpelledParts
 pub mod Spelling
 pub mod Text
 pub mod Tiled
+pub mod PrintedLaws

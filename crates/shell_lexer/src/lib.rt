@@ -12,6 +12,7 @@ mod late;
 mod lexer;
 mod operators;
 mod parts;
+pub mod printed;
 mod runs;
 mod scan;
 mod sight;
