@@ -3,3 +3,4 @@ pub mod Changes
 pub mod Lasts
 pub mod Plans
 pub mod ActRow
+pub mod ActChanges

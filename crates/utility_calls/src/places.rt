@@ -1,10 +1,11 @@
-ghost use Rattle.std.specs.Prelude.{◌≡◌, ◌≤◌, length};
+ghost use Rattle.std.specs.Prelude.{◌≡◌, IfOk};
 ghost use Rattle.std.specs.Option.{option_copied};
-ghost use Rattle.utility_calls.specs.Acts.{path_of, place_of, inner_name, moved, is_prefix, is_below};
+ghost use Rattle.utility_calls.specs.Acts.{path_of, place_of, inner_name, target_of, moved, is_prefix, is_below};
 
 use crate::acts::Act;
 use crate::pairs::same_name;
-use script_names::{Name, Path};
+use script_names::{Bytes, Copied, Memory, Name, Path};
+use std::alloc::Global;
 
 impl Act {
     /// The path of the act; of a move that of what is moved.
@@ -45,6 +46,26 @@ impl Act {
             Act::MakeDir(_) | Act::EnsureDir(_) | Act::RemoveDir(_) | Act::Touch(_) => None,
             Act::Remove { .. } | Act::PlaceLink { .. } => None,
             Act::PlaceFile(_) | Act::PlaceConf(_) | Act::Discard(_) | Act::DiscardDir(_) => None,
+        }
+    }
+
+    /// The target of a link that the act makes, copied; no bytes for every other act.
+    pub fn copy_target(&self, alloc: Global) -> Result<Bytes, Memory>
+        ensures { IfOk result (λ target. target ≡ target_of self.now) }
+    {
+        match self {
+            Act::Symlink { target, .. } => target.copy(alloc),
+            Act::PlaceLink { target, .. } => target.copy(alloc),
+            Act::Exists(_) | Act::IsReg(_) | Act::IsDir(_) | Act::IsLink(_) | Act::CanRun(_) => Ok(
+                Bytes::new(alloc),
+            ),
+            Act::MakeDir(_) | Act::EnsureDir(_) | Act::RemoveDir(_) | Act::Touch(_) => Ok(
+                Bytes::new(alloc),
+            ),
+            Act::Remove { .. } | Act::Move { .. } => Ok(Bytes::new(alloc)),
+            Act::PlaceFile(_) | Act::PlaceConf(_) | Act::Discard(_) | Act::DiscardDir(_) => Ok(
+                Bytes::new(alloc),
+            ),
         }
     }
 

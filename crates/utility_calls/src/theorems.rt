@@ -4,6 +4,8 @@ ghost use Rattle.utility_calls.specs.Applies.{RowApplies, NoOtherApplies, RowsAr
 ghost use Rattle.utility_calls.specs.Changes.{ParentsAreDirs, DirsStayDirs, SoundStaysSound, OnlySuccessChanges};
 ghost use Rattle.utility_calls.specs.Changes.{MakesInDirs, RemovesInDirs};
 ghost use Rattle.utility_calls.specs.ActRows.{RowApplies as ActRowApplies, NoOtherApplies as NoOtherActRow};
+ghost use Rattle.utility_calls.specs.ActChanges.{QuestionsChangeNothing, OnlySuccessesChange, ActsKeepDirs};
+ghost use Rattle.utility_calls.specs.ActChanges.{ChangesHaveNames};
 
 use feature_trees::theorems::puts_are_local;
 
@@ -39,4 +41,13 @@ pub fn trees_stay_trees()
 pub fn one_act_row()
     ensures applies { ActRowApplies }
     ensures alone { NoOtherActRow }
+{}
+
+/// A question has no effect, nor has an act that does not succeed; an act leaves a directory a directory,
+/// and the paths of one that has an effect have names.
+pub fn acts_change_trees()
+    ensures questions { QuestionsChangeNothing }
+    ensures unchanged { OnlySuccessesChange }
+    ensures dir { ActsKeepDirs }
+    ensures named { ChangesHaveNames }
 {}

@@ -1,0 +1,199 @@
+-- The effects of the rows of acts.
+use Rattle.std.proofs.Common.{◌≡◌, ◌≢◌, ℕ, Bool, true, false, ◌&&◌, ◌||◌, if◌then◌else◌, Option, Some, None, List, [], ◌∷◌, ◌++◌, refl, sym, ap, ◌∙◌}
+use Rattle.script_names.specs.declared.reason.Done.{Done}
+use Rattle.script_names.specs.declared.reason.Done.TheVariants as done
+use Rattle.feature_trees.specs.declared.value.Value.{Value}
+use Rattle.feature_trees.specs.declared.value.Value.TheVariants as value
+use Rattle.feature_trees.specs.declared.kind.Kind.{Kind}
+use Rattle.feature_trees.specs.declared.kind.Kind.TheVariants.{Absent, Reg, Link, Other, Dir}
+use Rattle.feature_trees.specs.Tree.{at, entries_of, kind_of, put}
+use Rattle.utility_calls.specs.declared.acts.Act.{Act}
+use Rattle.utility_calls.specs.declared.acts.Act.TheVariants.{Exists, IsReg, IsDir, IsLink, CanRun, MakeDir, EnsureDir, RemoveDir, Remove, Touch, Symlink, Move, PlaceFile, PlaceLink, PlaceConf, Discard, DiscardDir}
+use Rattle.utility_calls.specs.declared.sights.Sight.{Sight}
+use Rattle.utility_calls.specs.declared.sights.Row.{Row}
+use Rattle.utility_calls.specs.declared.sights.Effect.{Effect}
+use Rattle.utility_calls.specs.declared.sights.Effect.TheVariants.{Nothing, MakesDir, KeepsDir, MakesFile, MakesLink, LinksInside, TakesAway, Moves, MovesInside}
+use Rattle.utility_calls.specs.Rows.{link_on_way}
+use Rattle.utility_calls.specs.Table.{Rule, rules, rule_holds, row_of, first_row, stop, remove_by, symlink_by, move_by}
+use Rattle.utility_calls.specs.Acts.{path_of, place_of, inner_name, target_of, with_name, source_of, is_below, second_link, by_way, by_slash, slash_row, sight_on, own_row, row, effect_on, is_question, tree_after, IsPerformed}
+
+-- ---- what holds of all rows of a table holds of the one that applies
+
+abbrev all_rules : (Row → Bool) → List Rule → Bool
+all_rules p [] = true
+all_rules p (r ∷ rs) = p (row_of r) && all_rules p rs
+
+both_true : (a b : Bool) → (a && b) ≡ true → (a ≡ true) × (b ≡ true)
+both_true true b e = (refl, e)
+both_true false b e = absurd (cc)
+
+first_all : (p : Row → Bool) (rs : List Rule) (k : Kind) (s : Sight) → p (record { number = 0; answer = done.Failed; effect = Nothing }) ≡ true
+    → all_rules p rs ≡ true → p (first_row rs k s) ≡ true
+first_all p [] k s none all = none
+first_all p (r ∷ rs) k s none all =
+    let h = both_true (p (row_of r)) (all_rules p rs) all in
+    chosen (rule_holds k s r) (row_of r) (first_row rs k s) h.0 (first_all p rs k s none h.1)
+  where
+    chosen : (b : Bool) (x y : Row) → p x ≡ true → p y ≡ true → p (if b then x else y) ≡ true
+    chosen true x y hx hy = hx
+    chosen false x y hx hy = hy
+
+module _ (p : Row → Bool) (stops : (n : ℕ) → p (record { number = n; answer = stop; effect = Nothing }) ≡ true) (slashes : p slash_row ≡ true)
+    (none : p (record { number = 0; answer = done.Failed; effect = Nothing }) ≡ true) where
+  way_all : (o : Option ℕ) (r : Row) → p r ≡ true → p (by_way o r) ≡ true
+  way_all None r h = h
+  way_all (Some n) r h = stops n
+
+  slash_all : (s : Bool) (k : Kind) (r : Row) → p r ≡ true → p (by_slash s k r) ≡ true
+  slash_all false k r h = h
+  slash_all true Absent r h = h
+  slash_all true Reg r h = slashes
+  slash_all true Link r h = slashes
+  slash_all true Other r h = slashes
+  slash_all true Dir r h = h
+
+  pub row_all : (act : Act) (tree : Value) → all_rules p (rules (is_below act) act) ≡ true → p (row act tree) ≡ true
+  row_all act tree all =
+      way_all (link_on_way 0 tree (path_of act).names) _
+      (slash_all (path_of act).slash (kind_of (at tree (path_of act).names)) _
+      (way_all (second_link act tree) (own_row act tree) (first_all p (rules (is_below act) act) (source_of act tree) (sight_on act tree) none all)))
+
+-- ---- which rows have an effect
+
+abbrev is_nothing : Effect → Bool
+is_nothing Nothing = true
+is_nothing MakesDir = false
+is_nothing KeepsDir = false
+is_nothing MakesFile = false
+is_nothing MakesLink = false
+is_nothing LinksInside = false
+is_nothing TakesAway = false
+is_nothing Moves = false
+is_nothing MovesInside = false
+
+nothing_is : (e : Effect) → is_nothing e ≡ true → e ≡ Nothing
+nothing_is Nothing h = refl
+nothing_is MakesDir h = cc
+nothing_is KeepsDir h = cc
+nothing_is MakesFile h = cc
+nothing_is MakesLink h = cc
+nothing_is LinksInside h = cc
+nothing_is TakesAway h = cc
+nothing_is Moves h = cc
+nothing_is MovesInside h = cc
+
+abbrev is_ok : Done → Bool
+is_ok done.Ok = true
+is_ok done.Failed = false
+is_ok (done.Stopped why) = false
+
+ok_is : (d : Done) → is_ok d ≡ true → d ≡ done.Ok
+ok_is done.Ok h = refl
+ok_is done.Failed h = cc
+ok_is (done.Stopped why) h = cc
+
+abbrev leaves : Row → Bool
+leaves r = is_nothing r.effect
+
+abbrev succeeds : Row → Bool
+succeeds r = is_ok r.answer || is_nothing r.effect
+
+question_leaves : (act : Act) → is_question act ≡ true → all_rules leaves (rules (is_below act) act) ≡ true
+question_leaves (Exists p) h = refl
+question_leaves (IsReg p) h = refl
+question_leaves (IsDir p) h = refl
+question_leaves (IsLink p) h = refl
+question_leaves (CanRun p) h = refl
+question_leaves (MakeDir p) h = cc
+question_leaves (EnsureDir p) h = cc
+question_leaves (RemoveDir p) h = cc
+question_leaves (Remove p force deep) h = cc
+question_leaves (Touch p) h = cc
+question_leaves (Symlink p target last force) h = cc
+question_leaves (Move a b) h = cc
+question_leaves (PlaceFile p) h = cc
+question_leaves (PlaceLink p target) h = cc
+question_leaves (PlaceConf p) h = cc
+question_leaves (Discard p) h = cc
+question_leaves (DiscardDir p) h = cc
+
+removes_succeed : (force deep : Bool) → all_rules succeeds (remove_by force deep) ≡ true
+removes_succeed false false = refl
+removes_succeed false true = refl
+removes_succeed true false = refl
+removes_succeed true true = refl
+
+links_succeed : (force : Bool) → all_rules succeeds (symlink_by force) ≡ true
+links_succeed false = refl
+links_succeed true = refl
+
+moves_succeed : (below : Bool) → all_rules succeeds (move_by below) ≡ true
+moves_succeed false = refl
+moves_succeed true = refl
+
+all_succeed : (act : Act) → all_rules succeeds (rules (is_below act) act) ≡ true
+all_succeed (Exists p) = refl
+all_succeed (IsReg p) = refl
+all_succeed (IsDir p) = refl
+all_succeed (IsLink p) = refl
+all_succeed (CanRun p) = refl
+all_succeed (MakeDir p) = refl
+all_succeed (EnsureDir p) = refl
+all_succeed (RemoveDir p) = refl
+all_succeed (Remove p force deep) = removes_succeed force deep
+all_succeed (Touch p) = refl
+all_succeed (Symlink p target last force) = links_succeed force
+all_succeed (Move a b) = moves_succeed (is_below (Move a b))
+all_succeed (PlaceFile p) = refl
+all_succeed (PlaceLink p target) = refl
+all_succeed (PlaceConf p) = refl
+all_succeed (Discard p) = refl
+all_succeed (DiscardDir p) = refl
+
+pub question_row : (act : Act) (tree : Value) → is_question act ≡ true → (row act tree).effect ≡ Nothing
+question_row act tree q = nothing_is (row act tree).effect (row_all leaves (λ n. refl) refl refl act tree (question_leaves act q))
+
+either_true : (a b : Bool) → (a ≡ true → ⊥) → (a || b) ≡ true → b ≡ true
+either_true true b na h = absurd (na refl)
+either_true false b na h = h
+
+pub failed_row : (act : Act) (tree : Value) → (row act tree).answer ≢ done.Ok → (row act tree).effect ≡ Nothing
+failed_row act tree ne =
+    let r = row act tree in
+    nothing_is r.effect (either_true (is_ok r.answer) (is_nothing r.effect) (λ h. ne (ok_is r.answer h))
+    (row_all succeeds (λ n. refl) refl refl act tree (all_succeed act)))
+
+-- ---- a directory stays one
+
+put_dir : (v w : Value) (names : List (List ℕ)) → names ≢ [] → kind_of (put v names w) ≡ Dir
+put_dir v w [] ne = absurd (ne refl)
+put_dir v w (f ∷ names) ne = refl
+
+put_dir_with : (v w : Value) (names : List (List ℕ)) (o : Option (List ℕ)) → names ≢ [] → kind_of (put v (with_name names o) w) ≡ Dir
+put_dir_with v w [] o ne = absurd (ne refl)
+put_dir_with v w (f ∷ names) None ne = refl
+put_dir_with v w (f ∷ names) (Some g) ne = refl
+
+effect_dir : (e : Effect) (act : Act) (tree : Value) → (e ≢ Nothing → ((path_of act).names ≢ []) × (place_of act ≢ [])) → kind_of tree ≡ Dir → kind_of (effect_on e act tree) ≡ Dir
+effect_dir Nothing act tree h t = t
+effect_dir MakesDir act tree h t = put_dir tree (value.Dir []) (path_of act).names (h (λ e. cc)).0
+effect_dir KeepsDir act tree h t = put_dir tree (value.Dir (entries_of (at tree (path_of act).names))) (path_of act).names (h (λ e. cc)).0
+effect_dir MakesFile act tree h t = put_dir tree value.Reg (path_of act).names (h (λ e. cc)).0
+effect_dir MakesLink act tree h t = put_dir tree (value.Link (target_of act)) (path_of act).names (h (λ e. cc)).0
+effect_dir LinksInside act tree h t = put_dir_with tree (value.Link (target_of act)) (path_of act).names (inner_name act) (h (λ e. cc)).0
+effect_dir TakesAway act tree h t = put_dir tree value.Absent (path_of act).names (h (λ e. cc)).0
+effect_dir Moves act tree h t =
+    put_dir (put tree (path_of act).names value.Absent) (at tree (path_of act).names) (place_of act) (h (λ e. cc)).1
+effect_dir MovesInside act tree h t =
+    put_dir_with (put tree (path_of act).names value.Absent) (at tree (path_of act).names) (place_of act) (inner_name act) (h (λ e. cc)).1
+
+-- the paths of an act that has an effect have names
+pub named : (act : Act) (tree : Value) → IsPerformed act → (row act tree).effect ≢ Nothing → ((path_of act).names ≢ []) × (place_of act ≢ [])
+named act tree performed ne = by (is_question act) refl
+  where
+    by : (b : Bool) → is_question act ≡ b → ((path_of act).names ≢ []) × (place_of act ≢ [])
+    by true q = absurd (ne (question_row act tree q))
+    by false q = performed.0 q
+
+pub dir_stays : (act : Act) (tree : Value) → IsPerformed act → kind_of tree ≡ Dir → kind_of (tree_after act tree) ≡ Dir
+dir_stays act tree performed t = effect_dir (row act tree).effect act tree (named act tree performed) t

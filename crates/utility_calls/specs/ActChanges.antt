@@ -1,0 +1,28 @@
+-- What holds of the tree that an act leaves.
+use Rattle.std.specs.Prelude.{◌≡◌, ◌≢◌, true, []}
+use Rattle.script_names.specs.declared.reason.Done.TheVariants as done
+use Rattle.feature_trees.specs.declared.value.Value.{Value}
+use Rattle.feature_trees.specs.declared.kind.Kind.TheVariants as kind
+use Rattle.feature_trees.specs.Tree.{kind_of}
+use Rattle.utility_calls.specs.declared.acts.Act.{Act}
+use Rattle.utility_calls.specs.declared.sights.Effect.TheVariants.{Nothing}
+use Rattle.utility_calls.specs.Acts.{path_of, place_of, is_question, IsPerformed, row, tree_after}
+
+-- a question has no effect
+abbrev pub QuestionsChangeNothing : Type 0
+QuestionsChangeNothing = (act : Act) (tree : Value) → is_question act ≡ true → (row act tree).effect ≡ Nothing
+
+-- an act that does not succeed has none
+abbrev pub OnlySuccessesChange : Type 0
+OnlySuccessesChange = (act : Act) (tree : Value) → (row act tree).answer ≢ done.Ok → (row act tree).effect ≡ Nothing
+
+-- an act leaves a directory a directory
+abbrev pub ActsKeepDirs : Type 0
+ActsKeepDirs =
+    (act : Act) (tree : Value) → IsPerformed act → kind_of tree ≡ kind.Dir → kind_of (tree_after act tree) ≡ kind.Dir
+
+-- the paths of an act that has an effect have names
+abbrev pub ChangesHaveNames : Type 0
+ChangesHaveNames =
+    (act : Act) (tree : Value) → IsPerformed act → (row act tree).effect ≢ Nothing
+    → ((path_of act).names ≢ []) × (place_of act ≢ [])
