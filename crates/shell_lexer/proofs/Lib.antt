@@ -2,7 +2,7 @@ mod Ahead
 mod Begun
 mod Causes
 mod Cells
-mod CutOnce
+pub mod CutOnce
 mod Fronts
 mod Insides
 mod LongestRuns
@@ -23,4 +23,4 @@ mod SpelledRuns
 mod Steps
 mod Tiles
 mod Unique
-mod Unlimited
+pub mod Unlimited

@@ -1,5 +1,5 @@
 ghost use Rattle.std.specs.Prelude.{◌≡◌, IfOk, IfErr};
-ghost use Rattle.shell_grammar.specs.Spelling.{Spells, Stopped};
+ghost use Rattle.shell_grammar.specs.Spelling.{Spells, SpellsWithin, Stopped};
 ghost use Rattle.shell_parser.specs.Reads.{Caused};
 
 use crate::parser::script;
@@ -12,6 +12,7 @@ use std::alloc::Global;
 /// nesting; a word's substitutions are read behind the word and before the next token.
 pub fn parse(alloc: Global, lexed: &Lexed) -> Result<Script, ParseFault>
     ensures spelled { IfOk result (λ script. Spells lexed.now.end lexed.now.tokens script.body) }
+    ensures within { IfOk result (λ script. SpellsWithin lexed.now.end lexed.now.tokens script.body) }
     ensures strict { IfOk result (λ script. script.strict ≡ lexed.now.strict) }
     ensures fault { IfErr result (Caused (Stopped lexed.now.end lexed.now.tokens)) }
 {
