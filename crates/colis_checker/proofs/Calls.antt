@@ -10,11 +10,11 @@ use Rattle.colis_checker.specs.declared.request.Request.{Request}
 use Rattle.package_files.specs.declared.package_files.Job.{Job}
 use Rattle.colis_checker.specs.declared.deliver.Reply.{Reply}
 use Rattle.colis_checker.specs.declared.deliver.Reply.TheVariants.{Text, Refused, ReadFailed, NoMemory}
-use Rattle.checker_io.specs.Reading.{Asking, answer, Answers}
-use Rattle.colis_checker.specs.Input.{input, file_name}
+use Rattle.colis_checker.specs.Input.{ComesOf, ComesOver, Inputs}
 use Rattle.colis_checker.specs.ErrorLines.{refusal_line, write_failed_line, no_memory_line}
 use Rattle.colis_checker.specs.Delivery.{LineEnds, Delivers}
-use Rattle.colis_checker.specs.Top.{IsReportText, IsRefusal, IsRefusalLine, Replies, Reported, SaidRefusal, SaidReadFailed, FailedToWrite, RanOut, NoneRose, Completes}
+use Rattle.colis_checker.specs.Top.{IsReportText, IsRefusal, IsRefusalLine, Replies, Reported, SaidRefusal, SaidReadFailed, FailedToWrite, RanOut, NoneRose, Completes, Refuses}
+use Rattle.colis_checker.proofs.OneAnswer.{comes_of_once}
 use Rattle.colis_checker.proofs.Took.{took_none}
 
 -- words that fit no form
@@ -177,22 +177,33 @@ status_cases (suc (suc (suc (suc zero)))) le = inr (inr (inl refl))
 status_cases (suc (suc (suc (suc (suc zero))))) le = inr (inr (inr (inl refl)))
 status_cases (suc (suc (suc (suc (suc (suc n)))))) le = inr (inr (inr (inr (omega arith))))
 
--- an answer is not also a refusal
-told_ok : (holds : Option Files) (names : InputFile → List ℕ) (plan : Asking InputFile Refusal Job) (job : Job) (refusal : Refusal) (Q : Type 0)
-    → IfSome holds (λ files. answer (λ file. files (names file)) plan ≡ Err refusal)
-    → IfSome holds (λ files. answer (λ file. files (names file)) plan ≡ Ok job → Q)
-told_ok None names plan job refusal Q told = tt
-told_ok (Some files) names plan job refusal Q told = λ other. absurd (cc)
+-- a job is no refusal
+job_or_refusal : {job : Job} {refusal : Refusal} → ◌≡◌ {A = Result Job Refusal} (Ok job) (Err refusal) → ⊥
+job_or_refusal e = cc
 
-told_err : (holds : Option Files) (names : InputFile → List ℕ) (plan : Asking InputFile Refusal Job) (job : Job) (refusal : Refusal) (Q : Type 0)
-    → IfSome holds (λ files. answer (λ file. files (names file)) plan ≡ Ok job)
-    → IfSome holds (λ files. answer (λ file. files (names file)) plan ≡ Err refusal → Q)
-told_err None names plan job refusal Q told = tt
-told_err (Some files) names plan job refusal Q told = λ other. absurd (cc)
+-- what is refused comes to no job
+told_ok : (request : Request) (holds : Option Files) (job : Job) (refusal : Refusal) (Q : Type 0)
+    → Inputs request holds (Err refusal) → IfSome holds (λ files. ComesOver request files (Ok job) → Q)
+told_ok request None job refusal Q is = tt
+told_ok request (Some files) job refusal Q is = λ other.
+    absurd (job_or_refusal (comes_of_once is.found (Ok job) (Err refusal) (subst (λ r. ComesOf r (Ok job)) is.read.told other) is.comes))
+
+-- what comes to a job is not refused
+told_err : (request : Request) (holds : Option Files) (job : Job) (refusal : Refusal) (Q : Type 0)
+    → Inputs request holds (Ok job) → IfSome holds (λ files. ComesOver request files (Err refusal) → Q)
+told_err request None job refusal Q is = tt
+told_err request (Some files) job refusal Q is = λ other.
+    absurd (job_or_refusal (comes_of_once is.found (Ok job) (Err refusal) is.comes (subst (λ r. ComesOf r (Err refusal)) is.read.told other)))
 
 told_any : (holds : Option Files) (P Q : Files → Type 0) → ((files : Files) → Q files) → IfSome holds (λ files. P files → Q files)
 told_any None P Q q = tt
 told_any (Some files) P Q q = λ _. q files
+
+same_request : {a b : Request} → ◌≡◌ {A = Result Request ℕ} (Ok a) (Ok b) → a ≡ b
+same_request e = cc
+
+request_or_word : {a : Request} {word : ℕ} → ◌≡◌ {A = Result Request ℕ} (Ok a) (Err word) → ⊥
+request_or_word e = cc
 
 module _ (given : Result Request ℕ) (s0 s1 : ShelfState) (o0 o1 e0 e1 : SinkState) (status : ℕ)
     (none : NoneRose s0 s1 o0 o1 e0 e1) (le : status ≤ 6)
@@ -206,15 +217,15 @@ module _ (given : Result Request ℕ) (s0 s1 : ShelfState) (o0 o1 e0 e1 : SinkSt
 
   -- a refusal of a request was by its files
   by_files : (request : Request) (refusal : Refusal) → given ≡ Ok request → IsRefusal given s0.holds refusal
-      → Answers (file_name request) s0.holds (input request) (Err refusal)
+      → Inputs request s0.holds (Err refusal)
   by_files request refusal e is = let P : Result Request ℕ → Type 0 = λ r. IsRefusal r s0.holds refusal in subst P e is
 
   pub call_complete : Completes given s0 status
   call_complete request job e = elim (status_cases status le) [
     | inl a ↦ told_any s0.holds (λ _. _) (λ _. (status ≤ 2) ⊎ (status ≡ 6)) (λ _. inl a)
     | inr b ↦ elim b [
-      | inl c ↦ told_ok s0.holds (file_name request) (input request) job (refused c).is_line.refusal _
-          (by_files request (refused c).is_line.refusal e (refused c).is_line.is_refusal).told
+      | inl c ↦ told_ok request s0.holds job (refused c).is_line.refusal _
+          (by_files request (refused c).is_line.refusal e (refused c).is_line.is_refusal)
       | inr d ↦ elim d [
         | inl f ↦ absurd (none.shelf (read_failed f).rose)
         | inr g ↦ elim g [
@@ -224,3 +235,46 @@ module _ (given : Result Request ℕ) (s0 s1 : ShelfState) (o0 o1 e0 e1 : SinkSt
       ]
     ]
   ]
+
+  -- a report is that of the request
+  by_report : (request : Request) (text : List ℕ) (verdict : ℕ) → given ≡ Ok request → (is : IsReportText given s0.holds text verdict)
+      → Inputs request s0.holds (Ok is.job)
+  by_report request text verdict e is = subst (λ (r : Request). Inputs r s0.holds (Ok is.job)) (same_request (sym is.spelled ∙ e)) is.read
+
+  no_word : (word : ℕ) (text : List ℕ) (verdict : ℕ) → given ≡ Err word → IsReportText given s0.holds text verdict → ⊥
+  no_word word text verdict e is = request_or_word (sym is.spelled ∙ e)
+
+  pub call_refuses : Refuses given s0 status
+  call_refuses = (for_words, for_files)
+    where
+      for_words : (word : ℕ) → given ≡ Err word → (status ≡ 3) ⊎ (status ≡ 6)
+      for_words word e = elim (status_cases status le) [
+        | inl a ↦ absurd (no_word word (reported a).text status e (reported a).is_text)
+        | inr b ↦ elim b [
+          | inl c ↦ inl c
+          | inr d ↦ elim d [
+            | inl f ↦ absurd (none.shelf (read_failed f).rose)
+            | inr g ↦ elim g [
+              | inl h ↦ absurd (not_failed (write_failed h))
+              | inr i ↦ inr i
+            ]
+          ]
+        ]
+      ]
+
+      for_files : (request : Request) (refusal : Refusal) → given ≡ Ok request
+          → IfSome s0.holds (λ files. ComesOver request files (Err refusal) → (status ≡ 3) ⊎ (status ≡ 6))
+      for_files request refusal e = elim (status_cases status le) [
+        | inl a ↦ told_err request s0.holds (reported a).is_text.job refusal _
+            (by_report request (reported a).text status e (reported a).is_text)
+        | inr b ↦ elim b [
+          | inl c ↦ told_any s0.holds (λ _. _) (λ _. (status ≡ 3) ⊎ (status ≡ 6)) (λ _. inl c)
+          | inr d ↦ elim d [
+            | inl f ↦ absurd (none.shelf (read_failed f).rose)
+            | inr g ↦ elim g [
+              | inl h ↦ absurd (not_failed (write_failed h))
+              | inr i ↦ told_any s0.holds (λ _. _) (λ _. (status ≡ 3) ⊎ (status ≡ 6)) (λ _. inr i)
+            ]
+          ]
+        ]
+      ]

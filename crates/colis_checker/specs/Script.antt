@@ -1,78 +1,108 @@
--- A script of one command a line: the first line names the shell, the second sets the strict flag.
-use Rattle.std.specs.Prelude.{◌≡◌, ℕ, ◌+◌, List, [], ◌∷◌, Bool, length, take, drop, Option, Some, None, option_map, Result, Ok, Err, codes, ◌==◌, true, false, if◌then◌else◌}
-use Rattle.std.specs.Str.{bytes_eq}
-use Rattle.std.specs.List.{slice_split}
-use Rattle.utility_calls.specs.declared.act.Act.TheVariants.{Exists, IsDir, MakeDir, Remove}
-use Rattle.utility_calls.specs.declared.act.Planned.{Planned}
-use Rattle.utility_calls.specs.declared.act.Planned.TheVariants.{Known, Ask, Change}
-use Rattle.shell_rules.specs.declared.command.Command.{Command}
-use Rattle.package_files.specs.WordPath.{path_of_word}
-use Rattle.colis_checker.specs.declared.script.ScriptFault.{ScriptFault}
-use Rattle.colis_checker.specs.declared.script.ScriptFault.TheVariants.{Line, Memory}
+-- What the text of a script comes to: commands, or the first fault for which it is refused. A text is cut into tokens, the
+-- tokens are read as a script, and the script is accepted if no unsupported form stands in it.
+use Rattle.std.specs.Prelude.{◌≡◌, ℕ, List, [], length, Result, Ok, Err}
+use Rattle.checker_io.specs.declared.stop.Stop.{Stop}
+use Rattle.checker_io.specs.declared.stop.Stop.TheVariants.{Refused, ReadFailed, NoMemory}
+use Rattle.shell_syntax.specs.declared.form.Form.{Form as FormName}
+use Rattle.shell_syntax.specs.declared.script.Script.{Script}
+use Rattle.shell_lexer.specs.declared.fault.LexFault.{LexFault}
+use Rattle.shell_lexer.specs.declared.fault.LexFault.TheVariants as lexing
+use Rattle.shell_lexer.specs.declared.token.Lexed.{Lexed}
+use Rattle.shell_lexer.specs.Lexed.{Cut, Faulty}
+use Rattle.shell_grammar.specs.declared.fault.ParseFault.{ParseFault}
+use Rattle.shell_grammar.specs.declared.fault.ParseFault.TheVariants as parsing
+use Rattle.shell_grammar.specs.Spelling.{SpellsWithin, Stopped}
+use Rattle.shell_forms.specs.declared.accepted.FormFault.{FormFault}
+use Rattle.shell_forms.specs.declared.accepted.FormFault.TheVariants as accepting
+use Rattle.shell_forms.specs.First.{script_forms, IsFirst}
+use Rattle.shell_rules.specs.declared.command.Command.{Command as Executed}
+use Rattle.colis_checker.specs.declared.faults.InputFile.{InputFile}
+use Rattle.colis_checker.specs.declared.faults.Refusal.{Refusal}
+use Rattle.colis_checker.specs.declared.faults.Refusal.TheVariants.{Usage, TooLong, Lex, Parse, Form, Later}
+use Rattle.colis_checker.specs.declared.commands.CommandsFault.{CommandsFault}
+use Rattle.colis_checker.specs.declared.commands.CommandsFault.TheVariants as executing
+use Rattle.colis_checker.specs.Commands.{script_commands}
 
--- a newline
-abbrev pub is_newline : ℕ → Bool
-is_newline b = b == 10
+-- ---- what a text is
 
--- the last line, where it has a byte
-abbrev pub last_line : List ℕ → List (List ℕ)
-last_line [] = []
-last_line (b ∷ bs) = (b ∷ bs) ∷ []
+-- the text is cut into tokens, which spell the script within 64 levels of nesting
+pub record IsScript (text : List ℕ) (script : Script) : Type 0 where
+  pub lexed : Lexed
+  pub cut : Cut text lexed
+  pub spells : SpellsWithin lexed.end lexed.tokens script.body
+  pub strict : script.strict ≡ lexed.strict
 
--- the parts of a text between its newlines as lines: the last part is one where it has a byte
-abbrev pub lines_of_parts : List (List ℕ) → List (List ℕ)
-lines_of_parts [] = []
-lines_of_parts (part ∷ []) = last_line part
-lines_of_parts (part ∷ next ∷ parts) = part ∷ lines_of_parts (next ∷ parts)
+-- and no unsupported form stands in it
+pub record IsAccepted (text : List ℕ) (script : Script) : Type 0 where
+  pub is_script : IsScript text script
+  pub none : script_forms script.body ≡ []
 
--- the lines of a text, of which the last may lack its newline
-abbrev pub lines_of : List ℕ → List (List ℕ)
-lines_of text = lines_of_parts (slice_split is_newline text)
+-- the text is an accepted script of commands that are executed so far
+pub record IsExecuted (text : List ℕ) (commands : List Executed) : Type 0 where
+  pub script : Script
+  pub accepted : IsAccepted text script
+  pub commands_are : script_commands (length text) script ≡ Ok commands
 
--- The call of a line: `true` succeeds, `false` fails, `test -e P` and `test -d P` ask the tree, `mkdir P` and `rm -f P`
--- change it, and no other line is one.
-abbrev pub call_of : List ℕ → Option Planned
-call_of line =
-    if bytes_eq line (codes "true") then Some (Known true)
-    else (if bytes_eq line (codes "false") then Some (Known false)
-    else (if bytes_eq (take 8 line) (codes "test -e ")
-    then option_map (λ path. Ask (Exists path) false) (path_of_word (drop 8 line))
-    else (if bytes_eq (take 8 line) (codes "test -d ")
-    then option_map (λ path. Ask (IsDir path) false) (path_of_word (drop 8 line))
-    else (if bytes_eq (take 6 line) (codes "mkdir ")
-    then option_map (λ path. Change (MakeDir path)) (path_of_word (drop 6 line))
-    else (if bytes_eq (take 6 line) (codes "rm -f ")
-    then option_map (λ path. Change (Remove path)) (path_of_word (drop 6 line))
-    else None)))))
+-- ---- why a text is refused
 
--- the command of a line that begins at a place, in front of those of the later lines; the first line without one
--- decides
-abbrev pub command_then : ℕ → Option Planned → Result (List Command) ℕ → Result (List Command) ℕ
-command_then place None rest = Err place
-command_then place (Some call) (Ok commands) = Ok (record { at = place; call = call } ∷ commands)
-command_then place (Some call) (Err later) = Err later
+-- the text is cut into tokens, whose reading stops with this fault
+pub record HasSyntaxFault (text : List ℕ) (fault : ParseFault) : Type 0 where
+  pub lexed : Lexed
+  pub cut : Cut text lexed
+  pub stops : Stopped lexed.end lexed.tokens fault
 
--- the commands of lines, of which the first begins at a place; or the place of the first line that is no command
-abbrev pub commands_of : ℕ → List (List ℕ) → Result (List Command) ℕ
-commands_of place [] = Ok []
-commands_of place (line ∷ lines) = command_then place (call_of line) (commands_of (place + length line + 1) lines)
+-- the text is a script, of whose unsupported forms this is the first
+pub record HasForm (text : List ℕ) (form : FormName) (at : ℕ) : Type 0 where
+  pub script : Script
+  pub is_script : IsScript text script
+  pub first : IsFirst (script_forms script.body) (form, at)
 
--- the commands of a script with these lines and so many bytes, or the place of the first line that is not of the form;
--- a line that is missing stands at the end; the first line has 10 bytes with its newline, the first two have 17
-abbrev pub script_lines : ℕ → List (List ℕ) → Result (List Command) ℕ
-script_lines end [] = Err end
-script_lines end (first ∷ []) = if bytes_eq first (codes "#!/bin/sh") then Err end else Err 0
-script_lines end (first ∷ second ∷ lines) =
-    if bytes_eq first (codes "#!/bin/sh")
-    then (if bytes_eq second (codes "set -e") then commands_of 17 lines else Err 10)
-    else Err 0
+-- the text is an accepted script, in which at this offset stands what is not executed so far
+pub record HasLater (text : List ℕ) (at : ℕ) : Type 0 where
+  pub script : Script
+  pub accepted : IsAccepted text script
+  pub later : script_commands (length text) script ≡ Err at
 
--- the commands of a script, or the place of the first line that is not of the form
-abbrev pub script_of : List ℕ → Result (List Command) ℕ
-script_of text = script_lines (length text) (lines_of text)
+-- the text of a file is refused so
+abbrev pub IsRefused : InputFile → List ℕ → Refusal → Type 0
+IsRefused file text (Usage word) = ⊥
+IsRefused file text (TooLong other) = ⊥
+IsRefused file text (Lex other fault) = (other ≡ file) × Faulty text fault
+IsRefused file text (Parse other fault) = (other ≡ file) × HasSyntaxFault text fault
+IsRefused file text (Form other form at) = (other ≡ file) × HasForm text form at
+IsRefused file text (Later other at) = (other ≡ file) × HasLater text at
 
--- what reading a script answers: its commands, or the place of that line, or want of memory
-abbrev pub ScriptGives : Result (List Command) ℕ → Result (List Command) ScriptFault → Type 0
-ScriptGives wanted (Ok commands) = wanted ≡ Ok commands
-ScriptGives wanted (Err (Line place)) = wanted ≡ Err place
-ScriptGives wanted (Err Memory) = Unit {0}
+-- ---- what the code answers
+
+-- the commands, or the refusal, or want of memory
+abbrev pub ScriptGives : InputFile → List ℕ → Result (List Executed) (Stop InputFile Refusal) → Type 0
+ScriptGives file text (Ok commands) = IsExecuted text commands
+ScriptGives file text (Err (Refused refusal)) = IsRefused file text refusal
+ScriptGives file text (Err (ReadFailed other)) = ⊥
+ScriptGives file text (Err NoMemory) = Unit {0}
+
+-- the end of a call whose text has no tokens
+abbrev pub lex_stop : InputFile → LexFault → Stop InputFile Refusal
+lex_stop file (lexing.Nul at) = Refused (Lex file (lexing.Nul at))
+lex_stop file (lexing.Interpreter at) = Refused (Lex file (lexing.Interpreter at))
+lex_stop file (lexing.OpenQuote at) = Refused (Lex file (lexing.OpenQuote at))
+lex_stop file (lexing.OpenSubstitution at) = Refused (Lex file (lexing.OpenSubstitution at))
+lex_stop file (lexing.Unsupported form at) = Refused (Lex file (lexing.Unsupported form at))
+lex_stop file (lexing.Deep at) = Refused (Lex file (lexing.Deep at))
+lex_stop file lexing.Memory = NoMemory
+
+-- the end of a call whose tokens spell no script
+abbrev pub parse_stop : InputFile → ParseFault → Stop InputFile Refusal
+parse_stop file (parsing.Syntax at) = Refused (Parse file (parsing.Syntax at))
+parse_stop file (parsing.Deep at) = Refused (Parse file (parsing.Deep at))
+parse_stop file parsing.Memory = NoMemory
+
+-- the end of a call whose script is not accepted
+abbrev pub form_stop : InputFile → FormFault → Stop InputFile Refusal
+form_stop file (accepting.Form form at) = Refused (Form file form at)
+form_stop file accepting.Memory = NoMemory
+
+-- the end of a call whose script is not executed so far
+abbrev pub commands_stop : InputFile → CommandsFault → Stop InputFile Refusal
+commands_stop file (executing.Later at) = Refused (Later file at)
+commands_stop file executing.Memory = NoMemory

@@ -12,9 +12,9 @@ use Rattle.package_files.specs.declared.package_files.Job.{Job}
 use Rattle.outcome_report.specs.declared.outcome_report.Report.{Report}
 use Rattle.colis_checker.specs.declared.deliver.Reply.{Reply}
 use Rattle.colis_checker.specs.declared.deliver.Reply.TheVariants.{Text, Refused, ReadFailed, NoMemory}
-use Rattle.checker_io.specs.Reading.{Answers, Asks, answer}
+use Rattle.checker_io.specs.Reading.{Asks}
 use Rattle.colis_checker.specs.Words.{form}
-use Rattle.colis_checker.specs.Input.{input, file_name}
+use Rattle.colis_checker.specs.Input.{input, file_name, Inputs, ComesOver}
 use Rattle.outcome_report.specs.OutcomeReport.{AllParts, verdict_of}
 use Rattle.outcome_report.specs.ReportText.{report_text}
 use Rattle.colis_checker.specs.ErrorLines.{refusal_line, read_failed_line, write_failed_line, no_memory_line}
@@ -30,18 +30,18 @@ pub record IsTextOf (job : Job) (text : List ℕ) (status : ℕ) : Type 0 where
 -- In what follows the words were understood as given: a request, or the number of the word at which they are no
 -- command line.
 
--- the same of the job that the request reads
+-- the same of the job that the request comes to
 pub record IsReportText (given : Result Request ℕ) (holds : Option Files) (text : List ℕ) (status : ℕ) : Type 0 where
   pub request : Request
   pub spelled : given ≡ Ok request
   pub job : Job
-  pub read : Answers (file_name request) holds (input request) (Ok job)
+  pub read : Inputs request holds (Ok job)
   pub of_job : IsTextOf job text status
 
 -- the refusal that the words, or else the files, are answered with
 abbrev pub IsRefusal : Result Request ℕ → Option Files → Refusal → Type 0
 IsRefusal (Err word) holds refusal = refusal ≡ Usage word
-IsRefusal (Ok request) holds refusal = Answers (file_name request) holds (input request) (Err refusal)
+IsRefusal (Ok request) holds refusal = Inputs request holds (Err refusal)
 
 -- the names of the files that are read
 abbrev pub names_of : Result Request ℕ → InputFile → List ℕ
@@ -170,16 +170,14 @@ pub record NoneRose (shelf0 shelf1 : ShelfState) (out0 out1 err0 err1 : SinkStat
 -- Where no count rose and the words and the files give a job, the report is written, or memory is missing.
 abbrev pub Completes : Result Request ℕ → ShelfState → ℕ → Type 0
 Completes given shelf status = (request : Request) (job : Job) → given ≡ Ok request
-    → IfSome shelf.holds (λ files. answer (λ file. files (file_name request file)) (input request) ≡ Ok job
-    → (status ≤ 2) ⊎ (status ≡ 6))
+    → IfSome shelf.holds (λ files. ComesOver request files (Ok job) → (status ≤ 2) ⊎ (status ≡ 6))
 
 -- Where no count rose and a refusal applies, it is answered, or memory is missing.
 abbrev pub Refuses : Result Request ℕ → ShelfState → ℕ → Type 0
 Refuses given shelf status =
     ((word : ℕ) → given ≡ Err word → (status ≡ 3) ⊎ (status ≡ 6))
     × ((request : Request) (refusal : Refusal) → given ≡ Ok request
-    → IfSome shelf.holds (λ files. answer (λ file. files (file_name request file)) (input request) ≡ Err refusal
-    → (status ≡ 3) ⊎ (status ≡ 6)))
+    → IfSome shelf.holds (λ files. ComesOver request files (Err refusal) → (status ≡ 3) ⊎ (status ≡ 6)))
 
 -- the words were had, and this holds of what they spell
 abbrev pub OfWords : Result (List (List ℕ)) Memory → (Result Request ℕ → Type 0) → Type 0

@@ -1,16 +1,43 @@
+use shell_grammar::ParseFault;
+use shell_lexer::LexFault;
+use shell_syntax::Form;
+
 /// A file that a request reads.
 #[derive(Clone, Copy, Debug, PartialEq, Eq)]
 pub enum InputFile {
     Postinst,
 }
 
-/// Input that is refused.
+/// Input that is refused; each offset is in bytes from the beginning of the file.
 #[derive(Clone, Copy, Debug, PartialEq, Eq)]
 pub enum Refusal {
     /// The words are no command line; the number of the word at which that shows, counted from 1.
-    Usage { word: u32 },
+    Usage {
+        word: u32,
+    },
     /// The file has more than 1,048,576 bytes.
-    TooLong { file: InputFile },
-    /// The line of the file that begins at this byte is not of the form.
-    Unsupported { file: InputFile, at: u32 },
+    TooLong {
+        file: InputFile,
+    },
+    /// The file's text is not cut into tokens; its first fault.
+    Lex {
+        file: InputFile,
+        fault: LexFault,
+    },
+    /// The file's tokens spell no script; the fault with which their reading stops.
+    Parse {
+        file: InputFile,
+        fault: ParseFault,
+    },
+    /// The first unsupported form of the file's script.
+    Form {
+        file: InputFile,
+        form: Form,
+        at: u32,
+    },
+    /// The file's script is accepted, and what stands at the offset is not executed so far.
+    Later {
+        file: InputFile,
+        at: u32,
+    },
 }

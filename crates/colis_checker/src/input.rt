@@ -1,15 +1,16 @@
-ghost use Rattle.std.specs.Prelude.{◌≡◌, ◌≤◌, length, IfOk, IfSome};
-ghost use Rattle.checker_io.specs.Reading.{Reads, Settles};
-ghost use Rattle.colis_checker.specs.Input.{file_name, content_of, job_of, input};
+ghost use Rattle.std.specs.Prelude.{◌≡◌, IfOk};
+ghost use Rattle.checker_io.specs.Reading.{Reads};
+ghost use Rattle.colis_checker.specs.Input.{file_name, content_of, JobGives, ReadsInput};
 
 use crate::faults::{InputFile, Refusal};
 use crate::request::Request;
-use crate::script::{ScriptFault, read_script};
+use crate::script::read_script;
 use checker_io::{Shelf, Stop, read_content};
 use package_files::{Job, Script};
 use script_names::{Bytes, Memory, Text};
 use std::alloc::Global;
 
+// How many bytes a file may have.
 const MAX_FILE: usize = 1_048_576;
 
 /// The name of a file of the request.
@@ -30,8 +31,7 @@ fn read_file<S: Shelf>(
     file: InputFile,
     shelf: &mut S,
 ) -> Result<Option<Bytes>, Stop<InputFile, Refusal>>
-    ensures reads { Reads (file_name request.now) (S.state shelf.old) (S.state shelf.new) (content_of file) result }
-    ensures short { IfOk result (λ text. IfSome text (λ bytes. length bytes ≤ 1048576)) }
+    ensures { Reads (file_name request.now) (S.state shelf.old) (S.state shelf.new) (content_of file) result }
 {
     let Ok(name) = make_name(alloc, request, file) else {
         return Err(Stop::NoMemory);
@@ -52,17 +52,15 @@ fn make_job(
     file: InputFile,
     text: &Option<Bytes>,
 ) -> Result<Job, Stop<InputFile, Refusal>>
-    requires { IfSome text.now (λ bytes. length bytes ≤ 1048576) }
-    ensures { Settles (job_of file text.now) result }
+    ensures { JobGives file text.now result }
 {
     match text {
         None => Ok(Job { postinst: None }),
-        Some(bytes) => match read_script(alloc, bytes.as_slice()) {
+        Some(bytes) => match read_script(alloc, file, bytes.as_slice()) {
             Ok(commands) => Ok(Job {
                 postinst: Some(Script { commands }),
             }),
-            Err(ScriptFault::Line { at }) => Err(Stop::Refused(Refusal::Unsupported { file, at })),
-            Err(ScriptFault::Memory) => Err(Stop::NoMemory),
+            Err(stop) => Err(stop),
         },
     }
 }
@@ -73,11 +71,14 @@ pub fn read_job<S: Shelf>(
     request: &Request,
     shelf: &mut S,
 ) -> Result<Job, Stop<InputFile, Refusal>>
-    ensures { Reads (file_name request.now) (S.state shelf.old) (S.state shelf.new) (input request.now) result }
+    ensures { ReadsInput request.now (S.state shelf.old) (S.state shelf.new) result }
 {
     let text = match read_file(alloc, request, InputFile::Postinst, shelf) {
         Ok(text) => text,
         Err(stop) => return Err(stop),
     };
-    make_job(alloc, InputFile::Postinst, &text)
+    match make_job(alloc, InputFile::Postinst, &text) {
+        Ok(job) => Ok(job),
+        Err(stop) => Err(stop),
+    }
 }

@@ -4,10 +4,13 @@
 #![tactic(auto)]
 
 mod command_line;
+mod commands;
 mod deliver;
 mod error_lines;
 mod faults;
 mod input;
+mod plain_calls;
+mod plain_paths;
 mod request;
 mod script;
 #[cfg(test)]

@@ -1,9 +1,11 @@
+mod paths;
 mod reports;
 
 use crate::top::run_words;
 use checker_io::{MemShelf, MemSink};
 use reports::NOTHING;
 use script_names::{List, Text};
+use std::alloc::{AllocError, Global};
 use std::process::Abort;
 use std::test::Fail;
 
@@ -78,208 +80,225 @@ const TOO_DEEP: &[u8] = b"#!/bin/sh\nset -e\ntest -e \
     /a/a/a/a/a/a/a/a/a/a/a/a/a/a/a/a/a/a/a/a/a/a/a/a/a/a/a/a/a/a/a/a/a\
     /a/a/a/a/a/a/a/a/a/a/a/a/a/a/a/a/a/a/a/a/a/a/a/a/a/a/a/a/a/a/a/a\n";
 
-// The words, the script, and the one line on standard error; the status is 3.
-const REFUSED: &[(&[&str], &[u8], &[u8])] = &[
-    (&[], b"", b"colis: usage: word 1\n"),
-    (&["run"], b"", b"colis: usage: word 1\n"),
-    (&["Check", "p"], b"", b"colis: usage: word 1\n"),
-    (&["check"], b"", b"colis: usage: word 2\n"),
-    (&["check", "-x"], b"", b"colis: usage: word 2\n"),
-    (&["check", "--"], b"", b"colis: usage: word 2\n"),
-    (&["check", "p", "q"], b"", b"colis: usage: word 3\n"),
-    (&["check", "p", "--json"], b"", b"colis: usage: word 3\n"),
-    (
-        &["check", "p"],
-        b"",
-        b"colis: p/postinst: unsupported line at 0\n",
-    ),
-    (
-        &["check", "p"],
-        b"#!/bin/sh",
-        b"colis: p/postinst: unsupported line at 9\n",
-    ),
-    (
-        &["check", "p"],
-        b"#!/bin/sh\n",
-        b"colis: p/postinst: unsupported line at 10\n",
-    ),
-    (
-        &["check", "p"],
-        b"#!/bin/sh -e\nset -e\n",
-        b"colis: p/postinst: unsupported line at 0\n",
-    ),
-    (
-        &["check", "p"],
-        b"#!/bin/bash\nset -e\n",
-        b"colis: p/postinst: unsupported line at 0\n",
-    ),
-    (
-        &["check", "p"],
-        b"#!/bin/sh\nset -e \n",
-        b"colis: p/postinst: unsupported line at 10\n",
-    ),
-    (
-        &["check", "p"],
-        b"#!/bin/sh\ntrue\n",
-        b"colis: p/postinst: unsupported line at 10\n",
-    ),
-    (
-        &["check", "p"],
-        b"#!/bin/sh\nset -e\nls\n",
-        b"colis: p/postinst: unsupported line at 17\n",
-    ),
-    (
-        &["check", "p"],
-        b"#!/bin/sh\nset -e\n\n",
-        b"colis: p/postinst: unsupported line at 17\n",
-    ),
-    (
-        &["check", "p"],
-        b"#!/bin/sh\nset -e\ntrue\n\ntrue\n",
-        b"colis: p/postinst: unsupported line at 22\n",
-    ),
-    (
-        &["check", "p"],
-        b"#!/bin/sh\nset -e\ntrue \n",
-        b"colis: p/postinst: unsupported line at 17\n",
-    ),
-    (
-        &["check", "p"],
-        b"#!/bin/sh\nset -e\nset -e\n",
-        b"colis: p/postinst: unsupported line at 17\n",
-    ),
-    (
-        &["check", "p"],
-        b"#!/bin/sh\nset -e\ntrue\nfalse\nTrue\n",
-        b"colis: p/postinst: unsupported line at 28\n",
-    ),
-    (
-        &["check", "p"],
-        b"#!/bin/sh\nset -e\ntest -e /\n",
-        b"colis: p/postinst: unsupported line at 17\n",
-    ),
-    (
-        &["check", "p"],
-        b"#!/bin/sh\nset -e\ntest -e /srv/a/\n",
-        b"colis: p/postinst: unsupported line at 17\n",
-    ),
-    (
-        &["check", "p"],
-        b"#!/bin/sh\nset -e\ntest -e /srv/..\n",
-        b"colis: p/postinst: unsupported line at 17\n",
-    ),
-    (
-        &["check", "p"],
-        b"#!/bin/sh\nset -e\ntest -e /srv/./a\n",
-        b"colis: p/postinst: unsupported line at 17\n",
-    ),
-    (
-        &["check", "p"],
-        b"#!/bin/sh\nset -e\ntest -e srv\n",
-        b"colis: p/postinst: unsupported line at 17\n",
-    ),
-    (
-        &["check", "p"],
-        b"#!/bin/sh\nset -e\ntest -e /srv//a\n",
-        b"colis: p/postinst: unsupported line at 17\n",
-    ),
-    (
-        &["check", "p"],
-        b"#!/bin/sh\nset -e\ntest -e  /srv\n",
-        b"colis: p/postinst: unsupported line at 17\n",
-    ),
-    (
-        &["check", "p"],
-        b"#!/bin/sh\nset -e\ntest -e /srv/a~\n",
-        b"colis: p/postinst: unsupported line at 17\n",
-    ),
-    (
-        &["check", "p"],
-        b"#!/bin/sh\nset -e\ntest -f /srv\n",
-        b"colis: p/postinst: unsupported line at 17\n",
-    ),
-    (
-        &["check", "p"],
-        b"#!/bin/sh\nset -e\ntest -e\n",
-        b"colis: p/postinst: unsupported line at 17\n",
-    ),
-    (
-        &["check", "p"],
-        TOO_DEEP,
-        b"colis: p/postinst: unsupported line at 17\n",
-    ),
-    (
-        &["check", "p"],
-        b"#!/bin/sh\nset -e\nmkdir\n",
-        b"colis: p/postinst: unsupported line at 17\n",
-    ),
-    (
-        &["check", "p"],
-        b"#!/bin/sh\nset -e\nmkdir /\n",
-        b"colis: p/postinst: unsupported line at 17\n",
-    ),
-    (
-        &["check", "p"],
-        b"#!/bin/sh\nset -e\nmkdir /srv/a/\n",
-        b"colis: p/postinst: unsupported line at 17\n",
-    ),
-    (
-        &["check", "p"],
-        b"#!/bin/sh\nset -e\nmkdir  /srv/a\n",
-        b"colis: p/postinst: unsupported line at 17\n",
-    ),
-    (
-        &["check", "p"],
-        b"#!/bin/sh\nset -e\nmkdir -p /srv/a\n",
-        b"colis: p/postinst: unsupported line at 17\n",
-    ),
-    (
-        &["check", "p"],
-        b"#!/bin/sh\nset -e\nmkdir /srv/a /srv/b\n",
-        b"colis: p/postinst: unsupported line at 17\n",
-    ),
-    (
-        &["check", "p"],
-        b"#!/bin/sh\nset -e\nrm -f\n",
-        b"colis: p/postinst: unsupported line at 17\n",
-    ),
-    (
-        &["check", "p"],
-        b"#!/bin/sh\nset -e\nrm -f /\n",
-        b"colis: p/postinst: unsupported line at 17\n",
-    ),
-    (
-        &["check", "p"],
-        b"#!/bin/sh\nset -e\nrm /srv/a\n",
-        b"colis: p/postinst: unsupported line at 17\n",
-    ),
-    (
-        &["check", "p"],
-        b"#!/bin/sh\nset -e\nrm -rf /srv/a\n",
-        b"colis: p/postinst: unsupported line at 17\n",
-    ),
-    (
-        &["check", "p"],
-        b"#!/bin/sh\nset -e\nrm -f /srv/a/\n",
-        b"colis: p/postinst: unsupported line at 17\n",
-    ),
-    (
-        &["check", "p"],
-        b"#!/bin/sh\nset -e\nrmdir /srv/a\n",
-        b"colis: p/postinst: unsupported line at 17\n",
-    ),
-    (
-        &["check", "p"],
-        b"#!/bin/sh\nset -e\ntrue\r\n",
-        b"colis: p/postinst: unsupported line at 17\n",
-    ),
+// Words that are no command line, and the one line on standard error; the status is 3.
+const WORDS: &[(&[&str], &[u8])] = &[
+    (&[], b"colis: usage: word 1\n"),
+    (&["run"], b"colis: usage: word 1\n"),
+    (&["Check", "p"], b"colis: usage: word 1\n"),
+    (&["check"], b"colis: usage: word 2\n"),
+    (&["check", "-x"], b"colis: usage: word 2\n"),
+    (&["check", "--"], b"colis: usage: word 2\n"),
+    (&["check", "p", "q"], b"colis: usage: word 3\n"),
+    (&["check", "p", "--json"], b"colis: usage: word 3\n"),
 ];
 
+// A script, and what the one line on standard error says of it; the status is 3.
+const REFUSED: &[(&[u8], &[u8])] = &[
+    (b"", b"interpreter not accepted"),
+    (b"#!/bin/sh-e\n", b"interpreter not accepted"),
+    (b"#!/usr/bin/perl\n", b"interpreter not accepted"),
+    (b"#!/bin/zsh\0\n", b"NUL byte at 10"),
+    (b"#!/bin/sh\nset -e\ntrue\0\n", b"NUL byte at 21"),
+    (b"#!/bin/sh\necho 'a\n", b"open quote at 15"),
+    (b"#!/bin/sh\nset -e\ntrue \"a", b"open quote at 22"),
+    (b"#!/bin/sh\nx=$(true\n", b"open substitution at 12"),
+    (
+        b"#!/bin/sh\ncat <<EOF\nx\nEOF\n",
+        b"unsupported heredoc at 14",
+    ),
+    (b"#!/bin/sh\nx=$((1))\n", b"unsupported arith at 12"),
+    (b"#!/bin/sh\ntrue &\n", b"unsupported background at 15"),
+    (b"#!/bin/sh\nx=`a`\n", b"unsupported backquote at 12"),
+    (b"#!/bin/sh\necho ${x%a}\n", b"unsupported param at 15"),
+    (b"#!/bin/sh\necho $@\n", b"unsupported all-args at 15"),
+    (b"#!/bin/sh\necho >x\n", b"unsupported redirect at 15"),
+    (b"#!/bin/sh\necho ~\n", b"unsupported tilde at 15"),
+    (b"#!/bin/sh\necho {a,b}\n", b"unsupported brace at 15"),
+    (
+        b"#!/bin/sh\necho $(case)\n",
+        b"unsupported subst-case at 17",
+    ),
+    (b"#!/bin/sh\nfi\n", b"syntax at 10"),
+    (b"#!/bin/sh\nset -e\ntrue ;; true\n", b"syntax at 22"),
+    (b"#!/bin/sh\nset -u\n", b"unsupported option at 10"),
+    (b"#!/bin/sh\nIFS=x\n", b"unsupported ifs at 10"),
+    (b"#!/bin/sh\nx=1 set -e\n", b"unsupported prefix at 10"),
+    (b"#!/bin/sh\nexport $x\n", b"unsupported export at 10"),
+    (b"#!/bin/sh\nbreak\n", b"unsupported loop-exit at 10"),
+    (b"#!/bin/sh\nreturn\n", b"unsupported return at 10"),
+    (
+        b"#!/bin/sh\ntrue && f() { true; }\n",
+        b"unsupported function-place at 18",
+    ),
+    (
+        b"#!/bin/sh\nf() { true; }; f() { true; }\n",
+        b"unsupported function-twice at 25",
+    ),
+    (
+        b"#!/bin/sh\nrm() { true; }\n",
+        b"unsupported function-name at 10",
+    ),
+    (b"#!/bin/sh\nf() { f; }\n", b"unsupported call-order at 16"),
+    (b"#!/bin/sh\nls\nset -u\n", b"unsupported option at 13"),
+];
+
+// A script of which something is not executed so far, and the byte offset of that.
+const LATER: &[(&[u8], &[u8])] = &[
+    (b"#!/bin/sh", b"9"),
+    (b"#!/bin/sh\n", b"10"),
+    (b"#!/bin/sh\n# only a comment\n", b"27"),
+    (b"#!/bin/sh\ntrue\n", b"10"),
+    (b"#!/bin/sh\n\n  true\n", b"13"),
+    (b"#!/bin/sh\nset +e\n", b"10"),
+    (b"#!/bin/sh\nset -e >/dev/null\n", b"10"),
+    (b"#!/bin/sh\nls\nset -e\n", b"10"),
+    (b"#!/bin/sh\ntrue\nls\n", b"15"),
+    (b"#!/bin/sh\ntrue\nset -e\n", b"15"),
+    (b"#!/bin/sh -e\nls\n", b"13"),
+    (b"#!/bin/sh -e\nset -e\nset -e\n", b"20"),
+    (b"#!/bin/sh\nset -e\nls\n", b"17"),
+    (b"#!/bin/sh\nset -e\nset -e\n", b"17"),
+    (b"#!/bin/sh\nset -e\ntrue\nfalse\nTrue\n", b"28"),
+    (b"#!/bin/sh\nset -e\ntrue\r\n", b"17"),
+    (b"#!/bin/sh\nset -e\ntrue a\n", b"17"),
+    (b"#!/bin/sh\nset -e\n\"true\"\n", b"17"),
+    (b"#!/bin/sh\nset -e\nt\\rue\n", b"17"),
+    (b"#!/bin/sh\nset -e\nfalse >/dev/null\n", b"17"),
+    (b"#!/bin/sh\nset -e\nx=1 true\n", b"17"),
+    (b"#!/bin/sh\nset -e\nx=1\n", b"17"),
+    (b"#!/bin/sh\nset -e\n! false\n", b"17"),
+    (b"#!/bin/sh\nset -e\ntrue | true\n", b"17"),
+    (b"#!/bin/sh\nset -e\ntrue && true\n", b"17"),
+    (b"#!/bin/sh\nset -e\n(true)\n", b"17"),
+    (b"#!/bin/sh\nset -e\nif true; then true; fi\n", b"17"),
+    (b"#!/bin/sh\nset -e\nfor i in a; do true; done\n", b"17"),
+    (b"#!/bin/sh\nset -e\nwhile false; do true; done\n", b"17"),
+    (b"#!/bin/sh\nset -e\ncase a in a) true;; esac\n", b"17"),
+    (b"#!/bin/sh\nset -e\ntrue; f() { true; }\n", b"23"),
+    (b"#!/bin/sh\nset -e\n{ true; true; } | true\n", b"17"),
+    (
+        b"#!/bin/sh\nset -e\ntrue; { true; { false; true; }; }\n",
+        b"25",
+    ),
+    (b"#!/bin/sh\nset -e\n{ false; true; } && true\n", b"19"),
+    (b"#!/bin/sh\nset -e\n[ -e /srv/a ]\n", b"17"),
+    (b"#!/bin/sh\nset -e\ntest -f /srv\n", b"17"),
+    (b"#!/bin/sh\nset -e\ntest -e\n", b"17"),
+    (b"#!/bin/sh\nset -e\ntest -e '/srv/a'\n", b"17"),
+    (b"#!/bin/sh\nset -e\ntest -e /\n", b"17"),
+    (b"#!/bin/sh\nset -e\ntest -e /srv/a/\n", b"17"),
+    (b"#!/bin/sh\nset -e\ntest -e /srv/..\n", b"17"),
+    (b"#!/bin/sh\nset -e\ntest -e /srv/./a\n", b"17"),
+    (b"#!/bin/sh\nset -e\ntest -e srv\n", b"17"),
+    (b"#!/bin/sh\nset -e\ntest -e /srv//a\n", b"17"),
+    (b"#!/bin/sh\nset -e\ntest -e /srv/a~\n", b"17"),
+    (TOO_DEEP, b"17"),
+    (b"#!/bin/sh\nset -e\nmkdir\n", b"17"),
+    (b"#!/bin/sh\nset -e\nmkdir /\n", b"17"),
+    (b"#!/bin/sh\nset -e\nmkdir /srv/a/\n", b"17"),
+    (b"#!/bin/sh\nset -e\nmkdir -p /srv/a\n", b"17"),
+    (b"#!/bin/sh\nset -e\nmkdir /srv/a /srv/b\n", b"17"),
+    (b"#!/bin/sh\nset -e\nmkdir \"$x\"\n", b"17"),
+    (b"#!/bin/sh\nset -e\nrm -f\n", b"17"),
+    (b"#!/bin/sh\nset -e\nrm -f /\n", b"17"),
+    (b"#!/bin/sh\nset -e\nrm /srv/a\n", b"17"),
+    (b"#!/bin/sh\nset -e\nrm -rf /srv/a\n", b"17"),
+    (b"#!/bin/sh\nset -e\nrm -f /srv/a/\n", b"17"),
+    (b"#!/bin/sh\nset -e\nrm -f -- /srv/a\n", b"17"),
+    (b"#!/bin/sh\nset -e\nrmdir /srv/a\n", b"17"),
+];
+
+// Scripts that do nothing.
+const IDLE: &[&[u8]] = &[
+    b"#!/bin/sh\nset -e\n",
+    b"#!/bin/sh\nset -e",
+    b"#!/bin/sh -e\n",
+    b"#!/bin/sh -e",
+    b"#!/bin/sh -e\nset -e\ntrue\n",
+    b"#! /bin/bash\nset -e\n",
+    b"#!/bin/dash -e \ntrue",
+    b"#!/bin/sh\nset -e \n",
+    b"#!/bin/sh\n'set' \"-e\"\n",
+    b"#!/bin/sh\ns\"e\"t -\\e\n",
+    b"#!/bin/sh\n# comment\n\nset -e # strict\n\ttrue\n\n",
+    b"#!/bin/sh\nset -e; true;true ;\n",
+    b"#!/bin/sh\nset -e\ntrue\n\ntrue \n",
+    b"#!/bin/sh\nset -e\n{ true; }\n",
+    b"#!/bin/sh\n{ set -e; true; }\n",
+    b"#!/bin/sh\nset -e\ntr\\\nue\n",
+];
+
+// The line on standard error that says this of `p/postinst`.
+fn line_of(alloc: Global, said: &[u8], at: &[u8]) -> Result<Vec<u8>, AllocError> {
+    let mut line = b"colis: p/postinst: ".to_vec(alloc)?;
+    line.extend_from_slice(said)?;
+    line.extend_from_slice(at)?;
+    line.push(b'\n')?;
+    Ok(line)
+}
+
 #[test]
-fn refused_input(rt: HostRuntime) -> Result<(), Fail> {
-    for row in REFUSED {
-        let row = words_row(row.0, row.1, row.2);
+fn words_of_no_form(rt: HostRuntime) -> Result<(), Fail> {
+    for row in WORDS {
+        let row = words_row(row.0, b"", row.1);
         let out = written(&rt, &row)?;
+        assert_eq!(rt; out.len(), 0);
+    }
+    Ok(())
+}
+
+#[test]
+fn refused_scripts(rt: HostRuntime) -> Result<(), Fail> {
+    for row in REFUSED {
+        let line = line_of(rt.alloc(), row.1, b"")?;
+        let out = written(&rt, &quiet_row(Some(row.0), 3, line.as_slice()))?;
+        assert_eq!(rt; out.len(), 0);
+    }
+    Ok(())
+}
+
+#[test]
+fn scripts_that_are_executed_later(rt: HostRuntime) -> Result<(), Fail> {
+    for row in LATER {
+        let line = line_of(rt.alloc(), b"unsupported later at ", row.1)?;
+        let out = written(&rt, &quiet_row(Some(row.0), 3, line.as_slice()))?;
+        assert_eq!(rt; out.len(), 0);
+    }
+    Ok(())
+}
+
+#[test]
+fn idle_scripts(rt: HostRuntime) -> Result<(), Fail> {
+    for text in IDLE {
+        let out = written(&rt, &quiet_row(Some(text), 0, b""))?;
+        assert_eq!(rt; out.as_slice(), NOTHING);
+    }
+    Ok(())
+}
+
+// A script of 65 pieces, each with its end, round `:`.
+fn nested(alloc: Global, first: &[u8], begin: &[u8], end: &[u8]) -> Result<Vec<u8>, AllocError> {
+    let mut text = first.to_vec(alloc)?;
+    for _ in 0..65u8 {
+        text.extend_from_slice(begin)?;
+    }
+    text.push(b':')?;
+    for _ in 0..65u8 {
+        text.extend_from_slice(end)?;
+    }
+    Ok(text)
+}
+
+#[test]
+fn nested_too_deep(rt: HostRuntime) -> Result<(), Fail> {
+    let rows: [(&[u8], &[u8], &[u8], &[u8]); 2] = [
+        (b"#!/bin/sh\n", b"{ ", b"; }", b"138"),
+        (b"#!/bin/sh\nx=", b"$(", b")", b"140"),
+    ];
+    for (first, begin, end, at) in rows {
+        let text = nested(rt.alloc(), first, begin, end)?;
+        let line = line_of(rt.alloc(), b"nested too deep at ", at)?;
+        let out = written(&rt, &quiet_row(Some(text.as_slice()), 3, line.as_slice()))?;
         assert_eq!(rt; out.len(), 0);
     }
     Ok(())

@@ -1,3 +1,2 @@
-pub mod WordPath
 pub mod PackageFiles
 pub mod JobRun

@@ -1,12 +1,11 @@
 -- Start trees: the trees of systems on which a job may begin.
-use Rattle.std.specs.Prelude.{◌≡◌, ℕ, List, [], ◌∷◌, ◌++◌, codes}
-use Rattle.std.specs.Option.{option_map_or}
-use Rattle.script_names.specs.Paths.{PathParts}
+use Rattle.std.specs.Prelude.{◌≡◌, ℕ, List, [], ◌∷◌, ◌++◌, Option, Some, None, codes}
+use Rattle.script_names.specs.declared.path.PathFault.{PathFault}
+use Rattle.script_names.specs.Paths.{PathParts, path_fault, path_of}
 use Rattle.feature_trees.specs.declared.value.Value.{Value}
 use Rattle.feature_trees.specs.declared.kind.Kind.TheVariants.{Dir}
 use Rattle.feature_trees.specs.Tree.{at, kind_of}
 use Rattle.feature_trees.specs.Sound.{IsTree}
-use Rattle.package_files.specs.WordPath.{path_of_word}
 
 -- the usual base: these paths are directories on every system (Filesystem Hierarchy Standard)
 abbrev pub usual_directories : List (List (List ℕ))
@@ -26,9 +25,14 @@ usual_directories =
     ∷ (codes "tmp" ∷ [])
     ∷ []
 
+-- the paths with one more, unless there is a fault
+abbrev pub with_path : Option PathFault → List PathParts → PathParts → List PathParts
+with_path None paths path = paths ++ path ∷ []
+with_path (Some fault) paths path = paths
+
 -- the paths with the one that a word spells, where it spells one
 abbrev pub added : List PathParts → List ℕ → List PathParts
-added paths word = option_map_or (λ path. paths ++ path ∷ []) (path_of_word word) paths
+added paths word = with_path (path_fault word) paths (path_of word)
 
 -- each of these paths is a directory of the tree
 abbrev pub AreDirectories : Value → List (List (List ℕ)) → Type 0

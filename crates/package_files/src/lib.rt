@@ -8,9 +8,7 @@ mod job_run;
 mod package_files;
 #[cfg(test)]
 mod tests;
-mod word_path;
 
 pub use dpkg_scenarios::{Ending, Scenario, ScriptKind, State};
 pub use job_run::{CONFIGURE, CallEnd, Replayed, ScriptCall, ending_of};
 pub use package_files::{Job, Script, start_store};
-pub use word_path::read_path;

@@ -5,10 +5,9 @@ ghost use Rattle.feature_trees.specs.Tree.{at, kind_of};
 ghost use Rattle.clause_solver.specs.Pairs.{HasPair};
 ghost use Rattle.package_files.specs.PackageFiles.{IsStart, added, usual_directories};
 
-use crate::word_path::read_path;
 use clause_solver::Store;
 use feature_trees::{Kind, Kinds};
-use script_names::{List, Memory, Path};
+use script_names::{List, Memory, Path, PathFault};
 use shell_rules::Command;
 use std::alloc::Global;
 
@@ -28,9 +27,17 @@ pub struct Job {
 fn add_path(alloc: Global, paths: &mut List<Path>, word: &[u8]) -> Result<(), Memory>
     ensures { OnOk result (paths.new ≡ added paths.old word.now) }
 {
-    match read_path(alloc, word)? {
-        Some(path) => paths.add(path),
-        None => Ok(()),
+    match Path::read(alloc, word) {
+        Ok(path) => paths.add(path),
+        Err(PathFault::Memory) => Err(Memory),
+        Err(
+            PathFault::Empty
+            | PathFault::Nul
+            | PathFault::DotDot
+            | PathFault::Dot
+            | PathFault::LongName
+            | PathFault::Many,
+        ) => Ok(()),
     }
 }
 

@@ -14,3 +14,4 @@ mod words;
 
 pub use accepted::{Accepted, FormFault, accept};
 pub use place::{Place, Standing};
+pub use words::{is_name, static_text};

@@ -22,7 +22,7 @@ fn bytes_of(part: &Part) -> Option<&Bytes>
 }
 
 /// The bytes of a word without any expansion in it.
-pub(crate) fn static_text(alloc: Global, word: &Word) -> Result<Option<Bytes>, Memory>
+pub fn static_text(alloc: Global, word: &Word) -> Result<Option<Bytes>, Memory>
     ensures { IfOk result (λ text. text ≡ static_of word.now.parts) }
 {
     let mut text = Bytes::new(alloc);
@@ -46,7 +46,7 @@ pub(crate) fn static_name(alloc: Global, words: &[Word]) -> Result<Option<Bytes>
 }
 
 /// Whether the name is this one.
-pub(crate) fn is_name(name: &Option<Bytes>, one: &[u8]) -> bool
+pub fn is_name(name: &Option<Bytes>, one: &[u8]) -> bool
     ensures { result ≡ is_name name.now one.now }
 {
     match name {

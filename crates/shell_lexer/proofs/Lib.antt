@@ -4,7 +4,7 @@ mod BeforeNewline
 mod Begun
 mod Causes
 mod Cells
-mod CutOnce
+pub mod CutOnce
 mod Fronts
 mod Insides
 mod LongestRuns
@@ -34,4 +34,4 @@ mod Steps
 mod Tiles
 mod TwoCuts
 mod Unique
-mod Unlimited
+pub mod Unlimited

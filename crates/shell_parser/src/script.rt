@@ -1,9 +1,9 @@
 ghost use Rattle.std.specs.Prelude.{◌≡◌, IfOk, IfErr};
 ghost use Rattle.shell_grammar.specs.Places.{FirstFault, NoFault};
-ghost use Rattle.shell_grammar.specs.Spelling.{Spells, Stopped};
+ghost use Rattle.shell_grammar.specs.Spelling.{Spells, SpellsWithin, Stopped};
 ghost use Rattle.shell_parser.specs.Reads.{Caused};
 
-use crate::parser::script;
+use crate::parser::lists::script;
 use shell_grammar::ParseFault;
 use shell_lexer::Lexed;
 use shell_syntax::Script;
@@ -15,6 +15,7 @@ use std::alloc::Global;
 /// token; the tokens of a substitution are judged as a list of their own, which ends at the substitution's offset.
 pub fn parse(alloc: Global, lexed: &Lexed) -> Result<Script, ParseFault>
     ensures spelled { IfOk result (λ script. Spells lexed.now.end lexed.now.tokens script.body) }
+    ensures within { IfOk result (λ script. SpellsWithin lexed.now.end lexed.now.tokens script.body) }
     ensures strict { IfOk result (λ script. script.strict ≡ lexed.now.strict) }
     ensures fault { IfErr result (Caused (Stopped lexed.now.end lexed.now.tokens)) }
     ensures place { IfErr result (Caused (FirstFault 0 lexed.now.end lexed.now.tokens)) }
