@@ -1,5 +1,6 @@
 -- A text is read the same way at each offset, but for the offsets of its tokens.
-use Rattle.std.proofs.Common.{◌≡◌, ℕ, zero, suc, ◌+◌, ◌≤◌, Bool, true, false, List, [], ◌∷◌, ◌++◌, length, length-append, refl, sym, ap, subst, arith}
+use Rattle.std.proofs.Common.{◌≡◌, ℕ, zero, suc, ◌+◌, ◌≤◌, Bool, true, false, List, [], ◌∷◌, ◌++◌, length, length-append, refl, sym, ap, subst, arith, not, nat_eq, None}
+use Rattle.std.specs.List.{list_all}
 use Rattle.shell_lexer.specs.declared.fault.LexFault.{LexFault}
 use Rattle.shell_lexer.specs.declared.sight.ByteNote.{ByteNote}
 use Rattle.shell_lexer.specs.declared.sight.ByteNote.TheVariants as note
@@ -7,7 +8,10 @@ use Rattle.shell_lexer.specs.declared.token.Token.{Token}
 use Rattle.shell_lexer.specs.declared.token.RawPart.{RawPart}
 use Rattle.shell_lexer.specs.declared.token.RawPart.TheVariants as part
 use Rattle.shell_lexer.specs.declared.token.TokenKind.TheVariants as token_kind
-use Rattle.shell_lexer.specs.Laws.{IsReadAt}
+use Rattle.shell_lexer.specs.declared.token.Lexed.{Lexed}
+use Rattle.shell_lexer.specs.FirstLine.{nul_of}
+use Rattle.shell_lexer.specs.Laws.{last_is, IsReadAt, with_line}
+use Rattle.shell_lexer.specs.Lexed.{CutBy}
 use Rattle.shell_lexer.specs.Moved.{has_offsets, AreMoved, none, operator, word, PartsAreMoved, no_part, substitution, other}
 use Rattle.shell_lexer.specs.Operators.{End, Passed, Operator, Word, sight}
 use Rattle.shell_lexer.specs.Parts.{Ends, Byte, Piece, AllArgs, DoubleQuote, Substitution}
@@ -18,6 +22,7 @@ use Rattle.shell_lexer.proofs.Ahead.{Behind}
 use Rattle.shell_lexer.proofs.AnyOffset.{moved, moved_append, late_moved, sight_same, look_same, inner_same}
 use Rattle.shell_lexer.proofs.Rests.{passed_rest, operator_rest, byte_rest, piece_rest, all_rest, double_rest, run_rest, inner_byte_rest, inner_piece_rest, inner_all_rest, inner_run_rest}
 use Rattle.shell_lexer.proofs.SpelledParts.{look_seen, inner_seen}
+use Rattle.shell_lexer.proofs.TwoCuts.{cut_apart}
 use Rattle.shell_lexer.proofs.Tiles.{skip_length, word_leave, inner_leave, sub_leave}
 
 piece_other : (inside : Bool) (p : RawPart) (text rest : Bytes) → IsPiece inside p text rest → has_offsets p ≡ false
@@ -207,3 +212,11 @@ readings_move deep bytes at text ts x =
     let all : (at + length text) + bytes ≡ (at + bytes) + length text = omega arith in
     let r = items_moved bytes deep (at + length text) 0 x (omega arith) in
     (r.0, r.1, subst (λ n. IsItems deep n 0 0 0 text (Whole r.0 [])) all r.2)
+
+pub alone_apart : (deep : ℕ → Bool) (text second : Bytes) (l : Lexed) (ts : List Token) → CutBy deep text l → list_all (λ b. not (nat_eq b 10)) text ≡ false → last_is 92 text ≡ false
+    → nul_of second ≡ None → IsReadAt deep 0 second ts
+    → (us : List Token) × AreMoved (length text + 1) ts us × CutBy deep (text ++ 10 ∷ second) (with_line l second us)
+alone_apart deep text second l ts c line last n x =
+    let r = readings_move deep (length text + 1) 0 second ts x in
+    let behind_newline : 0 + (length text + 1) ≡ length text + 1 = omega arith in
+    (r.0, r.1, cut_apart deep text second l r.0 c line last n (subst (λ k. IsReadAt deep k second r.0) behind_newline r.2))

@@ -96,6 +96,14 @@ ReadingsMove =
     (deep : ℕ → Bool) (bytes at : ℕ) (text : Bytes) (ts : List Token)
     → IsReadAt deep at text ts → (us : List Token) × AreMoved bytes ts us × IsReadAt deep (at + bytes) text us
 
+-- so the tokens behind the newline are those of the second text alone, moved
+abbrev pub TextsAloneAreCutApart : Type 0
+TextsAloneAreCutApart =
+    (deep : ℕ → Bool) (text second : Bytes) (l : Lexed) (ts : List Token)
+    → CutBy deep text l → list_all (λ b. not (nat_eq b 10)) text ≡ false → last_is 92 text ≡ false
+    → nul_of second ≡ None → IsReadAt deep 0 second ts
+    → (us : List Token) × AreMoved (length text + 1) ts us × CutBy deep (text ++ 10 ∷ second) (with_line l second us)
+
 -- ---- double quotes
 
 -- a byte that stands for itself in double quotes, whatever stands round it: no NUL, `"`, `$`, backquote or backslash

@@ -4,7 +4,7 @@
 
 ghost use Rattle.std.specs.Prelude.{false, true};
 ghost use Rattle.shell_lexer.specs.Laws.{OneCut, OneCutAtAnyDepth, CutsWithinLimit, OnlyDeepIsRefused};
-ghost use Rattle.shell_lexer.specs.Laws.{CutsAreTiled, OffsetsRise, TextsAreCutApart, ReadingsMove};
+ghost use Rattle.shell_lexer.specs.Laws.{CutsAreTiled, OffsetsRise, TextsAreCutApart, ReadingsMove, TextsAloneAreCutApart};
 ghost use Rattle.shell_lexer.specs.Laws.{QuotesAreOnePart, QuotesAreCut};
 ghost use Rattle.shell_lexer.specs.Laws.{PlainRunsAreLongest, QuotedRunsAreLongest};
 ghost use Rattle.shell_lexer.specs.Laws.{OperatorsAreLongest, RedirectionsAreSpelled, FirstLinesAreSpelled};
@@ -39,6 +39,7 @@ pub fn cuts_are_tiled()
 pub fn texts_are_cut_apart()
     ensures apart { TextsAreCutApart }
     ensures moved { ReadingsMove }
+    ensures alone { TextsAloneAreCutApart }
 {}
 
 /// Double quotes round bytes without `$`, backquote, backslash and `"` are one quoted part that has these bytes (XCU

@@ -1,4 +1,4 @@
-use Rattle.shell_lexer.proofs.MovedReadings.{readings_move}
+use Rattle.shell_lexer.proofs.MovedReadings.{readings_move, alone_apart}
 use Rattle.shell_lexer.proofs.TwoCuts.{cut_apart}
 use Rattle.shell_lexer.proofs.theorems.texts_are_cut_apart.Goals as goal
 
@@ -7,3 +7,6 @@ returns-clause-apart c = cut_apart
 
 pub returns-clause-moved : goal.returns-clause-moved
 returns-clause-moved c = readings_move
+
+pub returns-clause-alone : goal.returns-clause-alone
+returns-clause-alone c = alone_apart
