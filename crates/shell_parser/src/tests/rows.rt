@@ -126,6 +126,8 @@ a >/dev/null b -> (redir 10 (simple 10 (w 10 "a") (w 23 "b")) out-null)
 x=1 >&2 y=2 a -> (redir 10 (simple 10 (= x (w 10 "1")) (= y (w 18 "2")) (w 22 "a")) out-to-err)
 >/dev/null if -> (redir 10 (simple 10 (w 21 "if")) out-null)
 >/dev/null f() -> syntax 22
+>/dev/null (a) -> syntax 21
+>/dev/null { a; } -> syntax 26
 (a) >&2 2>&1 -> (redir 10 (sub 10 (simple 11 (w 11 "a"))) out-to-err err-to-out)
 { a; } >&2 -> (redir 10 (simple 12 (w 12 "a")) out-to-err)
 (a) >&2 b -> syntax 18"#;
@@ -155,6 +157,7 @@ a;; -> syntax 11
 a;N;b -> syntax 13
 a ; ; -> syntax 14
 aN;b -> syntax 12
+aN&& b -> syntax 12
 && a -> syntax 10
 a && -> syntax 14
 a && ;N -> syntax 15
@@ -195,6 +198,7 @@ pub const GROUPS: &str = r#"{ a; } -> (simple 12 (w 12 "a"))
 (a)) -> syntax 13
 { (a) b; } -> syntax 16
 (a) (b) -> syntax 14
+{ a; } b -> syntax 17
 { a; } { b; } -> syntax 17
 { (a) B} -> syntax 16"#;
 
@@ -316,6 +320,8 @@ case a in b) ; ;; esac -> syntax 23
 case a in b) c; ;; ;; esac -> syntax 29
 case a in b) ;; ;; esac -> syntax 26
 case a in b c) ;; esac -> syntax 22
+case a in b) c) ;; esac -> syntax 24
+case a in b) c;N d) ;; esac -> syntax 28
 case a in b|) ;; esac -> syntax 22
 case a in |b) ;; esac -> syntax 20
 case a in () ;; esac -> syntax 21

@@ -1,19 +1,92 @@
-//! A tree on one line: a node is `(`, its tag, its offset, its members with a blank before each, and `)`.
+//! A tree as text: a node is `(`, its name, its offset, its members with a blank before each, and `)`.
 
-use script_names::{Boxed, Bytes, List, Memory};
+use script_names::{Boxed, Bytes, List};
 use shell_syntax::{Assign, CaseArm, Command, IfArm, Key, Link, Part, Redirect, Word};
 use std::alloc::Global;
 
-// A number in decimal, behind a blank.
-pub fn show_number(alloc: Global, out: &mut Bytes, number: u32) -> Result<(), Memory> {
-    let digits = format!(in alloc; " {number}")?;
-    out.extend(digits.as_bytes())
+// A text that grows; `whole` where nothing of it was lost for want of memory.
+#[derive(Drop)]
+pub struct Page {
+    alloc: Global,
+    pub text: Bytes,
+    pub whole: bool,
 }
 
-// The beginning of a node.
-fn show_head(alloc: Global, out: &mut Bytes, head: &str, at: u32) -> Result<(), Memory> {
-    out.extend(head.as_bytes())?;
-    show_number(alloc, out, at)
+impl Page {
+    pub fn new(alloc: Global) -> Page {
+        Page {
+            alloc,
+            text: Bytes::new(alloc),
+            whole: true,
+        }
+    }
+
+    pub fn put(&mut self, more: &[u8]) {
+        if self.text.extend(more).is_err() {
+            self.whole = false;
+        }
+    }
+
+    pub fn byte(&mut self, byte: u8) {
+        self.put(&[byte]);
+    }
+
+    // A number in decimal, behind a blank.
+    pub fn number(&mut self, number: u32) {
+        match format!(in self.alloc; " {number}") {
+            Ok(digits) => self.put(digits.as_bytes()),
+            Err(_) => self.whole = false,
+        }
+    }
+
+    // The beginning of a node.
+    fn head(&mut self, head: &str, at: u32) {
+        self.put(head.as_bytes());
+        self.number(at);
+    }
+
+    // The end of a node.
+    fn close(&mut self) {
+        self.put(b")");
+    }
+
+    // Bytes between two marks; those that are not printed, the marks and a backslash by their number.
+    fn bytes(&mut self, mark: u8, bytes: &Bytes) {
+        self.byte(mark);
+        for byte in bytes.as_slice() {
+            let byte = *byte;
+            if byte < 32 || byte > 126 || byte == b'\\' || byte == b'"' || byte == b'\'' {
+                self.put(b"\\x");
+                self.byte(digit(byte / 16));
+                self.byte(digit(byte % 16));
+            } else {
+                self.byte(byte);
+            }
+        }
+        self.byte(mark);
+    }
+
+    fn key(&mut self, key: &Key) {
+        match key {
+            Key::Named(name) => self.put(name.as_slice()),
+            Key::Arg(number) => self.byte(digit(*number)),
+            Key::Count => self.put(b"#"),
+        }
+    }
+
+    // A parameter; the default, if there is one, behind `:-`.
+    fn param(&mut self, key: &Key, default: &Option<Bytes>, quoted: bool) {
+        self.put(if quoted {
+            b"q$".as_slice()
+        } else {
+            b"$".as_slice()
+        });
+        self.key(key);
+        if let Some(bytes) = default {
+            self.put(b":-");
+            self.bytes(b'"', bytes);
+        }
+    }
 }
 
 // One of 16 digits.
@@ -25,98 +98,49 @@ fn digit(value: u8) -> u8 {
     }
 }
 
-// Bytes between two marks; those that are not printed, the marks and a backslash by their number.
-fn show_bytes(out: &mut Bytes, mark: u8, bytes: &Bytes) -> Result<(), Memory> {
-    out.push(mark)?;
-    for byte in bytes.as_slice() {
-        let byte = *byte;
-        if byte < 32 || byte > 126 || byte == b'\\' || byte == b'"' || byte == b'\'' {
-            out.extend(b"\\x")?;
-            out.push(digit(byte / 16))?;
-            out.push(digit(byte % 16))?;
-        } else {
-            out.push(byte)?;
-        }
-    }
-    out.push(mark)
-}
-
-fn show_key(alloc: Global, out: &mut Bytes, key: &Key) -> Result<(), Memory> {
-    match key {
-        Key::Named(name) => out.extend(name.as_slice()),
-        Key::Arg(number) => {
-            let digits = format!(in alloc; "{number}")?;
-            out.extend(digits.as_bytes())
-        }
-        Key::Count => out.push(b'#'),
-    }
-}
-
 #[cycle(showing)]
-fn show_part(alloc: Global, out: &mut Bytes, part: &Part) -> Result<(), Memory> {
-    out.push(b' ')?;
+fn show_part(page: &mut Page, part: &Part) {
+    page.put(b" ");
     match part {
-        Part::Plain(bytes) => show_bytes(out, b'"', bytes),
-        Part::Quoted(bytes) => show_bytes(out, b'\'', bytes),
+        Part::Plain(bytes) => page.bytes(b'"', bytes),
+        Part::Quoted(bytes) => page.bytes(b'\'', bytes),
         Part::Param {
             key,
             default,
             quoted,
-        } => {
-            out.extend(if *quoted {
-                b"q$".as_slice()
-            } else {
-                b"$".as_slice()
-            })?;
-            show_key(alloc, out, key)?;
-            match default {
-                Some(bytes) => {
-                    out.extend(b":-")?;
-                    show_bytes(out, b'"', bytes)
-                }
-                None => Ok(()),
-            }
-        }
-        Part::All => out.push(b'@'),
+        } => page.param(key, default, *quoted),
+        Part::All => page.put(b"@"),
         Part::Run { at, body, quoted } => {
-            show_head(alloc, out, if *quoted { "(qrun" } else { "(run" }, *at)?;
-            show_command(alloc, out, body.get())?;
-            out.push(b')')
+            page.head(if *quoted { "(qrun" } else { "(run" }, *at);
+            show_command(page, body.get());
+            page.close();
         }
     }
 }
 
 #[cycle(showing)]
-fn show_word(alloc: Global, out: &mut Bytes, word: &Word) -> Result<(), Memory> {
-    show_head(alloc, out, " (w", word.at)?;
+fn show_word(page: &mut Page, word: &Word) {
+    page.head(" (w", word.at);
     for part in word.parts.as_slice() {
-        show_part(alloc, out, part)?;
+        show_part(page, part);
     }
-    out.push(b')')
+    page.close();
 }
 
 #[cycle(showing)]
-fn show_words(alloc: Global, out: &mut Bytes, words: &List<Word>) -> Result<(), Memory> {
-    for word in words.as_slice() {
-        show_word(alloc, out, word)?;
-    }
-    Ok(())
+fn show_assign(page: &mut Page, assign: &Assign) {
+    page.put(b" (= ");
+    page.put(assign.name.as_slice());
+    show_word(page, &assign.value);
+    page.close();
 }
 
 #[cycle(showing)]
-fn show_assign(alloc: Global, out: &mut Bytes, assign: &Assign) -> Result<(), Memory> {
-    out.extend(b" (= ")?;
-    out.extend(assign.name.as_slice())?;
-    show_word(alloc, out, &assign.value)?;
-    out.push(b')')
-}
-
-#[cycle(showing)]
-fn show_commands(alloc: Global, out: &mut Bytes, commands: &List<Command>) -> Result<(), Memory> {
+fn show_commands(page: &mut Page, commands: &List<Command>) {
     for command in commands.as_slice() {
-        show_command(alloc, out, command)?;
+        show_command(page, command);
     }
-    out.push(b')')
+    page.close();
 }
 
 fn redirect_name(redirect: Redirect) -> &'static str {
@@ -130,64 +154,75 @@ fn redirect_name(redirect: Redirect) -> &'static str {
 }
 
 #[cycle(showing)]
-fn show_link(alloc: Global, out: &mut Bytes, link: &Link) -> Result<(), Memory> {
-    out.extend(if link.and {
+fn show_link(page: &mut Page, link: &Link) {
+    page.put(if link.and {
         b" (and".as_slice()
     } else {
         b" (or".as_slice()
-    })?;
-    show_command(alloc, out, &link.command)?;
-    out.push(b')')
+    });
+    show_command(page, &link.command);
+    page.close();
 }
 
 #[cycle(showing)]
-fn show_if_arm(alloc: Global, out: &mut Bytes, arm: &IfArm) -> Result<(), Memory> {
-    out.extend(b" (arm")?;
-    show_command(alloc, out, &arm.cond)?;
-    show_command(alloc, out, &arm.body)?;
-    out.push(b')')
+fn show_if_arm(page: &mut Page, arm: &IfArm) {
+    page.put(b" (arm");
+    show_command(page, &arm.cond);
+    show_command(page, &arm.body);
+    page.close();
 }
 
 #[cycle(showing)]
-fn show_case_arm(alloc: Global, out: &mut Bytes, arm: &CaseArm) -> Result<(), Memory> {
-    out.extend(b" (arm")?;
-    show_words(alloc, out, &arm.patterns)?;
-    show_command(alloc, out, &arm.body)?;
-    out.push(b')')
+fn show_else(page: &mut Page, otherwise: &Option<Boxed<Command>>) {
+    if let Some(body) = otherwise {
+        page.put(b" (else");
+        show_command(page, body.get());
+        page.close();
+    }
+}
+
+#[cycle(showing)]
+fn show_in(page: &mut Page, words: &Option<List<Word>>) {
+    if let Some(words) = words {
+        page.put(b" (in");
+        for word in words.as_slice() {
+            show_word(page, word);
+        }
+        page.close();
+    }
+}
+
+#[cycle(showing)]
+fn show_case_arm(page: &mut Page, arm: &CaseArm) {
+    page.put(b" (arm");
+    for pattern in arm.patterns.as_slice() {
+        show_word(page, pattern);
+    }
+    show_command(page, &arm.body);
+    page.close();
 }
 
 // A node of an offset and one command.
 #[cycle(showing)]
-fn show_one(
-    alloc: Global,
-    out: &mut Bytes,
-    head: &str,
-    at: u32,
-    body: &Boxed<Command>,
-) -> Result<(), Memory> {
-    show_head(alloc, out, head, at)?;
-    show_command(alloc, out, body.get())?;
-    out.push(b')')
+fn show_one(page: &mut Page, head: &str, at: u32, body: &Boxed<Command>) {
+    page.head(head, at);
+    show_command(page, body.get());
+    page.close();
 }
 
 #[cycle(showing)]
-fn show_compound(alloc: Global, out: &mut Bytes, command: &Command) -> Result<(), Memory> {
+fn show_compound(page: &mut Page, command: &Command) {
     match command {
         Command::If {
             at,
             arms,
             otherwise,
         } => {
-            show_head(alloc, out, " (if", *at)?;
+            page.head(" (if", *at);
             for arm in arms.as_slice() {
-                show_if_arm(alloc, out, arm)?;
+                show_if_arm(page, arm);
             }
-            if let Some(body) = otherwise {
-                out.extend(b" (else")?;
-                show_command(alloc, out, body.get())?;
-                out.push(b')')?;
-            }
-            out.push(b')')
+            show_else(page, otherwise);
         }
         Command::For {
             at,
@@ -195,16 +230,43 @@ fn show_compound(alloc: Global, out: &mut Bytes, command: &Command) -> Result<()
             words,
             body,
         } => {
-            show_head(alloc, out, " (for", *at)?;
-            out.push(b' ')?;
-            out.extend(name.as_slice())?;
-            if let Some(words) = words {
-                out.extend(b" (in")?;
-                show_words(alloc, out, words)?;
-                out.push(b')')?;
+            page.head(" (for", *at);
+            page.put(b" ");
+            page.put(name.as_slice());
+            show_in(page, words);
+            show_command(page, body.get());
+        }
+        Command::Case { at, subject, arms } => {
+            page.head(" (case", *at);
+            show_word(page, subject);
+            for arm in arms.as_slice() {
+                show_case_arm(page, arm);
             }
-            show_command(alloc, out, body.get())?;
-            out.push(b')')
+        }
+        _ => page.put(b" ?"),
+    }
+    page.close();
+}
+
+// A command that holds commands in a row, or a loop.
+#[cycle(showing)]
+fn show_row(page: &mut Page, command: &Command) {
+    match command {
+        Command::Chain { first, rest } => {
+            page.put(b" (chain");
+            show_command(page, first.get());
+            for link in rest.as_slice() {
+                show_link(page, link);
+            }
+            page.close();
+        }
+        Command::Pipe { at, parts } => {
+            page.head(" (pipe", *at);
+            show_commands(page, parts);
+        }
+        Command::Seq(commands) => {
+            page.put(b" (seq");
+            show_commands(page, commands);
         }
         Command::While {
             at,
@@ -212,71 +274,52 @@ fn show_compound(alloc: Global, out: &mut Bytes, command: &Command) -> Result<()
             cond,
             body,
         } => {
-            show_head(alloc, out, if *until { " (until" } else { " (while" }, *at)?;
-            show_command(alloc, out, cond.get())?;
-            show_command(alloc, out, body.get())?;
-            out.push(b')')
+            page.head(if *until { " (until" } else { " (while" }, *at);
+            show_command(page, cond.get());
+            show_command(page, body.get());
+            page.close();
         }
-        Command::Case { at, subject, arms } => {
-            show_head(alloc, out, " (case", *at)?;
-            show_word(alloc, out, subject)?;
-            for arm in arms.as_slice() {
-                show_case_arm(alloc, out, arm)?;
-            }
-            out.push(b')')
-        }
-        Command::Sub { at, body } => show_one(alloc, out, " (sub", *at, body),
-        _ => out.extend(b" ?"),
+        _ => show_compound(page, command),
     }
 }
 
 #[cycle(showing)]
-pub fn show_command(alloc: Global, out: &mut Bytes, command: &Command) -> Result<(), Memory> {
+fn show_redirected(page: &mut Page, at: u32, body: &Boxed<Command>, redirects: &List<Redirect>) {
+    page.head(" (redir", at);
+    show_command(page, body.get());
+    for redirect in redirects.as_slice() {
+        page.put(redirect_name(*redirect).as_bytes());
+    }
+    page.close();
+}
+
+#[cycle(showing)]
+pub fn show_command(page: &mut Page, command: &Command) {
     match command {
         Command::Simple { at, assigns, words } => {
-            show_head(alloc, out, " (simple", *at)?;
+            page.head(" (simple", *at);
             for assign in assigns.as_slice() {
-                show_assign(alloc, out, assign)?;
+                show_assign(page, assign);
             }
-            show_words(alloc, out, words)?;
-            out.push(b')')
+            for word in words.as_slice() {
+                show_word(page, word);
+            }
+            page.close();
         }
         Command::Redirected {
             at,
             body,
             redirects,
-        } => {
-            show_head(alloc, out, " (redir", *at)?;
-            show_command(alloc, out, body.get())?;
-            for redirect in redirects.as_slice() {
-                out.extend(redirect_name(*redirect).as_bytes())?;
-            }
-            out.push(b')')
-        }
-        Command::Pipe { at, parts } => {
-            show_head(alloc, out, " (pipe", *at)?;
-            show_commands(alloc, out, parts)
-        }
-        Command::Not { at, body } => show_one(alloc, out, " (not", *at, body),
-        Command::Chain { first, rest } => {
-            out.extend(b" (chain")?;
-            show_command(alloc, out, first.get())?;
-            for link in rest.as_slice() {
-                show_link(alloc, out, link)?;
-            }
-            out.push(b')')
-        }
-        Command::Seq(commands) => {
-            out.extend(b" (seq")?;
-            show_commands(alloc, out, commands)
-        }
+        } => show_redirected(page, *at, body, redirects),
+        Command::Not { at, body } => show_one(page, " (not", *at, body),
+        Command::Sub { at, body } => show_one(page, " (sub", *at, body),
         Command::Define { at, name, body } => {
-            show_head(alloc, out, " (define", *at)?;
-            out.push(b' ')?;
-            out.extend(name.as_slice())?;
-            show_command(alloc, out, body.get())?;
-            out.push(b')')
+            page.head(" (define", *at);
+            page.put(b" ");
+            page.put(name.as_slice());
+            show_command(page, body.get());
+            page.close();
         }
-        _ => show_compound(alloc, out, command),
+        _ => show_row(page, command),
     }
 }
