@@ -1,34 +1,22 @@
 -- Steps over newlines, lists, and-or lists, pipelines and redirections, and a script as a whole.
-use Rattle.std.proofs.Common.{◌≡◌, ℕ, zero, suc, ◌+◌, ◌<◌, ◌≤◌, Bool, true, false, List, [], ◌∷◌, ◌++◌, Option, Some, None, refl, sym, ap, ◌∙◌, subst, arith, Ok, Err, length, drop, append-nil, append_assoc, add-one}
+use Rattle.std.proofs.Common.{◌≡◌, ℕ, ◌+◌, Bool, true, false, List, [], ◌∷◌, ◌++◌, Some, None, refl, sym, ap, ◌∙◌, subst, drop, append-nil}
 use Rattle.shell_grammar.specs.declared.fault.ParseFault.{ParseFault}
-use Rattle.shell_grammar.specs.declared.fault.ParseFault.TheVariants.{Syntax, Deep, Memory}
+use Rattle.shell_grammar.specs.declared.fault.ParseFault.TheVariants.{Syntax}
 use Rattle.shell_grammar.specs.declared.look.Look.{Look}
-use Rattle.shell_grammar.specs.declared.look.Look.TheVariants.{AtEnd, Newline, Semi, DoubleSemi, AndAnd, OrOr, Bar, LeftParen, RightParen, Redirection, Keyword, Name, Assignment, Other}
-use Rattle.shell_grammar.specs.declared.look.Reserved.TheVariants.{Open, Close, Bang, If, Then, Elif, Else, Fi, For, In, Do, Done, While, Until, Case, Esac}
-use Rattle.shell_grammar.specs.declared.form.CommandForm.TheVariants as command
-use Rattle.shell_grammar.specs.declared.form.CompoundForm.TheVariants as compound
-use Rattle.shell_grammar.specs.declared.form.Item.{Item}
-use Rattle.shell_grammar.specs.declared.form.Item.TheVariants as an
-use Rattle.shell_grammar.specs.declared.items.Items.{Items}
+use Rattle.shell_grammar.specs.declared.look.Look.TheVariants.{AtEnd, Newline, Bar, Redirection, Keyword}
+use Rattle.shell_grammar.specs.declared.look.Reserved.TheVariants.{Bang}
 use Rattle.shell_syntax.specs.declared.syntax.Command.{Command}
 use Rattle.shell_syntax.specs.declared.syntax.Command.TheVariants as c
 use Rattle.shell_syntax.specs.declared.syntax.Link.{Link}
-use Rattle.shell_syntax.specs.declared.syntax.IfArm.{IfArm}
-use Rattle.shell_syntax.specs.declared.syntax.CaseArm.{CaseArm}
-use Rattle.shell_syntax.specs.declared.syntax.Word.{Word}
-use Rattle.shell_syntax.specs.declared.syntax.Part.{Part}
-use Rattle.shell_syntax.specs.declared.syntax.Assign.{Assign}
 use Rattle.shell_syntax.specs.declared.redirect.Redirect.{Redirect}
-use Rattle.shell_lexer.specs.declared.token.RawPart.{RawPart, out-RawPart, out-roll-RawPart}
-use Rattle.shell_grammar.specs.Look.{Text, Tokens, look, word, behind, place}
+use Rattle.shell_grammar.specs.Look.{Tokens, look, behind, place}
 use Rattle.shell_grammar.specs.Forms as form
 use Rattle.shell_grammar.specs.Trees as tree
 use Rattle.shell_grammar.specs.Grammar as g
 use Rattle.shell_grammar.specs.Grammar.{Rule, Sign, Is, Opens, AWord, Here, Never, Of, Inside, Tree, Value, Values, Production, production}
-use Rattle.shell_grammar.specs.Reading.{Out, Whole, Stop, turned, Judged, Faultless, Faulty, after, plainly, IsParts, no_parts, plain_part, run_part, run_stops, run_deep, IsRule, rule, IsAll, no_more, one_more, one_stops, IsSign, is, is_not, opens, opens_not, too_deep, a_word, a_word_stops, no_word, here, never, of, inside}
+use Rattle.shell_grammar.specs.Reading.{Out, Whole, Stop, turned, IsRule, rule, is, is_not, here, of}
 use Rattle.shell_grammar.specs.Spelling.{deep_64}
-use Rattle.shell_parser.specs.Reads as r
-use Rattle.shell_parser.specs.Reads.{Caused, Stops, Gives, SignStops, Reads, Takes}
+use Rattle.shell_parser.specs.Reads.{Stops, Gives}
 use Rattle.shell_parser.specs.Reads.{MembersFrom, LinksFrom, BarsFrom, RedirectsFrom}
 use Rattle.shell_parser.proofs.Steps.{list_begins, list_goes, made, ruled, made_stops, rule_stops, more_of, stop_later, stop_here, all_done, there}
 
@@ -155,6 +143,9 @@ module _ {d end : ℕ} where
 
   pub bars_end : (all ts : Tokens) (xs : List Command) (n : ℕ) (t : Command) → n ≡ place end all → t ≡ tree.pipe_of n xs → BarsFrom d end all ts xs → (look ts ≡ Bar → ⊥) → IsRule deep_64 d end g.Piped all (Whole t ts)
   bars_end all ts xs n t h k inv s = subst (λ t. IsRule deep_64 d end g.Piped all (Whole t ts)) (ap (tree.pipe_of (place end all)) (append-nil xs) ∙ ap (λ n. tree.pipe_of n xs) (sym h) ∙ sym k) (inv (Whole [] ts) (made _ (no_bars _ s) (Whole tt ts) all_done))
+
+  pub piped_one : (all ts : Tokens) (x : Command) → IsRule deep_64 d end g.ACommand all (Whole x ts) → (look ts ≡ Bar → ⊥) → IsRule deep_64 d end g.Piped all (Whole x ts)
+  piped_one all ts x a s = bars_end all ts (x ∷ []) (place end all) x refl refl (bars_begin all ts x [] (x ∷ []) refl refl a) s
 
   pub pipeline_bang : (ts : Tokens) (at : ℕ) (r : Tokens) (x y : Command) (n : ℕ) → n ≡ place end (drop at ts) → y ≡ x → look (drop at ts) ≡ Keyword Bang → IsRule deep_64 d end g.Piped (drop (at + 1) ts) (Whole x r) → IsRule deep_64 d end g.Pipeline (drop at ts) (Whole (c.Not n y) r)
   pipeline_bang ts at r x y n h k e a = subst (λ t. IsRule deep_64 d end g.Pipeline (drop at ts) (Whole t r)) (ap (λ n. c.Not n x) (sym h) ∙ ap (c.Not n) (sym k)) (ruled (Keyword Bang) e (Whole (place end (drop at ts), (x, tt)) r) (more_of _ (x, tt) (there ts at e) (more_of x tt (of a) all_done)))

@@ -1,34 +1,20 @@
 -- Steps of words and their parts, and of assignments.
-use Rattle.std.proofs.Common.{◌≡◌, ℕ, zero, suc, ◌+◌, ◌<◌, ◌≤◌, Bool, true, false, List, [], ◌∷◌, ◌++◌, Option, Some, None, refl, sym, ap, ◌∙◌, subst, arith, Ok, Err, length, drop, append-nil, append_assoc, add-one}
+use Rattle.std.proofs.Common.{◌≡◌, ℕ, ◌+◌, ◌<◌, Bool, List, [], ◌∷◌, ◌++◌, Option, Some, None, refl, sym, ap, ◌∙◌, subst, drop, append-nil, append_assoc, add-one}
 use Rattle.shell_grammar.specs.declared.fault.ParseFault.{ParseFault}
 use Rattle.shell_grammar.specs.declared.fault.ParseFault.TheVariants.{Syntax, Deep, Memory}
-use Rattle.shell_grammar.specs.declared.look.Look.{Look}
-use Rattle.shell_grammar.specs.declared.look.Look.TheVariants.{AtEnd, Newline, Semi, DoubleSemi, AndAnd, OrOr, Bar, LeftParen, RightParen, Redirection, Keyword, Name, Assignment, Other}
-use Rattle.shell_grammar.specs.declared.look.Reserved.TheVariants.{Open, Close, Bang, If, Then, Elif, Else, Fi, For, In, Do, Done, While, Until, Case, Esac}
-use Rattle.shell_grammar.specs.declared.form.CommandForm.TheVariants as command
-use Rattle.shell_grammar.specs.declared.form.CompoundForm.TheVariants as compound
-use Rattle.shell_grammar.specs.declared.form.Item.{Item}
-use Rattle.shell_grammar.specs.declared.form.Item.TheVariants as an
-use Rattle.shell_grammar.specs.declared.items.Items.{Items}
+use Rattle.shell_grammar.specs.declared.look.Look.TheVariants.{Assignment}
 use Rattle.shell_syntax.specs.declared.syntax.Command.{Command}
-use Rattle.shell_syntax.specs.declared.syntax.Command.TheVariants as c
-use Rattle.shell_syntax.specs.declared.syntax.Link.{Link}
-use Rattle.shell_syntax.specs.declared.syntax.IfArm.{IfArm}
-use Rattle.shell_syntax.specs.declared.syntax.CaseArm.{CaseArm}
 use Rattle.shell_syntax.specs.declared.syntax.Word.{Word}
 use Rattle.shell_syntax.specs.declared.syntax.Part.{Part}
 use Rattle.shell_syntax.specs.declared.syntax.Assign.{Assign}
-use Rattle.shell_syntax.specs.declared.redirect.Redirect.{Redirect}
 use Rattle.shell_lexer.specs.declared.token.RawPart.{RawPart, out-RawPart, out-roll-RawPart}
 use Rattle.shell_grammar.specs.Look.{Text, Tokens, look, word, behind, place}
-use Rattle.shell_grammar.specs.Forms as form
 use Rattle.shell_grammar.specs.Trees as tree
 use Rattle.shell_grammar.specs.Grammar as g
 use Rattle.shell_grammar.specs.Grammar.{Rule, Sign, Is, Opens, AWord, Here, Never, Of, Inside, Tree, Value, Values, Production, production}
-use Rattle.shell_grammar.specs.Reading.{Out, Whole, Stop, turned, Judged, Faultless, Faulty, after, plainly, IsParts, no_parts, plain_part, run_part, run_stops, run_deep, IsRule, rule, IsAll, no_more, one_more, one_stops, IsSign, is, is_not, opens, opens_not, too_deep, a_word, a_word_stops, no_word, here, never, of, inside}
+use Rattle.shell_grammar.specs.Reading.{Whole, Stop, Judged, Faultless, Faulty, after, plainly, IsParts, no_parts, plain_part, run_part, run_stops, run_deep, IsRule, IsSign, a_word, a_word_stops, no_word}
 use Rattle.shell_grammar.specs.Spelling.{deep_64}
-use Rattle.shell_parser.specs.Reads as r
-use Rattle.shell_parser.specs.Reads.{Caused, Stops, Gives, SignStops, Reads, Takes}
+use Rattle.shell_parser.specs.Reads.{Caused, Stops, Gives, SignStops}
 use Rattle.shell_syntax.specs.declared.key.Key.{Key}
 use Rattle.shell_syntax.specs.declared.syntax.Part.{out-Part, out-roll-Part}
 use Rattle.shell_syntax.specs.declared.syntax.Part.TheVariants as part

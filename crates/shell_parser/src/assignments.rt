@@ -1,7 +1,8 @@
 //! A word NAME=.., cut at its first `=`.
 
 ghost use Rattle.std.specs.Prelude.{◌≡◌, IfOk};
-ghost use Rattle.shell_grammar.specs.Trees.{up_to_equals as up_to_equals_of, behind_equals as behind_equals_of, plain_part_of, rest_of as the_rest_of};
+ghost use Rattle.shell_grammar.specs.Trees.{up_to_equals as up_to_equals_of, behind_equals as behind_equals_of};
+ghost use Rattle.shell_grammar.specs.Trees.{plain_part_of, rest_of as the_rest_of};
 ghost use Rattle.shell_parser.specs.Reads.{raw_text as raw_text_of};
 
 use script_names::{Bytes, List, Memory};
@@ -57,11 +58,11 @@ pub fn behind_equals(text: &[u8]) -> &[u8]
     b"".as_slice()
 }
 
-/// A plain part, if it has a byte.
-pub fn plain_part(alloc: Global, text: &[u8]) -> Result<List<Part>, Memory>
+/// A plain part, if it has a byte, in a list with room for so many parts.
+pub fn plain_part(alloc: Global, text: &[u8], room: usize) -> Result<List<Part>, Memory>
     ensures { IfOk result (λ parts. parts ≡ plain_part_of text.now) }
 {
-    let mut parts = List::new(alloc);
+    let mut parts = List::with_room(alloc, room)?;
     if text.len() == 0 {
         return Ok(parts);
     }

@@ -1,7 +1,12 @@
 //! What the first token makes of a command.
 
 ghost use Rattle.std.specs.Prelude.{◌≡◌, ◌↔◌, IsTrue};
-ghost use Rattle.shell_grammar.specs.Forms.{command_form as command_form_of, compound_form as compound_form_of, item as item_of, has_word as has_word_of, starts as starts_of, loop_word as loop_word_of, is_name_word as is_name_word_of, is_word as is_word_of, is_separator as is_separator_of, link_and as link_and_of, redirection as redirection_of, ends_arm as ends_arm_of, is_token};
+ghost use Rattle.shell_grammar.specs.Forms.{command_form as command_form_of, compound_form as compound_form_of};
+ghost use Rattle.shell_grammar.specs.Forms.{item as item_of, has_word as has_word_of, starts as starts_of};
+ghost use Rattle.shell_grammar.specs.Forms.{loop_word as loop_word_of, is_name_word as is_name_word_of};
+ghost use Rattle.shell_grammar.specs.Forms.{is_word as is_word_of, is_separator as is_separator_of};
+ghost use Rattle.shell_grammar.specs.Forms.{link_and as link_and_of, redirection as redirection_of};
+ghost use Rattle.shell_grammar.specs.Forms.{ends_arm as ends_arm_of, is_token};
 
 use shell_grammar::{CommandForm, CompoundForm, Item, Look, Reserved};
 use shell_syntax::Redirect;

@@ -1,5 +1,6 @@
-//! The script that tokens spell (POSIX.1-2017, XCU 2.10 Shell Grammar). It stands on shell_grammar, which says what that is, and on
-//! shell_lexer and shell_syntax. Begin with `parse`; the parser proper is parser.rt, a function for each rule of the grammar.
+//! The script that tokens spell (POSIX.1-2017, XCU 2.10 Shell Grammar). It stands on shell_grammar, which says what
+//! that is, and on shell_lexer and shell_syntax. Begin with `parse`; the parser proper is the folder parser, with a
+//! function for each rule of the grammar.
 #![tactic(auto)]
 
 mod assignments;

@@ -1,7 +1,11 @@
 //! What stands at a place, and how a word looks.
 
 ghost use Rattle.std.specs.Prelude.{◌≡◌, ◌≤◌, length, drop, true};
-ghost use Rattle.shell_grammar.specs.Look.{look as look_of, kind_look as kind_look_of, word_look as word_look_of, seen_look, whole_look as whole_look_of, begun_look as begun_look_of, name_from, assigns_from, is_name_byte as is_name_byte_of, is_letter as is_letter_of, is_digit as is_digit_of, reserved as reserved_of};
+ghost use Rattle.shell_grammar.specs.Look.{look as look_of, kind_look as kind_look_of, word_look as word_look_of};
+ghost use Rattle.shell_grammar.specs.Look.{seen_look, whole_look as whole_look_of, begun_look as begun_look_of};
+ghost use Rattle.shell_grammar.specs.Look.{name_from, assigns_from, is_name_byte as is_name_byte_of};
+ghost use Rattle.shell_grammar.specs.Look.{is_letter as is_letter_of, is_digit as is_digit_of};
+ghost use Rattle.shell_grammar.specs.Look.{reserved as reserved_of};
 ghost use Rattle.shell_lexer.specs.declared.token.TokenKind.{out-TokenKind};
 ghost use Rattle.shell_lexer.specs.declared.token.RawPart.{out-RawPart};
 
@@ -139,53 +143,23 @@ fn is_digit(byte: u8) -> bool
 fn reserved(text: &[u8]) -> Option<Reserved>
     ensures { result ≡ reserved_of text.now }
 {
-    if text == b"{".as_slice() {
-        return Some(Reserved::Open);
+    match text {
+        b"{" => Some(Reserved::Open),
+        b"}" => Some(Reserved::Close),
+        b"!" => Some(Reserved::Bang),
+        b"if" => Some(Reserved::If),
+        b"then" => Some(Reserved::Then),
+        b"elif" => Some(Reserved::Elif),
+        b"else" => Some(Reserved::Else),
+        b"fi" => Some(Reserved::Fi),
+        b"for" => Some(Reserved::For),
+        b"in" => Some(Reserved::In),
+        b"do" => Some(Reserved::Do),
+        b"done" => Some(Reserved::Done),
+        b"while" => Some(Reserved::While),
+        b"until" => Some(Reserved::Until),
+        b"case" => Some(Reserved::Case),
+        b"esac" => Some(Reserved::Esac),
+        _ => None,
     }
-    if text == b"}".as_slice() {
-        return Some(Reserved::Close);
-    }
-    if text == b"!".as_slice() {
-        return Some(Reserved::Bang);
-    }
-    if text == b"if".as_slice() {
-        return Some(Reserved::If);
-    }
-    if text == b"then".as_slice() {
-        return Some(Reserved::Then);
-    }
-    if text == b"elif".as_slice() {
-        return Some(Reserved::Elif);
-    }
-    if text == b"else".as_slice() {
-        return Some(Reserved::Else);
-    }
-    if text == b"fi".as_slice() {
-        return Some(Reserved::Fi);
-    }
-    if text == b"for".as_slice() {
-        return Some(Reserved::For);
-    }
-    if text == b"in".as_slice() {
-        return Some(Reserved::In);
-    }
-    if text == b"do".as_slice() {
-        return Some(Reserved::Do);
-    }
-    if text == b"done".as_slice() {
-        return Some(Reserved::Done);
-    }
-    if text == b"while".as_slice() {
-        return Some(Reserved::While);
-    }
-    if text == b"until".as_slice() {
-        return Some(Reserved::Until);
-    }
-    if text == b"case".as_slice() {
-        return Some(Reserved::Case);
-    }
-    if text == b"esac".as_slice() {
-        return Some(Reserved::Esac);
-    }
-    None
 }

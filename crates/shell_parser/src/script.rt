@@ -3,7 +3,7 @@ ghost use Rattle.shell_grammar.specs.Places.{FirstFault, NoFault};
 ghost use Rattle.shell_grammar.specs.Spelling.{Spells, Stopped};
 ghost use Rattle.shell_parser.specs.Reads.{Caused};
 
-use crate::parser::script;
+use crate::parser::lists::script;
 use shell_grammar::ParseFault;
 use shell_lexer::Lexed;
 use shell_syntax::Script;

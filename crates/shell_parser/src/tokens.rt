@@ -1,6 +1,7 @@
 //! Single tokens, and newlines.
 
-ghost use Rattle.std.specs.Prelude.{◌≡◌, ◌↔◌, ◌≤◌, ◌<◌, length, drop, IsTrue, OnOk, OnSome, IfSome, IfNone, Ok as Done, Some as Found, None as Absent};
+ghost use Rattle.std.specs.Prelude.{◌≡◌, ◌↔◌, ◌≤◌, ◌<◌, length, drop, IsTrue, OnOk, OnSome, IfSome, IfNone};
+ghost use Rattle.std.specs.Prelude.{Ok as Done, Some as Found, None as Absent};
 ghost use Rattle.shell_grammar.specs.Look.{look as look_of, place as place_of, word as word_of};
 ghost use Rattle.shell_grammar.specs.Forms.{is_token, is_separator as is_separator_of};
 ghost use Rattle.shell_grammar.specs.Grammar.{Is, Opens, Newlines, ForWords, Tree};

@@ -1,41 +1,45 @@
 //! A command's tree from those of its members.
 
-ghost use Rattle.std.specs.Prelude.{◌≡◌, IfOk};
-ghost use Rattle.shell_grammar.specs.Trees.{seq_of as seq_tree, chain_of as chain_tree, pipe_of as pipe_tree, redirected as redirected_tree, simple as simple_tree, no_items as no_items_of, an_assign, a_word, a_redirect, joined, word_text as word_text_of};
+ghost use Rattle.std.specs.Prelude.{◌≡◌, [], ◌∷◌, length, IfOk};
+ghost use Rattle.shell_grammar.specs.Trees.{seq_of as seq_tree, chain_of as chain_tree, pipe_of as pipe_tree};
+ghost use Rattle.shell_grammar.specs.Trees.{redirected as redirected_tree, simple as simple_tree};
+ghost use Rattle.shell_grammar.specs.Trees.{no_items as no_items_of, an_assign, a_word, a_redirect, joined};
+ghost use Rattle.shell_grammar.specs.Trees.{word_text as word_text_of};
 
 use script_names::{Boxed, Bytes, List, Memory};
 use shell_grammar::Items;
 use shell_syntax::{Assign, Command, Link, Part, Redirect, Word};
 use std::alloc::Global;
 
-/// A list of commands; one command is itself.
-pub fn seq_of(trees: List<Command>) -> Result<Command, Memory>
-    ensures { IfOk result (λ tree. tree ≡ seq_tree trees) }
+/// The one command of a list.
+fn only(trees: List<Command>) -> Command
+    requires { length trees ≡ 1 }
+    ensures { trees ≡ result ∷ [] }
 {
-    if trees.len() == 1 {
-        let mut trees = trees.into_vec();
-        match trees.pop() {
-            Some(tree) => Ok(tree),
-            None => Err(Memory),
-        }
-    } else {
-        Ok(Command::Seq(trees))
+    match trees.into_vec().pop() {
+        Some(tree) => tree,
+        None => unreachable!(),
     }
 }
 
-/// A pipeline; one command is itself.
-pub fn pipe_of(at: u32, trees: List<Command>) -> Result<Command, Memory>
-    ensures { IfOk result (λ tree. tree ≡ pipe_tree at trees) }
+/// A list of commands; one command is itself.
+pub fn seq_of(trees: List<Command>) -> Command
+    ensures { result ≡ seq_tree trees }
 {
     if trees.len() == 1 {
-        let mut trees = trees.into_vec();
-        match trees.pop() {
-            Some(tree) => Ok(tree),
-            None => Err(Memory),
-        }
-    } else {
-        Ok(Command::Pipe { at, parts: trees })
+        return only(trees);
     }
+    Command::Seq(trees)
+}
+
+/// A pipeline; one command is itself.
+pub fn pipe_of(at: u32, trees: List<Command>) -> Command
+    ensures { result ≡ pipe_tree at trees }
+{
+    if trees.len() == 1 {
+        return only(trees);
+    }
+    Command::Pipe { at, parts: trees }
 }
 
 /// A command with those behind `&&` and `||`.

@@ -1,4 +1,4 @@
-use Rattle.std.proofs.Common.{◌≡◌, ◌∙◌, sym, rules, arith}
+use Rattle.std.proofs.Common.{◌∙◌, sym, arith}
 use Rattle.shell_parser.proofs.Loops.{apart_ok, apart_none}
 use Rattle.shell_parser.proofs.tokens.apart.Goals as goal
 

@@ -1,4 +1,4 @@
-use Rattle.std.proofs.Common.{◌≡◌, rules, arith}
+use Rattle.std.proofs.Common.{arith}
 use Rattle.shell_parser.proofs.Loops.{arm_paren, arm_plain}
 use Rattle.shell_parser.proofs.tokens.arm_begin.Goals as goal
 

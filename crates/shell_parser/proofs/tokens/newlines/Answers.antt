@@ -1,4 +1,4 @@
-use Rattle.std.proofs.Common.{◌≡◌, ◌∙◌, sym, rules, arith, refl}
+use Rattle.std.proofs.Common.{◌∙◌, sym, arith, refl}
 use Rattle.shell_parser.proofs.Steps.{end_of}
 use Rattle.shell_parser.proofs.Lists.{newline_more, newlines_end}
 use Rattle.shell_parser.proofs.tokens.newlines.Goals as goal

@@ -1,4 +1,4 @@
-use Rattle.std.proofs.Common.{length, ◌-◌, ◌≡◌, ◌≤◌, ◌<◌, drop}
+use Rattle.std.proofs.Common.{length, ◌-◌, ◌≤◌, drop}
 use Rattle.shell_grammar.specs.Grammar.{Newlines}
 use Rattle.shell_grammar.specs.Reading.{Out, IsRule}
 use Rattle.shell_grammar.specs.Spelling.{deep_64}

@@ -1,4 +1,4 @@
-use Rattle.std.proofs.Common.{◌≡◌, rules, arith}
+use Rattle.std.proofs.Common.{arith}
 use Rattle.shell_parser.proofs.Loops.{words_semi, words_none}
 use Rattle.shell_parser.proofs.tokens.no_words.Goals as goal
 

@@ -1,4 +1,4 @@
-use Rattle.std.proofs.Common.{◌≡◌, ◌∙◌, sym, ap, rules, arith}
+use Rattle.std.proofs.Common.{◌∙◌, sym, ap, arith}
 use Rattle.shell_grammar.specs.Spelling.{deep_64}
 use Rattle.shell_parser.proofs.Steps.{opens_ok, opens_err, opens_deep, no_token, shallow}
 use Rattle.shell_parser.proofs.tokens.opens.Goals as goal

@@ -1,4 +1,4 @@
-use Rattle.std.proofs.Common.{◌≡◌, ◌∙◌, sym, rules, arith}
+use Rattle.std.proofs.Common.{◌∙◌, sym, arith}
 use Rattle.shell_parser.proofs.Steps.{takes_ok, takes_err, no_token}
 use Rattle.shell_parser.proofs.tokens.take.Goals as goal
 use Rattle.shell_parser.proofs.tokens.take.Goals.{else-at-ts-via-then-at-ts+else-same_look, else-at-ts-via-else-at-ts}

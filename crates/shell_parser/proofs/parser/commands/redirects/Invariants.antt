@@ -1,6 +1,6 @@
-use Rattle.std.proofs.Common.{length, ◌-◌, ◌≡◌, ◌≤◌, drop}
+use Rattle.std.proofs.Common.{length, ◌-◌, ◌≤◌, drop}
 use Rattle.shell_parser.specs.Reads.{RedirectsFrom}
-use Rattle.shell_parser.proofs.parser.redirects.Given as goal
+use Rattle.shell_parser.proofs.parser.commands.redirects.Given as goal
 
 abbrev pub invariant-loop-now : goal.invariant-loop-now
 invariant-loop-now l = (l.fn.at ≤ l.now) × (l.now ≤ length l.ts) × RedirectsFrom l.level l.end (drop l.fn.at l.ts) (drop l.now l.ts) l.all

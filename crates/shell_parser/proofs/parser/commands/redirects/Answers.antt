@@ -1,8 +1,8 @@
-use Rattle.std.proofs.Common.{◌≡◌, ◌∙◌, sym, ap, rules, arith}
+use Rattle.std.proofs.Common.{◌∙◌, sym, ap, arith}
 use Rattle.shell_grammar.specs.Forms.{redirection}
 use Rattle.shell_parser.proofs.Steps.{end_of}
 use Rattle.shell_parser.proofs.Lists.{redirects_begin, redirects_goes, redirects_end}
-use Rattle.shell_parser.proofs.parser.redirects.Goals as goal
+use Rattle.shell_parser.proofs.parser.commands.redirects.Goals as goal
 
 pub loop-now-init : goal.loop-now-init
 loop-now-init c = (omega arith, c.requires, redirects_begin _ _ c.new-all.ensures)

@@ -1,0 +1,198 @@
+//! Lists of commands, and-or lists and pipelines (XCU 2.9.2 Pipelines, 2.9.3 Lists).
+
+ghost use Rattle.std.specs.Prelude.{◌≤◌, length};
+ghost use Rattle.shell_grammar.specs.Grammar.{Block, Members, AndOr, Pipeline, Piped};
+ghost use Rattle.shell_parser.specs.Reads.{Reads, Parses};
+
+use crate::forms::{link_and, same_look, starts};
+use crate::looks::look;
+use crate::parser::commands::command;
+use crate::tokens::{newlines, place, separates, stands};
+use crate::trees::{chain_of, pipe_of, seq_of};
+use script_names::{Boxed, List};
+use shell_grammar::{Look, ParseFault, Reserved};
+use shell_lexer::Token;
+use shell_syntax::{Command, Link};
+use std::alloc::Global;
+
+/// All tokens as a script.
+#[cycle(parser)]
+pub fn script(alloc: Global, level: usize, end: u32, ts: &[Token]) -> Result<Command, ParseFault>
+    requires shallow { level ≤ 64 }
+    ensures { Parses level end ts.now result }
+{
+    let first = newlines(level, end, ts, 0);
+    if same_look(look(ts, first), Look::AtEnd) {
+        return Ok(Command::Seq(List::new(alloc)));
+    }
+    let (tree, behind) = match members(alloc, level, end, ts, first) {
+        Ok(found) => found,
+        Err(fault) => return Err(fault),
+    };
+    if same_look(look(ts, behind), Look::AtEnd) {
+        return Ok(tree);
+    }
+    Err(ParseFault::Syntax {
+        at: place(ts, behind, end),
+    })
+}
+
+/// `nl* list`
+#[cycle(parser)]
+pub(super) fn block(
+    alloc: Global,
+    level: usize,
+    end: u32,
+    ts: &[Token],
+    at: usize,
+) -> Result<(Command, usize), ParseFault>
+    requires within { at ≤ length ts.now }
+    requires shallow { level ≤ 64 }
+    ensures { Reads level end Block ts.now at result }
+{
+    let first = newlines(level, end, ts, at);
+    let (tree, behind) = match members(alloc, level, end, ts, first) {
+        Ok(found) => found,
+        Err(fault) => return Err(fault),
+    };
+    Ok((tree, behind))
+}
+
+/// `andor ( sep andor )* [ sep ]`
+#[cycle(parser)]
+pub(super) fn members(
+    alloc: Global,
+    level: usize,
+    end: u32,
+    ts: &[Token],
+    at: usize,
+) -> Result<(Command, usize), ParseFault>
+    requires within { at ≤ length ts.now }
+    requires shallow { level ≤ 64 }
+    ensures { Reads level end Members ts.now at result }
+{
+    let (first, behind) = match and_or(alloc, level, end, ts, at) {
+        Ok(found) => found,
+        Err(fault) => return Err(fault),
+    };
+    let mut trees = List::with_room(alloc, 1)?;
+    trees.add(first)?;
+    let mut now = behind;
+    while separates(ts, now) {
+        now = newlines(level, end, ts, now + 1);
+        if !starts(look(ts, now)) {
+            return Ok((seq_of(trees), now));
+        }
+        let (next, behind) = match and_or(alloc, level, end, ts, now) {
+            Ok(found) => found,
+            Err(fault) => return Err(fault),
+        };
+        trees.add(next)?;
+        now = behind;
+    }
+    Ok((seq_of(trees), now))
+}
+
+/// `pipe ( ( && | || ) nl* pipe )*`
+#[cycle(parser)]
+fn and_or(
+    alloc: Global,
+    level: usize,
+    end: u32,
+    ts: &[Token],
+    at: usize,
+) -> Result<(Command, usize), ParseFault>
+    requires within { at ≤ length ts.now }
+    requires shallow { level ≤ 64 }
+    ensures { Reads level end AndOr ts.now at result }
+{
+    let (first, behind) = match pipeline(alloc, level, end, ts, at) {
+        Ok(found) => found,
+        Err(fault) => return Err(fault),
+    };
+    let mut links = List::new(alloc);
+    let mut now = behind;
+    while now < ts.len() {
+        let and = match link_and(look(ts, now)) {
+            Some(and) => and,
+            None => return Ok((chain_of(alloc, first, links)?, now)),
+        };
+        now = newlines(level, end, ts, now + 1);
+        let (command, behind) = match pipeline(alloc, level, end, ts, now) {
+            Ok(found) => found,
+            Err(fault) => return Err(fault),
+        };
+        links.add(Link { and, command })?;
+        now = behind;
+    }
+    Ok((chain_of(alloc, first, links)?, now))
+}
+
+/// `[ ! ] command ( | nl* command )*`
+#[cycle(parser)]
+fn pipeline(
+    alloc: Global,
+    level: usize,
+    end: u32,
+    ts: &[Token],
+    at: usize,
+) -> Result<(Command, usize), ParseFault>
+    requires within { at ≤ length ts.now }
+    requires shallow { level ≤ 64 }
+    ensures { Reads level end Pipeline ts.now at result }
+{
+    if stands(ts, at, Look::Keyword(Reserved::Bang)) {
+        let (tree, behind) = match piped(alloc, level, end, ts, at + 1) {
+            Ok(found) => found,
+            Err(fault) => return Err(fault),
+        };
+        let body = Boxed::new(alloc, tree)?;
+        return Ok((
+            Command::Not {
+                at: place(ts, at, end),
+                body,
+            },
+            behind,
+        ));
+    }
+    let (body, behind) = match piped(alloc, level, end, ts, at) {
+        Ok(found) => found,
+        Err(fault) => return Err(fault),
+    };
+    Ok((body, behind))
+}
+
+/// `command ( | nl* command )*`
+#[cycle(parser)]
+fn piped(
+    alloc: Global,
+    level: usize,
+    end: u32,
+    ts: &[Token],
+    at: usize,
+) -> Result<(Command, usize), ParseFault>
+    requires within { at ≤ length ts.now }
+    requires shallow { level ≤ 64 }
+    ensures { Reads level end Piped ts.now at result }
+{
+    let (first, behind) = match command(alloc, level, end, ts, at) {
+        Ok(found) => found,
+        Err(fault) => return Err(fault),
+    };
+    if !stands(ts, behind, Look::Bar) {
+        return Ok((first, behind));
+    }
+    let mut parts = List::new(alloc);
+    parts.add(first)?;
+    let mut now = behind;
+    while stands(ts, now, Look::Bar) {
+        now = newlines(level, end, ts, now + 1);
+        let (part, behind) = match command(alloc, level, end, ts, now) {
+            Ok(found) => found,
+            Err(fault) => return Err(fault),
+        };
+        parts.add(part)?;
+        now = behind;
+    }
+    Ok((pipe_of(place(ts, at, end), parts), now))
+}
