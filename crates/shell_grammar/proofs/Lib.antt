@@ -8,6 +8,7 @@ pub mod Fronts
 pub mod Levels
 pub mod Limits
 pub mod Prefixes
+pub mod Scripts
 pub mod ToTable
 pub mod Told
 pub mod Unique

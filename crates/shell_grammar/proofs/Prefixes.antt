@@ -64,7 +64,7 @@ module _ (end : ℕ) where
       ]
 
   mutual
-    whole_rule : {d : ℕ} {n : Rule} {ts : Tokens} {q : Out (Tree n)} → IsRule no_limit d end n ts q → (u w w1 : Tokens) → ts ≡ u ++ w → w ≡ w1 ++ rest_of q → First d (production n (look ts)).signs u
+    pub whole_rule : {d : ℕ} {n : Rule} {ts : Tokens} {q : Out (Tree n)} → IsRule no_limit d end n ts q → (u w w1 : Tokens) → ts ≡ u ++ w → w ≡ w1 ++ rest_of q → First d (production n (look ts)).signs u
     whole_rule {n = n} {ts = ts} (rule q1 x e) u w w1 h k = whole_all x u w w1 h (k ∙ ap (λ r. w1 ++ r) (ap rest_of e ∙ rest_turned (production n (look ts)).tree q1))
 
     whole_all : {d : ℕ} {ss : List Sign} {ts : Tokens} {q : Out (Values ss)} → IsAll no_limit d end ss ts q → (u w w1 : Tokens) → ts ≡ u ++ w → w ≡ w1 ++ rest_of q → First d ss u

@@ -218,7 +218,7 @@ module _ (d end : ℕ) (s : Sign) (ss : List Sign) (ts : Tokens) where
   stop_told f r (inl x) = inl (one_stops f (bare r) x.0 refl, x.1, read_map (ReachSign d end s) (ReachAll d end (s ∷ ss)) ts first_reach r x.2)
   stop_told f r (inr w) = inr (faulted_map (ReachSign d end s) (ReachAll d end (s ∷ ss)) ts first_reach f w)
 
-made_bare : {d end : ℕ} {n : Rule} {ts : Tokens} (l : Look) → look ts ≡ l → (q : Out (Values (production n l).signs)) → IsAll no_limit d end (production n l).signs ts q → IsRule no_limit d end n ts (turned (production n l).tree q)
+pub made_bare : {d end : ℕ} {n : Rule} {ts : Tokens} (l : Look) → look ts ≡ l → (q : Out (Values (production n l).signs)) → IsAll no_limit d end (production n l).signs ts q → IsRule no_limit d end n ts (turned (production n l).tree q)
 made_bare {d} {end} {n} {ts} l e q x = subst (λ l. (q : Out (Values (production n l).signs)) → IsAll no_limit d end (production n l).signs ts q → IsRule no_limit d end n ts (turned (production n l).tree q)) e (λ q x. rule q x refl) q x
 
 rule_told : (d end : ℕ) (n : Rule) (ts : Tokens) (q1 : Out (Values (production n (look ts)).signs)) → AllTold d end (production n (look ts)).signs ts q1 → RuleTold d end n ts (turned (production n (look ts)).tree q1)

@@ -6,7 +6,7 @@ ghost use Rattle.shell_lexer.specs.declared.token.Token.{Token as TokenValue};
 ghost use Rattle.shell_grammar.specs.declared.fault.ParseFault.{ParseFault as Fault};
 ghost use Rattle.shell_grammar.specs.declared.fault.ParseFault.TheVariants.{Syntax};
 ghost use Rattle.shell_grammar.specs.Laws.{FewerBegin, OneFirstFault, OneGrammar, OneLevel};
-ghost use Rattle.shell_grammar.specs.Laws.{ScriptsPass, StopsAtTheFirst};
+ghost use Rattle.shell_grammar.specs.Laws.{ScriptsBegin, ScriptsPass, StopsAtTheFirst};
 ghost use Rattle.shell_grammar.specs.Spelling.{Spells, SpellsWithin, Stopped};
 
 /// The table, by which the parser reads, and the plain grammar say the same of all tokens.
@@ -42,9 +42,10 @@ pub fn faults_have_their_places()
     ensures none { ScriptsPass }
 {}
 
-/// The first tokens of those that some script's tokens begin with are such tokens, too; and so many levels are open
-/// behind them, no other number.
+/// What a script's tokens begin with, whatever their substitutions hold, begins one; so do the first tokens of what
+/// begins one; and so many levels are open behind them, no other number.
 pub fn beginnings_are_closed()
+    ensures scripts { ScriptsBegin }
     ensures closed { FewerBegin }
     ensures level { OneLevel }
 {}
