@@ -168,3 +168,11 @@ three_of g h k a b c d t x x2 y y2 z z2 first next last all e f i =
     ∙ append_assoc a (g x ++ h y) (k z) ∙ ap (λ l. a ++ l) (append_assoc (g x) (h y) (k z))
     ∙ ap (λ w. a ++ (g w ++ (h y ++ k z))) e ∙ ap (λ w. a ++ (g x2 ++ (h w ++ k z))) f ∙ ap (λ w. a ++ (g x2 ++ (h y2 ++ k w))) i
     ∙ ap (λ l. a ++ l) (sym all)
+
+-- ---- what the printing of each form cites
+
+pub ruleset levels = (level_simple, level_redirected, level_pipe, level_not, level_chain, level_seq, level_if, level_for, level_while, level_case, level_sub, level_define)
+
+pub ruleset commands = (text_simple, text_redirected, text_pipe, text_not, text_chain, text_seq, text_if, text_if_else, text_for, text_for_in, text_while, text_case, text_sub, text_define)
+
+pub ruleset parts = (text_plain, text_quoted, text_param, text_all, text_run)

@@ -1,7 +1,8 @@
 -- The text that a script is printed as (POSIX.1-2017, XCU 2.9 Shell Commands, 2.10.2 Shell Grammar Rules). Each token
 -- has one blank or newline before it, and a list has no separator at its end but where one must be there; so the last
 -- word of a script has nothing behind it.
-use Rattle.std.specs.Prelude.{ℕ, Bool, true, false, if◌then◌else◌, nat_le, List, [], ◌∷◌, ◌++◌, Option, Some, None, codes}
+use Rattle.std.specs.Prelude.{ℕ, Bool, true, false, if◌then◌else◌, nat_le, List, [], ◌∷◌, ◌++◌, Option, Some, None}
+use Rattle.std.specs.Prelude.{codes}
 use Rattle.std.specs.List.{flat_map}
 use Rattle.shell_syntax.specs.declared.redirect.Redirect.{Redirect}
 use Rattle.shell_syntax.specs.declared.redirect.Redirect.TheVariants.{OutNull, ErrNull, InNull, OutToErr, ErrToOut}
@@ -16,7 +17,8 @@ use Rattle.shell_syntax.specs.declared.syntax.IfArm.{IfArm}
 use Rattle.shell_syntax.specs.declared.syntax.Link.{Link}
 use Rattle.shell_syntax.specs.declared.syntax.Word.{Word}
 use Rattle.shell_syntax.specs.declared.syntax.Command.TheOpen as o
-use Rattle.shell_syntax.specs.declared.syntax.Command.TheFolds.{fold-Command, fold-Part, fold-Assign, fold-CaseArm, fold-IfArm, fold-Link, fold-Word}
+use Rattle.shell_syntax.specs.declared.syntax.Command.TheFolds.{fold-Command, fold-Part, fold-Assign, fold-CaseArm}
+use Rattle.shell_syntax.specs.declared.syntax.Command.TheFolds.{fold-IfArm, fold-Link, fold-Word}
 use Rattle.shell_syntax.specs.PrintedParts.{Text, quoted_text, param_text, run_text}
 
 -- ---- where a command may stand without braces
@@ -248,6 +250,27 @@ abbrev pub word_text : Word → Text
 word_text =
     fold-Word Printed Text Text Text Text Text Text
     command_layer part_layer assign_layer case_arm_layer if_arm_layer link_layer word_layer
+
+-- the texts of commands that stand where the grammar has one name, with a separator between each two
+abbrev pub members_text : Text → Level → List Command → Text
+members_text separator place commands = between separator (λ command. placed place (printed command)) commands
+
+-- the same with a separator before each
+abbrev pub further_members_text : Text → Level → List Command → Text
+further_members_text separator place commands =
+    flat_map (λ command. separator ++ placed place (printed command)) commands
+
+-- the texts of conditions of `if` and their bodies
+abbrev pub conditions_text : List IfArm → Text
+conditions_text arms = between (codes "\n elif") condition_text arms
+
+-- the texts of patterns
+abbrev pub patterns_text : List Word → Text
+patterns_text words = between (codes " |") (λ word. spaced (word_text word)) words
+
+-- the texts of redirections
+abbrev pub redirects_text : List Redirect → Text
+redirects_text redirects = flat_map redirect_text redirects
 
 -- the first line, which names the interpreter
 abbrev pub first_line : Bool → Text

@@ -1,6 +1,7 @@
 -- How the parts of a word are printed, so that a shell reads them as the same parts (POSIX.1-2017, XCU 2.2 Quoting,
 -- 2.6 Word Expansions).
-use Rattle.std.specs.Prelude.{ℕ, Bool, true, false, if◌then◌else◌, not, ◌||◌, nat_eq, List, [], ◌∷◌, ◌++◌, Option, Some, None, codes}
+use Rattle.std.specs.Prelude.{ℕ, Bool, true, false, if◌then◌else◌, not, ◌||◌, nat_eq, List, [], ◌∷◌, ◌++◌, Option}
+use Rattle.std.specs.Prelude.{Some, None, codes}
 use Rattle.std.specs.List.{flat_map}
 use Rattle.std.specs.Fmt.{decimal}
 use Rattle.shell_syntax.specs.declared.key.Key.{Key}
@@ -27,7 +28,8 @@ is_one_byte (byte ∷ other ∷ bytes) = false
 -- Quoted bytes: one byte behind a backslash, any others in double quotes of their own. Single quotes could not hold
 -- every byte, and double quotes may not stand behind a plain `$`, where a part of one byte can.
 unfoldable pub quoted_text : Text → Text
-quoted_text bytes = if is_one_byte bytes then codes "\\" ++ bytes else codes "\"" ++ flat_map escaped bytes ++ codes "\""
+quoted_text bytes =
+    if is_one_byte bytes then codes "\\" ++ bytes else codes "\"" ++ flat_map escaped bytes ++ codes "\""
 
 -- the quotes before and behind an expansion that stands in double quotes
 abbrev pub double_quote : Bool → Text

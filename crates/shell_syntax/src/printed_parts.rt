@@ -1,7 +1,8 @@
 ghost use Rattle.std.specs.Prelude.{◌≡◌, ◌++◌, OnOk};
 ghost use Rattle.std.specs.List.{flat_map};
 ghost use Rattle.std.specs.Fmt.{decimal};
-ghost use Rattle.shell_syntax.specs.PrintedParts.{is_active, escaped, is_one_byte, quoted_text, double_quote, key_text, default_text, param_text};
+ghost use Rattle.shell_syntax.specs.PrintedParts.{is_active, escaped, is_one_byte, quoted_text, double_quote};
+ghost use Rattle.shell_syntax.specs.PrintedParts.{key_text, default_text, param_text};
 
 use crate::key::Key;
 use script_names::{Bytes, Memory};

@@ -2,7 +2,12 @@ ghost use Rattle.std.specs.Prelude.{◌≡◌, ◌++◌, codes, IfOk, OnOk};
 ghost use Rattle.std.specs.List.{flat_map};
 ghost use Rattle.shell_syntax.specs.PrintedParts.{run_text};
 ghost use Rattle.shell_syntax.specs.declared.level.Level.TheVariants.{PipeSequence};
-ghost use Rattle.shell_syntax.specs.Printed.{printed, placed, part_text, word_text, assign_text, arm_text, condition_text, further_text, between, spaced, redirect_text, redirected_text, loop_word, if_head, else_text, for_head, in_words, loop_head, do_text, case_head, arms_text, arm_head, arm_body, sub_text, define_text, script_text};
+ghost use Rattle.shell_syntax.specs.Printed.{printed, placed, part_text, word_text, assign_text, arm_text};
+ghost use Rattle.shell_syntax.specs.Printed.{condition_text, further_text, members_text, further_members_text};
+ghost use Rattle.shell_syntax.specs.Printed.{conditions_text, patterns_text, redirects_text, spaced, redirect_text};
+ghost use Rattle.shell_syntax.specs.Printed.{redirected_text, loop_word, if_head, else_text, for_head, in_words};
+ghost use Rattle.shell_syntax.specs.Printed.{loop_head, do_text, case_head, arms_text, arm_head, arm_body, sub_text};
+ghost use Rattle.shell_syntax.specs.Printed.{define_text, script_text};
 
 use crate::level::Level;
 use crate::printed_parts::{put_double_quote, put_param, put_quoted};
@@ -28,7 +33,7 @@ pub fn print_script(alloc: Global, script: &Script) -> Result<Bytes, Memory>
 }
 
 // The name of the grammar that a command's own text is.
-#[tactic(auto, using(crate::proofs::Layers::level_simple, crate::proofs::Layers::level_redirected, crate::proofs::Layers::level_pipe, crate::proofs::Layers::level_not, crate::proofs::Layers::level_chain, crate::proofs::Layers::level_seq, crate::proofs::Layers::level_if, crate::proofs::Layers::level_for, crate::proofs::Layers::level_while, crate::proofs::Layers::level_case, crate::proofs::Layers::level_sub, crate::proofs::Layers::level_define))]
+#[tactic(auto, using(crate::proofs::Layers::levels))]
 fn level(command: &Command) -> Level
     ensures { result ≡ (printed command.now).level }
 {
@@ -49,7 +54,7 @@ fn level(command: &Command) -> Level
 }
 
 fn put_redirects(text: &mut Bytes, redirects: &[Redirect]) -> Result<(), Memory>
-    ensures { OnOk result (text.new ≡ text.old ++ flat_map redirect_text redirects.now) }
+    ensures { OnOk result (text.new ≡ text.old ++ redirects_text redirects.now) }
 {
     for redirect in redirects {
         put_redirect(text, *redirect)?;
@@ -71,7 +76,7 @@ fn put_redirect(text: &mut Bytes, redirect: Redirect) -> Result<(), Memory>
 
 // Adds a command's own text.
 #[cycle(printing)]
-#[tactic(auto, using(crate::proofs::Layers::text_simple, crate::proofs::Layers::text_redirected, crate::proofs::Layers::text_pipe, crate::proofs::Layers::text_not, crate::proofs::Layers::text_chain, crate::proofs::Layers::text_seq, crate::proofs::Layers::text_if, crate::proofs::Layers::text_if_else, crate::proofs::Layers::text_for, crate::proofs::Layers::text_for_in, crate::proofs::Layers::text_while, crate::proofs::Layers::text_case, crate::proofs::Layers::text_sub, crate::proofs::Layers::text_define))]
+#[tactic(auto, using(crate::proofs::Layers::commands))]
 fn put_command(text: &mut Bytes, command: &Command) -> Result<(), Memory>
     ensures { OnOk result (text.new ≡ text.old ++ (printed command.now).text) }
 {
@@ -164,7 +169,7 @@ fn put_placed(text: &mut Bytes, place: Level, command: &Command) -> Result<(), M
 #[cycle(printing)]
 #[tactic(auto, unfolding(crate::specs::Printed::redirected_text))]
 fn put_redirected(text: &mut Bytes, body: &Command, redirects: &[Redirect]) -> Result<(), Memory>
-    ensures { OnOk result (text.new ≡ text.old ++ redirected_text (printed body.now) (flat_map redirect_text redirects.now)) }
+    ensures { OnOk result (text.new ≡ text.old ++ redirected_text (printed body.now) (redirects_text redirects.now)) }
 {
     if level(body).is_simple() {
         put_redirects(text, redirects)?;
@@ -182,7 +187,7 @@ fn put_members(
     place: Level,
     commands: &[Command],
 ) -> Result<(), Memory>
-    ensures { OnOk result (text.new ≡ text.old ++ between separator.now (λ command. placed place (printed command)) commands.now) }
+    ensures { OnOk result (text.new ≡ text.old ++ members_text separator.now place commands.now) }
 {
     match commands {
         [] => Ok(()),
@@ -201,7 +206,7 @@ fn put_further(
     place: Level,
     commands: &[Command],
 ) -> Result<(), Memory>
-    ensures { OnOk result (text.new ≡ text.old ++ flat_map (λ command. separator.now ++ placed place (printed command)) commands.now) }
+    ensures { OnOk result (text.new ≡ text.old ++ further_members_text separator.now place commands.now) }
 {
     for command in commands {
         text.extend(separator)?;
@@ -236,7 +241,7 @@ fn put_link(text: &mut Bytes, link: &Link) -> Result<(), Memory>
 // Adds `if` without `else` (XCU 2.9.4.4 The if Conditional Construct).
 #[cycle(printing)]
 fn put_if(text: &mut Bytes, arms: &[IfArm]) -> Result<(), Memory>
-    ensures { OnOk result (text.new ≡ text.old ++ (if_head (between (codes "\n elif") condition_text arms.now) ++ codes "\n fi")) }
+    ensures { OnOk result (text.new ≡ text.old ++ (if_head (conditions_text arms.now) ++ codes "\n fi")) }
 {
     put_if_head(text, arms)?;
     text.extend(b"\n fi")
@@ -246,7 +251,7 @@ fn put_if(text: &mut Bytes, arms: &[IfArm]) -> Result<(), Memory>
 #[cycle(printing)]
 #[tactic(auto, unfolding(crate::specs::Printed::if_head))]
 fn put_if_head(text: &mut Bytes, arms: &[IfArm]) -> Result<(), Memory>
-    ensures { OnOk result (text.new ≡ text.old ++ if_head (between (codes "\n elif") condition_text arms.now)) }
+    ensures { OnOk result (text.new ≡ text.old ++ if_head (conditions_text arms.now)) }
 {
     text.extend(b" if")?;
     put_conditions(text, arms)
@@ -265,7 +270,7 @@ fn put_else(text: &mut Bytes, body: &Command) -> Result<(), Memory>
 
 #[cycle(printing)]
 fn put_conditions(text: &mut Bytes, arms: &[IfArm]) -> Result<(), Memory>
-    ensures { OnOk result (text.new ≡ text.old ++ between (codes "\n elif") condition_text arms.now) }
+    ensures { OnOk result (text.new ≡ text.old ++ conditions_text arms.now) }
 {
     match arms {
         [] => Ok(()),
@@ -386,7 +391,7 @@ fn put_case_arm(text: &mut Bytes, arm: &CaseArm) -> Result<(), Memory>
 #[cycle(printing)]
 #[tactic(auto, unfolding(crate::specs::Printed::arm_head))]
 fn put_arm_head(text: &mut Bytes, patterns: &[Word]) -> Result<(), Memory>
-    ensures { OnOk result (text.new ≡ text.old ++ arm_head (between (codes " |") (λ word. spaced (word_text word)) patterns.now)) }
+    ensures { OnOk result (text.new ≡ text.old ++ arm_head (patterns_text patterns.now)) }
 {
     text.extend(b"\n (")?;
     put_patterns(text, patterns)
@@ -404,7 +409,7 @@ fn put_arm_body(text: &mut Bytes, body: &Command) -> Result<(), Memory>
 
 #[cycle(printing)]
 fn put_patterns(text: &mut Bytes, words: &[Word]) -> Result<(), Memory>
-    ensures { OnOk result (text.new ≡ text.old ++ between (codes " |") (λ word. spaced (word_text word)) words.now) }
+    ensures { OnOk result (text.new ≡ text.old ++ patterns_text words.now) }
 {
     match words {
         [] => Ok(()),
@@ -514,7 +519,7 @@ fn put_parts(text: &mut Bytes, parts: &[Part]) -> Result<(), Memory>
 }
 
 #[cycle(printing)]
-#[tactic(auto, using(crate::proofs::Layers::text_plain, crate::proofs::Layers::text_quoted, crate::proofs::Layers::text_param, crate::proofs::Layers::text_all, crate::proofs::Layers::text_run))]
+#[tactic(auto, using(crate::proofs::Layers::parts))]
 fn put_part(text: &mut Bytes, part: &Part) -> Result<(), Memory>
     ensures { OnOk result (text.new ≡ text.old ++ part_text part.now) }
 {
