@@ -4,8 +4,12 @@
 #![tactic(auto)]
 
 mod acts;
+pub mod steps;
+mod walks;
 
 pub use acts::act;
 
+#[cfg(test)]
+mod steps_tests;
 #[cfg(test)]
 mod tests;

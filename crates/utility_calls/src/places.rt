@@ -1,6 +1,6 @@
-ghost use Rattle.std.specs.Prelude.{◌≡◌, IfOk};
+ghost use Rattle.std.specs.Prelude.{◌≡◌, IsTrue, IfOk};
 ghost use Rattle.std.specs.Option.{option_copied};
-ghost use Rattle.utility_calls.specs.Acts.{path_of, place_of, inner_name, target_of, moved, is_prefix, is_below};
+ghost use Rattle.utility_calls.specs.Acts.{path_of, place_of, inner_name, target_of, moved, is_prefix, is_below, is_question, IsMove, IsPerformed};
 
 use crate::acts::Act;
 use crate::pairs::same_name;
@@ -113,4 +113,51 @@ fn is_prefix(p: &[Name], q: &[Name]) -> bool
         }
     }
     false
+}
+
+impl Act {
+    /// Whether the act only asks.
+    pub fn asks(&self) -> bool
+        ensures { result ≡ is_question self.now }
+    {
+        match self {
+            Act::Exists(_) | Act::IsReg(_) | Act::IsDir(_) | Act::IsLink(_) | Act::CanRun(_) =>
+                true,
+            Act::MakeDir(_) | Act::EnsureDir(_) | Act::RemoveDir(_) | Act::Touch(_) => false,
+            Act::Remove { .. } | Act::Symlink { .. } | Act::PlaceLink { .. } | Act::Move { .. } =>
+                false,
+            Act::PlaceFile(_) | Act::PlaceConf(_) | Act::Discard(_) | Act::DiscardDir(_) => false,
+        }
+    }
+
+    // Whether the names of a move's paths differ.
+    fn moves_apart(&self) -> bool
+        ensures { IsTrue result → IsMove self.now }
+    {
+        match self {
+            Act::Move { a, b } => !a.same_names(b),
+            Act::Exists(_) | Act::IsReg(_) | Act::IsDir(_) | Act::IsLink(_) | Act::CanRun(_) =>
+                true,
+            Act::MakeDir(_) | Act::EnsureDir(_) | Act::RemoveDir(_) | Act::Touch(_) => true,
+            Act::Remove { .. } | Act::Symlink { .. } | Act::PlaceLink { .. } => true,
+            Act::PlaceFile(_) | Act::PlaceConf(_) | Act::Discard(_) | Act::DiscardDir(_) => true,
+        }
+    }
+
+    /// Whether the act meets the conditions of one that is done: the paths of one that changes the tree have names, and
+    /// those of a move differ.
+    pub fn is_performed(&self) -> bool
+        ensures { IsTrue result → IsPerformed self.now }
+    {
+        if !self.moves_apart() {
+            return false;
+        }
+        if self.asks() {
+            return true;
+        }
+        if self.path().names().is_empty() {
+            return false;
+        }
+        !self.place().names().is_empty()
+    }
 }

@@ -1,0 +1,334 @@
+ghost use Rattle.std.specs.Prelude.{◌≡◌, ◌≢◌, ◌||◌, if◌then◌else◌, None, [], ◌∷◌, ◌++◌, IfOk, OnOk, OnErr};
+ghost use Rattle.feature_trees.specs.declared.value.Value.{Value};
+ghost use Rattle.feature_trees.specs.declared.value.Value.TheVariants.{Absent, Dir, Link};
+ghost use Rattle.feature_trees.specs.Tree.{at, kind_of, put, update, entries_of};
+ghost use Rattle.utility_calls.specs.declared.sights.Effect.TheVariants.{Nothing, Moves, MovesInside};
+ghost use Rattle.utility_calls.specs.Acts.{path_of, place_of, target_of, source_of, inner_name, inner_at, second_link};
+ghost use Rattle.utility_calls.specs.Acts.{own_row, by_way, by_slash, slash_row, is_there, row as row_of, effect_on};
+ghost use Rattle.utility_calls.specs.Acts.{tree_after, with_name, IsPerformed};
+ghost use Rattle.utility_calls.specs.Sights.{sight_of};
+ghost use Rattle.utility_calls.specs.Table.{stop};
+
+use crate::walks::{Seen, entry_or, has_entry, walk};
+use feature_trees::{Entries, Kind, Value};
+use script_names::{Copied, Done, Memory, Name, Path, Reason};
+use std::alloc::Global;
+use utility_calls::acts::Act;
+use utility_calls::sights::{Effect, Row, Sight};
+use utility_calls::theorems::acts_change_trees;
+
+// The row of a link on the way.
+fn link_row(number: u8) -> Row
+    ensures { result ≡ record { number = number; answer = stop; effect = Nothing } }
+{
+    Row {
+        number,
+        answer: Done::Stopped(Reason::Link),
+        effect: Effect::Nothing,
+    }
+}
+
+// The row of a slash behind what is no directory, else the later one.
+fn by_slash(slash: bool, kind: Kind, later: Row) -> Row
+    ensures { result ≡ by_slash slash kind later }
+{
+    if !slash {
+        return later;
+    }
+    match kind {
+        Kind::Absent => later,
+        Kind::Dir => later,
+        Kind::Reg => slash_row(),
+        Kind::Link => slash_row(),
+        Kind::Other => slash_row(),
+    }
+}
+
+// The row of a slash behind what is no directory.
+fn slash_row() -> Row
+    ensures { result ≡ slash_row }
+{
+    Row {
+        number: 64,
+        answer: Done::Stopped(Reason::Slash),
+        effect: Effect::Nothing,
+    }
+}
+
+// Whether something is there.
+fn is_there(kind: Kind) -> bool
+    ensures { result ≡ is_there kind }
+{
+    match kind {
+        Kind::Absent => false,
+        Kind::Reg => true,
+        Kind::Link => true,
+        Kind::Other => true,
+        Kind::Dir => true,
+    }
+}
+
+// The kind of what is moved, which stands at the end of the walk along the act's path.
+fn source(a: &Act, first: Kind) -> Kind
+    ensures { (tree : Value) → first ≡ kind_of (at tree (path_of a.now).names) → result ≡ source_of a.now tree }
+{
+    match a.moved() {
+        Some(_) => first,
+        None => Kind::Absent,
+    }
+}
+
+// What is seen where a walk ends, and at what stands there.
+fn sight_of(seen: &Seen, inner: &Value) -> Sight
+    ensures { result ≡ sight_of seen.now.in_dir seen.now.here.now inner.now }
+{
+    Sight {
+        in_dir: seen.in_dir,
+        kind: seen.here.kind(),
+        filled: has_entry(seen.here),
+        inner: inner.kind(),
+        inner_filled: has_entry(inner),
+    }
+}
+
+// What stands under the act's inner name at the place that it looks at.
+fn inner<'a>(a: &Act, here: &'a Value, nothing: &'a Value) -> &'a Value
+    requires { nothing.now ≡ Absent }
+    ensures { result.now ≡ inner_at here.now (inner_name a.now) }
+{
+    match a.inner_name() {
+        Some(f) => entry_or(here, f, nothing),
+        None => nothing,
+    }
+}
+
+// Whether a move looks at the way of its second path.
+fn looks_at_way(below: bool, source: Kind) -> bool
+    ensures { result ≡ (below || is_there source) }
+{
+    below || is_there(source)
+}
+
+// The link on the way of a move's second path, if it is looked at.
+fn second_link(looks: bool, link: Option<u8>) -> Option<u8>
+    ensures { result ≡ (if looks then link else None) }
+{
+    if looks { link } else { None }
+}
+
+// The row of the act's own, or of a link on the way of a move's second path.
+fn later_row(a: &Act, tree: &Value, source: Kind, nothing: &Value) -> Row
+    requires nothing { nothing.now ≡ Absent }
+    requires source { source ≡ source_of a.now tree.now }
+    ensures { result ≡ by_way (second_link a.now tree.now) (own_row a.now tree.now) }
+{
+    let below = a.is_below();
+    let seen = walk(128, tree, a.place().names(), nothing);
+    match second_link(looks_at_way(below, source), seen.link) {
+        Some(number) => link_row(number),
+        None => {
+            let inner = inner(a, seen.here, nothing);
+            a.own_row(below, source, &sight_of(&seen, inner))
+        }
+    }
+}
+
+// The row that the act takes on a tree.
+fn row_on(a: &Act, tree: &Value) -> Row
+    ensures { result ≡ row_of a.now tree.now }
+{
+    let nothing = Value::Absent;
+    let path = a.path();
+    let first = walk(0, tree, path.names(), &nothing);
+    match first.link {
+        Some(number) => link_row(number),
+        None => {
+            let kind = first.here.kind();
+            let later = later_row(a, tree, source(a, kind), &nothing);
+            by_slash(path.slash(), kind, later)
+        }
+    }
+}
+
+// Puts a value at a path that has a name.
+fn put_at(path: &Path, value: Value, tree: &mut Value) -> Result<(), Memory>
+    requires { path.now.names ≢ [] }
+    ensures ok { OnOk result (tree.new ≡ put tree.old path.now.names value) }
+    ensures kept { OnErr result (tree.new ≡ tree.old) }
+{
+    match tree.put(path, value) {
+        Ok(()) => Ok(()),
+        // every row that changes the tree has a directory above the path
+        Err(_) => Err(Memory),
+    }
+}
+
+// What stands at a path, copied.
+fn copy_at(alloc: Global, tree: &Value, path: &Path) -> Result<Value, Memory>
+    ensures { IfOk result (λ value. value ≡ at tree.now path.now.names) }
+{
+    match tree.at(path) {
+        Some(value) => value.copy(alloc),
+        None => Ok(Value::Absent),
+    }
+}
+
+// A directory with the entries of a value.
+fn as_dir(alloc: Global, value: Value) -> Value
+    ensures { result ≡ Dir (entries_of value) }
+{
+    match value {
+        Value::Dir(entries) => Value::Dir(entries),
+        Value::Absent => Value::Dir(Entries::new(alloc)),
+        Value::Reg => Value::Dir(Entries::new(alloc)),
+        Value::Link(_) => Value::Dir(Entries::new(alloc)),
+        Value::Other => Value::Dir(Entries::new(alloc)),
+    }
+}
+
+// A directory with the entries of a value, and this value under a name.
+fn dir_with(alloc: Global, value: Value, f: &Name, inner: Value) -> Result<Value, Memory>
+    ensures { IfOk result (λ dir. dir ≡ Dir (update (entries_of value) f.now inner)) }
+{
+    match value {
+        Value::Dir(entries) => with_entry(entries, f, inner),
+        Value::Absent => with_entry(Entries::new(alloc), f, inner),
+        Value::Reg => with_entry(Entries::new(alloc), f, inner),
+        Value::Link(_) => with_entry(Entries::new(alloc), f, inner),
+        Value::Other => with_entry(Entries::new(alloc), f, inner),
+    }
+}
+
+// A directory with these entries, and this value under a name.
+fn with_entry(entries: Entries, f: &Name, inner: Value) -> Result<Value, Memory>
+    ensures { IfOk result (λ dir. dir ≡ Dir (update entries f.now inner)) }
+{
+    let mut changed = entries;
+    changed.set(f, inner)?;
+    Ok(Value::Dir(changed))
+}
+
+// Puts a value under a name of what stands at a path, which becomes a directory with it.
+fn put_under(
+    alloc: Global,
+    path: &Path,
+    f: &Name,
+    value: Value,
+    tree: &mut Value,
+) -> Result<(), Memory>
+    requires { path.now.names ≢ [] }
+    ensures ok { OnOk result (tree.new ≡ put tree.old (path.now.names ++ f.now ∷ []) value) }
+    ensures kept { OnErr result (tree.new ≡ tree.old) }
+{
+    let old = copy_at(alloc, tree, path)?;
+    let dir = dir_with(alloc, old, f, value)?;
+    put_at(path, dir, tree)
+}
+
+// Puts a value at a path, with the act's inner name behind it where it has one.
+fn put_inside(
+    alloc: Global,
+    a: &Act,
+    path: &Path,
+    value: Value,
+    tree: &mut Value,
+) -> Result<(), Memory>
+    requires { path.now.names ≢ [] }
+    ensures ok { OnOk result (tree.new ≡ put tree.old (with_name path.now.names (inner_name a.now)) value) }
+    ensures kept { OnErr result (tree.new ≡ tree.old) }
+{
+    match a.inner_name() {
+        Some(f) => put_under(alloc, path, f, value, tree),
+        None => put_at(path, value, tree),
+    }
+}
+
+// A copy of the tree without what stands at the act's path.
+fn copy_without(alloc: Global, a: &Act, tree: &Value) -> Result<Value, Memory>
+    requires { (path_of a.now).names ≢ [] }
+    ensures { IfOk result (λ copy. copy ≡ put tree.now (path_of a.now).names Absent) }
+{
+    let mut copy = tree.copy(alloc)?;
+    put_at(a.path(), Value::Absent, &mut copy)?;
+    Ok(copy)
+}
+
+// Moves what stands at the act's path to its place. The tree is changed as a whole, so that it is as before where memory
+// is missing half way.
+fn move_to(alloc: Global, a: &Act, tree: &mut Value) -> Result<(), Memory>
+    requires path { (path_of a.now).names ≢ [] }
+    requires place { place_of a.now ≢ [] }
+    ensures ok { OnOk result (tree.new ≡ effect_on Moves a.now tree.old) }
+    ensures kept { OnErr result (tree.new ≡ tree.old) }
+{
+    let value = copy_at(alloc, tree, a.path())?;
+    let mut changed = copy_without(alloc, a, tree)?;
+    put_at(a.place(), value, &mut changed)?;
+    *tree = changed;
+    Ok(())
+}
+
+// The same, below the place under the act's inner name.
+fn move_inside(alloc: Global, a: &Act, tree: &mut Value) -> Result<(), Memory>
+    requires path { (path_of a.now).names ≢ [] }
+    requires place { place_of a.now ≢ [] }
+    ensures ok { OnOk result (tree.new ≡ effect_on MovesInside a.now tree.old) }
+    ensures kept { OnErr result (tree.new ≡ tree.old) }
+{
+    let value = copy_at(alloc, tree, a.path())?;
+    let mut changed = copy_without(alloc, a, tree)?;
+    put_inside(alloc, a, a.place(), value, &mut changed)?;
+    *tree = changed;
+    Ok(())
+}
+
+// The link of an act, to its target.
+fn link(alloc: Global, a: &Act) -> Result<Value, Memory>
+    ensures { IfOk result (λ value. value ≡ Link (target_of a.now)) }
+{
+    Ok(Value::Link(a.copy_target(alloc)?))
+}
+
+// Leaves the tree that an effect of the act leaves.
+fn change(alloc: Global, a: &Act, effect: Effect, tree: &mut Value) -> Result<(), Memory>
+    requires { effect ≢ Nothing → ((path_of a.now).names ≢ []) × (place_of a.now ≢ []) }
+    ensures ok { OnOk result (tree.new ≡ effect_on effect a.now tree.old) }
+    ensures kept { OnErr result (tree.new ≡ tree.old) }
+{
+    let path = a.path();
+    match effect {
+        Effect::Nothing => Ok(()),
+        Effect::MakesDir => put_at(path, Value::Dir(Entries::new(alloc)), tree),
+        Effect::KeepsDir => {
+            let old = copy_at(alloc, tree, path)?;
+            put_at(path, as_dir(alloc, old), tree)
+        }
+        Effect::MakesFile => put_at(path, Value::Reg, tree),
+        Effect::MakesLink => {
+            let made = link(alloc, a)?;
+            put_at(path, made, tree)
+        }
+        Effect::LinksInside => {
+            let made = link(alloc, a)?;
+            put_inside(alloc, a, path, made, tree)
+        }
+        Effect::TakesAway => put_at(path, Value::Absent, tree),
+        Effect::Moves => move_to(alloc, a, tree),
+        Effect::MovesInside => move_inside(alloc, a, tree),
+    }
+}
+
+/// The row that an act takes on a tree, and its answer; the tree becomes the one that the act leaves, and stays as it
+/// was where memory was missing.
+pub fn act(alloc: Global, a: &Act, tree: &mut Value) -> Result<(u8, Done), Memory>
+    requires { IsPerformed a.now }
+    ensures row { IfOk result (λ taken. taken.0 ≡ (row_of a.now tree.old).number) }
+    ensures answer { IfOk result (λ taken. taken.1 ≡ (row_of a.now tree.old).answer) }
+    ensures tree { OnOk result (tree.new ≡ tree_after a.now tree.old) }
+    ensures kept { OnErr result (tree.new ≡ tree.old) }
+{
+    acts_change_trees();
+    let row = row_on(a, tree);
+    change(alloc, a, row.effect, tree)?;
+    Ok((row.number, row.answer))
+}
