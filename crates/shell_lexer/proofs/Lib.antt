@@ -9,10 +9,12 @@ mod LongestRuns
 mod Numbers
 mod Pieces
 mod PrintedBytes
+mod PrintedNotes
+mod PrintedOperators
 mod PrintedParams
 mod PrintedQuotes
-mod PrintedRedirections
 mod PrintedRuns
+mod PrintedTokens
 mod PrintedWords
 mod QuotedBytes
 mod Quotes
