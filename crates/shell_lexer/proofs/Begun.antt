@@ -83,17 +83,17 @@ escaped_on b [] e = cc
 escaped_on b (c ∷ t) e = cc
 
 -- not a word
-abbrev NotWord : operators.Sight → Type 0
+abbrev pub NotWord : operators.Sight → Type 0
 NotWord s = s ≡ operators.Word → ⊥
 
-if_sight : (b : Bool) (x y : operators.Sight) → NotWord x → NotWord y → NotWord (if b then x else y)
+pub if_sight : (b : Bool) (x y : operators.Sight) → NotWord x → NotWord y → NotWord (if b then x else y)
 if_sight true x y f g = f
 if_sight false x y f g = g
 
-operator_no : (s : Sign) (t : Bytes) → NotWord (operators.Operator s t)
+pub operator_no : (s : Sign) (t : Bytes) → NotWord (operators.Operator s t)
 operator_no s t e = cc
 
-wrong_no : (f : LexFault) → NotWord (operators.Wrong f)
+pub wrong_no : (f : LexFault) → NotWord (operators.Wrong f)
 wrong_no f e = cc
 
 redirected_no : (at : ℕ) (which : Option Redirect) (t : Option Bytes) → NotWord (operators.redirected at which t)
@@ -105,10 +105,10 @@ copied_no : (at : ℕ) (number t : Bytes) → NotWord (operators.copied at numbe
 copied_no at number [] e = cc
 copied_no at number (b ∷ rest) e = redirected_no at (operators.copy_of number b) (operators.whole_word (Some rest)) e
 
-less_no : (at : ℕ) (number t : Bytes) → NotWord (operators.less at number t)
+pub less_no : (at : ℕ) (number t : Bytes) → NotWord (operators.less at number t)
 less_no at number t e = if_sight (head_is 60 (skip t)) _ _ (wrong_no (Unsupported form.Heredoc at)) (redirected_no at (operators.in_from number) (operators.null_word t)) e
 
-greater_no : (at : ℕ) (number t : Bytes) → NotWord (operators.greater at number t)
+pub greater_no : (at : ℕ) (number t : Bytes) → NotWord (operators.greater at number t)
 greater_no at number t e =
     if_sight (head_is 62 (skip t)) _ _ (redirected_no at (operators.out_to number) (operators.null_word (tail (skip t))))
     (if_sight (head_is 38 (skip t)) _ _ (copied_no at number (skip (tail (skip t)))) (redirected_no at (operators.out_to number) (operators.null_word t))) e

@@ -12,10 +12,12 @@ mod MovedReadings
 mod Numbers
 mod Pieces
 mod PrintedBytes
+mod PrintedNotes
+mod PrintedOperators
 mod PrintedParams
 mod PrintedQuotes
-mod PrintedRedirections
 mod PrintedRuns
+mod PrintedTokens
 mod PrintedWords
 mod QuotedBytes
 mod Quotes

@@ -2,7 +2,7 @@
 use Rattle.std.proofs.Common.{◌≡◌, ℕ, ◌-◌, Bool, true, false, if◌then◌else◌, ◌||◌, ◌&&◌, nat_eq, not, List, [], ◌∷◌, ◌++◌, append_assoc, append-nil, Option, Some, None, codes, refl, sym, ap, ◌∙◌, subst}
 use Rattle.std.proofs.lemmas.Grind.{flat_map-append}
 use Rattle.std.specs.List.{flat_map}
-use Rattle.shell_syntax.specs.PrintedParts.{quoted_text}
+use Rattle.shell_syntax.specs.PrintedParts.{is_one_byte, escaped as escape, quoted_text, key_text, default_text, param_text}
 use Rattle.shell_syntax.specs.declared.key.Key.{Key}
 use Rattle.shell_syntax.specs.declared.key.Key.TheVariants.{Named, Arg, Count}
 use Rattle.shell_lexer.specs.declared.byte_kind.RunKind.TheVariants.{Names, Defaults}
@@ -19,9 +19,9 @@ use Rattle.shell_lexer.specs.Parts.{Look, Ends, Byte, Piece, AllArgs, DoubleQuot
 use Rattle.shell_lexer.specs.Spelling.{Stands}
 use Rattle.shell_lexer.specs.SpelledParts.{IsParam, name as by_name, name_braced, name_default, number as by_number, number_braced, number_default, count as by_count, count_braced, IsQuoted, single, escaped as by_backslash, IsPiece}
 use Rattle.shell_lexer.specs.Reading.{Out, Whole, Stop, Read, grown, plain_run, quoted_run, last_run, IsWord, word_ends, word_byte, word_piece, word_all, word_double, word_run, word_wrong, word_bad_double, word_bad_run, IsInner, inner_open, inner_ends, inner_byte, inner_piece, inner_all, inner_run, inner_wrong, inner_bad_run}
-use Rattle.shell_lexer.specs.Text.{Bytes, kind, skip, place, offset, head_is, run as run_at, behind as behind_at}
+use Rattle.shell_lexer.specs.Text.{Bytes, is_digit, kind, skip, place, offset, head_is, run as run_at, behind as behind_at}
 use Rattle.shell_lexer.specs.PrintedLaws.{IsOnePart, ParamIsOnePart, AllIsOnePart, raw_text, holds_no_run, is_last, ends_in_backslash, is_apart, WordsReadBack}
-use Rattle.shell_lexer.proofs.SpelledCases.{if_case, if_true, if_false, eq_of, true_false, or_case}
+use Rattle.shell_lexer.proofs.SpelledCases.{if_case, if_true, if_false, eq_of, true_false, or_case, and_true}
 use Rattle.shell_lexer.proofs.PrintedBytes.{clash, skip_first}
 use Rattle.shell_lexer.proofs.PrintedQuotes.{quoted_is_one_part}
 use Rattle.shell_lexer.proofs.SpelledKinds.{KindOf, kind_of}
@@ -46,6 +46,46 @@ may_follow _ = true
 abbrev after_dollar : Bytes → Bool
 after_dollar [] = true
 after_dollar (b ∷ text) = may_follow (kind b)
+
+-- ---- what stands where a word may go on, or begin
+
+-- a byte of this kind begins no redirection behind digits
+abbrev pub no_angle : ByteKind → Bool
+no_angle k.Less = false
+no_angle k.Greater = false
+no_angle _ = true
+
+abbrev pub begins_ten : Bytes → Bool
+begins_ten [] = false
+begins_ten (b ∷ text) = nat_eq b 10
+
+-- behind digits, perhaps none, no redirection begins, and no joined line stands
+abbrev pub steady : Bytes → Bool
+steady [] = true
+steady (b ∷ text) = if is_digit b then steady text else (no_angle (kind b) && not (nat_eq b 92 && begins_ten text))
+
+-- whether a word may begin with a byte of this kind
+abbrev pub may_begin : ByteKind → Bool
+may_begin k.Blank = false
+may_begin k.Newline = false
+may_begin k.Semi = false
+may_begin k.Amp = false
+may_begin k.Bar = false
+may_begin k.Open = false
+may_begin k.Close = false
+may_begin k.Less = false
+may_begin k.Greater = false
+may_begin k.Hash = false
+may_begin _ = true
+
+abbrev pub begins_word : Bytes → Bool
+begins_word [] = false
+begins_word (b ∷ text) = may_begin (kind b)
+
+steady_byte : (c : ℕ) (t : Bytes) (it : ByteKind) → kind c ≡ it → nat_eq c 92 ≡ false → no_angle it ≡ true → steady t ≡ true → steady (c ∷ t) ≡ true
+steady_byte c t it is nb na s =
+    if_case (λ x. x ≡ true) (is_digit c) (steady t) (no_angle (kind c) && not (nat_eq c 92 && begins_ten t)) (λ e. s)
+    (λ e. and_true (no_angle (kind c)) (not (nat_eq c 92 && begins_ten t)) (ap no_angle is ∙ na) (ap (λ x. not (x && begins_ten t)) nb))
 
 dollar_here : (at : ℕ) (rest : Bytes) (b : ℕ) (it : ByteKind) (more : Bytes) → may_follow it ≡ true → dollar_by false at rest b it more ≡ Byte 36 rest
 dollar_here at rest b k.Open more e = absurd (true_false (sym e))
@@ -139,11 +179,15 @@ back_only c e = subst (KindOf c) e (kind_of c)
 record IsPrinted (all : ℕ) (it : ByteKind) (b : ℕ) (t : Bytes) : Type 0 where
   pub seen : look all (b ∷ t) ≡ Byte b t
   pub follows : may_follow it ≡ true → after_dollar (skip (b ∷ t)) ≡ true
+  pub stays : steady t ≡ true → steady (b ∷ t) ≡ true
+  pub begins : may_begin it ≡ true → begins_word (b ∷ t) ≡ true
 
-plainly : (all c b : ℕ) (t : Bytes) (it : ByteKind) → kind c ≡ it → is_back it ≡ false → ((at : ℕ) → look_by at c it t ≡ Byte c t) → c ≡ b → IsPrinted all it b t
-plainly all c b t it is nb table e = subst (λ x. IsPrinted all it x t) e (record {
+plainly : (all c b : ℕ) (t : Bytes) (it : ByteKind) → kind c ≡ it → is_back it ≡ false → no_angle it ≡ true → ((at : ℕ) → look_by at c it t ≡ Byte c t) → c ≡ b → IsPrinted all it b t
+plainly all c b t it is nb na table e = subst (λ x. IsPrinted all it x t) e (record {
   seen = ap (λ u. look_at (place all u) u) (skip_first c t (not_back c it is nb)) ∙ ap (λ i. look_by (place all (c ∷ t)) c i t) is ∙ table (place all (c ∷ t));
   follows = λ f. ap after_dollar (skip_first c t (not_back c it is nb)) ∙ ap may_follow is ∙ f;
+  stays = steady_byte c t it is (not_back c it is nb) na;
+  begins = λ f. ap may_begin is ∙ f;
 })
 
 backslash : (all c : ℕ) (u : Bytes) (b : ℕ) (rest t : Bytes) → kind c ≡ k.Back → escaped c u ≡ Byte b rest → (nat_eq b 92 ≡ true → rest ≡ [] → t ≡ []) → IsPrinted all k.Back b t
@@ -152,7 +196,7 @@ backslash all c [] b rest t is h ends =
     let n : b ≡ 92 = sym e.0 ∙ back_only c is in
     let m : nat_eq b 92 ≡ true = ap (λ x. nat_eq x 92) n in
     subst (λ x. IsPrinted all k.Back x t) (sym n)
-    (subst (IsPrinted all k.Back 92) (sym (ends m (sym e.1))) (record { seen = refl; follows = λ f. refl }))
+    (subst (IsPrinted all k.Back 92) (sym (ends m (sym e.1))) (record { seen = refl; follows = λ f. refl; stays = λ f. refl; begins = λ f. refl }))
 backslash all c (x ∷ u) b rest t is h ends = no_byte _ tt h
 
 printed_byte : (all at c : ℕ) (u : Bytes) (it : ByteKind) (b : ℕ) (rest t : Bytes) → kind c ≡ it → look_by at c it u ≡ Byte b rest
@@ -176,27 +220,31 @@ printed_byte all at c u k.Dollar b rest t is h follow ends =
     subst (λ x. IsPrinted all k.Dollar x t) d.is (record {
       seen = ap (λ u. look_at (place all u) u) (skip_first 36 t refl) ∙ dollar_alone (place all (36 ∷ t)) t (skip t) after;
       follows = λ f. absurd (true_false (sym f));
+      stays = λ f. refl;
+      begins = λ f. refl;
     })
-printed_byte all at c u it b rest t is h follow ends = plainly all c b t it is refl (λ at. refl) (same_byte h).0
+printed_byte all at c u it b rest t is h follow ends = plainly all c b t it is refl refl (λ at. refl) (same_byte h).0
 
 -- the same of the byte that is seen at the front of a text
 record FrontPrinted (all : ℕ) (text : Bytes) (b : ℕ) (t : Bytes) : Type 0 where
   pub seen : look all (b ∷ t) ≡ Byte b t
   pub follows : after_dollar text ≡ true → after_dollar (skip (b ∷ t)) ≡ true
+  pub stays : steady t ≡ true → steady (b ∷ t) ≡ true
+  pub begins : begins_word text ≡ true → begins_word (b ∷ t) ≡ true
 
 front_printed : (all len : ℕ) (text : Bytes) (b : ℕ) (rest t : Bytes) → look_at (place len text) text ≡ Byte b rest
     → (after_dollar (skip rest) ≡ true → after_dollar (skip t) ≡ true) → (nat_eq b 92 ≡ true → rest ≡ [] → t ≡ []) → FrontPrinted all text b t
 front_printed all len [] b rest t h follow ends = no_byte _ tt h
 front_printed all len (c ∷ u) b rest t h follow ends =
     let p = printed_byte all (place len (c ∷ u)) c u (kind c) b rest t refl h follow ends in
-    record { seen = p.seen; follows = p.follows }
+    record { seen = p.seen; follows = p.follows; stays = p.stays; begins = p.begins }
 
 -- ---- what stands behind a printed word
 
 ends_at : (all b c : ℕ) (t : Bytes) → b ≡ c → look all (c ∷ t) ≡ Ends → look all (b ∷ t) ≡ Ends
 ends_at all b c t e h = subst (λ x. look all (x ∷ t) ≡ Ends) (sym e) h
 
-ends_here : (all : ℕ) (behind : Bytes) → is_apart behind ≡ true → look all behind ≡ Ends
+pub ends_here : (all : ℕ) (behind : Bytes) → is_apart behind ≡ true → look all behind ≡ Ends
 ends_here all [] e = refl
 ends_here all (b ∷ t) e =
     or_case (nat_eq b 32) (nat_eq b 10) e
@@ -210,12 +258,70 @@ apart_follows (b ∷ t) e =
     (λ f. subst (λ x. after_dollar (skip (x ∷ t)) ≡ true) (sym (eq_of b 32 f)) (ap after_dollar (skip_first 32 t refl)))
     (λ f. subst (λ x. after_dollar (skip (x ∷ t)) ≡ true) (sym (eq_of b 10 f)) (ap after_dollar (skip_first 10 t refl)))
 
+apart_steady : (behind : Bytes) → is_apart behind ≡ true → steady behind ≡ true
+apart_steady [] e = refl
+apart_steady (b ∷ t) e =
+    or_case (nat_eq b 32) (nat_eq b 10) e
+    (λ f. subst (λ x. steady (x ∷ t) ≡ true) (sym (eq_of b 32 f)) refl) (λ f. subst (λ x. steady (x ∷ t) ≡ true) (sym (eq_of b 10 f)) refl)
+
+-- ---- how a part begins that is not plain
+
+record PartHead (p : RawPart) : Type 0 where
+  pub head : ℕ
+  pub tail : Bytes
+  pub is : raw_text p ≡ head ∷ tail
+  pub stays : (z : Bytes) → steady (head ∷ (tail ++ z)) ≡ true
+  pub begins : may_begin (kind head) ≡ true
+
+quoted_by : (w : Bytes) (one : Bool) → is_one_byte w ≡ one → quoted_text w ≡ (if one then codes "\\" ++ w else codes "\"" ++ flat_map escape w ++ codes "\"")
+unfolding quoted_text
+quoted_by w one e = ap (λ t. if t then codes "\\" ++ w else codes "\"" ++ flat_map escape w ++ codes "\"") e
+
+one_byte_head : (w : Bytes) → is_one_byte w ≡ true → PartHead (part.Quoted w)
+one_byte_head [] e = absurd (true_false (sym e))
+one_byte_head (b ∷ []) e = record { head = 92; tail = b ∷ []; is = quoted_by (b ∷ []) true e; stays = λ z. e; begins = refl }
+one_byte_head (b ∷ c ∷ w) e = absurd (true_false (sym e))
+
+quoted_head : (w : Bytes) → PartHead (part.Quoted w)
+quoted_head w = by (is_one_byte w) refl where
+  by : (one : Bool) → is_one_byte w ≡ one → PartHead (part.Quoted w)
+  by true e = one_byte_head w e
+  by false e = record { head = 34; tail = flat_map escape w ++ codes "\""; is = quoted_by w false e; stays = λ z. refl; begins = refl }
+
+param_head : (key : Key) (default : Option Bytes) (quoted : Bool) → PartHead (part.Param key default quoted)
+unfolding param_text
+param_head key default true = record {
+  head = 34;
+  tail = codes "${" ++ key_text key ++ default_text default ++ codes "}" ++ codes "\"";
+  is = refl;
+  stays = λ z. refl;
+  begins = refl;
+}
+param_head key default false = record {
+  head = 36;
+  tail = codes "{" ++ key_text key ++ default_text default ++ codes "}" ++ [];
+  is = refl;
+  stays = λ z. refl;
+  begins = refl;
+}
+
+all_head : PartHead part.All
+all_head = record { head = 34; tail = codes "$@\""; is = refl; stays = λ z. refl; begins = refl }
+
+-- a part that is one part as it is printed
+record One (p : RawPart) : Type 0 where
+  pub one : IsOnePart p (raw_text p)
+  pub begin : PartHead p
+
+quoted_one : (w : Bytes) → One (part.Quoted w)
+quoted_one w = record { one = quoted_is_one_part w; begin = quoted_head w }
+
 -- ---- parts, one behind the other
 
 -- each of these parts, as it is printed, is one part
 data AllOne : List RawPart → Type 0 where
   one_none : AllOne []
-  one_more : {p : RawPart} {ps : List RawPart} → IsOnePart p (raw_text p) → AllOne ps → AllOne (p ∷ ps)
+  one_more : {p : RawPart} {ps : List RawPart} → One p → AllOne ps → AllOne (p ∷ ps)
 
 grown_none : (q : Out Read) → grown [] [] q ≡ q
 grown_none (Whole v rest) = refl
@@ -235,7 +341,7 @@ module _ (deep : ℕ → Bool) (all depth : ℕ) where
   parts_read [] one_none t q w = ([], subst (IsWord deep all depth [] t) (sym (grown_none q)) w)
   parts_read (p ∷ ps) (one_more h a) t q w =
       let more = parts_read ps a t q w in
-      let first = h deep all depth [] (flat ps ++ t) (grown ps more.0 q) more.1 in (
+      let first = h.one deep all depth [] (flat ps ++ t) (grown ps more.0 q) more.1 in (
         first.0 ++ more.0,
         subst (λ u. IsWord deep all depth [] u (grown (p ∷ ps) (first.0 ++ more.0) q)) (sym (append_assoc (raw_text p) (flat ps) t))
             (subst (IsWord deep all depth [] (raw_text p ++ (flat ps ++ t))) (grown_twice (p ∷ []) ps first.0 more.0 q) first.1),
@@ -245,12 +351,15 @@ module _ (deep : ℕ → Bool) (all depth : ℕ) where
       → (notes : List ByteNote) × IsWord deep all depth run (flat (p ∷ ps) ++ t) (grown (plain_run run ++ (p ∷ ps)) notes q)
   run_read run p ps (one_more h a) t q w =
       let more = parts_read ps a t q w in
-      let first = h deep all depth run (flat ps ++ t) (grown ps more.0 q) more.1 in (
+      let first = h.one deep all depth run (flat ps ++ t) (grown ps more.0 q) more.1 in (
         first.0 ++ more.0,
         subst (λ u. IsWord deep all depth run u (grown (plain_run run ++ (p ∷ ps)) (first.0 ++ more.0) q)) (sym (append_assoc (raw_text p) (flat ps) t))
             (subst (IsWord deep all depth run (raw_text p ++ (flat ps ++ t)))
             (grown_twice (plain_run run ++ p ∷ []) ps first.0 more.0 q ∙ ap (λ l. grown l (first.0 ++ more.0) q) (append_assoc (plain_run run) (p ∷ []) ps)) first.1),
       )
+
+first_head : {p : RawPart} {ps : List RawPart} → AllOne (p ∷ ps) → PartHead p
+first_head (one_more h a) = h.begin
 
 -- ---- lists of parts
 
@@ -351,24 +460,24 @@ InnerFine fresh (Whole v rest) = (holds_no_run v.0 ≡ true → AllOne v.0) × (
 InnerFine fresh (Stop fault) = Unit {0}
 
 last_fine : (fresh : Bool) (run rest : Bytes) → InnerFine fresh (Whole (last_run fresh run, []) rest)
-last_fine true [] rest = (λ n. one_more (quoted_is_one_part []) one_none, λ e. refl)
-last_fine true (b ∷ run) rest = (λ n. one_more (quoted_is_one_part (b ∷ run)) one_none, λ e. refl)
+last_fine true [] rest = (λ n. one_more (quoted_one []) one_none, λ e. refl)
+last_fine true (b ∷ run) rest = (λ n. one_more (quoted_one (b ∷ run)) one_none, λ e. refl)
 last_fine false [] rest = (λ n. one_none, λ e. absurd (true_false (sym e)))
-last_fine false (b ∷ run) rest = (λ n. one_more (quoted_is_one_part (b ∷ run)) one_none, λ e. refl)
+last_fine false (b ∷ run) rest = (λ n. one_more (quoted_one (b ∷ run)) one_none, λ e. refl)
 
 same_fine : (fresh : Bool) (ns : List ByteNote) (q : Out Read) → InnerFine fresh q → InnerFine fresh (grown [] ns q)
 same_fine fresh ns (Whole v rest) f = f
 same_fine fresh ns (Stop fault) f = tt
 
-behind_run : (run : Bytes) (p : RawPart) (ps : List RawPart) → IsOnePart p (raw_text p) → AllOne ps → AllOne ((quoted_run run ++ p ∷ []) ++ ps)
+behind_run : (run : Bytes) (p : RawPart) (ps : List RawPart) → One p → AllOne ps → AllOne ((quoted_run run ++ p ∷ []) ++ ps)
 behind_run [] p ps h a = one_more h a
-behind_run (b ∷ run) p ps h a = one_more (quoted_is_one_part (b ∷ run)) (one_more h a)
+behind_run (b ∷ run) p ps h a = one_more (quoted_one (b ∷ run)) (one_more h a)
 
 some_behind : (run : Bytes) (p : RawPart) (ps : List RawPart) → some_part ((quoted_run run ++ p ∷ []) ++ ps) ≡ true
 some_behind [] p ps = refl
 some_behind (b ∷ run) p ps = refl
 
-more_fine : (fresh : Bool) (run : Bytes) (p : RawPart) (ns : List ByteNote) (q : Out Read) → IsOnePart p (raw_text p) → InnerFine false q → InnerFine fresh (grown (quoted_run run ++ p ∷ []) ns q)
+more_fine : (fresh : Bool) (run : Bytes) (p : RawPart) (ns : List ByteNote) (q : Out Read) → One p → InnerFine false q → InnerFine fresh (grown (quoted_run run ++ p ∷ []) ns q)
 more_fine fresh run p ns (Whole v rest) h f = (λ n. behind_run run p v.0 h (f.0 (no_run_right (quoted_run run ++ p ∷ []) v.0 n)), λ e. some_behind run p v.0)
 more_fine fresh run p ns (Stop fault) h f = tt
 
@@ -381,10 +490,13 @@ run_fine fresh run at ts quoted ns (Whole v rest) = (λ n. absurd (no_runs run a
 run_fine fresh run at ts quoted ns (Stop fault) = tt
 
 module _ (outside : PartsAreSpelled look false) (inside : PartsAreSpelled inner true) (args : AllArgsAreSpelled look) (quotes : DoubleQuotesAreSpelled look) (param : ParamIsOnePart) (whole : AllIsOnePart) where
-  piece_one : (in_quotes : Bool) (p : RawPart) (text rest : Bytes) → IsPiece in_quotes p text rest → IsOnePart p (raw_text p)
-  piece_one in_quotes (part.Param key default quoted) text rest h = param key default quoted text rest h.1
-  piece_one in_quotes (part.Quoted bytes) text rest h = quoted_is_one_part bytes
+  piece_one : (in_quotes : Bool) (p : RawPart) (text rest : Bytes) → IsPiece in_quotes p text rest → One p
+  piece_one in_quotes (part.Param key default quoted) text rest h = record { one = param key default quoted text rest h.1; begin = param_head key default quoted }
+  piece_one in_quotes (part.Quoted bytes) text rest h = quoted_one bytes
   piece_one in_quotes _ text rest h = absurd h
+
+  whole_one : One part.All
+  whole_one = record { one = whole; begin = all_head }
 
   inner_fine : {deep : ℕ → Bool} {len depth «from» : ℕ} {fresh : Bool} {run text : Bytes} {q : Out Read} → IsInner deep len depth «from» fresh run text q → InnerFine fresh q
   inner_fine {deep} {len} {depth} {«from»} {fresh} {run} {text} {q} (inner_open h e) = subst (InnerFine fresh) (sym e) tt
@@ -393,7 +505,7 @@ module _ (outside : PartsAreSpelled look false) (inside : PartsAreSpelled inner 
   inner_fine {deep} {len} {depth} {«from»} {fresh} {run} {text} {q} (inner_piece p t q1 h x e) =
       subst (InnerFine fresh) (sym e) (more_fine fresh run p (note.Gap ∷ []) q1 (piece_one true p text t ((inside len text t p).0 h)) (inner_fine x))
   inner_fine {deep} {len} {depth} {«from»} {fresh} {run} {text} {q} (inner_all t q1 h x e) =
-      subst (InnerFine fresh) (sym e) (more_fine fresh run part.All (note.All (offset len text) true ∷ []) q1 whole (inner_fine x))
+      subst (InnerFine fresh) (sym e) (more_fine fresh run part.All (note.All (offset len text) true ∷ []) q1 whole_one (inner_fine x))
   inner_fine {deep} {len} {depth} {«from»} {fresh} {run} {text} {q} (inner_run g ts t q1 h i x e) =
       subst (InnerFine fresh) (sym e) (run_fine fresh run (offset len text) ts true (note.Gap ∷ []) q1)
   inner_fine {deep} {len} {depth} {«from»} {fresh} {run} {text} {q} (inner_wrong f h e) = subst (InnerFine fresh) (sym e) tt
@@ -403,29 +515,33 @@ module _ (outside : PartsAreSpelled look false) (inside : PartsAreSpelled inner 
 
   module _ (deep : ℕ → Bool) (all depth : ℕ) (behind : Bytes) (apart : is_apart behind ≡ true) where
     -- how the rest of a word is printed
-    record Back (run text : Bytes) (v : Read) : Type 0 where
+    pub record Back (len : ℕ) (run text : Bytes) (v : Read) : Type 0 where
       pub suffix : Bytes
       pub notes : List ByteNote
       pub printed : flat_map raw_text v.0 ≡ run ++ suffix
       pub reads : IsWord deep all depth run (suffix ++ behind) (Whole (v.0, notes) behind)
       pub follows : after_dollar (skip text) ≡ true → after_dollar (skip (suffix ++ behind)) ≡ true
       pub at_end : text ≡ [] → (suffix ≡ []) × (v.0 ≡ plain_run run)
+      pub calm : steady (suffix ++ behind) ≡ true
+      pub begun : (look len text ≡ Ends → ⊥) → begins_word (skip text) ≡ true → begins_word (suffix ++ behind) ≡ true
 
-    abbrev Claim : Bytes → Bytes → Out Read → Type 0
-    Claim run text (Whole v rest) = holds_no_run v.0 ≡ true → (ends_in_backslash v.0 ≡ true → behind ≡ []) → Back run text v
-    Claim run text (Stop fault) = Unit {0}
+    abbrev pub Claim : ℕ → Bytes → Bytes → Out Read → Type 0
+    Claim len run text (Whole v rest) = holds_no_run v.0 ≡ true → (ends_in_backslash v.0 ≡ true → behind ≡ []) → Back len run text v
+    Claim len run text (Stop fault) = Unit {0}
 
-    end_claim : (run text : Bytes) → Claim run text (Whole (plain_run run, []) text)
-    end_claim run text none ends = record {
+    end_claim : (len : ℕ) (run text : Bytes) → look len text ≡ Ends → Claim len run text (Whole (plain_run run, []) text)
+    end_claim len run text h none ends = record {
       suffix = [];
       notes = [];
       printed = plain_flat run ∙ sym (append-nil run);
       reads = word_ends (ends_here all behind apart) refl;
       follows = λ e. apart_follows behind apart;
       at_end = λ e. (refl, refl);
+      calm = apart_steady behind apart;
+      begun = λ n e. absurd (n h);
     }
 
-    byte_claim : (len : ℕ) (run text : Bytes) (b : ℕ) (rest : Bytes) (ns : List ByteNote) (q : Out Read) → look len text ≡ Byte b rest → Claim (run ++ b ∷ []) rest q → Claim run text (grown [] ns q)
+    byte_claim : (len : ℕ) (run text : Bytes) (b : ℕ) (rest : Bytes) (ns : List ByteNote) (q : Out Read) → look len text ≡ Byte b rest → Claim len (run ++ b ∷ []) rest q → Claim len run text (grown [] ns q)
     byte_claim len run text b rest ns (Stop fault) h x = tt
     byte_claim len run text b rest ns (Whole v last) h x = λ none ends.
         let i = x none ends in
@@ -442,17 +558,24 @@ module _ (outside : PartsAreSpelled look false) (inside : PartsAreSpelled inner 
           reads = word_byte b t (Whole (v.0, i.notes) behind) p.seen i.reads refl;
           follows = p.follows;
           at_end = λ e. absurd (not_end len text (Byte b rest) h (λ f. cc f) e);
+          calm = p.stays i.calm;
+          begun = λ n e. p.begins e;
         }
 
-    parts_claim : (run text rest : Bytes) (p : RawPart) (ps : List RawPart) (ns : List ByteNote) (q : Out Read)
-        → (holds_no_run (p ∷ ps) ≡ true → AllOne (p ∷ ps)) → Follows text (p ∷ ps) → (text ≡ [] → ⊥) → Claim [] rest q → Claim run text (grown (plain_run run ++ (p ∷ ps)) ns q)
-    parts_claim run text rest p ps ns (Stop fault) ones follow some x = tt
-    parts_claim run text rest p ps ns (Whole v last) ones follow some x = λ none ends.
+    parts_claim : (len : ℕ) (run text rest : Bytes) (p : RawPart) (ps : List RawPart) (ns : List ByteNote) (q : Out Read)
+        → (holds_no_run (p ∷ ps) ≡ true → AllOne (p ∷ ps)) → Follows text (p ∷ ps) → (text ≡ [] → ⊥) → Claim len [] rest q → Claim len run text (grown (plain_run run ++ (p ∷ ps)) ns q)
+    parts_claim len run text rest p ps ns (Stop fault) ones follow some x = tt
+    parts_claim len run text rest p ps ns (Whole v last) ones follow some x = λ none ends.
         let begin = plain_run run ++ (p ∷ ps) in
         let i = x (no_run_right begin v.0 none) (λ e. ends (ends_right begin v.0 e)) in
         let a = ones (no_run_right (plain_run run) (p ∷ ps) (no_run_left begin v.0 none)) in
         let r = run_read deep all depth run p ps a (i.suffix ++ behind) (Whole (v.0, i.notes) behind) i.reads in
         let f = flat_map raw_text (p ∷ ps) in
+        let z = flat_map raw_text ps ++ (i.suffix ++ behind) in
+        let h = first_head a in
+        let whole_text : (f ++ i.suffix) ++ behind ≡ h.head ∷ (h.tail ++ z) =
+        append_assoc f i.suffix behind ∙ append_assoc (raw_text p) (flat_map raw_text ps) (i.suffix ++ behind) ∙ ap (λ r. r ++ z) h.is
+        in
         record {
           suffix = f ++ i.suffix;
           notes = r.0 ++ i.notes;
@@ -462,43 +585,45 @@ module _ (outside : PartsAreSpelled look false) (inside : PartsAreSpelled inner 
           reads = subst (λ u. IsWord deep all depth run u (Whole (begin ++ v.0, r.0 ++ i.notes) behind)) (sym (append_assoc f i.suffix behind)) r.1;
           follows = λ e. ap (λ u. after_dollar (skip u)) (append_assoc f i.suffix behind) ∙ follow e (i.suffix ++ behind);
           at_end = λ e. absurd (some e);
+          calm = ap steady whole_text ∙ h.stays z;
+          begun = λ n e. ap begins_word whole_text ∙ h.begins;
         }
 
-    double_claim : (run text rest : Bytes) (xs : List RawPart) (ns : List ByteNote) (q : Out Read)
-        → some_part xs ≡ true → (holds_no_run xs ≡ true → AllOne xs) → Follows text xs → (text ≡ [] → ⊥) → Claim [] rest q → Claim run text (grown (plain_run run ++ xs) ns q)
-    double_claim run text rest [] ns q some ones follow end x = absurd (true_false (sym some))
-    double_claim run text rest (p ∷ ps) ns q some ones follow end x = parts_claim run text rest p ps ns q ones follow end x
+    double_claim : (len : ℕ) (run text rest : Bytes) (xs : List RawPart) (ns : List ByteNote) (q : Out Read)
+        → some_part xs ≡ true → (holds_no_run xs ≡ true → AllOne xs) → Follows text xs → (text ≡ [] → ⊥) → Claim len [] rest q → Claim len run text (grown (plain_run run ++ xs) ns q)
+    double_claim len run text rest [] ns q some ones follow end x = absurd (true_false (sym some))
+    double_claim len run text rest (p ∷ ps) ns q some ones follow end x = parts_claim len run text rest p ps ns q ones follow end x
 
     piece_follows : (p : RawPart) (text rest : Bytes) → IsPiece false p text rest → Follows text (p ∷ [])
     piece_follows (part.Param key default quoted) text rest h = param_follows (part.Param key default quoted ∷ []) h.1
     piece_follows (part.Quoted bytes) text rest h = quoted_follows h.1
     piece_follows _ text rest h = absurd h
 
-    no_run_claim : (run text : Bytes) (at : ℕ) (ts : List Token) (ns : List ByteNote) (q : Out Read) → Claim run text (grown (plain_run run ++ part.Run at ts false ∷ []) ns q)
-    no_run_claim run text at ts ns (Stop fault) = tt
-    no_run_claim [] text at ts ns (Whole v rest) = λ none ends. absurd (true_false (sym none))
-    no_run_claim (b ∷ run) text at ts ns (Whole v rest) = λ none ends. absurd (true_false (sym none))
+    no_run_claim : (len : ℕ) (run text : Bytes) (at : ℕ) (ts : List Token) (ns : List ByteNote) (q : Out Read) → Claim len run text (grown (plain_run run ++ part.Run at ts false ∷ []) ns q)
+    no_run_claim len run text at ts ns (Stop fault) = tt
+    no_run_claim len [] text at ts ns (Whole v rest) = λ none ends. absurd (true_false (sym none))
+    no_run_claim len (b ∷ run) text at ts ns (Whole v rest) = λ none ends. absurd (true_false (sym none))
 
-    word_claim : {len : ℕ} {run text : Bytes} {q : Out Read} → IsWord deep len depth run text q → Claim run text q
-    word_claim {len} {run} {text} {q} (word_ends h e) = subst (Claim run text) (sym e) (end_claim run text)
-    word_claim {len} {run} {text} {q} (word_byte b t q1 h x e) = subst (Claim run text) (sym e) (byte_claim len run text b t (note.Plain b (offset len text) ∷ []) q1 h (word_claim x))
+    pub word_claim : {len : ℕ} {run text : Bytes} {q : Out Read} → IsWord deep len depth run text q → Claim len run text q
+    word_claim {len} {run} {text} {q} (word_ends h e) = subst (Claim len run text) (sym e) (end_claim len run text h)
+    word_claim {len} {run} {text} {q} (word_byte b t q1 h x e) = subst (Claim len run text) (sym e) (byte_claim len run text b t (note.Plain b (offset len text) ∷ []) q1 h (word_claim x))
     word_claim {len} {run} {text} {q} (word_piece p t q1 h x e) =
         let g = (outside len text t p).0 h in
-        subst (Claim run text) (sym e)
-        (parts_claim run text t p [] (note.Gap ∷ []) q1 (λ n. one_more (piece_one false p text t g) one_none) (piece_follows p text t g) (not_end len text (Piece p t) h (λ f. cc f)) (word_claim x))
+        subst (Claim len run text) (sym e)
+        (parts_claim len run text t p [] (note.Gap ∷ []) q1 (λ n. one_more (piece_one false p text t g) one_none) (piece_follows p text t g) (not_end len text (Piece p t) h (λ f. cc f)) (word_claim x))
     word_claim {len} {run} {text} {q} (word_all t q1 h x e) =
         let g = (args len text t).0 h in
-        subst (Claim run text) (sym e)
-        (parts_claim run text t part.All [] (note.All (offset len text) false ∷ []) q1 (λ n. one_more whole one_none) (never 36 text g.0 (part.All ∷ []) refl g.1) (not_end len text (AllArgs t) h (λ f. cc f)) (word_claim x))
+        subst (Claim len run text) (sym e)
+        (parts_claim len run text t part.All [] (note.All (offset len text) false ∷ []) q1 (λ n. one_more whole_one one_none) (never 36 text g.0 (part.All ∷ []) refl g.1) (not_end len text (AllArgs t) h (λ f. cc f)) (word_claim x))
     word_claim {len} {run} {text} {q} (word_double begin v t q1 h i x e) =
         let g = (quotes len text begin).0 h in
         let fine = inner_fine i in
-        subst (Claim run text) (sym e)
-        (double_claim run text t v.0 (v.1 ++ note.Gap ∷ []) q1 (fine.1 refl) fine.0 (never 34 text g.0 v.0 refl g.1) (not_end len text (DoubleQuote begin) h (λ f. cc f)) (word_claim x))
-    word_claim {len} {run} {text} {q} (word_run begin ts t q1 h i x e) = subst (Claim run text) (sym e) (no_run_claim run text (offset len text) ts (note.Gap ∷ []) q1)
-    word_claim {len} {run} {text} {q} (word_wrong f h e) = subst (Claim run text) (sym e) tt
-    word_claim {len} {run} {text} {q} (word_bad_double begin f h i e) = subst (Claim run text) (sym e) tt
-    word_claim {len} {run} {text} {q} (word_bad_run begin f h i e) = subst (Claim run text) (sym e) tt
+        subst (Claim len run text) (sym e)
+        (double_claim len run text t v.0 (v.1 ++ note.Gap ∷ []) q1 (fine.1 refl) fine.0 (never 34 text g.0 v.0 refl g.1) (not_end len text (DoubleQuote begin) h (λ f. cc f)) (word_claim x))
+    word_claim {len} {run} {text} {q} (word_run begin ts t q1 h i x e) = subst (Claim len run text) (sym e) (no_run_claim len run text (offset len text) ts (note.Gap ∷ []) q1)
+    word_claim {len} {run} {text} {q} (word_wrong f h e) = subst (Claim len run text) (sym e) tt
+    word_claim {len} {run} {text} {q} (word_bad_double begin f h i e) = subst (Claim len run text) (sym e) tt
+    word_claim {len} {run} {text} {q} (word_bad_run begin f h i e) = subst (Claim len run text) (sym e) tt
 
   pub words_read_back : WordsReadBack
   words_read_back deep len depth spelled rest v w none all behind apart ends =

@@ -1,20 +1,24 @@
--- The laws that src/printed.rt proves: how what shell_syntax prints is cut into tokens again. The readings are those of
--- specs/Reading.antt, with any limit of substitutions, at any place of any text.
-use Rattle.std.specs.Prelude.{◌≡◌, ℕ, Bool, true, false, ◌||◌, nat_eq, List, [], ◌∷◌, ◌++◌, Option, codes}
+-- The laws that src/printed.rt proves: how what shell_syntax prints is cut into tokens again. The readings are those
+-- of specs/Reading.antt, with any limit of substitutions, at any place of any text.
+use Rattle.std.specs.Prelude.{◌≡◌, ℕ, suc, Bool, true, false, ◌||◌, nat_eq, List, [], ◌∷◌, ◌++◌, Option, None, codes}
 use Rattle.std.specs.List.{flat_map}
 use Rattle.shell_syntax.specs.declared.key.Key.{Key}
-use Rattle.shell_syntax.specs.declared.redirect.Redirect.{Redirect}
 use Rattle.shell_syntax.specs.PrintedParts.{double_quote, quoted_text, param_text, run_text}
 use Rattle.shell_syntax.specs.Printed.{redirect_text}
 use Rattle.shell_lexer.specs.declared.sight.ByteNote.{ByteNote}
+use Rattle.shell_lexer.specs.declared.sight.Sign.{Sign}
+use Rattle.shell_lexer.specs.declared.sight.Sign.TheVariants as sign
 use Rattle.shell_lexer.specs.declared.token.Token.{Token}
 use Rattle.shell_lexer.specs.declared.token.RawPart.{RawPart}
 use Rattle.shell_lexer.specs.declared.token.RawPart.TheVariants as part
 use Rattle.shell_lexer.specs.declared.token.TokenKind.TheVariants as token
-use Rattle.shell_lexer.specs.Text.{Bytes, ends_word, skip}
+use Rattle.shell_lexer.specs.Text.{Bytes}
 use Rattle.shell_lexer.specs.Spelling.{IsNotNext}
 use Rattle.shell_lexer.specs.SpelledParts.{IsParam}
-use Rattle.shell_lexer.specs.Reading.{Out, Whole, Read, grown, behind, plain_run, token_at, IsItems, IsWord, IsSub}
+use Rattle.shell_lexer.specs.Late.{late}
+use Rattle.shell_lexer.specs.Operators.{Word, sight}
+use Rattle.shell_lexer.specs.Reading.{Out, Whole, Read, grown, behind as preceded, plain_run, token_at, kind_of_sign}
+use Rattle.shell_lexer.specs.Reading.{opened, closes, IsItems, IsWord, IsSub}
 
 -- ---- parts of words
 
@@ -99,14 +103,65 @@ WordsReadBack =
     → (all : ℕ) (behind : Bytes) → is_apart behind ≡ true → (ends_in_backslash v.0 ≡ true → behind ≡ [])
     → (notes : List ByteNote) × IsWord deep all depth [] (flat_map raw_text v.0 ++ behind) (Whole (v.0, notes) behind)
 
--- ---- redirections
+-- ---- tokens
 
--- the text of a redirection is its token, where a word may end behind it
-abbrev pub RedirectionIsOneToken : Type 0
-RedirectionIsOneToken =
-    (deep : ℕ → Bool) (len depth «from» parens : ℕ) (which : Redirect) (rest : Bytes) (q : Out (List Token))
-    → ends_word (skip rest) ≡ true
-    → IsItems deep len depth «from» parens rest q
+-- whether no part is `$@`
+abbrev pub holds_no_all : List RawPart → Bool
+holds_no_all [] = true
+holds_no_all (part.All ∷ ps) = false
+holds_no_all (_ ∷ ps) = holds_no_all ps
+
+-- A word as a token, likewise: one that is read somewhere, and in which no form is found that is looked for once a
+-- word is whole, is printed behind a blank so that it is cut as one token of the same parts, inside as many
+-- substitutions.
+abbrev pub WordTokensReadBack : Type 0
+WordTokensReadBack =
+    (deep : ℕ → Bool) (len depth at : ℕ) (spelled rest : Bytes) (v : Read)
+    → sight len spelled ≡ Word → IsWord deep len depth [] spelled (Whole v rest) → late depth at v.1 ≡ None
+    → holds_no_run v.0 ≡ true → holds_no_all v.0 ≡ true
+    → (all «from» parens : ℕ) (behind : Bytes) (q : Out (List Token))
+    → is_apart behind ≡ true → (ends_in_backslash v.0 ≡ true → behind ≡ [])
+    → IsItems deep all depth «from» parens behind q
+    → (place : ℕ)
+    × IsItems deep all depth «from» parens (32 ∷ (flat_map raw_text v.0 ++ behind))
+    (preceded (token_at place (token.Word v.0) ∷ []) q)
+
+-- the word `"$@"`, too
+abbrev pub AllTokensReadBack : Type 0
+AllTokensReadBack =
+    (deep : ℕ → Bool) (all depth «from» parens : ℕ) (behind : Bytes) (q : Out (List Token))
+    → is_apart behind ≡ true → IsItems deep all depth «from» parens behind q
+    → (place : ℕ)
+    × IsItems deep all depth «from» parens (32 ∷ (codes "\"$@\"" ++ behind))
+    (preceded (token_at place (token.Word (part.All ∷ [])) ∷ []) q)
+
+-- ---- operators
+
+-- an operator or a redirection as it is printed: behind a blank, but a newline
+abbrev pub operator_text : Sign → Bytes
+operator_text sign.Newline = codes "\n"
+operator_text sign.Semi = codes " ;"
+operator_text sign.DoubleSemi = codes " ;;"
+operator_text sign.AndAnd = codes " &&"
+operator_text sign.OrOr = codes " ||"
+operator_text sign.Bar = codes " |"
+operator_text sign.LeftParen = codes " ("
+operator_text sign.RightParen = codes " )"
+operator_text (sign.Redirect which) = redirect_text which
+
+-- An operator or a redirection is one token where a blank, a newline or nothing stands behind it, unless it closes a
+-- substitution.
+abbrev pub OperatorsReadBack : Type 0
+OperatorsReadBack =
+    (deep : ℕ → Bool) (len depth «from» parens : ℕ) (which : Sign) (rest : Bytes) (q : Out (List Token))
+    → is_apart rest ≡ true → closes depth parens which ≡ false
+    → IsItems deep len depth «from» (opened which parens) rest q
     → (at : ℕ)
-    × IsItems deep len depth «from» parens (redirect_text which ++ rest)
-    (behind (token_at at (token.Redirect which) ∷ []) q)
+    × IsItems deep len depth «from» parens (operator_text which ++ rest)
+    (preceded (token_at at (kind_of_sign which) ∷ []) q)
+
+-- a printed parenthesis that no other matches closes a substitution
+abbrev pub SubstitutionsClose : Type 0
+SubstitutionsClose =
+    (deep : ℕ → Bool) (len depth «from» : ℕ) (rest : Bytes)
+    → IsItems deep len (suc depth) «from» 0 (codes " )" ++ rest) (Whole [] rest)
