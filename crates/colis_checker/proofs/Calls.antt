@@ -3,7 +3,6 @@ use Rattle.std.proofs.Common.{◌≡◌, ◌⊎◌, ℕ, zero, suc, ◌<◌, ◌
 use Rattle.checker_io.specs.Faults.{Rose}
 use Rattle.checker_io.specs.Shelf.{Files, ShelfState}
 use Rattle.checker_io.specs.Sink.{SinkState, Took, TookPrefix}
-use Rattle.colis_checker.specs.declared.faults.InputFile.{InputFile}
 use Rattle.colis_checker.specs.declared.faults.Refusal.{Refusal}
 use Rattle.colis_checker.specs.declared.faults.Refusal.TheVariants.{Usage}
 use Rattle.colis_checker.specs.declared.request.Request.{Request}

@@ -1,5 +1,5 @@
 -- The commands of members one by one.
-use Rattle.std.proofs.Common.{◌≡◌, ℕ, List, [], ◌∷◌, ◌++◌, Option, Some, None, Result, Ok, Err, refl, ap, sym, ◌∙◌, append_assoc}
+use Rattle.std.proofs.Common.{◌≡◌, ℕ, List, [], ◌∷◌, ◌++◌, Some, Result, Ok, Err, refl, ap, sym, ◌∙◌, append_assoc}
 use Rattle.shell_syntax.specs.declared.syntax.Command.{Command}
 use Rattle.shell_rules.specs.declared.command.Command.{Command as Executed}
 use Rattle.colis_checker.specs.Commands.{begins_at, command_of, command_then, commands_of}

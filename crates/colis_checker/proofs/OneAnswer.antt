@@ -1,5 +1,5 @@
 -- The text of a file comes to one job or to one refusal.
-use Rattle.std.proofs.Common.{◌≡◌, ℕ, ◌<◌, ◌⊎◌, inl, inr, Bool, List, [], ◌∷◌, length, Option, Some, None, Result, Ok, Err, slice_index_or, refl, sym, ap, subst, ◌∙◌, arith}
+use Rattle.std.proofs.Common.{◌≡◌, ℕ, inl, inr, Bool, List, [], ◌∷◌, length, Option, Some, None, Result, Ok, Err, slice_index_or, refl, sym, ap, subst, ◌∙◌, arith}
 use Rattle.std.specs.List.{Contains}
 use Rattle.shell_syntax.specs.declared.form.Form.{Form as FormName}
 use Rattle.shell_syntax.specs.declared.form.Form.TheVariants as form
@@ -23,7 +23,7 @@ use Rattle.colis_checker.specs.declared.faults.InputFile.TheVariants.{Postinst}
 use Rattle.colis_checker.specs.declared.faults.Refusal.{Refusal}
 use Rattle.colis_checker.specs.declared.faults.Refusal.TheVariants.{Usage, TooLong, Lex, Parse, Form, Later}
 use Rattle.colis_checker.specs.Commands.{script_commands}
-use Rattle.colis_checker.specs.Script.{IsScript, IsAccepted, IsExecuted, HasSyntaxFault, HasForm, HasLater, IsRefused}
+use Rattle.colis_checker.specs.Script.{IsScript, IsAccepted, IsExecuted, HasSyntaxFault, HasForm, IsRefused}
 use Rattle.colis_checker.specs.Input.{job_of, Comes, ComesOf}
 
 -- ---- a text is one script

@@ -1,7 +1,6 @@
 -- Four words or more are no call that is executed so far.
 use Rattle.std.proofs.Common.{◌≡◌, ℕ, ◌≤◌, List, [], ◌∷◌, length, Option, Some, None, refl, arith}
 use Rattle.shell_syntax.specs.declared.syntax.Word.{Word}
-use Rattle.utility_calls.specs.declared.act.Planned.{Planned}
 use Rattle.colis_checker.specs.PlainCalls.{plain_text, plain_texts, before, call_of_texts, call_of_words}
 
 four_texts : (a b c d : Option (List ℕ)) (rest : Option (List (List ℕ))) → None ≡ call_of_texts (before a (before b (before c (before d rest))))

@@ -1,5 +1,5 @@
 -- What the steps from a text to its commands say, put together.
-use Rattle.std.proofs.Common.{◌≡◌, ℕ, List, [], length, Option, Some, None, Result, Ok, Err, refl, sym, ap, subst, ◌∙◌}
+use Rattle.std.proofs.Common.{◌≡◌, ℕ, List, length, Option, Result, Ok, Err, refl, sym, ap, ◌∙◌}
 use Rattle.checker_io.specs.Shelf.{ShelfState}
 use Rattle.checker_io.specs.Reading.{Reads}
 use Rattle.checker_io.specs.declared.stop.Stop.{Stop}

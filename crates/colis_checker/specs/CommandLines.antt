@@ -1,5 +1,6 @@
 -- What the form of the command line says: which lines of words are valid, and where a line stops to be one.
-use Rattle.std.specs.Prelude.{◌≡◌, ◌↔◌, ℕ, ◌+◌, ◌<◌, ◌≤◌, ◌⊎◌, List, [], ◌∷◌, ◌++◌, take, length, Ok, Err, codes, IsTrue}
+use Rattle.std.specs.Prelude.{◌≡◌, ◌↔◌, ℕ, ◌+◌, ◌<◌, ◌≤◌, ◌⊎◌, List, [], ◌∷◌, ◌++◌, take, length}
+use Rattle.std.specs.Prelude.{Ok, Err, codes, IsTrue}
 use Rattle.colis_checker.specs.declared.request.Request.{Request}
 use Rattle.colis_checker.specs.Words.{form, is_name}
 

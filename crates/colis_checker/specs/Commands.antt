@@ -1,5 +1,6 @@
 -- The commands of an accepted script that are executed so far.
-use Rattle.std.specs.Prelude.{◌≡◌, ℕ, Bool, true, false, ◌&&◌, List, [], ◌∷◌, Option, Some, None, option_map, Result, Ok, Err, codes, if◌then◌else◌}
+use Rattle.std.specs.Prelude.{◌≡◌, ℕ, Bool, true, false, ◌&&◌, List, [], ◌∷◌, Option, Some, None, option_map}
+use Rattle.std.specs.Prelude.{Result, Ok, Err, codes, if◌then◌else◌}
 use Rattle.shell_syntax.specs.declared.syntax.Command.{Command, out-Command}
 use Rattle.shell_syntax.specs.declared.syntax.Part.{Part}
 use Rattle.shell_syntax.specs.declared.syntax.Assign.{Assign}
@@ -158,9 +159,9 @@ abbrev pub unless_strict : Bool → ℕ → Result (List Executed) ℕ → Resul
 unless_strict true at commands = commands
 unless_strict false at commands = without_strict at commands
 
--- The commands of members, of which the first may be `set -e`, and has to be unless the first line has `-e`; or the offset
--- of the first other member that is no command. Where only `set -e` is missing, it is the offset of the first member, or
--- the text's end where there is none.
+-- The commands of members, of which the first may be `set -e`, and has to be unless the first line has `-e`; or the
+-- offset of the first other member that is no command. Where only `set -e` is missing, it is the offset of the first
+-- member, or the text's end where there is none.
 abbrev pub member_commands : Bool → ℕ → List Command → Result (List Executed) ℕ
 member_commands strict end [] = unless_strict strict end (Ok [])
 member_commands strict end (member ∷ members) =

@@ -1,5 +1,5 @@
 -- What a request reads, file by file, and what comes of it.
-use Rattle.std.specs.Prelude.{◌≡◌, ℕ, ◌++◌, List, Option, Some, None, Result, Ok, Err, IfSome, codes}
+use Rattle.std.specs.Prelude.{◌≡◌, ℕ, ◌++◌, List, Option, Some, None, Result, Ok, Err, codes}
 use Rattle.checker_io.specs.Faults.{Rose}
 use Rattle.checker_io.specs.Shelf.{Files, ShelfState, IsQuiet}
 use Rattle.checker_io.specs.Reading.{Asking, Answers, Asks, answer, content}
@@ -65,16 +65,19 @@ JobGives file text (Err (Refused refusal)) = Comes file text (Err refusal)
 JobGives file text (Err (ReadFailed other)) = ⊥
 JobGives file text (Err NoMemory) = Unit {0}
 
--- How reading a request's input ends on a shelf. With a job or a refusal no count has changed. A failed read has raised
--- the count, by a file that the request asks for, whose name the shelf has left. Want of memory has no stated cause.
+-- How reading a request's input ends on a shelf. With a job or a refusal no count has changed. A failed read has
+-- raised the count, by a file that the request asks for, whose name the shelf has left. Want of memory has no stated
+-- cause.
 abbrev pub InputEnds : Request → ShelfState → ShelfState → Result Job (Stop InputFile Refusal) → Type 0
 InputEnds request old new (Ok job) = IsQuiet old new × Inputs request old.holds (Ok job)
 InputEnds request old new (Err (Refused refusal)) = IsQuiet old new × Inputs request old.holds (Err refusal)
 InputEnds request old new (Err (ReadFailed file)) =
-    Rose old.faults new.faults × (new.failed ≡ file_name request file) × Asks (file_name request) old.holds (input request) file
+    Rose old.faults new.faults × (new.failed ≡ file_name request file)
+    × Asks (file_name request) old.holds (input request) file
 InputEnds request old new (Err NoMemory) = IsQuiet old new
 
 -- the input of a request was read on a shelf, which holds what it held
-pub record ReadsInput (request : Request) (old new : ShelfState) (result : Result Job (Stop InputFile Refusal)) : Type 0 where
+pub record ReadsInput (request : Request) (old new : ShelfState) (result : Result Job (Stop InputFile Refusal))
+    : Type 0 where
   pub kept : new.holds ≡ old.holds
   pub ends : InputEnds request old new result

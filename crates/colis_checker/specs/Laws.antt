@@ -7,4 +7,6 @@ use Rattle.colis_checker.specs.Input.{Comes}
 
 -- the text of a file comes to one job or to one refusal
 abbrev pub OneAnswer : Type 0
-OneAnswer = (file : InputFile) (text : Option (List ℕ)) (one other : Result Job Refusal) → Comes file text one → Comes file text other → one ≡ other
+OneAnswer =
+    (file : InputFile) (text : Option (List ℕ)) (one other : Result Job Refusal)
+    → Comes file text one → Comes file text other → one ≡ other

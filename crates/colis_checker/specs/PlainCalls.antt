@@ -60,8 +60,8 @@ abbrev pub remove_call : List ℕ → List ℕ → Option Planned
 remove_call option path =
     if bytes_eq option (codes "-f") then option_map (λ p. Change (Remove p)) (path_of_word path) else None
 
--- The call of words: `true` and `false` alone, `mkdir P` (XCU mkdir), `test -e P`, `test -d P` and `rm -f P`; other words
--- are no call that is executed so far.
+-- The call of words: `true` and `false` alone, `mkdir P` (XCU mkdir), `test -e P`, `test -d P` and `rm -f P`; other
+-- words are no call that is executed so far.
 abbrev pub call_of : List (List ℕ) → Option Planned
 call_of [] = None
 call_of (name ∷ []) = status_call name

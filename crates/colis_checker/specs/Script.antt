@@ -1,5 +1,5 @@
--- What the text of a script comes to: commands, or the first fault for which it is refused. A text is cut into tokens, the
--- tokens are read as a script, and the script is accepted if no unsupported form stands in it.
+-- What the text of a script comes to: commands, or the first fault for which it is refused. A text is cut into tokens,
+-- the tokens are read as a script, and the script is accepted if no unsupported form stands in it.
 use Rattle.std.specs.Prelude.{◌≡◌, ℕ, List, [], length, Result, Ok, Err}
 use Rattle.checker_io.specs.declared.stop.Stop.{Stop}
 use Rattle.checker_io.specs.declared.stop.Stop.TheVariants.{Refused, ReadFailed, NoMemory}

@@ -10,6 +10,7 @@ use Rattle.colis_checker.specs.declared.faults.Refusal.TheVariants.{Usage}
 use Rattle.colis_checker.specs.declared.request.Request.{Request}
 use Rattle.package_files.specs.declared.package_files.Job.{Job}
 use Rattle.outcome_report.specs.declared.outcome_report.Report.{Report}
+use Rattle.colis_checker.specs.declared.deliver.TheConstants.{REFUSED, OUT_OF_MEMORY}
 use Rattle.colis_checker.specs.declared.deliver.Reply.{Reply}
 use Rattle.colis_checker.specs.declared.deliver.Reply.TheVariants.{Text, Refused, ReadFailed, NoMemory}
 use Rattle.checker_io.specs.Reading.{Asks}
@@ -170,14 +171,15 @@ pub record NoneRose (shelf0 shelf1 : ShelfState) (out0 out1 err0 err1 : SinkStat
 -- Where no count rose and the words and the files give a job, the report is written, or memory is missing.
 abbrev pub Completes : Result Request ℕ → ShelfState → ℕ → Type 0
 Completes given shelf status = (request : Request) (job : Job) → given ≡ Ok request
-    → IfSome shelf.holds (λ files. ComesOver request files (Ok job) → (status ≤ 2) ⊎ (status ≡ 6))
+    → IfSome shelf.holds (λ files. ComesOver request files (Ok job) → (status ≤ 2) ⊎ (status ≡ OUT_OF_MEMORY))
 
 -- Where no count rose and a refusal applies, it is answered, or memory is missing.
 abbrev pub Refuses : Result Request ℕ → ShelfState → ℕ → Type 0
 Refuses given shelf status =
-    ((word : ℕ) → given ≡ Err word → (status ≡ 3) ⊎ (status ≡ 6))
+    ((word : ℕ) → given ≡ Err word → (status ≡ REFUSED) ⊎ (status ≡ OUT_OF_MEMORY))
     × ((request : Request) (refusal : Refusal) → given ≡ Ok request
-    → IfSome shelf.holds (λ files. ComesOver request files (Err refusal) → (status ≡ 3) ⊎ (status ≡ 6)))
+    → IfSome shelf.holds (λ files. ComesOver request files (Err refusal)
+    → (status ≡ REFUSED) ⊎ (status ≡ OUT_OF_MEMORY)))
 
 -- the words were had, and this holds of what they spell
 abbrev pub OfWords : Result (List (List ℕ)) Memory → (Result Request ℕ → Type 0) → Type 0

@@ -1,5 +1,7 @@
 ghost use Rattle.std.specs.Prelude.{◌≡◌, IfOk};
-ghost use Rattle.colis_checker.specs.Commands.{first_offset, begins_at, sets_strict, are_set_strict, command_of, commands_of, without_strict, members_of, member_commands, script_commands, CommandsGive};
+ghost use Rattle.colis_checker.specs.Commands.{first_offset, begins_at, sets_strict, are_set_strict, command_of};
+ghost use Rattle.colis_checker.specs.Commands.{commands_of, without_strict, members_of, member_commands};
+ghost use Rattle.colis_checker.specs.Commands.{script_commands, CommandsGive};
 
 use crate::plain_calls::read_call;
 use script_names::{List, Memory};
@@ -210,8 +212,9 @@ fn members_of(body: &Command) -> &[Command]
     }
 }
 
-/// The commands of an accepted script, whose text ends at an offset, or the offset of what is not executed so far. Under
-/// `set -e`, or `-e` on the first line, simple commands are executed that are calls of `read_call` without assignments.
+/// The commands of an accepted script, whose text ends at `end`, or the byte offset of what is not executed so far.
+/// Under `set -e`, or `-e` on the first line, those simple commands without assignments are executed that are calls of
+/// `read_call`.
 pub fn read_commands(
     alloc: Global,
     end: u32,

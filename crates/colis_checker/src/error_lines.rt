@@ -1,5 +1,7 @@
 ghost use Rattle.std.specs.Prelude.{◌≡◌, ◌++◌, [], IfOk, codes};
-ghost use Rattle.colis_checker.specs.ErrorLines.{form_name, place_line, unsupported, form_line, lex_line, parse_line, refusal_line as line_of_refusal, read_failed_line as line_of_failure};
+ghost use Rattle.colis_checker.specs.ErrorLines.{form_name, place_line, unsupported, form_line, lex_line, parse_line};
+ghost use Rattle.colis_checker.specs.ErrorLines.{refusal_line as line_of_refusal};
+ghost use Rattle.colis_checker.specs.ErrorLines.{read_failed_line as line_of_failure};
 ghost use Rattle.colis_checker.specs.declared.faults.Refusal.TheVariants.{Usage};
 ghost use Rattle.colis_checker.specs.Input.{file_name};
 

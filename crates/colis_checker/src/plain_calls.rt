@@ -2,7 +2,8 @@ ghost use Rattle.std.specs.Prelude.{◌≡◌, ◌∷◌, [], IfOk, option_map, 
 ghost use Rattle.std.specs.Option.{option_copied};
 ghost use Rattle.utility_calls.specs.declared.act.Act.TheVariants.{Exists, IsDir, MakeDir, Remove};
 ghost use Rattle.utility_calls.specs.declared.act.Planned.TheVariants.{Ask, Change};
-ghost use Rattle.colis_checker.specs.PlainCalls.{plain_bytes, plain_text, status_call, test_call, remove_call, call_of_words};
+ghost use Rattle.colis_checker.specs.PlainCalls.{plain_bytes, plain_text, status_call, test_call, remove_call};
+ghost use Rattle.colis_checker.specs.PlainCalls.{call_of_words};
 ghost use Rattle.colis_checker.specs.PlainPaths.{path_of_word};
 
 use crate::plain_paths::read_path;
@@ -161,8 +162,8 @@ fn read_three_words(
     Ok(None)
 }
 
-/// The call of a simple command's words, where it is one that is executed so far: `true` or `false` alone, `test -e P`,
-/// `test -d P`, `mkdir P` or `rm -f P`, each word unquoted and without an expansion.
+/// The call of a simple command's words, where it is one that is executed so far: `true` or `false` alone,
+/// `test -e P`, `test -d P`, `mkdir P` or `rm -f P`, each word unquoted and without an expansion.
 pub fn read_call(alloc: Global, words: &[Word]) -> Result<Option<Planned>, Memory>
     ensures { IfOk result (λ call. call ≡ call_of_words words.now) }
 {

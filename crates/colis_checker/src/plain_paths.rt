@@ -28,8 +28,8 @@ fn write_names(alloc: Global, names: &[Name]) -> Result<Bytes, Memory>
     Ok(text)
 }
 
-/// The path that a word names: `/` and 1 to 64 names joined by `/`, each of bytes of the portable filename character set
-/// (POSIX.1-2017, Base Definitions, 3.282). None for any other word.
+/// The path that a word names: `/` and 1 to 64 names joined by `/`, each of bytes of the portable filename character
+/// set (POSIX.1-2017, Base Definitions, 3.282). None for any other word.
 pub fn read_path(alloc: Global, word: &[u8]) -> Result<Option<Path>, Memory>
     ensures { IfOk result (λ path. path ≡ path_of_word word.now) }
 {

@@ -59,8 +59,9 @@ fn commands_stop(file: InputFile, fault: CommandsFault) -> Stop<InputFile, Refus
     }
 }
 
-/// The commands of a file's text, or its refusal: the text is cut into tokens, these are read as a script (POSIX.1-2017,
-/// XCU 2.3 Token Recognition, 2.10 Shell Grammar), the script is accepted, and its commands are executed so far.
+/// The commands of a file's text, or its refusal: the text is cut into tokens, these are read as a script
+/// (POSIX.1-2017, XCU 2.3 Token Recognition, 2.10 Shell Grammar), no unsupported form stands in it, and its commands
+/// are executed so far.
 pub fn read_script(
     alloc: Global,
     file: InputFile,

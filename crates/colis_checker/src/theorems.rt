@@ -10,7 +10,8 @@ pub fn forms_are_lines()
     ensures least { FormIsLeast }
 {}
 
-/// The text of a file comes to one job, or to one refusal: where it is refused, no job and no other refusal comes of it.
+/// The text of a file comes to one job, or to one refusal: where it is refused, no job and no other refusal comes of
+/// it.
 pub fn one_answer()
     ensures { OneAnswer }
 {}

@@ -1,7 +1,8 @@
 ghost use Rattle.std.specs.Prelude.{◌≡◌, ◌≤◌, IfOk, IfErr, Ok};
 ghost use Rattle.std.specs.Process.{exit_status};
 ghost use Rattle.colis_checker.specs.Words.{form};
-ghost use Rattle.colis_checker.specs.Top.{IsTextOf, Replies, Reported, SaidRefusal, SaidReadFailed, FailedToWrite, RanOut, NoneRose, Completes, Refuses, OfWords};
+ghost use Rattle.colis_checker.specs.Top.{IsTextOf, Replies, Reported, SaidRefusal, SaidReadFailed, FailedToWrite};
+ghost use Rattle.colis_checker.specs.Top.{RanOut, NoneRose, Completes, Refuses, OfWords};
 
 use crate::deliver::{OUT_OF_MEMORY, Reply, deliver};
 use crate::error_lines::{read_failed_line, refusal_line, usage_line};
@@ -78,8 +79,8 @@ pub fn run_words<S: Shelf, O: Sink, E: Sink>(
     ensures statuses { result ≤ 6 }
     ensures kept { (S.state shelf.new).holds ≡ (S.state shelf.old).holds }
 
-    // 0, 1, 2: no read and no write failed, a report that is exact for the job of the words was written, and the status
-    // is its verdict.
+    // 0, 1, 2: no read and no write failed, a report that is exact for the job of the words was written, and the
+    // status is its verdict.
     ensures reported { result ≤ 2 → Reported (form words.now) (S.state shelf.old) (S.state shelf.new)
         (O.state out.old) (O.state out.new) (E.state err.old) (E.state err.new) result }
 
@@ -111,8 +112,8 @@ pub fn run_words<S: Shelf, O: Sink, E: Sink>(
     deliver(&reply, out, err)
 }
 
-/// Does what the words ask for, where they were had, and ends the program with the status. Where memory was missing for
-/// the words that is 6, and nothing was read or written.
+/// Does what the words ask for, where they were had, and ends the program with the status. Where memory was missing
+/// for the words that is 6, and nothing was read or written.
 pub fn finish<S: Shelf, O: Sink, E: Sink>(
     alloc: Global,
     words: &Result<List<Text>, Memory>,

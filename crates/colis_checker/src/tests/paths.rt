@@ -5,8 +5,8 @@ use script_names::{Bytes, Memory};
 use std::alloc::Global;
 use std::test::Fail;
 
-// A word, in which `#` stands for 255 times `n` and `@` for 63 times `/a`, and whether it names a path: `/` and 1 to 64
-// portable names joined by `/` (POSIX.1-2017, Base Definitions, 3.282).
+// A word, in which `#` stands for 255 times `n` and `@` for 63 times `/a`, and whether it names a path: `/` and 1 to
+// 64 portable names joined by `/` (POSIX.1-2017, Base Definitions, 3.282).
 const WORDS: &[(&[u8], bool)] = &[
     (b"", false),
     (b"/", false),
