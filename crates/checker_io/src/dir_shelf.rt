@@ -1,7 +1,8 @@
 ghost use Rattle.std.specs.Prelude.{◌≡◌, ◌<◌, ◌≤◌, ◌+◌, ◌-◌, [], IfOk, Err, length};
 ghost use Rattle.std.specs.IoError.{error_kind};
 ghost use Rattle.std.specs.Io.KnownBytes.{ReadConsumes};
-ghost use Rattle.checker_io.specs.DirShelf.{DirFaults, DirCounts, RestTakes, NotOpened, OpenedGives, FileGives, OrNoMemory, name_or_empty, dir_state};
+ghost use Rattle.checker_io.specs.DirShelf.{DirFaults, DirCounts, RestTakes, NotOpened, OpenedGives, FileGives};
+ghost use Rattle.checker_io.specs.DirShelf.{OrNoMemory, name_or_empty, dir_state};
 ghost use Rattle.checker_io.specs.Shelf.{ReadCause};
 
 use crate::shelf::{Shelf, ShelfFault};

@@ -1,4 +1,5 @@
-ghost use Rattle.std.specs.Prelude.{◌≡◌, ◌≢◌, ◌≤◌, ◌++◌, [], ◌∷◌, ℕ, List, Some, Err, OnOk, OnErr, IfOk, length, option_copied, if◌then◌else◌};
+ghost use Rattle.std.specs.Prelude.{◌≡◌, ◌≢◌, ◌≤◌, ◌++◌, [], ◌∷◌, ℕ, List, Some, Err, OnOk, OnErr, IfOk, length};
+ghost use Rattle.std.specs.Prelude.{option_copied, if◌then◌else◌};
 ghost use Rattle.std.specs.Str.{bytes_eq};
 ghost use Rattle.checker_io.specs.MemShelf.{MemFiles, MemReads, file_at, shelf_state};
 ghost use Rattle.checker_io.specs.Shelf.{ReadGives, ReadCause};

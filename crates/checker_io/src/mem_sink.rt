@@ -59,8 +59,8 @@ impl MemSink {
         }
     }
 
-    /// The write of that number, counted from 1, is to fail once it took that many bytes, or the whole piece where that
-    /// has fewer. The first call for a number counts. For want of memory the sink is as before.
+    /// The write of that number, counted from 1, is to fail once it took that many bytes, or the whole piece where
+    /// that has fewer. The first call for a number counts. For want of memory the sink is as before.
     pub fn fail_at(&mut self, n: u32, taken: u32) -> Result<(), Memory>
         ensures ok { OnOk result (self.new
             ≡ record self.old { failing = self.old.failing ++ record { number = n; taken = taken } ∷ [] }) }

@@ -53,7 +53,8 @@ literal_content (Entry x f y) = codes "entry " ++ var_text x ++ codes " " ++ sho
 literal_content (Kind x kinds) = codes "kind " ++ var_text x ++ codes " " ++ kinds_text kinds
 literal_content (Fence x names) = codes "fence " ++ var_text x ++ codes " " ++ names_text names
 literal_content (NotEmpty x) = codes "notempty " ++ var_text x
-literal_content (Similar y names x) = codes "similar " ++ var_text y ++ codes " " ++ names_text names ++ codes " " ++ var_text x
+literal_content (Similar y names x) =
+    codes "similar " ++ var_text y ++ codes " " ++ names_text names ++ codes " " ++ var_text x
 literal_content (Target x target) = codes "target " ++ var_text x ++ codes " " ++ show target
 
 -- the line of a literal

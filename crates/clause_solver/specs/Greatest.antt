@@ -59,9 +59,10 @@ abbrev pub unfenced_if : List Variable → Bool → ℕ → Bool
 unfenced_if vars counted n = counted && unfenced vars n
 
 -- among the greatest kinds the variable has an entry under another name than these: a place of the start tree where it
--- is open, or where such an entry of it is there (`child_present`); a directory with an entry replaced where that entry
--- is such a one and there (`here`), or where the directory that it is made from has one (`below`); and a directory with
--- the entries of a variable where that has one (`kept`). A place that is open may have one more entry of any name.
+-- is open, or where such an entry of it is there (`child_present`); a directory with an entry replaced where that
+-- entry is such a one and there (`here`), or where the directory that it is made from has one (`below`); and a
+-- directory with the entries of a variable where that has one (`kept`). A place that is open may have one more entry
+-- of any name.
 pub data HasEntryOutside (vars : List Variable) (best : List Kind) (open_at : ℕ → Bool) : ℕ → List (List ℕ)
     → Type 0 where
   free : {n : ℕ} {ds : List (List ℕ)} → IsTrue (is_node (var_at vars n).definition) → kind_at best n ≡ Dir

@@ -2,7 +2,8 @@ ghost use Rattle.std.specs.Prelude.{◌≡◌, ℕ, ◌<◌, ◌↔◌, List, []
 ghost use Rattle.clause_solver.specs.Literals.{Valuation, IsSound};
 ghost use Rattle.clause_solver.specs.Variables.{Ordered, Listed, member, allowed, var_at, is_node, made_value, AllFit};
 ghost use Rattle.clause_solver.specs.Greatest.{IsBest, HasEntryOutside, IsSatisfied, IsSatisfiedAt, IsOpen};
-ghost use Rattle.clause_solver.specs.Greatest.{IsPresentChild, kind_at, best_by, best_of, choose, unfenced, unfenced_if};
+ghost use Rattle.clause_solver.specs.Greatest.{IsPresentChild, kind_at, best_by, best_of, choose, unfenced};
+ghost use Rattle.clause_solver.specs.Greatest.{unfenced_if};
 ghost use Rattle.clause_solver.specs.Appends.{Within};
 ghost use Rattle.clause_solver.specs.ReplacedNames.{names};
 ghost use Rattle.clause_solver.specs.declared.variable.Definition.TheVariants.{Child};

@@ -114,8 +114,8 @@ impl Store {
         }
     }
 
-    /// The variable of a directory with the value of y under a name, and its other entries as before; where y is absent
-    /// the entry is gone. For want of memory the store is as before.
+    /// The variable of a directory with the value of y under a name, and its other entries as before; where y is
+    /// absent the entry is gone. For want of memory the store is as before.
     pub fn derive(&mut self, x: Var, f: &Name, y: Var) -> Result<Var, Memory>
         requires known { (x.0 < self.old.count) × (y.0 < self.old.count) }
         requires directory { IsDirectory self.old x.0 }

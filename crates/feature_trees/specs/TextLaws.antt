@@ -1,6 +1,7 @@
 -- What holds of the texts of trees: what the tree of a text is, which line is at fault and why, and that a tree's own
 -- text is read as the tree.
-use Rattle.std.specs.Prelude.{◌≡◌, ◌≢◌, ◌⊎◌, ◌↔◌, ◌≤◌, ◌+◌, ℕ, IsTrue, List, [], ◌∷◌, ◌++◌, length, Some, None, Ok, Err}
+use Rattle.std.specs.Prelude.{◌≡◌, ◌≢◌, ◌⊎◌, ◌↔◌, ◌≤◌, ◌+◌, ℕ, IsTrue, List, [], ◌∷◌, ◌++◌, length, Some, None, Ok}
+use Rattle.std.specs.Prelude.{Err}
 use Rattle.feature_trees.specs.declared.read.TheConstants.{MOST_NAMES}
 use Rattle.feature_trees.specs.declared.read.TreeFault.TheVariants.{Line}
 use Rattle.feature_trees.specs.declared.read.TreeLine.{TreeLine}

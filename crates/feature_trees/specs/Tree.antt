@@ -82,7 +82,8 @@ entry_if_present f (Dir es) = record { name = f; node = node_of (Dir es) } ∷ [
 -- the entries with this value under a name, and the others as before
 abbrev pub update : List Entry → List ℕ → Value → List Entry
 update [] f w = entry_if_present f w
-update (e ∷ es) f w = by_order (name_cmp f e.name) (entry_if_present f w ++ (e ∷ es)) (entry_if_present f w ++ es) (e ∷ update es f w)
+update (e ∷ es) f w =
+    by_order (name_cmp f e.name) (entry_if_present f w ++ (e ∷ es)) (entry_if_present f w ++ es) (e ∷ update es f w)
 
 -- whether every strict prefix of a path is a directory
 abbrev pub has_parents : Value → List (List ℕ) → Bool

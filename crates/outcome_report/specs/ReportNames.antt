@@ -1,9 +1,11 @@
 -- The names of scenarios, states, scripts and answers, as a report has them.
 use Rattle.std.specs.Prelude.{ℕ, List, Bool, true, false, codes}
 use Rattle.package_files.specs.declared.dpkg_scenarios.Scenario.{Scenario}
-use Rattle.package_files.specs.declared.dpkg_scenarios.Scenario.TheVariants.{Install, InstallAgain, Upgrade, Remove, Purge, PurgeLater}
+use Rattle.package_files.specs.declared.dpkg_scenarios.Scenario.TheVariants.{Install, InstallAgain, Upgrade, Remove}
+use Rattle.package_files.specs.declared.dpkg_scenarios.Scenario.TheVariants.{Purge, PurgeLater}
 use Rattle.package_files.specs.declared.dpkg_scenarios.State.{State}
-use Rattle.package_files.specs.declared.dpkg_scenarios.State.TheVariants.{Installed, Unpacked, HalfConfigured, HalfInstalled, ConfigFiles, NotInstalled}
+use Rattle.package_files.specs.declared.dpkg_scenarios.State.TheVariants.{Installed, Unpacked, HalfConfigured}
+use Rattle.package_files.specs.declared.dpkg_scenarios.State.TheVariants.{HalfInstalled, ConfigFiles, NotInstalled}
 use Rattle.package_files.specs.declared.dpkg_scenarios.ScriptKind.{ScriptKind}
 use Rattle.package_files.specs.declared.dpkg_scenarios.ScriptKind.TheVariants.{Preinst, Postinst, Prerm, Postrm}
 use Rattle.package_files.specs.declared.job_run.CallEnd.{CallEnd}

@@ -17,7 +17,8 @@ use Rattle.outcome_report.specs.declared.outcome_report.ReportEntry.{ReportEntry
 use Rattle.outcome_report.specs.declared.outcome_report.ReportPart.{ReportPart}
 use Rattle.outcome_report.specs.declared.outcome_report.Report.{Report}
 use Rattle.outcome_report.specs.OutcomeReport.{verdict_of}
-use Rattle.outcome_report.specs.ReportNames.{scenario_name, state_name, script_name, confirmed_name, side_name, call_end_name}
+use Rattle.outcome_report.specs.ReportNames.{scenario_name, state_name, script_name, confirmed_name, side_name}
+use Rattle.outcome_report.specs.ReportNames.{call_end_name}
 
 -- a reason and the site where it came
 abbrev pub stop_text : Reason → Site → List ℕ
@@ -32,7 +33,8 @@ result_text (Bound site) = codes "bound " ++ site_text site
 
 -- the number of an outcome, and how it ends
 unfoldable pub outcome_line : ReportEntry → List ℕ
-outcome_line entry = line (codes "outcome " ++ decimal entry.outcome.number ++ codes " " ++ result_text entry.outcome.ending)
+outcome_line entry =
+    line (codes "outcome " ++ decimal entry.outcome.number ++ codes " " ++ result_text entry.outcome.ending)
 
 -- a mark of a trace, behind a space
 abbrev pub trace_mark : Mark → List ℕ
@@ -58,7 +60,8 @@ call_line call =
 
 -- the tree that an outcome shows, and the one that the replay left
 unfoldable pub trees_text : ReportEntry → List ℕ
-trees_text entry = line (codes "shown") ++ tree_text entry.outcome.shown ++ line (codes "after") ++ tree_text entry.replayed.after
+trees_text entry =
+    line (codes "shown") ++ tree_text entry.outcome.shown ++ line (codes "after") ++ tree_text entry.replayed.after
 
 -- the lines of an outcome and its replay
 unfoldable pub entry_text : ReportEntry → List ℕ

@@ -1,6 +1,7 @@
 ghost use Rattle.std.specs.Prelude.{◌≡◌, ◌↔◌, ◌∷◌, [], map, IsTrue, IfOk};
 ghost use Rattle.scenario_paths.specs.ScenarioPaths.{IsExact};
-ghost use Rattle.outcome_report.specs.OutcomeReport.{Agrees, AllEntries, AllParts, ending_verdict, part_has, report_has, verdict_of};
+ghost use Rattle.outcome_report.specs.OutcomeReport.{Agrees, AllEntries, AllParts, ending_verdict, part_has};
+ghost use Rattle.outcome_report.specs.OutcomeReport.{report_has, verdict_of};
 
 use package_files::{Ending, Job, Replayed, Scenario};
 use scenario_paths::{Outcome, outcomes};

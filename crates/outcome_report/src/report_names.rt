@@ -1,6 +1,7 @@
 // The names of scenarios, states, scripts and answers, as a report has them.
 ghost use Rattle.std.specs.Prelude.{◌≡◌};
-ghost use Rattle.outcome_report.specs.ReportNames.{scenario_name, state_name, script_name, side_name, call_end_name, confirmed_name};
+ghost use Rattle.outcome_report.specs.ReportNames.{scenario_name, state_name, script_name, side_name, call_end_name};
+ghost use Rattle.outcome_report.specs.ReportNames.{confirmed_name};
 
 use package_files::{CallEnd, Scenario, ScriptKind, State};
 

@@ -1,6 +1,8 @@
 ghost use Rattle.std.specs.Prelude.{◌≡◌, ◌++◌, IfOk, OnOk};
 ghost use Rattle.std.specs.List.{flat_map};
-ghost use Rattle.outcome_report.specs.ReportText.{stop_text, result_text, outcome_line, trace_mark, trace_line, confirmed_line, call_word, call_line, trees_text, entry_text, part_text, report_text};
+ghost use Rattle.outcome_report.specs.ReportText.{stop_text, result_text, outcome_line, trace_mark, trace_line};
+ghost use Rattle.outcome_report.specs.ReportText.{confirmed_line, call_word, call_line, trees_text, entry_text};
+ghost use Rattle.outcome_report.specs.ReportText.{part_text, report_text};
 
 use crate::outcome_report::{Report, ReportEntry, ReportPart, verdict};
 use crate::report_names::{

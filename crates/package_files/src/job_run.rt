@@ -26,7 +26,8 @@ pub struct ScriptCall {
     pub how: CallEnd,
 }
 
-/// A concrete run of a scenario: its ending, the acts in order, the tree that it left, and the calls of scripts in order.
+/// A concrete run of a scenario: its ending, the acts in order, the tree that it left, and the calls of scripts in
+/// order.
 #[derive(Drop)]
 pub struct Replayed {
     pub ending: Ending,

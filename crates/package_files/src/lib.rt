@@ -1,6 +1,6 @@
-//! What is checked and what its run is: the job that a package's files give, the trees that it may begin from, and how a
-//! run is told. It stands on clause_solver and shell_rules. Begin with `package_files`, and with specs/PackageFiles.antt
-//! for what a start tree is and specs/JobRun.antt for what the run of a job is.
+//! What is checked and what its run is: the job that a package's files give, the trees that it may begin from, and
+//! how a run is told. It stands on clause_solver and shell_rules. Begin with `package_files`, and with
+//! specs/PackageFiles.antt for what a start tree is and specs/JobRun.antt for what the run of a job is.
 #![tactic(auto)]
 
 mod dpkg_scenarios;

@@ -2,7 +2,8 @@
 use Rattle.std.specs.Prelude.{◌≡◌, ℕ, List, Some, None, All, IsTrue, false}
 use Rattle.std.specs.List.{join_with_byte}
 use Rattle.script_names.specs.Names.{is_name}
-use Rattle.script_names.specs.Paths.{PathParts, is_slash, components, spelled_names, path_fault, parent_of, joined, IsStrictPrefix}
+use Rattle.script_names.specs.Paths.{PathParts, is_slash, components, spelled_names, path_fault, parent_of, joined}
+use Rattle.script_names.specs.Paths.{IsStrictPrefix}
 
 -- the components of a word, joined by slashes, are the word again
 abbrev pub JoinsAgain : Type 0

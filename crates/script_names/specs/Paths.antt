@@ -1,6 +1,8 @@
 -- What a word spells as a path (POSIX.1-2017, Base Definitions, 3.271 Pathname and 4.13 Pathname Resolution),
 -- and what contracts see of a path.
-use Rattle.std.specs.Prelude.{◌≡◌, ℕ, Bool, true, false, not, ◌&&◌, ◌==◌, nat_eq, nat_le, nat_lt, ◌<◌, ◌≤◌, IsTrue, List, [], ◌∷◌, ◌++◌, length, take, filter, Option, Some, None, Result, Ok, Err, if◌then◌else◌}
+use Rattle.std.specs.Prelude.{◌≡◌, ℕ, Bool, true, false, not, ◌&&◌, ◌==◌, nat_eq, nat_le, nat_lt, ◌<◌, ◌≤◌, IsTrue}
+use Rattle.std.specs.Prelude.{List, [], ◌∷◌, ◌++◌, length, take, filter, Option, Some, None, Result, Ok, Err}
+use Rattle.std.specs.Prelude.{if◌then◌else◌}
 use Rattle.std.specs.List.{list_any, slice_split, last_or, ends_with}
 use Rattle.std.specs.Option.{option_map_or}
 use Rattle.script_names.specs.declared.name.TheConstants.{NAME_MAX}
@@ -25,7 +27,8 @@ is_slash b = b == 47
 abbrev pub is_nul : ℕ → Bool
 is_nul b = b == 0
 
--- the components of a word: what stands between its slashes, before the first and after the last too; each may be empty
+-- the components of a word: what stands between its slashes, before the first and after the last too; each may be
+-- empty
 abbrev pub components : List ℕ → List (List ℕ)
 components word = slice_split is_slash word
 

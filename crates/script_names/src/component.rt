@@ -2,7 +2,8 @@
 ghost use Rattle.std.specs.Prelude.{◌≡◌, ◌<◌, None, filter, length, IfOk, IsTrue, map};
 ghost use Rattle.std.specs.List.{list_any, list_all};
 ghost use Rattle.script_names.specs.Names.{is_name};
-ghost use Rattle.script_names.specs.Paths.{is_nul, is_filled, is_dot, is_dot_dot, is_long, names_entry, ends_in_dot, components, spelled_names, path_fault};
+ghost use Rattle.script_names.specs.Paths.{is_nul, is_filled, is_dot, is_dot_dot, is_long, names_entry, ends_in_dot};
+ghost use Rattle.script_names.specs.Paths.{components, spelled_names, path_fault};
 
 use crate::list::List;
 use crate::memory::Memory;

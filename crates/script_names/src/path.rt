@@ -1,6 +1,8 @@
-ghost use Rattle.std.specs.Prelude.{◌≡◌, ◌<◌, ◌≤◌, ◌-◌, ◌↔◌, ◌&&◌, [], ◌∷◌, ◌++◌, length, nat_lt, take, slice_get, IfOk, IsTrue};
+ghost use Rattle.std.specs.Prelude.{◌≡◌, ◌<◌, ◌≤◌, ◌-◌, ◌↔◌, ◌&&◌, [], ◌∷◌, ◌++◌, length, nat_lt, take, slice_get};
+ghost use Rattle.std.specs.Prelude.{IfOk, IsTrue};
 ghost use Rattle.std.specs.Option.{option_copied};
-ghost use Rattle.script_names.specs.Paths.{PathGives, path_fault, path_of, IsStrictPrefix, parent_of, join_fault, joined};
+ghost use Rattle.script_names.specs.Paths.{PathGives, path_fault, path_of, IsStrictPrefix, parent_of, join_fault};
+ghost use Rattle.script_names.specs.Paths.{joined};
 
 use crate::component::{path_fault, read_names};
 use crate::copied::Copied;

@@ -1,6 +1,7 @@
-//! Words as paths by hand, a row for each: from POSIX.1-2017, Base Definitions, 3.271 and 4.13, and the limits of 255 bytes and 64 names.
-//! In a row `%` stands for NUL, `#` for 255 times `n`, and `@` for 63 times `a/`; `|` ends a column. An answer is a fault, or the names in
-//! braces (one of 255 bytes by its length, more than 8 by their number), and `/` where the path has a slash.
+//! Words as paths by hand, a row for each: from POSIX.1-2017, Base Definitions, 3.271 and 4.13, and the limits of 255
+//! bytes and 64 names. In a row `%` stands for NUL, `#` for 255 times `n`, and `@` for 63 times `a/`; `|` ends a
+//! column. An answer is a fault, or the names in braces (one of 255 bytes by its length, more than 8 by their
+//! number), and `/` where the path has a slash.
 
 use crate::{Bytes, Memory, Name, NameFault, Path, PathFault};
 use std::alloc::Global;

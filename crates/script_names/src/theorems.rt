@@ -1,6 +1,7 @@
 //! What holds of words, paths and their parents, for the layers above.
 
-ghost use Rattle.script_names.specs.Laws.{JoinsAgain, HasNoSlash, SpellsNames, ParentOfJoin, ParentBegins, JoinIsLonger};
+ghost use Rattle.script_names.specs.Laws.{JoinsAgain, HasNoSlash, SpellsNames, ParentOfJoin, ParentBegins};
+ghost use Rattle.script_names.specs.Laws.{JoinIsLonger};
 
 /// The components of a word are its cut at the slashes: joined they are the word again, and none has a slash.
 pub fn components_are_the_cut()

@@ -3,8 +3,8 @@ ghost use Rattle.std.specs.Prelude.{◌≡◌, ◌+◌, ◌<◌};
 use std::marker::Model;
 use std::sync::ledger::{Blank, Book, Ledger, Share};
 
-/// A counter of steps, which contracts see as a number. A step is one node that is made or copied. The counter takes no
-/// bytes when the program runs, and nothing outside this crate changes it.
+/// A counter of steps, which contracts see as a number. A step is one node that is made or copied. The counter takes
+/// no bytes when the program runs, and nothing outside this crate changes it.
 #[derive(Drop)]
 pub struct Steps<L: Ledger> {
     book: Book<L>,

@@ -1,5 +1,7 @@
--- The forms of the shell that are not supported and stand in the syntax of a script, each with the byte offset at which it is reported.
-use Rattle.std.specs.Prelude.{ℕ, Bool, true, false, not, ◌&&◌, ◌||◌, List, [], ◌∷◌, ◌++◌, Option, Some, None, codes, nat_lt}
+-- The forms of the shell that are not supported and stand in the syntax of a script, each with the byte offset at
+-- which it is reported.
+use Rattle.std.specs.Prelude.{ℕ, Bool, true, false, not, ◌&&◌, ◌||◌, List, [], ◌∷◌, ◌++◌, Option, Some, None, codes}
+use Rattle.std.specs.Prelude.{nat_lt}
 use Rattle.std.specs.List.{list_any, flat_map}
 use Rattle.std.specs.Str.{bytes_eq}
 use Rattle.shell_syntax.specs.declared.form.Form.{Form}
@@ -12,7 +14,8 @@ use Rattle.shell_syntax.specs.declared.syntax.IfArm.{IfArm}
 use Rattle.shell_syntax.specs.declared.syntax.Link.{Link}
 use Rattle.shell_syntax.specs.declared.syntax.Word.{Word}
 use Rattle.shell_syntax.specs.declared.syntax.Command.TheOpen as o
-use Rattle.shell_syntax.specs.declared.syntax.Command.TheFolds.{fold-Command, fold-Part, fold-Assign, fold-CaseArm, fold-IfArm, fold-Link, fold-Word}
+use Rattle.shell_syntax.specs.declared.syntax.Command.TheFolds.{fold-Command, fold-Part, fold-Assign, fold-CaseArm}
+use Rattle.shell_syntax.specs.declared.syntax.Command.TheFolds.{fold-IfArm, fold-Link, fold-Word}
 use Rattle.shell_forms.specs.Names.{Text, is_one_of, is_kept_name, special_names}
 use Rattle.shell_forms.specs.Words.{PartSays, WordSays, AssignSays, static, has_unquoted, commands_of, is_all_alone}
 use Rattle.shell_forms.specs.declared.place.Place.{Place}
@@ -190,12 +193,14 @@ module _ (first : Text → Option ℕ) where
   abbrev pub is_earlier : Text → ℕ → Bool
   is_earlier name at = is_before (first name) at
 
-  -- in the body of a function that is defined at the offset, a name of a function that is not defined before it: the function itself, or a later one
+  -- in the body of a function that is defined at the offset, a name of a function that is not defined before it: the
+  -- function itself, or a later one
   abbrev pub calls_later : Option ℕ → Option Text → Bool
   calls_later (Some at) (Some name) = is_there (first name) && not (is_earlier name at)
   calls_later _ _ = false
 
-  -- assignments before a name that is not static, is a function's or a special built-in's, or with a substitution in a value
+  -- assignments before a name that is not static, is a function's or a special built-in's, or with a substitution in
+  -- a value
   abbrev pub is_prefix : List (AssignSays Forms) → List (WordSays Forms) → Bool
   is_prefix assigns words =
       are_any assigns && (are_any words
@@ -219,8 +224,8 @@ module _ (first : Text → Option ℕ) where
       -- in a function's body a call of itself or of a function that is defined later
       ++ when (calls_later p.defined_at (static_name words)) form.CallOrder at)))))
 
-  -- the forms that a definition itself is: elsewhere than as a whole member of the script's list, not the first of its name, of a name
-  -- that a utility or a special built-in has
+  -- the forms that a definition itself is: elsewhere than as a whole member of the script's list, not the first of
+  -- its name, of a name that a utility or a special built-in has
   abbrev pub define_forms : ℕ → Text → Forms
   define_forms at name p =
       when (not (may_define p.standing)) form.FunctionPlace at

@@ -10,7 +10,8 @@ use Rattle.shell_syntax.specs.declared.syntax.IfArm.{IfArm}
 use Rattle.shell_syntax.specs.declared.syntax.Link.{Link}
 use Rattle.shell_syntax.specs.declared.syntax.Word.{Word}
 use Rattle.shell_syntax.specs.declared.syntax.Command.TheOpen as o
-use Rattle.shell_syntax.specs.declared.syntax.Command.TheFolds.{fold-Command, fold-Part, fold-Assign, fold-CaseArm, fold-IfArm, fold-Link, fold-Word}
+use Rattle.shell_syntax.specs.declared.syntax.Command.TheFolds.{fold-Command, fold-Part, fold-Assign, fold-CaseArm}
+use Rattle.shell_syntax.specs.declared.syntax.Command.TheFolds.{fold-IfArm, fold-Link, fold-Word}
 use Rattle.shell_forms.specs.Names.{Text}
 
 -- definitions, each as the name of its function and the byte offset at which it stands
@@ -120,4 +121,5 @@ lesser (Some one) (Some other) = Some (min one other)
 -- the offset of the first definition of a name
 abbrev pub first_of : Definitions → Text → Option ℕ
 first_of [] name = None
-first_of (definition ∷ rest) name = lesser (if bytes_eq definition.0 name then Some definition.1 else None) (first_of rest name)
+first_of (definition ∷ rest) name =
+    lesser (if bytes_eq definition.0 name then Some definition.1 else None) (first_of rest name)

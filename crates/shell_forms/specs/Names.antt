@@ -11,8 +11,8 @@ Text = List ℕ
 abbrev pub is_one_of : Text → List Text → Bool
 is_one_of name names = list_any (bytes_eq name) names
 
--- the utilities `:`, `break`, .. that the shell has built in and that are special (POSIX.1-2017, XCU 2.14 Special Built-In Utilities),
--- as far as they have a meaning here
+-- the utilities `:`, `break`, .. that the shell has built in and that are special (POSIX.1-2017, XCU 2.14 Special
+-- Built-In Utilities), as far as they have a meaning here
 abbrev pub special_names : List Text
 special_names =
     codes ":" ∷ codes "break" ∷ codes "continue" ∷ codes "exit" ∷ codes "return" ∷ codes "set" ∷ codes "export" ∷ codes "unset" ∷ []

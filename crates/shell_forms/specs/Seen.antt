@@ -109,7 +109,8 @@ operands_of (word ∷ words) = words
 abbrev pub in_part : (Text → Option ℕ) → Part → Forms
 in_part first part p = all_of (command_of (part_says first part).runs) (apart p)
 
--- assignments before a name that is not static, is a function's or a special built-in's, or with a substitution in a value
+-- assignments before a name that is not static, is a function's or a special built-in's, or with a substitution in a
+-- value
 abbrev pub is_prefix_in : (Text → Option ℕ) → List Assign → List Word → Bool
 is_prefix_in first assigns words =
     are_any assigns && (are_any words

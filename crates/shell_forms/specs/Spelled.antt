@@ -5,7 +5,8 @@ use Rattle.shell_lexer.specs.declared.token.Lexed.{Lexed}
 use Rattle.shell_lexer.specs.Lexed.{CutAtAnyDepth}
 use Rattle.shell_grammar.specs.Spelling.{Spells}
 
--- some text spells the script: it is cut into tokens that the grammar reads as the script, however deep they are nested
+-- some text spells the script: it is cut into tokens that the grammar reads as the script, however deep they are
+-- nested
 pub record IsSpelled (script : Script) : Type 0 where
   pub text : List ℕ
   pub lexed : Lexed

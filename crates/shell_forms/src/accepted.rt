@@ -51,8 +51,8 @@ pub enum FormFault {
     Memory,
 }
 
-/// The script, which some text spells, if no unsupported form stands in it; else the first one, which is the one of least offset, and at one offset the
-/// one that is named first.
+/// The script, which some text spells, if no unsupported form stands in it; else the first one, which is the one of
+/// least offset, and at one offset the one that is named first.
 pub fn accept(alloc: Global, script: Script) -> Result<Accepted, FormFault>
     requires spelled { IsSpelled script }
     ensures same { IfOk result (λ accepted. accepted ≡ script) }

@@ -1,8 +1,12 @@
 ghost use Rattle.std.specs.Prelude.{◌≡◌, not, ◌&&◌, ◌||◌, [], ◌∷◌, map, codes, None, IfOk};
 ghost use Rattle.shell_forms.specs.First.{script_forms};
-ghost use Rattle.shell_forms.specs.Forms.{forms_of, word_says, assign_says, case_arm_says, if_arm_says, link_says, in_word, in_words, in_assigns, in_pattern, in_patterns, in_arms, in_case_arms, all_of, simple_forms, define_forms, calls_later, is_earlier, is_name as is_name_of, is_named, are_any};
+ghost use Rattle.shell_forms.specs.Forms.{forms_of, word_says, assign_says, case_arm_says, if_arm_says, link_says};
+ghost use Rattle.shell_forms.specs.Forms.{in_word, in_words, in_assigns, in_pattern, in_patterns, in_arms};
+ghost use Rattle.shell_forms.specs.Forms.{in_case_arms, all_of, simple_forms, define_forms, calls_later, is_earlier};
+ghost use Rattle.shell_forms.specs.Forms.{is_name as is_name_of, is_named, are_any};
 ghost use Rattle.shell_forms.specs.Known.{first_in};
-ghost use Rattle.shell_forms.specs.Seen.{static_name_of, operands_of, is_prefix_in, in_part, is_one_flag_in, some_unquoted_in};
+ghost use Rattle.shell_forms.specs.Seen.{static_name_of, operands_of, is_prefix_in, in_part, is_one_flag_in};
+ghost use Rattle.shell_forms.specs.Seen.{some_unquoted_in};
 ghost use Rattle.shell_forms.specs.Soonest.{soonest};
 
 use crate::found::{Found, found_if};
@@ -106,7 +110,8 @@ fn operands(words: &[Word]) -> &[Word]
     }
 }
 
-// Whether assignments stand before a name that is not static, is a function's or a special built-in's, or with a substitution in a value.
+// Whether assignments stand before a name that is not static, is a function's or a special built-in's, or with a
+// substitution in a value.
 fn is_prefix(
     functions: &Functions,
     name: &Option<Bytes>,
@@ -127,7 +132,8 @@ fn is_prefix(
     }
 }
 
-// In the body of a function that is defined at the offset, whether a name is that of a function which is not defined before it.
+// In the body of a function that is defined at the offset, whether a name is that of a function which is not defined
+// before it.
 fn calls_later(functions: &Functions, defined_at: Option<u32>, name: &Option<Bytes>) -> bool
     ensures { result ≡ calls_later (first_in functions.now) defined_at name.now }
 {

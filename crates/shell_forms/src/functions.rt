@@ -1,5 +1,7 @@
 ghost use Rattle.std.specs.Prelude.{◌≡◌, ℕ, List, [], ◌∷◌, map, OnOk, IfOk};
-ghost use Rattle.shell_forms.specs.Functions.{definitions, part_definitions, assign_definitions, case_arm_definitions, if_arm_definitions, link_definitions, word_definitions, of_all, first_of};
+ghost use Rattle.shell_forms.specs.Functions.{definitions, part_definitions, assign_definitions};
+ghost use Rattle.shell_forms.specs.Functions.{case_arm_definitions, if_arm_definitions, link_definitions};
+ghost use Rattle.shell_forms.specs.Functions.{word_definitions, of_all, first_of};
 ghost use Rattle.shell_forms.specs.Known.{first_in, is_at_most, Adds};
 
 use script_names::Memory;

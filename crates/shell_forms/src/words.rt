@@ -4,7 +4,9 @@ ghost use Rattle.std.specs.Option.{option_copied};
 ghost use Rattle.std.specs.Str.{bytes_eq};
 ghost use Rattle.shell_forms.specs.Names.{is_one_of, is_kept_name, special_names};
 ghost use Rattle.shell_forms.specs.Forms.{is_name};
-ghost use Rattle.shell_forms.specs.Seen.{bytes_of, static_of, static_name_of, is_unquoted, is_run, is_all, is_all_alone_in, some_unquoted_in, some_runs_in, is_one_flag_in, sets_ifs_in};
+ghost use Rattle.shell_forms.specs.Seen.{bytes_of, static_of, static_name_of, is_unquoted, is_run, is_all};
+ghost use Rattle.shell_forms.specs.Seen.{is_all_alone_in, some_unquoted_in, some_runs_in, is_one_flag_in};
+ghost use Rattle.shell_forms.specs.Seen.{sets_ifs_in};
 
 use script_names::{Bytes, Memory};
 use shell_syntax::{Assign, Part, Word};

@@ -4,7 +4,8 @@
 
 ghost use Rattle.std.specs.Prelude.{false, true};
 ghost use Rattle.shell_lexer.specs.Laws.{OneCut, OneCutAtAnyDepth, CutsWithinLimit, OnlyDeepIsRefused};
-ghost use Rattle.shell_lexer.specs.Laws.{CutsAreTiled, OffsetsRise, TextsAreCutApart, ReadingsMove, TextsAloneAreCutApart};
+ghost use Rattle.shell_lexer.specs.Laws.{CutsAreTiled, OffsetsRise, TextsAreCutApart, ReadingsMove};
+ghost use Rattle.shell_lexer.specs.Laws.{TextsAloneAreCutApart};
 ghost use Rattle.shell_lexer.specs.Laws.{QuotesAreOnePart, QuotesAreCut};
 ghost use Rattle.shell_lexer.specs.Laws.{PlainRunsAreLongest, QuotedRunsAreLongest};
 ghost use Rattle.shell_lexer.specs.Laws.{OperatorsAreLongest, RedirectionsAreSpelled, FirstLinesAreSpelled};

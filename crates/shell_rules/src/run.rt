@@ -4,7 +4,8 @@ use feature_trees::Value;
 use script_names::{Copied, List, Mark, Memory, Reason, Site};
 use std::alloc::Global;
 
-/// How a script ends: with a status, true for success; stopped where nothing is specified; or bound, with no turn left.
+/// How a script ends: with a status, true for success; stopped where nothing is specified; or bound, with no turn
+/// left.
 #[derive(Clone, Copy, Debug, PartialEq, Eq)]
 pub enum End {
     Status(bool),

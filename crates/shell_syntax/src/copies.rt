@@ -1,5 +1,6 @@
 ghost use Rattle.std.specs.Prelude.{◌≡◌, IfOk};
-ghost use Rattle.shell_syntax.specs.declared.syntax.Command.TheVariants.{Simple, Redirected, Pipe, Not, Chain, If, For};
+ghost use Rattle.shell_syntax.specs.declared.syntax.Command.TheVariants.{Simple, Redirected, Pipe, Not, Chain, If};
+ghost use Rattle.shell_syntax.specs.declared.syntax.Command.TheVariants.{For};
 ghost use Rattle.shell_syntax.specs.declared.syntax.Command.TheVariants.{While, Case, Sub, Define};
 
 use crate::redirect::Redirect;

@@ -1,5 +1,6 @@
 ghost use Rattle.std.specs.Prelude.{◌≡◌, ◌↔◌, IsTrue};
-ghost use Rattle.shell_syntax.specs.declared.syntax.Command.TheVariants.{Simple, Redirected, Pipe, Not, Chain, Seq, If};
+ghost use Rattle.shell_syntax.specs.declared.syntax.Command.TheVariants.{Simple, Redirected, Pipe, Not, Chain, Seq};
+ghost use Rattle.shell_syntax.specs.declared.syntax.Command.TheVariants.{If};
 ghost use Rattle.shell_syntax.specs.declared.syntax.Command.TheVariants.{For, While, Case, Sub, Define};
 
 use crate::redirect::Redirect;

@@ -1,5 +1,6 @@
 -- Patterns (POSIX.1-2017, XCU 2.13 Pattern Matching Notation).
-use Rattle.std.specs.Prelude.{◌≡◌, ◌↔◌, ℕ, suc, zero, ◌+◌, nat_eq, nat_le, nat_lt, List, [], ◌∷◌, ◌++◌, take, drop, map}
+use Rattle.std.specs.Prelude.{◌≡◌, ◌↔◌, ℕ, suc, zero, ◌+◌, nat_eq, nat_le, nat_lt, List, [], ◌∷◌, ◌++◌, take, drop}
+use Rattle.std.specs.Prelude.{map}
 use Rattle.std.specs.Prelude.{Bool, true, false, not, ◌||◌, ◌&&◌, IsTrue, if◌then◌else◌}
 use Rattle.std.specs.Prelude.{Option, Some, None, option_map, Result, Ok, Err}
 use Rattle.std.specs.List.{list_any}
@@ -47,7 +48,8 @@ set_size (x ∷ rest) = option_map suc (closes_at rest)
 -- the set behind a `[`, and how many letters it takes behind the `[`; a `[` that no `]` closes stands for itself
 abbrev pub set_of : List Letter → Option ℕ → Item × ℕ
 set_of rest None = (Byte 91, 0)
-set_of rest (Some n) = (Set (begins_with 33 rest) (take n (drop (negation_size rest) rest)), negation_size rest + suc n)
+set_of rest (Some n) =
+    (Set (begins_with 33 rest) (take n (drop (negation_size rest) rest)), negation_size rest + suc n)
 
 -- the item that a letter begins, by the letters behind it, and how many of those it takes
 abbrev pub item_at : Letter → List Letter → Item × ℕ
@@ -68,8 +70,8 @@ items_behind (suc n) (x ∷ rest) = items_behind n rest
 abbrev pub items : List Letter → List Item
 items letters = items_behind 0 letters
 
--- the ranges that a set's letters spell: a letter, an unquoted `-` and a letter are one, any other letter is one of its
--- own
+-- the ranges that a set's letters spell: a letter, an unquoted `-` and a letter are one, any other letter is one of
+-- its own
 abbrev pub ranges : List Letter → List (ℕ × ℕ)
 ranges [] = []
 ranges (x ∷ []) = (code x, code x) ∷ []

@@ -20,7 +20,8 @@ pub enum Item {
     Set(bool, List<Letter>),
 }
 
-/// Whether a pattern matches a string (POSIX.1-2017, XCU 2.13). Pattern where the pattern has a shape that is left out.
+/// Whether a pattern matches a string (POSIX.1-2017, XCU 2.13). Pattern where the pattern has a shape that is left
+/// out.
 pub fn matches(alloc: Global, pattern: &List<Piece>, subject: &[u8]) -> Result<bool, WordFault>
     ensures { Decides result (pattern_letters pattern.now) subject.now }
 {

@@ -13,8 +13,8 @@ pub enum Reach {
     Nowhere,
 }
 
-// Whether the items match the string. Where the items behind a `*` are reached, what stands before that `*` is settled:
-// the next items are tried from one place after another, and never for two choices of an earlier `*`.
+// Whether the items match the string. Where the items behind a `*` are reached, what stands before that `*` is
+// settled: the next items are tried from one place after another, and never for two choices of an earlier `*`.
 pub fn run(items: &[Item], subject: &[u8]) -> bool
     ensures { IsTrue result ↔ Matches items.now subject.now }
 {

@@ -44,9 +44,11 @@ MarksReadBack = ReadsBack is_mark mark_text mark_of
 abbrev pub ReasonsReadBack : Type 0
 ReasonsReadBack = ReadsBack (λ reason. true) reason_name reason_of
 
--- a spelling has a byte, and no byte of it is a blank, a newline, a comma, a brace or a parenthesis, so a text can be cut at those
+-- a spelling has a byte, and no byte of it is a blank, a newline, a comma, a brace or a parenthesis, so a text can be
+-- cut at those
 abbrev pub SpellingsStayWhole : Type 0
-SpellingsStayWhole = (bytes : List ℕ) → IsTrue (are_bytes bytes) → (0 < length (show bytes)) × IsTrue (list_all is_shown (show bytes))
+SpellingsStayWhole =
+    (bytes : List ℕ) → IsTrue (are_bytes bytes) → (0 < length (show bytes)) × IsTrue (list_all is_shown (show bytes))
 
 -- different byte strings are spelled differently
 abbrev pub ShownApart : Type 0

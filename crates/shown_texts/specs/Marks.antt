@@ -83,7 +83,8 @@ reason_name reason.Restore = codes "restore"
 -- the first of these reasons with this name
 abbrev pub reason_among : List Reason → List ℕ → Option Reason
 reason_among [] text = None
-reason_among (reason ∷ reasons) text = if bytes_eq (reason_name reason) text then Some reason else reason_among reasons text
+reason_among (reason ∷ reasons) text =
+    if bytes_eq (reason_name reason) text then Some reason else reason_among reasons text
 
 -- all reasons
 abbrev pub all_reasons : List Reason

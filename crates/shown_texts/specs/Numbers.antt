@@ -1,5 +1,6 @@
 -- Numbers in decimal.
-use Rattle.std.specs.Prelude.{ℕ, Bool, not, ◌&&◌, ◌||◌, ◌==◌, nat_eq, nat_le, nat_lt, List, length, slice_index, Option, Some, None, if◌then◌else◌}
+use Rattle.std.specs.Prelude.{ℕ, Bool, not, ◌&&◌, ◌||◌, ◌==◌, nat_eq, nat_le, nat_lt, List, length, slice_index}
+use Rattle.std.specs.Prelude.{Option, Some, None, if◌then◌else◌}
 use Rattle.std.specs.List.{list_all}
 use Rattle.std.specs.Str.Parse.{digits_value}
 
@@ -9,8 +10,10 @@ is_digit b = nat_le 48 b && nat_le b 57
 
 -- a numeral: digits, the first of which is no 0 unless it stands alone
 abbrev pub is_numeral : List ℕ → Bool
-is_numeral text = nat_lt 0 (length text) && (list_all is_digit text && (nat_eq (length text) 1 || not (slice_index text 0 == 48)))
+is_numeral text =
+    nat_lt 0 (length text) && (list_all is_digit text && (nat_eq (length text) 1 || not (slice_index text 0 == 48)))
 
 -- the number, up to `most`, whose decimal digits these are
 abbrev pub number_of : ℕ → List ℕ → Option ℕ
-number_of most text = if is_numeral text && nat_le (digits_value 10 text) most then Some (digits_value 10 text) else None
+number_of most text =
+    if is_numeral text && nat_le (digits_value 10 text) most then Some (digits_value 10 text) else None

@@ -1,11 +1,13 @@
 -- The one spelling of bytes in texts.
-use Rattle.std.specs.Prelude.{ℕ, zero, suc, ◌+◌, ◌-◌, ◌*◌, ◌/◌, ◌%◌, Bool, not, ◌&&◌, ◌==◌, nat_le, nat_lt, List, [], ◌∷◌, slice_index, codes, Option, Some, None, if◌then◌else◌}
+use Rattle.std.specs.Prelude.{ℕ, zero, suc, ◌+◌, ◌-◌, ◌*◌, ◌/◌, ◌%◌, Bool, not, ◌&&◌, ◌==◌, nat_le, nat_lt, List, []}
+use Rattle.std.specs.Prelude.{◌∷◌, slice_index, codes, Option, Some, None, if◌then◌else◌}
 use Rattle.std.specs.List.{flat_map, list_all}
 use Rattle.std.specs.Str.{bytes_eq}
 
 -- a byte that a spelling may have: 0x21 to 0x7e but `,`, `{`, `}`, `(` and `)`
 abbrev pub is_shown : ℕ → Bool
-is_shown b = nat_le 33 b && nat_le b 126 && not (b == 44) && not (b == 123) && not (b == 125) && not (b == 40) && not (b == 41)
+is_shown b =
+    nat_le 33 b && nat_le b 126 && not (b == 44) && not (b == 123) && not (b == 125) && not (b == 40) && not (b == 41)
 
 -- a byte that stands for itself: 0x21 to 0x7e but `\`, `,`, `{`, `}`, `(` and `)`
 abbrev pub is_literal : ℕ → Bool

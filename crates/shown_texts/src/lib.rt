@@ -1,6 +1,7 @@
-//! The texts that the checker prints and reads again: bytes by their one spelling, numbers, lines, paths, sites, marks, reasons.
-//! Each has a definition in specs/, a call that adds it to a text, and a call that reads a whole text as one.
-//! It stands on script_names. Begin with `spelling`; `theorems` says that printing and reading belong together.
+//! The texts that the checker prints and reads again: bytes by their one spelling, numbers, lines, paths, sites,
+//! marks, reasons. Each has a definition in specs/, a call that adds it to a text, and a call that reads a whole text
+//! as one. It stands on script_names. Begin with `spelling`; `theorems` says that printing and reading belong
+//! together.
 #![tactic(auto)]
 
 mod lines;

@@ -1,5 +1,6 @@
 ghost use Rattle.std.specs.Prelude.{◌≡◌, ◌++◌, length, take, map, IfOk, OnOk, OnErr};
-ghost use Rattle.shown_texts.specs.Marks.{site_text, mark_text, site_from, site_of_parts, site_of, mark_from, mark_of_parts, mark_of};
+ghost use Rattle.shown_texts.specs.Marks.{site_text, mark_text, site_from, site_of_parts, site_of, mark_from};
+ghost use Rattle.shown_texts.specs.Marks.{mark_of_parts, mark_of};
 
 use crate::number::{push_number, read_number};
 use crate::parts::cut;

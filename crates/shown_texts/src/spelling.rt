@@ -1,6 +1,7 @@
 ghost use Rattle.std.specs.Prelude.{◌≡◌, ◌++◌, ◌<◌, ◌∷◌, length, take, slice_index, IfOk, OnOk, OnErr};
 ghost use Rattle.std.specs.List.{flat_map};
-ghost use Rattle.shown_texts.specs.Show.{is_literal, hex_digit, shown_byte, show, hex_value, escaped, bytes_after, shown_of};
+ghost use Rattle.shown_texts.specs.Show.{is_literal, hex_digit, shown_byte, show, hex_value, escaped, bytes_after};
+ghost use Rattle.shown_texts.specs.Show.{shown_of};
 
 use script_names::{Bytes, Memory};
 use std::alloc::Global;

@@ -1,6 +1,8 @@
 //! What holds of the texts that are printed and read.
 
-ghost use Rattle.shown_texts.specs.Laws.{BytesReadBack, NumbersReadBack, LinesReadBack, PathsReadBack, SitesReadBack, MarksReadBack, ReasonsReadBack, SpellingsStayWhole, ShownApart, JoinedAreCut, CutsJoinAgain};
+ghost use Rattle.shown_texts.specs.Laws.{BytesReadBack, NumbersReadBack, LinesReadBack, PathsReadBack, SitesReadBack};
+ghost use Rattle.shown_texts.specs.Laws.{MarksReadBack, ReasonsReadBack, SpellingsStayWhole, ShownApart};
+ghost use Rattle.shown_texts.specs.Laws.{JoinedAreCut, CutsJoinAgain};
 
 /// Reading inverts printing, and refuses exactly what no value prints.
 pub fn texts_read_back()

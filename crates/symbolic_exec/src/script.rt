@@ -12,8 +12,8 @@ use shell_rules::{Command, End};
 use std::alloc::Global;
 
 /// All paths of the commands of a step under the strict flag (POSIX.1-2017, XCU 2.14 `set -e`), from a set of pairs of
-/// trees: each pair is on the path of its own run, and the traces of the paths rise. `Over` exactly where the runs have
-/// more than `room` different traces.
+/// trees: each pair is on the path of its own run, and the traces of the paths rise. `Over` exactly where the runs
+/// have more than `room` different traces.
 pub fn paths(
     alloc: Global,
     step: u16,

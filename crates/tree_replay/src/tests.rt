@@ -23,8 +23,8 @@ enum Call {
 /// A command: its place, what it is, and its path.
 type Row = (u32, Call, &'static [u8]);
 
-/// What is replayed: the entries of the tree, by their paths and kinds, and the commands. What comes of it: the ending,
-/// the places and rows of the acts, the text of the tree that is left, and how the call ended.
+/// What is replayed: the entries of the tree, by their paths and kinds, and the commands. What comes of it: the
+/// ending, the places and rows of the acts, the text of the tree that is left, and how the call ended.
 type Case = (
     &'static [(&'static [u8], Kind)],
     &'static [Row],

@@ -215,8 +215,8 @@ fn takes_rows_of_the_longest_path(rt: HostRuntime) -> Result<(), Fail> {
     Ok(())
 }
 
-// A row of an act on the trees with a directory `/srv`: the act's call, the names of its path, whether the path ends in
-// a slash, the row; then the clause, and the start tree that is shown of it.
+// A row of an act on the trees with a directory `/srv`: the act's call, the names of its path, whether the path ends
+// in a slash, the row; then the clause, and the start tree that is shown of it.
 type Shown = (
     Call,
     &'static [&'static [u8]],
