@@ -32,7 +32,8 @@ chosen (one ∷ rest) = (if one.0 then one.1 ∷ chosen rest else chosen rest)
 abbrev pub kind_words : Kinds → List (List ℕ)
 kind_words kinds =
     chosen
-    ((kinds.absent, codes "absent") ∷ (kinds.reg, codes "reg") ∷ (kinds.link, codes "link") ∷ (kinds.other, codes "other") ∷ (kinds.dir, codes "dir") ∷ [])
+    ((kinds.absent, codes "absent") ∷ (kinds.reg, codes "reg") ∷ (kinds.link, codes "link")
+    ∷ (kinds.other, codes "other") ∷ (kinds.dir, codes "dir") ∷ [])
 
 -- words joined by commas, or `-` where there are none
 abbrev pub words_text : List (List ℕ) → List ℕ

@@ -130,7 +130,8 @@ fn put_kinds(text: &mut Bytes, kinds: Kinds) -> Result<(), Memory>
 
 // Adds a word where it is in the set, after a comma where some word stands before it, and says whether one stands now.
 fn put_word(text: &mut Bytes, some: bool, has: bool, word: &[u8]) -> Result<bool, Memory>
-    ensures text { OnOk result (text.new ≡ text.old ++ (if has then (if some then after_comma word.now else word.now) else [])) }
+    ensures text { let said = if some then after_comma word.now else word.now in
+        OnOk result (text.new ≡ text.old ++ (if has then said else [])) }
     ensures some { IfOk result (λ now. now ≡ some || has) }
 {
     if !has {

@@ -253,8 +253,8 @@ fn copy_without(alloc: Global, a: &Act, tree: &Value) -> Result<Value, Memory>
     Ok(copy)
 }
 
-// Moves what stands at the act's path to its place. The tree is changed as a whole, so that it is as before where memory
-// is missing half way.
+// Moves what stands at the act's path to its place. The tree is changed as a whole, so that it is as before where
+// memory is missing half way.
 fn move_to(alloc: Global, a: &Act, tree: &mut Value) -> Result<(), Memory>
     requires path { (path_of a.now).names ≢ [] }
     requires place { place_of a.now ≢ [] }

@@ -37,7 +37,12 @@ configure_call end = record { old = false; script = Postinst; words = codes "con
 
 -- what the script's run comes to
 abbrev pub configured : Run → Replayed
-configured first = record { ending = ending_of first.end; trace = first.trace; after = first.tree; calls = configure_call first.end ∷ [] }
+configured first = record {
+  ending = ending_of first.end;
+  trace = first.trace;
+  after = first.tree;
+  calls = configure_call first.end ∷ [];
+}
 
 -- a missing script is a success, and no call
 abbrev pub script_run : Option Script → Value → Replayed

@@ -204,7 +204,8 @@ module _ (first : Text → Option ℕ) where
   abbrev pub is_prefix : List (AssignSays Forms) → List (WordSays Forms) → Bool
   is_prefix assigns words =
       are_any assigns && (are_any words
-      && (not (is_there (static_name words)) || (is_function (static_name words) || (is_named (static_name words) special_names || some_runs assigns))))
+      && (not (is_there (static_name words)) || (is_function (static_name words)
+      || (is_named (static_name words) special_names || some_runs assigns))))
 
   -- The forms that a simple command itself is, all at the command's offset, in the order in which they are named.
   abbrev pub simple_forms : ℕ → List (AssignSays Forms) → List (WordSays Forms) → Forms
@@ -218,7 +219,8 @@ module _ (first : Text → Option ℕ) where
       -- an operand of `export` with an unquoted expansion
       ++ (when (is_name (static_name words) (codes "export") && some_unquoted (operands words)) form.Export at
       -- `break` or `continue` with a further word, or outside a loop of its own function, subshell or substitution
-      ++ (when (is_named (static_name words) (codes "break" ∷ codes "continue" ∷ []) && (are_any (operands words) || not p.in_loop)) form.LoopExit at
+      ++ (when (is_named (static_name words) (codes "break" ∷ codes "continue" ∷ [])
+      && (are_any (operands words) || not p.in_loop)) form.LoopExit at
       -- `return` outside a function's body, or in a subshell or substitution of it
       ++ (when (is_name (static_name words) (codes "return") && not p.may_return) form.Return at
       -- in a function's body a call of itself or of a function that is defined later
@@ -234,15 +236,18 @@ module _ (first : Text → Option ℕ) where
 
   -- The forms of a command, from those of its parts.
   abbrev pub command_layer :
-      o.Command-F Forms (PartSays Forms) (AssignSays Forms) (List (WordSays Forms) × Forms) (Forms × Forms) Forms (WordSays Forms) → Forms
-  command_layer (o.Simple at assigns words) p = simple_forms at assigns words p ++ (in_assigns assigns p ++ in_words words p)
+      o.Command-F Forms (PartSays Forms) (AssignSays Forms) (List (WordSays Forms) × Forms) (Forms × Forms) Forms
+      (WordSays Forms) → Forms
+  command_layer (o.Simple at assigns words) p =
+      simple_forms at assigns words p ++ (in_assigns assigns p ++ in_words words p)
   command_layer (o.Redirected at body redirects) p = body (within p)
   command_layer (o.Pipe at parts) p = all_of parts (within p)
   command_layer (o.Not at body) p = body (within p)
   command_layer (o.Chain head rest) p = head (within p) ++ all_of rest (within p)
   command_layer (o.Seq parts) p = all_of parts (member p)
   command_layer (o.If at arms otherwise) p = in_arms arms (within p) ++ if_there otherwise (within p)
-  command_layer (o.For at name words body) p = when (bytes_eq name (codes "IFS")) form.Ifs at ++ (in_list words p ++ body (looped p))
+  command_layer (o.For at name words body) p =
+      when (bytes_eq name (codes "IFS")) form.Ifs at ++ (in_list words p ++ body (looped p))
   command_layer (o.While at until cond body) p = cond (looped p) ++ body (looped p)
   command_layer (o.Case at subject arms) p = in_pattern subject p ++ in_case_arms arms (within p)
   command_layer (o.Sub at body) p = body (apart p)
@@ -250,7 +255,8 @@ module _ (first : Text → Option ℕ) where
 
   -- what a part of a word says
   abbrev pub part_layer :
-      o.Part-F Forms (PartSays Forms) (AssignSays Forms) (List (WordSays Forms) × Forms) (Forms × Forms) Forms (WordSays Forms) → PartSays Forms
+      o.Part-F Forms (PartSays Forms) (AssignSays Forms) (List (WordSays Forms) × Forms) (Forms × Forms) Forms
+      (WordSays Forms) → PartSays Forms
   part_layer (o.Plain bytes) = record { bytes = Some bytes; unquoted = false; is_all = false; runs = None }
   part_layer (o.Quoted bytes) = record { bytes = Some bytes; unquoted = false; is_all = false; runs = None }
   part_layer (o.Param key default quoted) = record { bytes = None; unquoted = not quoted; is_all = false; runs = None }
@@ -259,68 +265,80 @@ module _ (first : Text → Option ℕ) where
 
   -- what an assignment says
   abbrev pub assign_layer :
-      o.Assign-F Forms (PartSays Forms) (AssignSays Forms) (List (WordSays Forms) × Forms) (Forms × Forms) Forms (WordSays Forms) → AssignSays Forms
+      o.Assign-F Forms (PartSays Forms) (AssignSays Forms) (List (WordSays Forms) × Forms) (Forms × Forms) Forms
+      (WordSays Forms) → AssignSays Forms
   assign_layer a = record { name = a.name; value = a.value }
 
   -- the patterns of an arm of `case`, and the forms of its body
   abbrev pub case_arm_layer :
-      o.CaseArm-F Forms (PartSays Forms) (AssignSays Forms) (List (WordSays Forms) × Forms) (Forms × Forms) Forms (WordSays Forms)
+      o.CaseArm-F Forms (PartSays Forms) (AssignSays Forms) (List (WordSays Forms) × Forms) (Forms × Forms) Forms
+      (WordSays Forms)
       → List (WordSays Forms) × Forms
   case_arm_layer arm = (arm.patterns, arm.body)
 
   -- the forms of a condition of `if`, and of its body
   abbrev pub if_arm_layer :
-      o.IfArm-F Forms (PartSays Forms) (AssignSays Forms) (List (WordSays Forms) × Forms) (Forms × Forms) Forms (WordSays Forms) → Forms × Forms
+      o.IfArm-F Forms (PartSays Forms) (AssignSays Forms) (List (WordSays Forms) × Forms) (Forms × Forms) Forms
+      (WordSays Forms) → Forms × Forms
   if_arm_layer arm = (arm.cond, arm.body)
 
   -- the forms of a command behind `&&` or `||`
   abbrev pub link_layer :
-      o.Link-F Forms (PartSays Forms) (AssignSays Forms) (List (WordSays Forms) × Forms) (Forms × Forms) Forms (WordSays Forms) → Forms
+      o.Link-F Forms (PartSays Forms) (AssignSays Forms) (List (WordSays Forms) × Forms) (Forms × Forms) Forms
+      (WordSays Forms) → Forms
   link_layer link = link.command
 
   -- what a word says
   abbrev pub word_layer :
-      o.Word-F Forms (PartSays Forms) (AssignSays Forms) (List (WordSays Forms) × Forms) (Forms × Forms) Forms (WordSays Forms) → WordSays Forms
+      o.Word-F Forms (PartSays Forms) (AssignSays Forms) (List (WordSays Forms) × Forms) (Forms × Forms) Forms
+      (WordSays Forms) → WordSays Forms
   word_layer word = record { at = word.at; parts = word.parts }
 
   -- the forms that stand in a command
   abbrev pub forms_of : Command → Forms
   forms_of =
-      fold-Command Forms (PartSays Forms) (AssignSays Forms) (List (WordSays Forms) × Forms) (Forms × Forms) Forms (WordSays Forms)
+      fold-Command Forms (PartSays Forms) (AssignSays Forms) (List (WordSays Forms) × Forms) (Forms × Forms) Forms
+      (WordSays Forms)
       command_layer part_layer assign_layer case_arm_layer if_arm_layer link_layer word_layer
 
   -- what a part says
   abbrev pub part_says : Part → PartSays Forms
   part_says =
-      fold-Part Forms (PartSays Forms) (AssignSays Forms) (List (WordSays Forms) × Forms) (Forms × Forms) Forms (WordSays Forms)
+      fold-Part Forms (PartSays Forms) (AssignSays Forms) (List (WordSays Forms) × Forms) (Forms × Forms) Forms
+      (WordSays Forms)
       command_layer part_layer assign_layer case_arm_layer if_arm_layer link_layer word_layer
 
   -- what an assignment says
   abbrev pub assign_says : Assign → AssignSays Forms
   assign_says =
-      fold-Assign Forms (PartSays Forms) (AssignSays Forms) (List (WordSays Forms) × Forms) (Forms × Forms) Forms (WordSays Forms)
+      fold-Assign Forms (PartSays Forms) (AssignSays Forms) (List (WordSays Forms) × Forms) (Forms × Forms) Forms
+      (WordSays Forms)
       command_layer part_layer assign_layer case_arm_layer if_arm_layer link_layer word_layer
 
   -- what an arm of `case` says
   abbrev pub case_arm_says : CaseArm → List (WordSays Forms) × Forms
   case_arm_says =
-      fold-CaseArm Forms (PartSays Forms) (AssignSays Forms) (List (WordSays Forms) × Forms) (Forms × Forms) Forms (WordSays Forms)
+      fold-CaseArm Forms (PartSays Forms) (AssignSays Forms) (List (WordSays Forms) × Forms) (Forms × Forms) Forms
+      (WordSays Forms)
       command_layer part_layer assign_layer case_arm_layer if_arm_layer link_layer word_layer
 
   -- what an arm of `if` says
   abbrev pub if_arm_says : IfArm → Forms × Forms
   if_arm_says =
-      fold-IfArm Forms (PartSays Forms) (AssignSays Forms) (List (WordSays Forms) × Forms) (Forms × Forms) Forms (WordSays Forms)
+      fold-IfArm Forms (PartSays Forms) (AssignSays Forms) (List (WordSays Forms) × Forms) (Forms × Forms) Forms
+      (WordSays Forms)
       command_layer part_layer assign_layer case_arm_layer if_arm_layer link_layer word_layer
 
   -- what a command behind `&&` or `||` says
   abbrev pub link_says : Link → Forms
   link_says =
-      fold-Link Forms (PartSays Forms) (AssignSays Forms) (List (WordSays Forms) × Forms) (Forms × Forms) Forms (WordSays Forms)
+      fold-Link Forms (PartSays Forms) (AssignSays Forms) (List (WordSays Forms) × Forms) (Forms × Forms) Forms
+      (WordSays Forms)
       command_layer part_layer assign_layer case_arm_layer if_arm_layer link_layer word_layer
 
   -- what a word says, in a script
   abbrev pub word_says : Word → WordSays Forms
   word_says =
-      fold-Word Forms (PartSays Forms) (AssignSays Forms) (List (WordSays Forms) × Forms) (Forms × Forms) Forms (WordSays Forms)
+      fold-Word Forms (PartSays Forms) (AssignSays Forms) (List (WordSays Forms) × Forms) (Forms × Forms) Forms
+      (WordSays Forms)
       command_layer part_layer assign_layer case_arm_layer if_arm_layer link_layer word_layer

@@ -28,7 +28,9 @@ of_some f None = []
 of_some f (Some x) = f x
 
 -- the definitions in a command, from those in its parts
-abbrev pub command_layer : o.Command-F Definitions Definitions Definitions Definitions Definitions Definitions Definitions → Definitions
+abbrev pub command_layer :
+    o.Command-F Definitions Definitions Definitions Definitions Definitions Definitions Definitions
+    → Definitions
 command_layer (o.Simple at assigns words) = of_all assigns ++ of_all words
 command_layer (o.Redirected at body redirects) = body
 command_layer (o.Pipe at parts) = of_all parts
@@ -43,7 +45,9 @@ command_layer (o.Sub at body) = body
 command_layer (o.Define at name body) = (name, at) ∷ body
 
 -- those in a part of a word: in the command of a substitution
-abbrev pub part_layer : o.Part-F Definitions Definitions Definitions Definitions Definitions Definitions Definitions → Definitions
+abbrev pub part_layer :
+    o.Part-F Definitions Definitions Definitions Definitions Definitions Definitions Definitions
+    → Definitions
 part_layer (o.Plain bytes) = []
 part_layer (o.Quoted bytes) = []
 part_layer (o.Param key default quoted) = []
@@ -51,23 +55,33 @@ part_layer o.All = []
 part_layer (o.Run at body quoted) = body
 
 -- those in the value of an assignment
-abbrev pub assign_layer : o.Assign-F Definitions Definitions Definitions Definitions Definitions Definitions Definitions → Definitions
+abbrev pub assign_layer :
+    o.Assign-F Definitions Definitions Definitions Definitions Definitions Definitions Definitions
+    → Definitions
 assign_layer assign = assign.value
 
 -- those in an arm of `case`
-abbrev pub case_arm_layer : o.CaseArm-F Definitions Definitions Definitions Definitions Definitions Definitions Definitions → Definitions
+abbrev pub case_arm_layer :
+    o.CaseArm-F Definitions Definitions Definitions Definitions Definitions Definitions Definitions
+    → Definitions
 case_arm_layer arm = of_all arm.patterns ++ arm.body
 
 -- those in an arm of `if`
-abbrev pub if_arm_layer : o.IfArm-F Definitions Definitions Definitions Definitions Definitions Definitions Definitions → Definitions
+abbrev pub if_arm_layer :
+    o.IfArm-F Definitions Definitions Definitions Definitions Definitions Definitions Definitions
+    → Definitions
 if_arm_layer arm = arm.cond ++ arm.body
 
 -- those in a command behind `&&` or `||`
-abbrev pub link_layer : o.Link-F Definitions Definitions Definitions Definitions Definitions Definitions Definitions → Definitions
+abbrev pub link_layer :
+    o.Link-F Definitions Definitions Definitions Definitions Definitions Definitions Definitions
+    → Definitions
 link_layer link = link.command
 
 -- those in a word
-abbrev pub word_layer : o.Word-F Definitions Definitions Definitions Definitions Definitions Definitions Definitions → Definitions
+abbrev pub word_layer :
+    o.Word-F Definitions Definitions Definitions Definitions Definitions Definitions Definitions
+    → Definitions
 word_layer word = of_all word.parts
 
 -- the definitions in a command

@@ -15,12 +15,14 @@ is_one_of name names = list_any (bytes_eq name) names
 -- Built-In Utilities), as far as they have a meaning here
 abbrev pub special_names : List Text
 special_names =
-    codes ":" ∷ codes "break" ∷ codes "continue" ∷ codes "exit" ∷ codes "return" ∷ codes "set" ∷ codes "export" ∷ codes "unset" ∷ []
+    codes ":" ∷ codes "break" ∷ codes "continue" ∷ codes "exit" ∷ codes "return" ∷ codes "set" ∷ codes "export"
+    ∷ codes "unset" ∷ []
 
 -- the utilities that have a meaning here, by the names that a function could have
 abbrev pub utility_names : List Text
 utility_names =
-    codes "true" ∷ codes "false" ∷ codes "echo" ∷ codes "mkdir" ∷ codes "rmdir" ∷ codes "rm" ∷ codes "touch" ∷ codes "ln" ∷ codes "mv"
+    codes "true" ∷ codes "false" ∷ codes "echo" ∷ codes "mkdir" ∷ codes "rmdir" ∷ codes "rm" ∷ codes "touch"
+    ∷ codes "ln" ∷ codes "mv"
     ∷ codes "test" ∷ codes "[" ∷ []
 
 -- a function can't have the name of a utility or of a special built-in

@@ -38,7 +38,10 @@ fn simple_forms(
     place: Place,
     first: Option<Found>,
 ) -> Result<Option<Found>, Memory>
-    ensures { IfOk result (λ found. found ≡ soonest first (simple_forms (first_in functions.now) at (map (assign_says (first_in functions.now)) assigns.now) (map (word_says (first_in functions.now)) words.now) place)) }
+    ensures { let known = first_in functions.now in
+        let assigned = map (assign_says known) assigns.now in
+        let said = map (word_says known) words.now in
+        IfOk result (λ found. found ≡ soonest first (simple_forms known at assigned said place)) }
 {
     let name = static_name(alloc, words)?;
     let operands = operands(words);
@@ -87,7 +90,8 @@ fn exports_unquoted(name: &Option<Bytes>, operands: &[Word]) -> bool
 
 // Whether a command is `break` or `continue` with a further word, or outside a loop.
 fn leaves_no_loop(name: &Option<Bytes>, operands: &[Word], place: Place) -> bool
-    ensures { result ≡ (is_named name.now (codes "break" ∷ codes "continue" ∷ []) && (are_any operands.now || not place.in_loop)) }
+    ensures { let exits = codes "break" ∷ codes "continue" ∷ [] in
+        result ≡ (is_named name.now exits && (are_any operands.now || not place.in_loop)) }
 {
     let is_exit = is_name(name, b"break") || is_name(name, b"continue");
     is_exit && (!operands.is_empty() || !place.in_loop)
@@ -299,7 +303,8 @@ fn in_word(
     place: Place,
     first: Option<Found>,
 ) -> Result<Option<Found>, Memory>
-    ensures { IfOk result (λ found. found ≡ soonest first (in_word (word_says (first_in functions.now) word.now) place)) }
+    ensures { let known = first_in functions.now in
+        IfOk result (λ found. found ≡ soonest first (in_word (word_says known word.now) place)) }
 {
     let mut first = first;
     for part in word.parts.as_slice() {
@@ -316,7 +321,8 @@ fn in_pattern(
     place: Place,
     first: Option<Found>,
 ) -> Result<Option<Found>, Memory>
-    ensures { IfOk result (λ found. found ≡ soonest first (in_pattern (word_says (first_in functions.now) word.now) place)) }
+    ensures { let known = first_in functions.now in
+        IfOk result (λ found. found ≡ soonest first (in_pattern (word_says known word.now) place)) }
 {
     let first = found_if(first, is_all_alone(word), Form::AllArgs, word.at);
     in_word(alloc, functions, word, place, first)
@@ -330,7 +336,8 @@ fn in_words(
     place: Place,
     first: Option<Found>,
 ) -> Result<Option<Found>, Memory>
-    ensures { IfOk result (λ found. found ≡ soonest first (in_words (map (word_says (first_in functions.now)) words.now) place)) }
+    ensures { let known = first_in functions.now in
+        IfOk result (λ found. found ≡ soonest first (in_words (map (word_says known) words.now) place)) }
 {
     let mut first = first;
     for word in words {
@@ -347,7 +354,8 @@ fn in_assigns(
     place: Place,
     first: Option<Found>,
 ) -> Result<Option<Found>, Memory>
-    ensures { IfOk result (λ found. found ≡ soonest first (in_assigns (map (assign_says (first_in functions.now)) assigns.now) place)) }
+    ensures { let known = first_in functions.now in
+        IfOk result (λ found. found ≡ soonest first (in_assigns (map (assign_says known) assigns.now) place)) }
 {
     let mut first = first;
     for assign in assigns {
@@ -364,7 +372,8 @@ fn in_patterns(
     place: Place,
     first: Option<Found>,
 ) -> Result<Option<Found>, Memory>
-    ensures { IfOk result (λ found. found ≡ soonest first (in_patterns (map (word_says (first_in functions.now)) words.now) place)) }
+    ensures { let known = first_in functions.now in
+        IfOk result (λ found. found ≡ soonest first (in_patterns (map (word_says known) words.now) place)) }
 {
     let mut first = first;
     for word in words {
@@ -381,7 +390,8 @@ fn in_commands(
     place: Place,
     first: Option<Found>,
 ) -> Result<Option<Found>, Memory>
-    ensures { IfOk result (λ found. found ≡ soonest first (all_of (map (forms_of (first_in functions.now)) commands.now) place)) }
+    ensures { let known = first_in functions.now in
+        IfOk result (λ found. found ≡ soonest first (all_of (map (forms_of known) commands.now) place)) }
 {
     let mut first = first;
     for command in commands {
@@ -398,7 +408,8 @@ fn in_links(
     place: Place,
     first: Option<Found>,
 ) -> Result<Option<Found>, Memory>
-    ensures { IfOk result (λ found. found ≡ soonest first (all_of (map (link_says (first_in functions.now)) links.now) place)) }
+    ensures { let known = first_in functions.now in
+        IfOk result (λ found. found ≡ soonest first (all_of (map (link_says known) links.now) place)) }
 {
     let mut first = first;
     for link in links {
@@ -415,7 +426,8 @@ fn in_arms(
     place: Place,
     first: Option<Found>,
 ) -> Result<Option<Found>, Memory>
-    ensures { IfOk result (λ found. found ≡ soonest first (in_arms (map (if_arm_says (first_in functions.now)) arms.now) place)) }
+    ensures { let known = first_in functions.now in
+        IfOk result (λ found. found ≡ soonest first (in_arms (map (if_arm_says known) arms.now) place)) }
 {
     let mut first = first;
     for arm in arms {
@@ -433,7 +445,8 @@ fn in_case_arms(
     place: Place,
     first: Option<Found>,
 ) -> Result<Option<Found>, Memory>
-    ensures { IfOk result (λ found. found ≡ soonest first (in_case_arms (map (case_arm_says (first_in functions.now)) arms.now) place)) }
+    ensures { let known = first_in functions.now in
+        IfOk result (λ found. found ≡ soonest first (in_case_arms (map (case_arm_says known) arms.now) place)) }
 {
     let mut first = first;
     for arm in arms {

@@ -19,7 +19,8 @@ pub(crate) struct Functions {
 impl Functions {
     /// The functions that a command defines, wherever the definitions stand in it.
     pub(crate) fn of(alloc: Global, command: &Command) -> Result<Functions, Memory>
-        ensures { IfOk result (λ functions. (name : List ℕ) → first_in functions name ≡ first_of (definitions command.now) name) }
+        ensures { let ds = definitions command.now in
+            IfOk result (λ functions. (name : List ℕ) → first_in functions name ≡ first_of ds name) }
     {
         let mut functions = Functions {
             alloc,

@@ -11,7 +11,8 @@ use Rattle.shown_texts.specs.Marks.{site_text, mark_text, reason_name, site_of, 
 
 -- each value's text is read as the value, a text is read as a value only where it is the value's,
 -- and where a text is refused, no value has it
-pub record ReadsBack {X : Type 0} (is_value : X → Bool) (text_of : X → List ℕ) (value_of : List ℕ → Option X) : Type 0 where
+pub record ReadsBack {X : Type 0} (is_value : X → Bool) (text_of : X → List ℕ) (value_of : List ℕ → Option X)
+    : Type 0 where
   pub inverts : (x : X) → IsTrue (is_value x) → value_of (text_of x) ≡ Some x
   pub spelled : (text : List ℕ) (x : X) → value_of text ≡ Some x → text_of x ≡ text
   pub refuses : (text : List ℕ) → value_of text ≡ None → (x : X) → IsTrue (is_value x) → ¬ (text_of x ≡ text)

@@ -21,7 +21,9 @@ mark_text mark = join_with_byte 58 (decimal mark.site.step ∷ decimal mark.site
 
 -- the site of a step and a place that are written so
 abbrev pub site_from : List ℕ → List ℕ → Option Site
-site_from step at = option_and_then (λ step. option_map (λ at. record { step = step; at = at }) (number_of (2 ^ 32 - 1) at)) (number_of (2 ^ 16 - 1) step)
+site_from step at =
+    option_and_then (λ step. option_map (λ at. record { step = step; at = at }) (number_of (2 ^ 32 - 1) at))
+    (number_of (2 ^ 16 - 1) step)
 
 -- the site of a text that is cut into these parts
 abbrev pub site_of_parts : List (List ℕ) → Option Site
@@ -36,7 +38,9 @@ site_of text = site_of_parts (parts 58 text)
 
 -- the mark of a step, a place and a row that are written so
 abbrev pub mark_from : List ℕ → List ℕ → List ℕ → Option Mark
-mark_from step at row = option_and_then (λ site. option_map (λ row. record { site = site; row = row }) (number_of 255 row)) (site_from step at)
+mark_from step at row =
+    option_and_then (λ site. option_map (λ row. record { site = site; row = row }) (number_of 255 row))
+    (site_from step at)
 
 -- the mark of a text that is cut into these parts
 abbrev pub mark_of_parts : List (List ℕ) → Option Mark
@@ -89,8 +93,9 @@ reason_among (reason ∷ reasons) text =
 -- all reasons
 abbrev pub all_reasons : List Reason
 all_reasons =
-    reason.Call ∷ reason.Echo ∷ reason.Link ∷ reason.Slash ∷ reason.Root ∷ reason.Empty ∷ reason.DotDot ∷ reason.Dot ∷ reason.Long ∷ reason.Glob
-    ∷ reason.Pattern ∷ reason.Pipe ∷ reason.Message ∷ reason.Strict ∷ reason.Status ∷ reason.Run ∷ reason.Same ∷ reason.Conffile ∷ reason.Restore ∷ []
+    reason.Call ∷ reason.Echo ∷ reason.Link ∷ reason.Slash ∷ reason.Root ∷ reason.Empty ∷ reason.DotDot ∷ reason.Dot
+    ∷ reason.Long ∷ reason.Glob ∷ reason.Pattern ∷ reason.Pipe ∷ reason.Message ∷ reason.Strict ∷ reason.Status
+    ∷ reason.Run ∷ reason.Same ∷ reason.Conffile ∷ reason.Restore ∷ []
 
 -- the reason with this name
 abbrev pub reason_of : List ℕ → Option Reason

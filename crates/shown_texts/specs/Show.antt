@@ -12,7 +12,8 @@ is_shown b =
 -- a byte that stands for itself: 0x21 to 0x7e but `\`, `,`, `{`, `}`, `(` and `)`
 abbrev pub is_literal : ℕ → Bool
 is_literal b =
-    nat_le 33 b && nat_le b 126 && not (b == 92) && not (b == 44) && not (b == 123) && not (b == 125) && not (b == 40) && not (b == 41)
+    nat_le 33 b && nat_le b 126 && not (b == 92) && not (b == 44) && not (b == 123) && not (b == 125) && not (b == 40)
+    && not (b == 41)
 
 -- a lower hexadecimal digit
 abbrev pub hex_digit : ℕ → ℕ

@@ -51,7 +51,8 @@ fn push_each(text: &mut Bytes, lines: &[Bytes]) -> Result<(), Memory>
 
 /// The lines of a text, without their newlines; None where the text has bytes and does not end in a newline.
 pub fn read_lines(alloc: Global, text: &[u8]) -> Result<Option<Vec<&[u8]>>, Memory>
-    ensures { IfOk result (λ found. option_map (λ lines. map (λ line. line.now) lines.items) found ≡ lines_of text.now) }
+    ensures { let lines = lines_of text.now in
+        IfOk result (λ found. option_map (λ lines. map (λ line. line.now) lines.items) found ≡ lines) }
 {
     let mut lines = cut(alloc, text, b'\n')?;
     match lines.pop() {

@@ -114,7 +114,8 @@ fn read_bytes(alloc: Global, text: &[u8]) -> Result<Bytes, Memory>
 
 // Passes over a byte, or adds what is spelled from it on; answers how many are to be passed over then.
 fn read_byte(bytes: &mut Bytes, passed: usize, byte: u8, rest: &[u8]) -> Result<usize, Memory>
-    ensures { IfOk result (λ next. bytes.new ++ bytes_after next rest.now ≡ bytes.old ++ bytes_after passed (byte ∷ rest.now)) }
+    ensures { let all = bytes.old ++ bytes_after passed (byte ∷ rest.now) in
+        IfOk result (λ next. bytes.new ++ bytes_after next rest.now ≡ all) }
 {
     if passed > 0 {
         return Ok(passed - 1);

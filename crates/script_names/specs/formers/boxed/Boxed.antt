@@ -48,17 +48,23 @@ module _ (R S : RattleType) (h : R.Denot → S.Denot) where
   unfolding part_of
   pointer_places alike = record {
     mir_same = λ i. (pointer_to (one_value R (alike.mir_same i) (λ _. ftrue) (λ _ _. nothing) gnil)).mir;
-    own_same = λ b i. (pointer_to (one_value R (alike.mir_same i) (alike.own_same b.value i) (alike.shr_same b.value i) gnil)).own_val (holding b tt);
-    shr_same = λ b i. (pointer_to (one_value R (alike.mir_same i) (alike.own_same b.value i) (alike.shr_same b.value i) gnil)).shr_at (holding b tt);
+    own_same = λ b i.
+        (pointer_to (one_value R (alike.mir_same i) (alike.own_same b.value i) (alike.shr_same b.value i) gnil)).own_val
+        (holding b tt);
+    shr_same = λ b i.
+        (pointer_to (one_value R (alike.mir_same i) (alike.own_same b.value i) (alike.shr_same b.value i) gnil)).shr_at
+        (holding b tt);
   }
 
   pub the_places : Alike R S h → Alike (outside.the_row R) (outside.the_row S) ((the_former this).map R.Denot S.Denot h)
   the_places alike =
-      view_places the_field this view (λ X Y k b. refl) (λ X b. refl) R.Denot S.Denot h (outside.the_row R).coded (outside.the_row S).coded
+      view_places the_field this view (λ X Y k b. refl) (λ X b. refl) R.Denot S.Denot h
+      (outside.the_row R).coded (outside.the_row S).coded
       (invariant R.Denot) (invariant S.Denot) (λ b p q. refl) (λ b p q. refl) (λ b e. tt) (λ b e. tt)
       (over (inside.the_row R)) (over (inside.the_row S))
       (struct_places (inside.the_type R) (inside.the_type S) ((λ b. holding b (h b.value)), tt) _ (λ d. refl) refl
       (laid _ _ _ (pointer_places alike), tt))
 
-  pub the_codes_placed : Recodes R S h → Recodes (outside.the_row R) (outside.the_row S) ((the_former this).map R.Denot S.Denot h)
+  pub the_codes_placed : Recodes R S h
+      → Recodes (outside.the_row R) (outside.the_row S) ((the_former this).map R.Denot S.Denot h)
   the_codes_placed same d = same d

@@ -46,11 +46,13 @@ the_field =
 module _ (R S : RattleType) (h : R.Denot → S.Denot) where
   pub the_places : Alike R S h → Alike (outside.the_row R) (outside.the_row S) ((the_former this).map R.Denot S.Denot h)
   the_places alike =
-      view_places the_field (list this) view (λ X Y k l. refl) (λ X l. refl) R.Denot S.Denot h (outside.the_row R).coded (outside.the_row S).coded
+      view_places the_field (list this) view (λ X Y k l. refl) (λ X l. refl) R.Denot S.Denot h
+      (outside.the_row R).coded (outside.the_row S).coded
       (invariant R.Denot) (invariant S.Denot) (λ l p q. refl) (λ l p q. refl) (λ l e. tt) (λ l e. tt)
       (over (inside.the_row R)) (over (inside.the_row S))
       (struct_places (inside.the_type R) (inside.the_type S) (vec.mapped h, tt) _ (λ d. refl) refl
       (laid _ _ _ (vec.the_places global.the_row ghosts R S h alike), tt))
 
-  pub the_codes_placed : Recodes R S h → Recodes (outside.the_row R) (outside.the_row S) ((the_former this).map R.Denot S.Denot h)
+  pub the_codes_placed : Recodes R S h
+      → Recodes (outside.the_row R) (outside.the_row S) ((the_former this).map R.Denot S.Denot h)
   the_codes_placed same items = sym (code_map R.coded.code S.coded.code h (λ x. sym (same x)) items)
