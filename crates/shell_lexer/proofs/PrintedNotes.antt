@@ -6,15 +6,14 @@ use Rattle.shell_lexer.specs.declared.fault.LexFault.{LexFault}
 use Rattle.shell_lexer.specs.declared.fault.LexFault.TheVariants.{OpenQuote}
 use Rattle.shell_lexer.specs.declared.sight.ByteNote.{ByteNote}
 use Rattle.shell_lexer.specs.declared.sight.ByteNote.TheVariants as note
-use Rattle.shell_lexer.specs.declared.token.Token.{Token}
 use Rattle.shell_lexer.specs.declared.token.RawPart.{RawPart}
 use Rattle.shell_lexer.specs.declared.token.RawPart.TheVariants as part
 use Rattle.shell_lexer.specs.Late.{first_all, is_all_word, all_args, tilde, has_list, brace, is_plainly, subst_case, found, sooner, as_fault, late}
-use Rattle.shell_lexer.specs.Parts.{Piece, look, inner}
+use Rattle.shell_lexer.specs.Parts.{Piece}
 use Rattle.shell_lexer.specs.SpelledParts.{IsPiece}
 use Rattle.shell_lexer.specs.Reading.{Out, Whole, Stop, Read, grown, plain_run, quoted_run, last_run, IsWord, word_ends, word_byte, word_piece, word_all, word_double, word_run, word_wrong, word_bad_double, word_bad_run, IsInner, inner_open, inner_ends, inner_byte, inner_piece, inner_all, inner_run, inner_wrong, inner_bad_run}
 use Rattle.shell_lexer.specs.Text.{Bytes, offset}
-use Rattle.shell_lexer.proofs.SpelledCases.{if_case, true_false}
+use Rattle.shell_lexer.proofs.SpelledCases.{true_false}
 use Rattle.shell_lexer.proofs.SpelledParts.{look_seen, inner_seen}
 use Rattle.shell_lexer.specs.PrintedLaws.{holds_no_all}
 

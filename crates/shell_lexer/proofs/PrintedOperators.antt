@@ -1,14 +1,13 @@
 -- Operators and redirections, as they are printed, are one token.
-use Rattle.std.proofs.Common.{◌≡◌, ℕ, zero, suc, Bool, true, false, nat_eq, List, [], ◌∷◌, ◌++◌, codes, refl, sym, ap, ◌∙◌, subst}
+use Rattle.std.proofs.Common.{◌≡◌, ℕ, Bool, true, false, nat_eq, List, [], ◌∷◌, ◌++◌, codes, refl, sym, ap, ◌∙◌, subst}
 use Rattle.shell_syntax.specs.declared.redirect.Redirect.{Redirect}
 use Rattle.shell_syntax.specs.declared.redirect.Redirect.TheVariants.{OutNull, ErrNull, InNull, OutToErr, ErrToOut}
-use Rattle.shell_syntax.specs.Printed.{redirect_text}
 use Rattle.shell_lexer.specs.declared.sight.Sign.{Sign}
 use Rattle.shell_lexer.specs.declared.sight.Sign.TheVariants as sign
 use Rattle.shell_lexer.specs.declared.token.Token.{Token}
-use Rattle.shell_lexer.specs.Operators.{Operator, sight, sight_at}
+use Rattle.shell_lexer.specs.Operators.{sight_at}
 use Rattle.shell_lexer.specs.Spelling.{IsOperator, IsNotNext, IsRedirected, output, error, input, output_to_error, error_to_output}
-use Rattle.shell_lexer.specs.Reading.{Out, Whole, behind, opened, closes, kind_of_sign, token_at, IsItems, items_pass, items_sign, items_close}
+use Rattle.shell_lexer.specs.Reading.{Out, behind, opened, closes, kind_of_sign, token_at, IsItems, items_pass, items_sign, items_close}
 use Rattle.shell_lexer.specs.Text.{Bytes, skip, place, offset, ends_word}
 use Rattle.shell_lexer.specs.PrintedLaws.{is_apart, operator_text, OperatorsReadBack, SubstitutionsClose}
 use Rattle.shell_lexer.proofs.SpelledCases.{eq_of, eq_same, or_case}

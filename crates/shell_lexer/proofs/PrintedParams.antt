@@ -1,7 +1,6 @@
 -- Parameter expansions and `"$@"`, as they are printed, are one part.
-use Rattle.std.proofs.Common.{◌≡◌, ℕ, ◌+◌, ◌≤◌, ◌<◌, Bool, true, false, ◌||◌, ◌&&◌, nat_eq, not, List, [], ◌∷◌, ◌++◌, append_assoc, Option, Some, None, codes, refl, sym, ap, ◌∙◌, subst, arith, decimal}
+use Rattle.std.proofs.Common.{◌≡◌, ℕ, ◌+◌, ◌≤◌, Bool, true, false, nat_eq, not, List, [], ◌∷◌, ◌++◌, append_assoc, Option, Some, None, codes, refl, sym, ap, ◌∙◌, subst, arith, decimal}
 use Rattle.std.proofs.lemmas.Fmt.{decimal_digit}
-use Rattle.std.proofs.lemmas.Grind.{common_steps}
 use Rattle.std.specs.List.{list_all}
 use Rattle.shell_syntax.specs.declared.key.Key.{Key}
 use Rattle.shell_syntax.specs.declared.key.Key.TheVariants.{Named, Arg, Count}
@@ -14,8 +13,8 @@ use Rattle.shell_lexer.specs.Laws.{PartsAreSpelled}
 use Rattle.shell_lexer.specs.Parts.{look, look_at, inner, inner_at}
 use Rattle.shell_lexer.specs.SpelledParts.{is_variable, is_default, IsDigitOf, IsParam, name as by_name, name_braced, name_default, number as by_number, number_braced, number_default, count as by_count, count_braced}
 use Rattle.shell_lexer.specs.Reading.{Out, Whole, Read, grown, plain_run, IsWord, word_piece, word_double, IsInner, inner_ends, inner_piece, inner_all}
-use Rattle.shell_lexer.specs.Text.{Bytes, skip, place, offset, is_letter, is_name_byte, is_default_byte}
-use Rattle.shell_lexer.specs.PrintedLaws.{IsOnePart, AllIsOnePart, ParamIsOnePart}
+use Rattle.shell_lexer.specs.Text.{Bytes, place, offset, is_letter, is_name_byte, is_default_byte}
+use Rattle.shell_lexer.specs.PrintedLaws.{AllIsOnePart, ParamIsOnePart}
 use Rattle.shell_lexer.proofs.SpelledCases.{eq_of, and_left, and_right, and_true as and_both}
 use Rattle.shell_lexer.proofs.PrintedBytes.{clash, is_no_back, skip_first, stands_here, all_pass, all_append}
 

@@ -1,18 +1,17 @@
 -- Quoted bytes, as they are printed, are one part.
-use Rattle.std.proofs.Common.{◌≡◌, ℕ, ◌+◌, Bool, true, false, if◌then◌else◌, ◌||◌, ◌&&◌, nat_eq, not, List, [], ◌∷◌, ◌++◌, append_assoc, append-nil, length, map, codes, refl, sym, ap, ◌∙◌, subst}
+use Rattle.std.proofs.Common.{◌≡◌, ℕ, ◌+◌, Bool, true, false, ◌||◌, nat_eq, List, [], ◌∷◌, ◌++◌, append_assoc, append-nil, map, codes, refl, sym, ap, ◌∙◌, subst}
 use Rattle.std.specs.List.{flat_map}
 use Rattle.shell_syntax.specs.PrintedParts.{is_active, escaped, is_one_byte, quoted_text}
 use Rattle.shell_lexer.specs.declared.byte_kind.ByteKind.{ByteKind}
-use Rattle.shell_lexer.specs.declared.byte_kind.ByteKind.TheVariants as k
 use Rattle.shell_lexer.specs.declared.sight.ByteNote.{ByteNote}
 use Rattle.shell_lexer.specs.declared.sight.ByteNote.TheVariants as note
 use Rattle.shell_lexer.specs.declared.token.RawPart.{RawPart}
 use Rattle.shell_lexer.specs.declared.token.RawPart.TheVariants as part
-use Rattle.shell_lexer.specs.Parts.{Look, Byte, Piece, inner, inner_at, inner_by, look, look_at}
+use Rattle.shell_lexer.specs.Parts.{Byte, inner, inner_at, inner_by, look_at}
 use Rattle.shell_lexer.specs.Reading.{Out, Whole, Read, grown, plain_run, last_run, IsWord, word_piece, word_double, IsInner, inner_ends, inner_byte}
 use Rattle.shell_lexer.specs.Text.{Bytes, kind, word_kind, skip, place, offset, is_blank, is_special, is_digit, is_letter}
-use Rattle.shell_lexer.specs.PrintedLaws.{IsOnePart, QuotedIsOnePart}
-use Rattle.shell_lexer.proofs.SpelledCases.{if_case, if_true, if_false, eq_of, or_case, or_left, or_last as or_right, not_true}
+use Rattle.shell_lexer.specs.PrintedLaws.{QuotedIsOnePart}
+use Rattle.shell_lexer.proofs.SpelledCases.{if_case, if_false, eq_of, or_case, or_left, or_last as or_right, not_true}
 use Rattle.shell_lexer.proofs.PrintedBytes.{clash, skip_first}
 
 -- ---- bytes in double quotes

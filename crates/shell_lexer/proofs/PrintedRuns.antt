@@ -6,11 +6,11 @@ use Rattle.shell_lexer.specs.declared.sight.ByteNote.TheVariants as note
 use Rattle.shell_lexer.specs.declared.token.Token.{Token}
 use Rattle.shell_lexer.specs.declared.token.RawPart.TheVariants as part
 use Rattle.shell_lexer.specs.Laws.{SubstitutionsAreSpelled}
-use Rattle.shell_lexer.specs.Parts.{look, look_at, inner, inner_at}
+use Rattle.shell_lexer.specs.Parts.{look, inner, inner_at}
 use Rattle.shell_lexer.specs.Spelling.{IsNotNext}
 use Rattle.shell_lexer.specs.SpelledParts.{IsSubstitution}
 use Rattle.shell_lexer.specs.Reading.{Out, Whole, Read, grown, plain_run, IsWord, word_run, word_double, IsInner, inner_ends, inner_run, IsSub}
-use Rattle.shell_lexer.specs.Text.{Bytes, skip, place, offset}
+use Rattle.shell_lexer.specs.Text.{Bytes, place, offset}
 use Rattle.shell_lexer.specs.PrintedLaws.{RunIsOnePart}
 use Rattle.shell_lexer.proofs.PrintedBytes.{skip_first}
 

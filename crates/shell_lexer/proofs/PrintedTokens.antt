@@ -1,5 +1,5 @@
 -- Word tokens without substitutions, as they are printed, are one token.
-use Rattle.std.proofs.Common.{◌≡◌, ℕ, zero, suc, Bool, true, false, if◌then◌else◌, ◌&&◌, nat_eq, not, List, [], ◌∷◌, ◌++◌, None, codes, refl, sym, ap, ◌∙◌, subst}
+use Rattle.std.proofs.Common.{◌≡◌, ℕ, zero, suc, Bool, true, false, if◌then◌else◌, ◌&&◌, nat_eq, not, [], ◌∷◌, ◌++◌, None, refl, sym, ap, ◌∙◌, subst}
 use Rattle.std.specs.List.{flat_map}
 use Rattle.shell_lexer.specs.declared.byte_kind.ByteKind.{ByteKind}
 use Rattle.shell_lexer.specs.declared.byte_kind.ByteKind.TheVariants as k
@@ -8,16 +8,15 @@ use Rattle.shell_lexer.specs.declared.sight.ByteNote.TheVariants as note
 use Rattle.shell_lexer.specs.declared.sight.Sign.TheVariants as sign
 use Rattle.shell_lexer.specs.declared.fault.LexFault.TheVariants.{Unsupported}
 use Rattle.shell_syntax.specs.declared.form.Form.TheVariants as form
-use Rattle.shell_lexer.specs.declared.token.Token.{Token}
 use Rattle.shell_lexer.specs.declared.token.RawPart.TheVariants as part
 use Rattle.shell_lexer.specs.Late.{late}
 use Rattle.shell_lexer.specs.Laws.{PartsAreSpelled, AllArgsAreSpelled, DoubleQuotesAreSpelled}
 use Rattle.shell_lexer.specs.Operators.{Word, Passed, End, after_line, numbered, numbered_by, sight_by, sight_at, sight}
-use Rattle.shell_lexer.specs.Parts.{Ends, look, look_at, inner, inner_at}
-use Rattle.shell_lexer.specs.Reading.{Out, Whole, Read, IsItems, items_pass, items_word, IsWord, word_ends, word_double, IsInner, inner_ends, inner_all}
+use Rattle.shell_lexer.specs.Parts.{look, inner, inner_at}
+use Rattle.shell_lexer.specs.Reading.{Whole, Read, items_pass, items_word, IsWord, word_ends, word_double, IsInner, inner_ends, inner_all}
 use Rattle.shell_lexer.specs.Text.{Bytes, is_digit, kind, skip, tail, head_is, cells, behind_run, passes, run, place, offset}
-use Rattle.shell_lexer.specs.PrintedLaws.{ParamIsOnePart, AllIsOnePart, raw_text, is_apart, WordTokensReadBack, AllTokensReadBack}
-use Rattle.shell_lexer.proofs.SpelledCases.{if_case, if_true, if_false, eq_of, true_false, and_right, not_true}
+use Rattle.shell_lexer.specs.PrintedLaws.{ParamIsOnePart, AllIsOnePart, raw_text, WordTokensReadBack, AllTokensReadBack}
+use Rattle.shell_lexer.proofs.SpelledCases.{if_true, if_false, eq_of, true_false, and_right, not_true}
 use Rattle.shell_lexer.proofs.PrintedBytes.{clash, skip_first}
 use Rattle.shell_lexer.proofs.PrintedNotes.{late_same, notes_of}
 use Rattle.shell_lexer.proofs.PrintedWords.{no_angle, begins_ten, steady, may_begin, begins_word, word_claim, ends_here}

@@ -1,5 +1,5 @@
 -- A word without substitutions is printed so that it is read as the same parts.
-use Rattle.std.proofs.Common.{◌≡◌, ℕ, ◌-◌, Bool, true, false, if◌then◌else◌, ◌||◌, ◌&&◌, nat_eq, not, List, [], ◌∷◌, ◌++◌, append_assoc, append-nil, Option, Some, None, codes, refl, sym, ap, ◌∙◌, subst}
+use Rattle.std.proofs.Common.{◌≡◌, ℕ, ◌-◌, Bool, true, false, if◌then◌else◌, ◌&&◌, nat_eq, not, List, [], ◌∷◌, ◌++◌, append_assoc, append-nil, Option, Some, None, codes, refl, sym, ap, ◌∙◌, subst}
 use Rattle.std.proofs.lemmas.Grind.{flat_map-append}
 use Rattle.std.specs.List.{flat_map}
 use Rattle.shell_syntax.specs.PrintedParts.{is_one_byte, escaped as escape, quoted_text, key_text, default_text, param_text}
@@ -8,20 +8,18 @@ use Rattle.shell_syntax.specs.declared.key.Key.TheVariants.{Named, Arg, Count}
 use Rattle.shell_lexer.specs.declared.byte_kind.RunKind.TheVariants.{Names, Defaults}
 use Rattle.shell_lexer.specs.declared.byte_kind.ByteKind.{ByteKind}
 use Rattle.shell_lexer.specs.declared.byte_kind.ByteKind.TheVariants as k
-use Rattle.shell_lexer.specs.declared.fault.LexFault.{LexFault}
 use Rattle.shell_lexer.specs.declared.sight.ByteNote.{ByteNote}
 use Rattle.shell_lexer.specs.declared.sight.ByteNote.TheVariants as note
 use Rattle.shell_lexer.specs.declared.token.Token.{Token}
 use Rattle.shell_lexer.specs.declared.token.RawPart.{RawPart}
 use Rattle.shell_lexer.specs.declared.token.RawPart.TheVariants as part
-use Rattle.shell_lexer.specs.Laws.{PartsAreSpelled, AllArgsAreSpelled, DoubleQuotesAreSpelled, SubstitutionsAreSpelled}
-use Rattle.shell_lexer.specs.Parts.{Look, Ends, Byte, Piece, AllArgs, DoubleQuote, Substitution, Bad, look, look_at, look_by, inner, inner_at, dollar, dollar_by, parenthesis, braced, braced_by, number_key, behind_key, behind_colon, closed, number_part, escaped, has_quote}
-use Rattle.shell_lexer.specs.Spelling.{Stands}
+use Rattle.shell_lexer.specs.Laws.{PartsAreSpelled, AllArgsAreSpelled, DoubleQuotesAreSpelled}
+use Rattle.shell_lexer.specs.Parts.{Look, Ends, Byte, Piece, AllArgs, DoubleQuote, look, look_at, look_by, inner, dollar, dollar_by, braced, braced_by, behind_key, behind_colon, closed, escaped, has_quote}
 use Rattle.shell_lexer.specs.SpelledParts.{IsParam, name as by_name, name_braced, name_default, number as by_number, number_braced, number_default, count as by_count, count_braced, IsQuoted, single, escaped as by_backslash, IsPiece}
 use Rattle.shell_lexer.specs.Reading.{Out, Whole, Stop, Read, grown, plain_run, quoted_run, last_run, IsWord, word_ends, word_byte, word_piece, word_all, word_double, word_run, word_wrong, word_bad_double, word_bad_run, IsInner, inner_open, inner_ends, inner_byte, inner_piece, inner_all, inner_run, inner_wrong, inner_bad_run}
 use Rattle.shell_lexer.specs.Text.{Bytes, is_digit, kind, skip, place, offset, head_is, run as run_at, behind as behind_at}
 use Rattle.shell_lexer.specs.PrintedLaws.{IsOnePart, ParamIsOnePart, AllIsOnePart, raw_text, holds_no_run, is_last, ends_in_backslash, is_apart, WordsReadBack}
-use Rattle.shell_lexer.proofs.SpelledCases.{if_case, if_true, if_false, eq_of, true_false, or_case, and_true}
+use Rattle.shell_lexer.proofs.SpelledCases.{if_case, if_false, eq_of, true_false, or_case, and_true}
 use Rattle.shell_lexer.proofs.PrintedBytes.{clash, skip_first}
 use Rattle.shell_lexer.proofs.PrintedQuotes.{quoted_is_one_part}
 use Rattle.shell_lexer.proofs.SpelledKinds.{KindOf, kind_of}
