@@ -60,6 +60,7 @@ spaced word = 32 ∷ word
 
 -- ---- redirections (XCU 2.7)
 
+-- a redirection behind its blank
 abbrev pub redirect_text : Redirect → Text
 redirect_text OutNull = codes " >/dev/null"
 redirect_text ErrNull = codes " 2>/dev/null"
@@ -73,6 +74,7 @@ abbrev pub is_simple : Level → Bool
 is_simple level.Simple = true
 is_simple _ = false
 
+-- a command and its redirections
 unfoldable pub redirected_text : Printed → Text → Text
 redirected_text body redirects =
     if is_simple body.level then redirects ++ body.text else placed level.Compound body ++ redirects
@@ -100,6 +102,7 @@ if_head arms = codes " if" ++ arms
 unfoldable pub else_text : Text → Text
 else_text body = codes "\n else" ++ body ++ codes "\n fi"
 
+-- the end of an `if`, behind its `else` where it has one
 abbrev pub if_end : Option Printed → Text
 if_end None = codes "\n fi"
 if_end (Some body) = else_text body.text
@@ -112,6 +115,7 @@ for_head name = codes " for " ++ name
 unfoldable pub in_words : Text → Text
 in_words words = codes " in" ++ words
 
+-- the words of `for`, where it has `in`
 abbrev pub in_text : Option (List Text) → Text
 in_text None = []
 in_text (Some words) = in_words (flat_map spaced words)
@@ -121,6 +125,7 @@ abbrev pub loop_word : Bool → Text
 loop_word true = codes " until"
 loop_word false = codes " while"
 
+-- `while` or `until` with its condition
 unfoldable pub loop_head : Bool → Text → Text
 loop_head until cond = loop_word until ++ cond
 
@@ -128,17 +133,19 @@ loop_head until cond = loop_word until ++ cond
 unfoldable pub do_text : Text → Text
 do_text body = codes "\n do" ++ body ++ codes "\n done"
 
--- the patterns of an arm of `case`, with its `(` (XCU 2.9.4.3), and its body
+-- the patterns of an arm of `case`, with its `(` (XCU 2.9.4.3)
 unfoldable pub arm_head : Text → Text
 arm_head patterns = codes "\n (" ++ patterns
 
+-- the body of an arm of `case`
 unfoldable pub arm_body : Text → Text
 arm_body body = codes " )" ++ body ++ codes " ;;"
 
--- the word of `case`, and its arms up to `esac`
+-- the word of `case`
 unfoldable pub case_head : Text → Text
 case_head subject = codes " case " ++ subject
 
+-- the arms of a `case`, from `in` to `esac`
 unfoldable pub arms_text : Text → Text
 arms_text arms = codes " in" ++ arms ++ codes "\n esac"
 

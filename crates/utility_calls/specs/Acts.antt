@@ -1,5 +1,6 @@
 -- What an act does on a tree: the row of the table that applies, what it answers, and the tree that it leaves.
-use Rattle.std.specs.Prelude.{◌≡◌, ◌≢◌, ℕ, Bool, true, false, ◌||◌, ◌&&◌, ◌-◌, List, [], ◌∷◌, ◌++◌, length, slice_get, Option, Some, None, if◌then◌else◌}
+use Rattle.std.specs.Prelude.{◌≡◌, ◌≢◌, ℕ, Bool, true, false, ◌||◌, ◌&&◌, ◌-◌, List, [], ◌∷◌, ◌++◌, length, slice_get}
+use Rattle.std.specs.Prelude.{Option, Some, None, if◌then◌else◌}
 use Rattle.std.specs.Str.{bytes_eq}
 use Rattle.script_names.specs.declared.reason.Reason.TheVariants as reason
 use Rattle.script_names.specs.declared.reason.Done.TheVariants as done
@@ -11,10 +12,13 @@ use Rattle.feature_trees.specs.declared.kind.Kind.TheVariants as kind
 use Rattle.feature_trees.specs.Kinds.{has}
 use Rattle.feature_trees.specs.Tree.{entry, at, entries_of, kind_of, put}
 use Rattle.utility_calls.specs.declared.acts.Act.{Act}
-use Rattle.utility_calls.specs.declared.acts.Act.TheVariants.{Exists, IsReg, IsDir, IsLink, CanRun, MakeDir, EnsureDir, RemoveDir, Remove, Touch, Symlink, Move, PlaceFile, PlaceLink, PlaceConf, Discard, DiscardDir}
+use Rattle.utility_calls.specs.declared.acts.Act.TheVariants.{Exists, IsReg, IsDir, IsLink, CanRun, MakeDir}
+use Rattle.utility_calls.specs.declared.acts.Act.TheVariants.{EnsureDir, RemoveDir, Remove, Touch, Symlink, Move}
+use Rattle.utility_calls.specs.declared.acts.Act.TheVariants.{PlaceFile, PlaceLink, PlaceConf, Discard, DiscardDir}
 use Rattle.utility_calls.specs.declared.sights.Sight.{Sight}
 use Rattle.utility_calls.specs.declared.sights.Effect.{Effect}
-use Rattle.utility_calls.specs.declared.sights.Effect.TheVariants.{Nothing, MakesDir, KeepsDir, MakesFile, MakesLink, LinksInside, TakesAway, Moves, MovesInside}
+use Rattle.utility_calls.specs.declared.sights.Effect.TheVariants.{Nothing, MakesDir, KeepsDir, MakesFile, MakesLink}
+use Rattle.utility_calls.specs.declared.sights.Effect.TheVariants.{LinksInside, TakesAway, Moves, MovesInside}
 use Rattle.utility_calls.specs.declared.sights.Row.{Row}
 use Rattle.utility_calls.specs.Rows.{link_on_way, in_dir}
 use Rattle.utility_calls.specs.Sights.{sight_of, but}
@@ -158,7 +162,8 @@ effect_on LinksInside act tree = put tree (with_name (path_of act).names (inner_
 effect_on TakesAway act tree = put tree (path_of act).names value.Absent
 effect_on Moves act tree = put (put tree (path_of act).names value.Absent) (place_of act) (at tree (path_of act).names)
 effect_on MovesInside act tree =
-    put (put tree (path_of act).names value.Absent) (with_name (place_of act) (inner_name act)) (at tree (path_of act).names)
+    put (put tree (path_of act).names value.Absent) (with_name (place_of act) (inner_name act))
+    (at tree (path_of act).names)
 
 -- the tree that an act leaves
 abbrev pub tree_after : Act → Value → Value

@@ -1,5 +1,6 @@
 -- What a call of a utility comes to, by its words alone (POSIX.1-2017, XCU).
-use Rattle.std.specs.Prelude.{ℕ, Bool, true, false, ◌||◌, ◌==◌, List, [], ◌∷◌, ◌++◌, Option, Some, None, if◌then◌else◌, codes}
+use Rattle.std.specs.Prelude.{ℕ, Bool, true, false, ◌||◌, ◌==◌, List, [], ◌∷◌, ◌++◌, Option, Some, None}
+use Rattle.std.specs.Prelude.{if◌then◌else◌, codes}
 use Rattle.std.specs.Str.{bytes_eq}
 use Rattle.std.specs.List.{list_any}
 use Rattle.script_names.specs.declared.reason.Reason.{Reason}
@@ -93,7 +94,8 @@ each_behind e words = each_call e (is_ended words) (unended words)
 
 -- the words of `mkdir`; 112 is `p`
 abbrev pub mkdir_call : List (List ℕ) → Planned
-mkdir_call words = with_options false (codes "p") words (each_behind (mkdir_each (has_option 112 words)) (behind words))
+mkdir_call words =
+    with_options false (codes "p") words (each_behind (mkdir_each (has_option 112 words)) (behind words))
 
 -- the words of `rmdir`
 abbrev pub rmdir_call : List (List ℕ) → Planned
@@ -120,7 +122,8 @@ ln_behind symbolic force words =
 
 -- the words of `ln`; 115 and 102 are `s` and `f`
 abbrev pub ln_call : List (List ℕ) → Planned
-ln_call words = with_options true (codes "sf") words (ln_behind (has_option 115 words) (has_option 102 words) (behind words))
+ln_call words =
+    with_options true (codes "sf") words (ln_behind (has_option 115 words) (has_option 102 words) (behind words))
 
 -- the operands of `mv`
 abbrev pub mv_behind : List (List ℕ) → Planned

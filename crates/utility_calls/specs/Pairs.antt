@@ -1,5 +1,6 @@
 -- `ln` and `mv`, which have two operands (POSIX.1-2017, XCU `ln`, `mv`).
-use Rattle.std.specs.Prelude.{ℕ, Bool, true, false, not, ◌&&◌, ◌||◌, List, [], ◌∷◌, ◌++◌, ◌-◌, length, take, filter, nat_le, Option, Some, None, if◌then◌else◌}
+use Rattle.std.specs.Prelude.{ℕ, Bool, true, false, not, ◌&&◌, ◌||◌, List, [], ◌∷◌, ◌++◌, ◌-◌, length, take, filter}
+use Rattle.std.specs.Prelude.{nat_le, Option, Some, None, if◌then◌else◌}
 use Rattle.std.specs.Str.{bytes_eq}
 use Rattle.std.specs.List.{last_or}
 use Rattle.std.specs.Option.{option_map_or}
@@ -49,7 +50,8 @@ self_reason force target path =
 
 -- why a path is no place for a link to the target
 abbrev pub place_reason : Bool → List ℕ → PathParts → Option Reason
-place_reason force target path = first_of (full_reason path) (first_of (slash_reason path) (self_reason force target path))
+place_reason force target path =
+    first_of (full_reason path) (first_of (slash_reason path) (self_reason force target path))
 
 -- there is no further word
 abbrev pub end_reason : List (List ℕ) → Option Reason
@@ -68,11 +70,12 @@ ln_reason symbolic force ended (target ∷ []) = first_of (target_reason symboli
 ln_reason symbolic force ended (target ∷ word ∷ more) =
     first_of (target_reason symbolic target) (link_reason force ended target word more)
 
--- the first two words
+-- the first word, or no bytes
 abbrev pub first_word : List (List ℕ) → List ℕ
 first_word [] = []
 first_word (word ∷ words) = word
 
+-- the second word, or no bytes
 abbrev pub second_word : List (List ℕ) → List ℕ
 second_word [] = []
 second_word (word ∷ words) = first_word words

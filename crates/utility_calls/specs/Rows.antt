@@ -2,7 +2,8 @@
 -- (POSIX.1-2017, XCU `test`, `mkdir`, `rm`; a link is not followed here: a question that meets one at its path is
 -- stopped, and so is every act that meets one on the way; `mkdir` fails where a link stands at its path, and `rm -f`
 -- removes it).
-use Rattle.std.specs.Prelude.{ℕ, suc, Bool, true, false, List, [], ◌∷◌, Option, Some, None, ◌==◌, nat_lt, if◌then◌else◌}
+use Rattle.std.specs.Prelude.{ℕ, suc, Bool, true, false, List, [], ◌∷◌, Option, Some, None, ◌==◌, nat_lt}
+use Rattle.std.specs.Prelude.{if◌then◌else◌}
 use Rattle.script_names.specs.declared.reason.Reason.TheVariants as reason
 use Rattle.script_names.specs.declared.reason.Done.{Done}
 use Rattle.script_names.specs.declared.reason.Done.TheVariants as done

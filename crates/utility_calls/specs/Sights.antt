@@ -9,11 +9,12 @@ use Rattle.feature_trees.specs.Kinds.{has, of, all, either}
 use Rattle.feature_trees.specs.Tree.{entries_of, kind_of}
 use Rattle.utility_calls.specs.declared.sights.Sight.{Sight}
 
--- whether a directory has an entry; what is no directory has none
+-- whether there is an entry
 abbrev pub is_some : List Entry → Bool
 is_some [] = false
 is_some (e ∷ es) = true
 
+-- whether a directory has an entry; what is no directory has none
 abbrev pub has_entry : Value → Bool
 has_entry v = is_some (entries_of v)
 
@@ -71,10 +72,11 @@ but Link = record all { link = false }
 but Other = record all { other = false }
 but Dir = record all { dir = false }
 
--- two kinds, and three
+-- two kinds
 abbrev pub two : Kind → Kind → Kinds
 two k l = either (of k) (of l)
 
+-- three kinds
 abbrev pub three : Kind → Kind → Kind → Kinds
 three k l m = either (of k) (two l m)
 

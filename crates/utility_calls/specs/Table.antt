@@ -1,5 +1,5 @@
--- The table of the acts: for each act its rows, with number, condition, answer and effect (POSIX.1-2017, XCU; a link is
--- followed nowhere). Below 64 a row is for a link on the way; row 64 is for a slash behind what is no directory.
+-- The table of the acts: for each act its rows, with number, condition, answer and effect (POSIX.1-2017, XCU; a link
+-- is followed nowhere). Below 64 a row is for a link on the way; row 64 is for a slash behind what is no directory.
 use Rattle.std.specs.Prelude.{ℕ, Bool, true, false, ◌&&◌, List, [], ◌∷◌, Option, Some, None, if◌then◌else◌}
 use Rattle.script_names.specs.declared.reason.Reason.TheVariants as reason
 use Rattle.script_names.specs.declared.reason.Done.{Done}
@@ -9,12 +9,16 @@ use Rattle.feature_trees.specs.declared.kind.Kind.TheVariants.{Absent, Reg, Link
 use Rattle.feature_trees.specs.declared.kind.Kinds.{Kinds}
 use Rattle.feature_trees.specs.Kinds.{has, of}
 use Rattle.utility_calls.specs.declared.acts.Act.{Act}
-use Rattle.utility_calls.specs.declared.acts.Act.TheVariants.{Exists, IsReg, IsDir, IsLink, CanRun, MakeDir, EnsureDir, RemoveDir, Remove, Touch, Symlink, Move, PlaceFile, PlaceLink, PlaceConf, Discard, DiscardDir}
+use Rattle.utility_calls.specs.declared.acts.Act.TheVariants.{Exists, IsReg, IsDir, IsLink, CanRun, MakeDir}
+use Rattle.utility_calls.specs.declared.acts.Act.TheVariants.{EnsureDir, RemoveDir, Remove, Touch, Symlink, Move}
+use Rattle.utility_calls.specs.declared.acts.Act.TheVariants.{PlaceFile, PlaceLink, PlaceConf, Discard, DiscardDir}
 use Rattle.utility_calls.specs.declared.sights.Sight.{Sight}
 use Rattle.utility_calls.specs.declared.sights.Effect.{Effect}
-use Rattle.utility_calls.specs.declared.sights.Effect.TheVariants.{Nothing, MakesDir, KeepsDir, MakesFile, MakesLink, LinksInside, TakesAway, Moves, MovesInside}
+use Rattle.utility_calls.specs.declared.sights.Effect.TheVariants.{Nothing, MakesDir, KeepsDir, MakesFile, MakesLink}
+use Rattle.utility_calls.specs.declared.sights.Effect.TheVariants.{LinksInside, TakesAway, Moves, MovesInside}
 use Rattle.utility_calls.specs.declared.sights.Row.{Row}
-use Rattle.utility_calls.specs.Sights.{Where, anything, is, within, inside, outside, empty, full, into, into_empty, into_full, holds, but, two, three}
+use Rattle.utility_calls.specs.Sights.{Where, anything, is, within, inside, outside, empty, full, into, into_empty}
+use Rattle.utility_calls.specs.Sights.{into_full, holds, but, two, three}
 
 -- a row of the table; `source` are the kinds of what is moved, where they matter
 pub record Rule : Type 0 where
@@ -32,12 +36,15 @@ leaves n place answer = record { number = n; source = None; place = place; answe
 abbrev pub does : ℕ → Where → Effect → Rule
 does n place effect = record { number = n; source = None; place = place; answer = Ok; effect = effect }
 
--- the same of a move, for what it moves
+-- the same of a move, for the kinds of what it moves
 abbrev pub leaves_from : ℕ → Kinds → Where → Done → Rule
-leaves_from n source place answer = record { number = n; source = Some source; place = place; answer = answer; effect = Nothing }
+leaves_from n source place answer =
+    record { number = n; source = Some source; place = place; answer = answer; effect = Nothing }
 
+-- a row of a move that succeeds, for the kinds of what it moves
 abbrev pub does_from : ℕ → Kinds → Where → Effect → Rule
-does_from n source place effect = record { number = n; source = Some source; place = place; answer = Ok; effect = effect }
+does_from n source place effect =
+    record { number = n; source = Some source; place = place; answer = Ok; effect = effect }
 
 -- where an act does not follow a link
 abbrev pub stop : Done
@@ -45,15 +52,18 @@ stop = Stopped reason.Link
 
 -- `test -e`
 abbrev pub exists_rules : List Rule
-exists_rules = leaves 65 (is (of Link)) stop ∷ leaves 66 (is (of Absent)) Failed ∷ leaves 67 (is (three Reg Other Dir)) Ok ∷ []
+exists_rules =
+    leaves 65 (is (of Link)) stop ∷ leaves 66 (is (of Absent)) Failed ∷ leaves 67 (is (three Reg Other Dir)) Ok ∷ []
 
 -- `test -f`
 abbrev pub is_reg_rules : List Rule
-is_reg_rules = leaves 65 (is (of Link)) stop ∷ leaves 66 (is (three Absent Other Dir)) Failed ∷ leaves 67 (is (of Reg)) Ok ∷ []
+is_reg_rules =
+    leaves 65 (is (of Link)) stop ∷ leaves 66 (is (three Absent Other Dir)) Failed ∷ leaves 67 (is (of Reg)) Ok ∷ []
 
 -- `test -d`
 abbrev pub is_dir_rules : List Rule
-is_dir_rules = leaves 65 (is (of Link)) stop ∷ leaves 66 (is (three Absent Reg Other)) Failed ∷ leaves 67 (is (of Dir)) Ok ∷ []
+is_dir_rules =
+    leaves 65 (is (of Link)) stop ∷ leaves 66 (is (three Absent Reg Other)) Failed ∷ leaves 67 (is (of Dir)) Ok ∷ []
 
 -- `test -h`
 abbrev pub is_link_rules : List Rule
@@ -83,7 +93,8 @@ remove_dir_rules = leaves 66 (is (but Dir)) Failed ∷ leaves 67 full Failed ∷
 -- `rm`
 abbrev pub remove_rules : List Rule
 remove_rules =
-    leaves 66 (is (of Absent)) Failed ∷ leaves 67 (is (of Dir)) Failed ∷ does 68 (is (three Reg Link Other)) TakesAway ∷ []
+    leaves 66 (is (of Absent)) Failed ∷ leaves 67 (is (of Dir)) Failed
+    ∷ does 68 (is (three Reg Link Other)) TakesAway ∷ []
 
 -- `rm -r`
 abbrev pub remove_deep_rules : List Rule
@@ -146,13 +157,15 @@ symlink_force_rules =
 abbrev pub move_below_rules : List Rule
 move_below_rules = leaves 65 (is (of Link)) stop ∷ leaves 66 (is (but Link)) Failed ∷ []
 
--- what may be moved: all but nothing; what is no directory; a file; a link
+-- what may be moved: anything that is there
 abbrev pub some : Kinds
 some = but Absent
 
+-- what is there and no directory
 abbrev pub no_dir : Kinds
 no_dir = three Reg Link Other
 
+-- what is neither a link nor a directory
 abbrev pub file : Kinds
 file = two Reg Other
 

@@ -1,8 +1,10 @@
 ghost use Rattle.std.specs.Prelude.{◌≡◌, ◌<◌, ◌++◌, length, Some, None, IfOk};
 ghost use Rattle.std.specs.List.{list_any};
-ghost use Rattle.utility_calls.specs.Calls.{utility_named, echo_text, echo_rest, is_deep, begins_with_dash, has_backslash, echo_call};
+ghost use Rattle.utility_calls.specs.Calls.{utility_named, echo_text, echo_rest, is_deep, begins_with_dash};
+ghost use Rattle.utility_calls.specs.Calls.{has_backslash, echo_call};
 ghost use Rattle.utility_calls.specs.Calls.{each_call, act_call, each_behind, mkdir_each, mkdir_call, rmdir_call};
-ghost use Rattle.utility_calls.specs.Calls.{rm_call, touch_call, ln_behind, ln_call, mv_behind, mv_call, utility_call, call};
+ghost use Rattle.utility_calls.specs.Calls.{rm_call, touch_call, ln_behind, ln_call, mv_behind, mv_call};
+ghost use Rattle.utility_calls.specs.Calls.{utility_call, call};
 
 use crate::acts::Act;
 use crate::fault::CallFault;

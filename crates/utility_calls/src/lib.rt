@@ -1,6 +1,6 @@
 //! Calls of utilities: the acts that they come to, and what each act is on a tree, row by row.
-//! It stands on feature_trees and script_names. Begin with `calls`, with specs/Calls.antt for what a call comes to, and
-//! with specs/Rows.antt for what an act does.
+//! It stands on feature_trees and script_names. Begin with `calls`, with specs/Calls.antt for what a call comes to,
+//! and with specs/Rows.antt for what an act does.
 #![tactic(auto)]
 
 mod act;

@@ -1,6 +1,7 @@
 ghost use Rattle.std.specs.Prelude.{◌≡◌, ◌≤◌, ◌&&◌, not, drop, length};
 ghost use Rattle.std.specs.List.{list_all};
-ghost use Rattle.utility_calls.specs.Options.{is_end, is_option, option_count, options as options_of, behind, is_ended};
+ghost use Rattle.utility_calls.specs.Options.{is_end, is_option, option_count, options as options_of, behind};
+ghost use Rattle.utility_calls.specs.Options.{is_ended};
 ghost use Rattle.utility_calls.specs.Options.{unended, has_letter, option_fits, option_with};
 
 use script_names::Bytes;

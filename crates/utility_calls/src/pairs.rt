@@ -2,7 +2,8 @@ ghost use Rattle.std.specs.Prelude.{◌≡◌, None, IfOk};
 ghost use Rattle.std.specs.Str.{bytes_eq};
 ghost use Rattle.script_names.specs.Paths.{path_of as path_spelled, path_fault, spelled_names};
 ghost use Rattle.utility_calls.specs.Gives.{Gives};
-ghost use Rattle.utility_calls.specs.Pairs.{same_names, full_reason, last_component, target_reason, reaches, self_reason};
+ghost use Rattle.utility_calls.specs.Pairs.{same_names, full_reason, last_component, target_reason, reaches};
+ghost use Rattle.utility_calls.specs.Pairs.{self_reason};
 ghost use Rattle.utility_calls.specs.Pairs.{place_reason, end_reason, link_reason, ln_reason, ln_act, is_parent};
 ghost use Rattle.utility_calls.specs.Pairs.{still_reason, to_reason, mv_reason, mv_act};
 

@@ -1,6 +1,7 @@
 ghost use Rattle.std.specs.Prelude.{◌≡◌, IsTrue, IfOk};
 ghost use Rattle.std.specs.Option.{option_copied};
-ghost use Rattle.utility_calls.specs.Acts.{path_of, place_of, inner_name, target_of, moved, is_prefix, is_below, is_question, IsMove, IsPerformed};
+ghost use Rattle.utility_calls.specs.Acts.{path_of, place_of, inner_name, target_of, moved, is_prefix, is_below};
+ghost use Rattle.utility_calls.specs.Acts.{is_question, IsMove, IsPerformed};
 
 use crate::acts::Act;
 use crate::pairs::same_name;
@@ -144,8 +145,8 @@ impl Act {
         }
     }
 
-    /// Whether the act meets the conditions of one that is done: the paths of one that changes the tree have names, and
-    /// those of a move differ.
+    /// Whether the act meets the conditions of one that is done: the paths of one that changes the tree have names,
+    /// and those of a move differ.
     pub fn is_performed(&self) -> bool
         ensures { IsTrue result → IsPerformed self.now }
     {

@@ -9,7 +9,8 @@ ghost use Rattle.utility_calls.specs.Table.{is_link_rules, can_run_rules, make_d
 ghost use Rattle.utility_calls.specs.Table.{remove_dir_rules, remove_rules, remove_deep_rules, remove_force_rules};
 ghost use Rattle.utility_calls.specs.Table.{remove_force_deep_rules, remove_by, touch_rules, place_file_rules};
 ghost use Rattle.utility_calls.specs.Table.{place_link_rules, place_conf_rules, discard_rules, discard_dir_rules};
-ghost use Rattle.utility_calls.specs.Table.{symlink_rules, symlink_force_rules, symlink_by, move_below_rules, move_rules, move_by};
+ghost use Rattle.utility_calls.specs.Table.{symlink_rules, symlink_force_rules, symlink_by, move_below_rules};
+ghost use Rattle.utility_calls.specs.Table.{move_rules, move_by};
 
 use crate::acts::Act;
 use crate::sights::{Effect, Row, Sight};
@@ -202,7 +203,8 @@ fn remove_force_row(in_dir: bool, kind: Kind) -> Row
 
 // The row of `rm -rf`.
 fn remove_force_deep_row(in_dir: bool) -> Row
-    ensures { (e m : Bool) (k l source : Kind) → result ≡ first_row remove_force_deep_rules source (sight in_dir k e l m) }
+    ensures { let rows = remove_force_deep_rules in
+        (e m : Bool) (k l source : Kind) → result ≡ first_row rows source (sight in_dir k e l m) }
 {
     if in_dir {
         does(72, Effect::TakesAway)
@@ -333,7 +335,8 @@ fn symlink_row(in_dir: bool, kind: Kind, inner: Kind) -> Row
 
 // The row of `ln -sf`.
 fn symlink_force_row(in_dir: bool, kind: Kind, inner: Kind) -> Row
-    ensures { (e m : Bool) (source : Kind) → result ≡ first_row symlink_force_rules source (sight in_dir kind e inner m) }
+    ensures { let rows = symlink_force_rules in
+        (e m : Bool) (source : Kind) → result ≡ first_row rows source (sight in_dir kind e inner m) }
 {
     match kind {
         Kind::Link => stops(),

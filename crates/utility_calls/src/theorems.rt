@@ -25,8 +25,8 @@ pub fn parents_are_dirs()
     ensures { ParentsAreDirs }
 {}
 
-/// An act leaves a directory a directory and a sound tree sound, and one that does not succeed changes nothing. What is
-/// made or taken away is in a directory.
+/// An act leaves a directory a directory and a sound tree sound, and one that does not succeed changes nothing. What
+/// is made or taken away is in a directory.
 pub fn trees_stay_trees()
     ensures dir { DirsStayDirs }
     ensures sound { SoundStaysSound }
