@@ -4,7 +4,7 @@ mod reports;
 use crate::top::run_words;
 use checker_io::{MemShelf, MemSink};
 use reports::NOTHING;
-use script_names::{List, Text};
+use script_names::{List, Memory, Text};
 use std::alloc::{AllocError, Global};
 use std::process::Abort;
 use std::test::Fail;
@@ -119,6 +119,13 @@ const REFUSED: &[(&[u8], &[u8])] = &[
         b"unsupported subst-case at 17",
     ),
     (b"#!/bin/sh\nfi\n", b"syntax at 10"),
+    (b"#!/bin/sh\nif true; fi\n", b"syntax at 19"),
+    (b"#!/bin/sh\nif true; then :\n", b"syntax at 26"),
+    (b"#!/bin/sh\na && ;\n", b"syntax at 15"),
+    (b"#!/bin/sh\nf() true\n", b"syntax at 14"),
+    (b"#!/bin/sh\n(true\n", b"syntax at 16"),
+    (b"#!/bin/sh\necho $(fi)\n", b"syntax at 17"),
+    (b"#!/bin/sh\necho $(if true)\n", b"syntax at 15"),
     (b"#!/bin/sh\nset -e\ntrue ;; true\n", b"syntax at 22"),
     (b"#!/bin/sh\nset -u\n", b"unsupported option at 10"),
     (b"#!/bin/sh\nIFS=x\n", b"unsupported ifs at 10"),
@@ -258,11 +265,56 @@ fn refused_scripts(rt: HostRuntime) -> Result<(), Fail> {
 }
 
 #[test]
+fn refusals_that_are_not_taken(rt: HostRuntime) -> Result<(), Fail> {
+    for row in REFUSED {
+        let mut row = quiet_row(Some(row.0), 5, b"colis: ");
+        row.failing_line = 1;
+        let out = written(&rt, &row)?;
+        assert_eq!(rt; out.len(), 0);
+    }
+    Ok(())
+}
+
+#[test]
 fn scripts_that_are_executed_later(rt: HostRuntime) -> Result<(), Fail> {
     for row in LATER {
         let line = line_of(rt.alloc(), b"unsupported later at ", row.1)?;
         let out = written(&rt, &quiet_row(Some(row.0), 3, line.as_slice()))?;
         assert_eq!(rt; out.len(), 0);
+    }
+    Ok(())
+}
+
+// The usual template of a maintainer script.
+const TEMPLATE: &[u8] =
+    b"#!/bin/sh\nset -e\ncase \"$1\" in\n  configure)\n    mkdir -p /var/lib/foo\n  ;;\n  \
+    abort-upgrade|abort-remove|abort-deconfigure)\n  ;;\n  *)\n    \
+    echo \"postinst called with unknown argument \\`$1'\" >&2\n    exit 1\n  ;;\nesac\nexit 0\n";
+
+// The status of a script in whose call nothing fails.
+fn status_of(alloc: Global, text: &[u8]) -> Result<u8, Memory> {
+    let mut words = List::new(alloc);
+    for word in CHECK {
+        let word = Text::from_text(alloc, word)?;
+        words.add(word)?;
+    }
+    let mut shelf = MemShelf::new(alloc);
+    shelf.put("p/postinst", text)?;
+    let mut out = MemSink::new(alloc);
+    let mut err = MemSink::new(alloc);
+    Ok(run_words(alloc, &words, &mut shelf, &mut out, &mut err))
+}
+
+// Each beginning of it is a script that is executed, or refused.
+#[test]
+fn scripts_that_are_cut_short(rt: HostRuntime) -> Result<(), Fail> {
+    assert!(rt; TEMPLATE.len() == 219);
+    for count in 0..TEMPLATE.len() {
+        let status = status_of(rt.alloc(), &TEMPLATE[..count])?;
+        assert!(rt;
+            status == 3 || (status == 0 && count >= 16 && count <= 18),
+            "{count}"
+        );
     }
     Ok(())
 }
