@@ -4,9 +4,9 @@ use script_names::Memory;
 #[derive(Clone, Copy, Debug, PartialEq, Eq, Drop)]
 pub enum ParseFault {
     /// No script has these tokens; the byte offset of the first token that cannot stand where it stands, or that of
-    /// the tokens' end.
+    /// the tokens' end; in a substitution that is cut short, that of its `$`.
     Syntax { at: u32 },
-    /// A token opens the 65th level of nesting; its byte offset.
+    /// A token, or a substitution in a word, opens the 65th level of nesting; its byte offset.
     Deep { at: u32 },
     /// Want of memory.
     Memory,

@@ -38,8 +38,8 @@ pub data Applies (act : Act) (tree : Value) : ℕ → Type 0 where
   at_slash : NoLinkOnWay tree (path_of act).names → IsTrue (path_of act).slash
       → kind_of (at tree (path_of act).names) ≢ Absent → kind_of (at tree (path_of act).names) ≢ Dir
       → Applies act tree 64
-  -- row 128 and k, of a move, k from 1 to one less than its second path's count of names: a link stands at the first k
-  -- names of that path, none before
+  -- row 128 and k, of a move that looks at the way of its second path, k from 1 to one less than that path's count of
+  -- names: a link stands at its first k names
   on_second_way : (k : ℕ) → Reaches act tree → LooksAtWay act tree → 1 ≤ k → k < length (place_of act)
       → kind_at tree (place_of act) k ≡ Link → Applies act tree (128 + k)
   -- a row of the act's table

@@ -123,7 +123,7 @@ abbrev pub by_way : Option ℕ → Row → Row
 by_way None row = row
 by_way (Some n) row = record { number = n; answer = stop; effect = Nothing }
 
--- the row where a slash stands behind what is no directory
+-- the row where a slash stands behind a file, a link or another thing
 abbrev pub slash_row : Row
 slash_row = record { number = 64; answer = done.Stopped reason.Slash; effect = Nothing }
 

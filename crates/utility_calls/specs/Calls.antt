@@ -64,7 +64,7 @@ echo_call words =
     if begins_with_dash words || list_any has_backslash words then Unspecified reason.Echo
     else Print (echo_text words)
 
--- why there are no operands
+-- the reason where there are no operands
 abbrev pub some_reason : List (List ℕ) → Option Reason
 some_reason [] = Some reason.Call
 some_reason (word ∷ words) = None

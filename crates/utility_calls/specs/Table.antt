@@ -1,5 +1,6 @@
 -- The table of the acts: for each act its rows, with number, condition, answer and effect (POSIX.1-2017, XCU; a link
--- is followed nowhere). Below 64 a row is for a link on the way; row 64 is for a slash behind what is no directory.
+-- is followed nowhere). Below 64 a row is for a link on the way; row 64 is for a slash behind a file, a link or
+-- another thing.
 use Rattle.std.specs.Prelude.{ℕ, Bool, true, false, ◌&&◌, List, [], ◌∷◌, Option, Some, None, if◌then◌else◌}
 use Rattle.script_names.specs.declared.reason.Reason.TheVariants as reason
 use Rattle.script_names.specs.declared.reason.Done.{Done}
@@ -165,7 +166,7 @@ some = but Absent
 abbrev pub no_dir : Kinds
 no_dir = three Reg Link Other
 
--- what is neither a link nor a directory
+-- a file, or another thing
 abbrev pub file : Kinds
 file = two Reg Other
 

@@ -34,7 +34,7 @@ pub enum Act {
     /// `touch`: makes an empty regular file at the path unless something stands there.
     Touch(Path),
     /// `ln -s`: makes a symbolic link with this target at the path, or where a directory stands there, in it under the
-    /// target's last name; with `force` in place of what is no directory.
+    /// target's last name; with `force` also in place of a file or another thing, and in a directory of a link.
     Symlink {
         p: Path,
         target: Bytes,

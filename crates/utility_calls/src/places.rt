@@ -1,4 +1,4 @@
-ghost use Rattle.std.specs.Prelude.{◌≡◌, IsTrue, IfOk};
+ghost use Rattle.std.specs.Prelude.{◌≡◌, ◌↔◌, IsTrue, IfOk};
 ghost use Rattle.std.specs.Option.{option_copied};
 ghost use Rattle.utility_calls.specs.Acts.{path_of, place_of, inner_name, target_of, moved, is_prefix, is_below};
 ghost use Rattle.utility_calls.specs.Acts.{is_question, IsMove, IsPerformed};
@@ -133,7 +133,7 @@ impl Act {
 
     // Whether the names of a move's paths differ.
     fn moves_apart(&self) -> bool
-        ensures { IsTrue result → IsMove self.now }
+        ensures { IsTrue result ↔ IsMove self.now }
     {
         match self {
             Act::Move { a, b } => !a.same_names(b),
@@ -148,7 +148,7 @@ impl Act {
     /// Whether the act meets the conditions of one that is done: the paths of one that changes the tree have names,
     /// and those of a move differ.
     pub fn is_performed(&self) -> bool
-        ensures { IsTrue result → IsPerformed self.now }
+        ensures { IsTrue result ↔ IsPerformed self.now }
     {
         if !self.moves_apart() {
             return false;

@@ -9,13 +9,13 @@ ghost use Rattle.utility_calls.specs.ActChanges.{ChangesHaveNames};
 
 use feature_trees::theorems::puts_are_local;
 
-/// To each act on each tree exactly one row applies.
+/// To each of the four acts of today's commands, on each tree, exactly one row applies.
 pub fn one_row_applies()
     ensures applies { RowApplies }
     ensures alone { NoOtherApplies }
 {}
 
-/// The rows of an act are 1 to 71, and one for a link on the way is below the count of names.
+/// The rows of these four are 1 to 71, and one for a link on the way is below the count of names.
 pub fn rows_are_few()
     ensures { RowsAreFew }
 {}
