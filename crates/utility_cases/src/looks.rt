@@ -34,8 +34,8 @@ pub(crate) fn lacks(store: &Store, names: &[Name], kinds: Kinds) -> bool
     }
 }
 
-// Whether looking tells that in no pair the names but the last lead, with no link on the way, to one of the kinds of the
-// parent, and all of them to one of these kinds.
+// Whether looking tells that in no pair the names but the last lead, with no link on the way, to one of the kinds of
+// the parent, and all of them to one of these kinds.
 pub(crate) fn lacks_within(store: &Store, names: &[Name], parent_kinds: Kinds, kinds: Kinds) -> bool
     requires { 0 < length names.now }
     ensures { IsTrue result → Lacks store.now (λ u.
