@@ -17,3 +17,4 @@ pub mod Covering
 pub mod Opens
 pub mod Built
 pub mod Moved
+pub mod Excluded

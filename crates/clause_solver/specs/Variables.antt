@@ -9,7 +9,7 @@ use Rattle.feature_trees.specs.declared.value.Value.TheVariants as value
 use Rattle.feature_trees.specs.declared.kind.Kind.{Kind}
 use Rattle.feature_trees.specs.declared.kind.Kind.TheVariants as kind
 use Rattle.feature_trees.specs.declared.kind.Kinds.{Kinds}
-use Rattle.feature_trees.specs.Kinds.{has, none, both}
+use Rattle.feature_trees.specs.Kinds.{has, none, of, both}
 use Rattle.feature_trees.specs.Tree.{entry, kind_of, name_cmp, update, entries_of}
 use Rattle.clause_solver.specs.Literals.{Valuation, value_of_variable, IsSound}
 use Rattle.clause_solver.specs.declared.variable.MadeValue.{MadeValue}
@@ -124,3 +124,15 @@ narrowed v k = if fixed_in v.definition k then v.kinds else both v.kinds k
 -- the variable at a place is limited to a set
 abbrev pub limited : List Variable → ℕ → Kinds → List Variable
 limited vars x k = slice_set vars x (record (var_at vars x) { kinds = narrowed (var_at vars x) k })
+
+-- the one kind that a definition fixes, else the kinds that are given
+abbrev pub possible_by : Definition → Kinds → Kinds
+possible_by Start ks = ks
+possible_by (Child p f) ks = ks
+possible_by (Derived x f y) ks = of kind.Dir
+possible_by (Ensured x) ks = of kind.Dir
+possible_by (Made m) ks = of (kind_of (made_value m))
+
+-- the kinds that a variable can have, by its definition and its own kinds
+abbrev pub possible : Variable → Kinds
+possible v = possible_by v.definition v.kinds

@@ -1,13 +1,13 @@
-ghost use Rattle.std.specs.Prelude.{◌≡◌, ℕ, ◌+◌, ◌<◌, ◌≤◌, ◌↔◌, List, [], ◌∷◌, length, take, IsTrue, IfOk, OnErr};
+ghost use Rattle.std.specs.Prelude.{◌≡◌, ℕ, ◌+◌, ◌<◌, ◌≤◌, ◌↔◌, List, [], ◌∷◌, length, take, IsTrue, IfOk, IfSome, OnErr};
 ghost use Rattle.feature_trees.specs.declared.value.Value.{Value};
-ghost use Rattle.feature_trees.specs.Kinds.{has};
+ghost use Rattle.feature_trees.specs.Kinds.{has, none, both};
 ghost use Rattle.feature_trees.specs.Tree.{entry, kind_of};
 ghost use Rattle.feature_trees.specs.Sound.{IsTree};
 ghost use Rattle.clause_solver.specs.Literals.{Valuation, value_of_variable, Covers};
 ghost use Rattle.clause_solver.specs.Solved.{IsSolved};
 ghost use Rattle.clause_solver.specs.Pairs.{HasPair};
 ghost use Rattle.clause_solver.specs.Stands.{Seen, Stands, Alive, Extends, HasEntry, IsDirectory, HasPut, HasValue};
-ghost use Rattle.clause_solver.specs.Variables.{fixed_in, limited, made_value, narrowed};
+ghost use Rattle.clause_solver.specs.Variables.{fixed_in, limited, made_value, narrowed, possible, possible_by, var_at};
 ghost use Rattle.feature_trees.specs.declared.value.Value.TheVariants as value;
 
 use crate::appended::{Found, append, find, resolve};
@@ -84,6 +84,33 @@ impl Store {
     {
         narrow(&mut self.vars, x.0 as usize, k);
         decide(&self.vars, &mut self.best)
+    }
+
+    /// Whether the variable alone tells that no pair has a kind of this set there; where it tells nothing, some pair may
+    /// or may not have one. It takes no memory.
+    pub fn excludes(&self, x: Var, k: Kinds) -> bool
+        requires { x.0 < self.now.count }
+        ensures { IsTrue result → (t : Value) (g : Valuation) → Stands self.now t g
+            → IsTrue (has k (kind_of (value_of_variable g x.0))) → ⊥ }
+    {
+        allows_none(&self.vars, x.0 as usize, k)
+    }
+
+    /// The variable of an entry, where some variable stands for it. It takes no memory.
+    pub fn look(&self, x: Var, f: &Name) -> Option<Var>
+        requires { x.0 < self.now.count }
+        ensures { IfSome result (λ y. HasEntry self.now x.0 f.now y.0) }
+    {
+        match resolve(&self.vars, x.0, f) {
+            Found::Known(y) => Some(Var(y)),
+            Found::Nothing => None,
+            Found::At(n) => {
+                if let Some(y) = find(&self.vars, n, f) {
+                    return Some(Var(y));
+                }
+                None
+            }
+        }
     }
 
     /// The variable of an entry; it may be an older one. For want of memory the store is as before.
@@ -232,6 +259,35 @@ fn fixed_in(definition: &Definition, k: Kinds) -> bool
         Definition::Derived(_, _, _) => k.has(Kind::Dir),
         Definition::Ensured(_) => k.has(Kind::Dir),
         Definition::Made(value) => k.has(kind_made(value)),
+    }
+}
+
+// Whether a variable can have none of these kinds.
+fn allows_none(vars: &[Variable], x: usize, k: Kinds) -> bool
+    requires { x < length vars.now }
+    ensures { IsTrue result ↔ (both (possible (var_at vars.now x)) k ≡ none) }
+{
+    let kinds = possible(&vars[x]);
+    Kinds::both(kinds, k).is_none()
+}
+
+// The kinds that a variable can have, by its definition and its own kinds.
+fn possible(v: &Variable) -> Kinds
+    ensures { result ≡ possible v.now }
+{
+    possible_by(&v.definition, v.kinds)
+}
+
+// The one kind that a definition fixes, else the kinds that are given.
+fn possible_by(definition: &Definition, kinds: Kinds) -> Kinds
+    ensures { result ≡ possible_by definition.now kinds }
+{
+    match definition {
+        Definition::Start => kinds,
+        Definition::Child(_, _) => kinds,
+        Definition::Derived(_, _, _) => Kinds::of(Kind::Dir),
+        Definition::Ensured(_) => Kinds::of(Kind::Dir),
+        Definition::Made(value) => Kinds::of(kind_made(value)),
     }
 }
 

@@ -145,15 +145,20 @@ module _ {E : Type 0} (act : Act) (site : Site) (end_of : ℕ → E) (p : PathSt
       last = let y = (exact pair.0 pair.1).0 pair.2 in
           (pair.0, run_at (taken n s) pair.1, (y.0, y.1, sym (taken_run n s y.0 pair.1 y.2 y.3)), begins_refl (marked p.trace site n))
 
-  pub end_rows : (n room : ℕ) (out : List (Ended E)) → ((u : Value) → row act u < n) → length out ≤ room → Rows n out → Within (From (fork_run act site end_of) p) p.trace room out
+  -- no pair takes a later row
+  pub end_rows : (n room : ℕ) (out : List (Ended E)) → ((t : Key) (u : Value) → HasPair p.store t u → row act u ≤ n) → length out ≤ room → Rows (n + 1) out → Within (From (fork_run act site end_of) p) p.trace room out
   end_rows n room out all le h = record {
     reaches = record {
-      all = λ t r f. subst (λ r1. Points out t r1) (sym f.2) (h.all t f.0 f.1 (all f.0));
+      all = λ t r f. subst (λ r1. Points out t r1) (sym f.2) (h.all t f.0 f.1 (let most = all t f.0 f.1 in omega (arith, most)));
       none_else = h.none_else;
       sound = h.sound;
     };
     count = le;
   }
+
+  -- the rows up to the last are done where the loop over them ends
+  pub rows_to : (k n : ℕ) (out : List (Ended E)) → k ≤ n → n ≤ k → Rows k out → Rows n out
+  rows_to k n out le ge h = let e : k ≡ n = omega (arith, le, ge) in subst (λ (m : ℕ). Rows m out) e h
 
 -- the one path more, as code pushes it
 pub taken_is : {E : Type 0} (site : Site) (p : PathState) (n : ℕ) (e f : E) (s : Seen) (t : List Mark) (out new : List (Ended E)) → e ≡ f → t ≡ marked p.trace site n

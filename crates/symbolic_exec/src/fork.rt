@@ -11,7 +11,7 @@ use shell_rules::End;
 use std::alloc::Global;
 use utility_calls::Act;
 use utility_calls::theorems::rows_are_few;
-use utility_cases::take_row;
+use utility_cases::{greatest_row, into_row, take_row};
 
 // How a row of an act ends its command.
 fn end_of_row(act: &Act, row: u8, negate: bool, site: Site) -> End
@@ -33,21 +33,22 @@ fn with_mark(alloc: Global, trace: &List<Mark>, site: Site, row: u8) -> Result<L
     Ok(more)
 }
 
-// The paths of an act from a state, by rising rows.
+// The paths of an act from a state, by rising rows; the last of them takes the state itself.
 pub fn fork(
     alloc: Global,
     site: Site,
     act: &Act,
     negate: bool,
-    from: &PathState,
+    from: PathState,
     room: usize,
 ) -> Result<Queue<Ended<End>>, PathsFault>
-    ensures { Found (From (fork_run act.now site (row_end act.now negate site)) from.now) from.now.trace room result }
+    ensures { Found (From (fork_run act.now site (row_end act.now negate site)) from) from.trace room result }
 {
     rows_are_few();
     act.path().names();
+    let last = greatest_row(&from.store, act);
     let mut out = Queue::new(alloc);
-    for row in 1..72_u8 {
+    for row in 1..last {
         let found = take_row(alloc, &from.store, act, row)?;
         let store = match found {
             Some(store) => store,
@@ -61,5 +62,17 @@ pub fn fork(
         let state = PathState { store, trace };
         out.push(Ended { end, state })?;
     }
+    let PathState { store, mut trace } = from;
+    let store = match into_row(store, act, last)? {
+        Some(store) => store,
+        None => return Ok(out),
+    };
+    if room <= out.len() {
+        return Err(PathsFault::Over);
+    }
+    trace.add(Mark { site, row: last })?;
+    let end = end_of_row(act, last, negate, site);
+    let state = PathState { store, trace };
+    out.push(Ended { end, state })?;
     Ok(out)
 }

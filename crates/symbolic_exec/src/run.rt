@@ -72,8 +72,8 @@ fn one(
     };
     match &command.call {
         Planned::Known(ok) => alone(alloc, End::Status(*ok), from),
-        Planned::Ask { act, negate } => fork(alloc, site, act, *negate, &from, room),
-        Planned::Change(act) => fork(alloc, site, act, false, &from, room),
+        Planned::Ask { act, negate } => fork(alloc, site, act, *negate, from, room),
+        Planned::Change(act) => fork(alloc, site, act, false, from, room),
     }
 }
 

@@ -6,3 +6,4 @@ pub mod RowIs
 pub mod TakenIs
 pub mod Witnesses
 pub mod RowEffects
+pub mod Looking

@@ -18,6 +18,10 @@ pub record IsAt (s : Seen) (x : ℕ) (names : List (List ℕ)) : Type 0 where
 abbrev pub Keeps : Seen → Seen → (Value → Type 0) → Type 0
 Keeps old new holds = (t u : Value) → HasPair new t u ↔ (HasPair old t u × holds u)
 
+-- in no pair of the store is the tree now so
+abbrev pub Lacks : Seen → (Value → Type 0) → Type 0
+Lacks s holds = (t u : Value) → HasPair s t u → holds u → ⊥
+
 -- the new store has exactly the pairs of the old one, with the tree that this makes of the tree now
 abbrev pub Turns : Seen → Seen → (Value → Value) → Type 0
 Turns old new made = (t v : Value) → HasPair new t v ↔ ((u : Value) × HasPair old t u × (v ≡ made u))

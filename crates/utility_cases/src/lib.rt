@@ -6,9 +6,10 @@
 mod cases;
 mod effects;
 mod kinds;
+mod looks;
 mod ways;
 
-pub use cases::take_row;
+pub use cases::{greatest_row, into_row, take_row};
 
 #[cfg(test)]
 mod tests;
