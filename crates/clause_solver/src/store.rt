@@ -1,4 +1,5 @@
-ghost use Rattle.std.specs.Prelude.{◌≡◌, ℕ, ◌+◌, ◌<◌, ◌≤◌, ◌↔◌, List, [], ◌∷◌, length, take, IsTrue, IfOk, IfSome, OnErr};
+ghost use Rattle.std.specs.Prelude.{◌≡◌, ℕ, ◌+◌, ◌<◌, ◌≤◌, ◌↔◌, List, [], ◌∷◌, length, take, IsTrue, IfOk, IfSome};
+ghost use Rattle.std.specs.Prelude.{OnErr};
 ghost use Rattle.feature_trees.specs.declared.value.Value.{Value};
 ghost use Rattle.feature_trees.specs.Kinds.{has, none, both};
 ghost use Rattle.feature_trees.specs.Tree.{entry, kind_of};
@@ -7,7 +8,8 @@ ghost use Rattle.clause_solver.specs.Literals.{Valuation, value_of_variable, Cov
 ghost use Rattle.clause_solver.specs.Solved.{IsSolved};
 ghost use Rattle.clause_solver.specs.Pairs.{HasPair};
 ghost use Rattle.clause_solver.specs.Stands.{Seen, Stands, Alive, Extends, HasEntry, IsDirectory, HasPut, HasValue};
-ghost use Rattle.clause_solver.specs.Variables.{fixed_in, limited, made_value, narrowed, possible, possible_by, var_at};
+ghost use Rattle.clause_solver.specs.Variables.{fixed_in, limited, made_value, narrowed, possible, possible_by};
+ghost use Rattle.clause_solver.specs.Variables.{var_at};
 ghost use Rattle.feature_trees.specs.declared.value.Value.TheVariants as value;
 
 use crate::appended::{Found, append, find, resolve};
@@ -86,8 +88,8 @@ impl Store {
         decide(&self.vars, &mut self.best)
     }
 
-    /// Whether the variable alone tells that no pair has a kind of this set there; where it tells nothing, some pair may
-    /// or may not have one. It takes no memory.
+    /// Whether the variable alone tells that no pair has a kind of this set there; where it tells nothing, some pair
+    /// may or may not have one. It takes no memory.
     pub fn excludes(&self, x: Var, k: Kinds) -> bool
         requires { x.0 < self.now.count }
         ensures { IsTrue result → (t : Value) (g : Valuation) → Stands self.now t g
