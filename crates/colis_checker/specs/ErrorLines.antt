@@ -59,7 +59,7 @@ form_line name form at = place_line name (unsupported form) at
 abbrev pub no_memory_line : List ℕ
 no_memory_line = line (codes "colis: out of memory")
 
--- the line of a file whose text has no tokens; want of memory is no such fault, and has its own line
+-- the line of a file whose text is not cut into tokens; want of memory is no such fault, and has its own line
 abbrev pub lex_line : List ℕ → LexFault → List ℕ
 lex_line name (lexing.Nul at) = place_line name (codes ": NUL byte at ") at
 lex_line name (lexing.Interpreter at) = file_line name (codes ": interpreter not accepted")
@@ -69,7 +69,8 @@ lex_line name (lexing.Unsupported form at) = form_line name (form_name form) at
 lex_line name (lexing.Deep at) = place_line name (codes ": nested too deep at ") at
 lex_line name lexing.Memory = no_memory_line
 
--- the line of a file whose tokens spell no script; want of memory is no such fault, and has its own line
+-- the line of a file whose tokens spell no script within 64 levels; want of memory is no such fault, and has its own
+-- line
 abbrev pub parse_line : List ℕ → ParseFault → List ℕ
 parse_line name (parsing.Syntax at) = place_line name (codes ": syntax at ") at
 parse_line name (parsing.Deep at) = place_line name (codes ": nested too deep at ") at

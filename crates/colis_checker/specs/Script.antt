@@ -81,7 +81,7 @@ ScriptGives file text (Err (Refused refusal)) = IsRefused file text refusal
 ScriptGives file text (Err (ReadFailed other)) = ⊥
 ScriptGives file text (Err NoMemory) = Unit {0}
 
--- the end of a call whose text has no tokens
+-- the end of a call whose text is not cut into tokens
 abbrev pub lex_stop : InputFile → LexFault → Stop InputFile Refusal
 lex_stop file (lexing.Nul at) = Refused (Lex file (lexing.Nul at))
 lex_stop file (lexing.Interpreter at) = Refused (Lex file (lexing.Interpreter at))
@@ -91,7 +91,7 @@ lex_stop file (lexing.Unsupported form at) = Refused (Lex file (lexing.Unsupport
 lex_stop file (lexing.Deep at) = Refused (Lex file (lexing.Deep at))
 lex_stop file lexing.Memory = NoMemory
 
--- the end of a call whose tokens spell no script
+-- the end of a call whose tokens spell no script within 64 levels
 abbrev pub parse_stop : InputFile → ParseFault → Stop InputFile Refusal
 parse_stop file (parsing.Syntax at) = Refused (Parse file (parsing.Syntax at))
 parse_stop file (parsing.Deep at) = Refused (Parse file (parsing.Deep at))

@@ -101,7 +101,7 @@ fn form_line(
     place_line(alloc, request, file, fault.as_slice(), at)
 }
 
-// The line of a file whose text has no tokens.
+// The line of a file whose text is not cut into tokens.
 fn lex_line(
     alloc: Global,
     request: &Request,
@@ -125,7 +125,7 @@ fn lex_line(
     }
 }
 
-// The line of a file whose tokens spell no script.
+// The line of a file whose tokens spell no script within 64 levels.
 fn parse_line(
     alloc: Global,
     request: &Request,

@@ -24,7 +24,7 @@ pub enum Refusal {
         file: InputFile,
         fault: LexFault,
     },
-    /// The file's tokens spell no script; the fault with which their reading stops.
+    /// The file's tokens spell no script within 64 levels; the fault with which their reading stops.
     Parse {
         file: InputFile,
         fault: ParseFault,

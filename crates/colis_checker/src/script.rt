@@ -12,7 +12,7 @@ use shell_parser::parse;
 use shell_rules::Command;
 use std::alloc::Global;
 
-// The end of a call whose text has no tokens.
+// The end of a call whose text is not cut into tokens.
 fn lex_stop(file: InputFile, fault: LexFault) -> Stop<InputFile, Refusal>
     ensures { result ≡ lex_stop file fault }
 {
@@ -27,7 +27,7 @@ fn lex_stop(file: InputFile, fault: LexFault) -> Stop<InputFile, Refusal>
     }
 }
 
-// The end of a call whose tokens spell no script.
+// The end of a call whose tokens spell no script within 64 levels.
 fn parse_stop(file: InputFile, fault: ParseFault) -> Stop<InputFile, Refusal>
     ensures { result ≡ parse_stop file fault }
 {
