@@ -45,7 +45,8 @@ offset_layer (o.Case at subject arms) = Some at
 offset_layer (o.Sub at body) = Some at
 offset_layer (o.Define at name body) = Some at
 
--- the byte offset of a command's first token; the braces of a group are none, since the syntax does not keep them
+-- the byte offset of a command's first token; the braces of a group count only where it is redirected or begins a
+-- pipeline, since the syntax does not keep others
 abbrev pub first_offset : Command → Option ℕ
 first_offset =
     fold-Command (Option ℕ) Unit Unit Unit Unit Unit Unit
