@@ -17,4 +17,5 @@ pub mod Covering
 pub mod Opens
 pub mod Built
 pub mod Moved
+pub mod Redecided
 pub mod Excluded

@@ -39,7 +39,7 @@ narrowed_only true ks k q h = h
 narrowed_only false ks k q h = (and_parts (has ks q) (has k q) (rw has_both at h)).0
 
 module _ (vars : List Variable) (x : ℕ) (k : Kinds) (inside : x < length vars) where
-  abbrev here_now : Variable
+  abbrev pub here_now : Variable
   here_now = record (var_at vars x) { kinds = narrowed (var_at vars x) k }
 
   -- the definition and the other facts stay
@@ -49,7 +49,7 @@ module _ (vars : List Variable) (x : ℕ) (k : Kinds) (inside : x < length vars)
     | inr n ↦ rw get_or-set_other refl
   ]
 
-  limited_fence : (i : ℕ) → (var_at (limited vars x k) i).fence ≡ (var_at vars i).fence
+  pub limited_fence : (i : ℕ) → (var_at (limited vars x k) i).fence ≡ (var_at vars i).fence
   limited_fence i = elim (nat_cases i x) [
     | inl e ↦ rw (e, get_or-set_same) refl
     | inr n ↦ rw get_or-set_other refl

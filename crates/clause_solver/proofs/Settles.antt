@@ -1,5 +1,5 @@
 -- A store with one more variable is settled.
-use Rattle.std.proofs.Common.{◌≡◌, ℕ, ◌+◌, ◌<◌, List, [], ◌∷◌, ◌++◌, length, IsTrue, refl, ap, arith}
+use Rattle.std.proofs.Common.{◌≡◌, ℕ, ◌+◌, ◌<◌, List, [], ◌∷◌, ◌++◌, length, take, IsTrue, refl, ap, arith}
 use Rattle.std.proofs.lemmas.List.{length-append}
 use Rattle.script_names.specs.Names.{is_name}
 use Rattle.clause_solver.specs.declared.variable.MadeValue.{MadeValue}
@@ -26,19 +26,6 @@ module _ (a b : Inside) (y : ℕ) (d : Definition) (inv : IsSettled a) (before :
   new_order : Ordered (a.vars.items ++ fresh d ∷ [])
   new_order = append_order a.vars.items inv.order d before none
 
-  pub appended_settled : IsSettled b
-  appended_settled =
-      let long = longer a.vars.items inv.order d before in
-      record {
-        order = rw is.variable new_order;
-        same = rw (is.variable, is.kind, length-append, length-append) (ap (λ n. n + 1) inv.same);
-        best = rw (is.variable, is.kind) (append_best a.vars.items inv.order d before a.best.items _ inv.same inv.best refl);
-        small = rw (is.variable, long) (let r = is.room in omega arith);
-        now_known = rw (is.variable, long, now) (let r = inv.now_known in omega arith);
-        now_tree = rw (is.variable, now) (append_always a.vars.items inv.order d before a.current inv.now_known inv.now_tree);
-        start_tree = rw is.variable (append_only a.vars.items inv.order d before 0 inv.order.some inv.start_tree);
-      }
-
   pub appended_extends : Extends (seen a) (seen b)
   appended_extends = rw (is.variable, now) (append_extends a.vars.items inv.order d before a.current inv.now_known new_order)
 
@@ -50,6 +37,25 @@ module _ (a b : Inside) (y : ℕ) (d : Definition) (inv : IsSettled a) (before :
 
   pub appended_known : y < (seen b).count
   appended_known = rw (is.variable, is.at, longer a.vars.items inv.order d before) (omega arith)
+
+pub appended_settled : (a b : Inside) (y : ℕ) (d : Definition) (inv : IsSettled a) (before : Earlier a.vars.items (length a.vars.items) d) (none : IsSingle a.vars.items d) (now : b.current ≡ a.current) (live : b.alive ≡ a.alive) (is : IsAppended a.vars.items a.best.items d b.vars.items b.best.items y) → IsSettled b
+appended_settled a b y d inv before none now live is =
+    let long = longer a.vars.items inv.order d before in
+    let order = append_order a.vars.items inv.order d before none in
+    let more = appended_extends a b y d inv before none now is in
+    record {
+      order = rw is.variable order;
+      same = rw (is.variable, is.kind, length-append, length-append) (ap (λ n. n + 1) inv.same);
+      best = rw (is.variable, is.kind) (append_best a.vars.items inv.order d before a.best.items _ inv.same inv.best refl);
+      small = rw (is.variable, long) (let r = is.room in omega arith);
+      now_known = rw (is.variable, long, now) (let r = inv.now_known in omega arith);
+      now_tree = rw (is.variable, now) (append_always a.vars.items inv.order d before a.current inv.now_known inv.now_tree);
+      start_tree = rw is.variable (append_only a.vars.items inv.order d before 0 inv.order.some inv.start_tree);
+      alive = (
+        λ t. let old = inv.alive.0 (rw live at t) in let new = more.up old.0 old.1 old.2 in (old.0, new.0, new.1),
+        λ new. rw live (inv.alive.1 (new.0, take (length a.vars.items) new.1, more.down new.0 new.1 new.2)),
+      );
+    }
 
 pub made_single : (vars : List Variable) (m : MadeValue) → IsSingle vars (Made m)
 made_single vars m x f i e = let bad : Made m ≡ Child x f = e in cc

@@ -1,7 +1,7 @@
 -- How callers see a store, and what is true of every store.
-use Rattle.std.specs.Prelude.{◌≡◌, ◌<◌, ◌≤◌, length}
+use Rattle.std.specs.Prelude.{◌≡◌, ◌<◌, ◌≤◌, ◌↔◌, IsTrue, length}
 use Rattle.clause_solver.specs.declared.store.Store.TheInside.{Inside}
-use Rattle.clause_solver.specs.Stands.{Seen}
+use Rattle.clause_solver.specs.Stands.{Seen, Alive}
 use Rattle.clause_solver.specs.Variables.{Ordered, AlwaysDir, OnlyDir}
 use Rattle.clause_solver.specs.Greatest.{IsBest}
 use Rattle.clause_solver.specs.Written.{literals_from}
@@ -19,3 +19,4 @@ pub record IsSettled (a : Inside) : Type 0 where
   pub now_known : a.current < length a.vars.items
   pub now_tree : AlwaysDir a.vars.items a.current
   pub start_tree : OnlyDir a.vars.items 0
+  pub alive : IsTrue a.alive ↔ Alive (seen a)

@@ -1,13 +1,14 @@
 ghost use Rattle.std.specs.Prelude.{◌≡◌, ℕ, ◌<◌, ◌↔◌, List, [], ◌∷◌, length, IsTrue, ◌≢◌};
 ghost use Rattle.clause_solver.specs.Literals.{Valuation, IsSound};
 ghost use Rattle.clause_solver.specs.Variables.{Ordered, Listed, member, allowed, var_at, is_node, made_value, AllFit};
-ghost use Rattle.clause_solver.specs.Greatest.{IsBest, HasEntryOutside, IsSatisfied, IsSatisfiedAt, IsOpen};
+ghost use Rattle.clause_solver.specs.Greatest.{IsBest, IsBestBut, HasEntryOutside, IsSatisfied, IsSatisfiedAt, IsOpen};
 ghost use Rattle.clause_solver.specs.Greatest.{IsPresentChild, kind_at, best_by, best_of, choose, unfenced};
 ghost use Rattle.clause_solver.specs.Greatest.{unfenced_if};
 ghost use Rattle.clause_solver.specs.Appends.{Within};
 ghost use Rattle.clause_solver.specs.ReplacedNames.{names};
 ghost use Rattle.clause_solver.specs.declared.variable.Definition.TheVariants.{Child};
 ghost use Rattle.feature_trees.specs.Tree.{kind_of};
+ghost use Rattle.feature_trees.specs.Kinds.{has};
 ghost use Rattle.feature_trees.specs.declared.kind.Kind.TheVariants.{Absent};
 
 use crate::variable::{Definition, MadeValue, Variable};
@@ -259,4 +260,33 @@ pub(crate) fn decide(vars: &[Variable], best: &mut [Kind]) -> bool
         satisfied = satisfied & here;
     }
     satisfied
+}
+
+// Whether two kinds are the same.
+fn is_same(a: Kind, b: Kind) -> bool
+    ensures { IsTrue result ↔ (a ≡ b) }
+{
+    a == b
+}
+
+/// The same after one variable was limited, where it is known whether some valuation was left before: where its
+/// greatest kind stays, so do all others.
+pub(crate) fn redecide(vars: &[Variable], best: &mut [Kind], alive: bool, x: usize) -> bool
+    requires same { length best.old ≡ length vars.now }
+    requires order { Ordered vars.now }
+    requires inside { x < length vars.now }
+    requires others { IsBestBut vars.now best.old x }
+    requires alive { IsBest vars.now best.old → IsTrue (has (var_at vars.now x).kinds (kind_at best.old x))
+        → (IsTrue alive ↔ IsSatisfied vars.now best.old (unfenced vars.now)) }
+    ensures same { length best.new ≡ length vars.now }
+    ensures best { IsBest vars.now best.new }
+    ensures satisfied { IsTrue result ↔ IsSatisfied vars.now best.new (unfenced vars.now) }
+{
+    let k = greatest(vars, best, x);
+    let old = best[x];
+    if is_same(old, k) {
+        let fits = vars[x].kinds.has(k);
+        return alive & fits;
+    }
+    decide(vars, best)
 }

@@ -1,5 +1,5 @@
-ghost use Rattle.std.specs.Prelude.{◌≡◌, ℕ, ◌+◌, ◌<◌, ◌≤◌, ◌↔◌, List, [], ◌∷◌, length, take, IsTrue, IfOk, IfSome};
-ghost use Rattle.std.specs.Prelude.{OnErr};
+ghost use Rattle.std.specs.Prelude.{◌≡◌, ℕ, ◌+◌, ◌<◌, ◌≤◌, ◌↔◌, List, [], ◌∷◌, length, take, IsTrue};
+ghost use Rattle.std.specs.Prelude.{IfOk, IfSome, OnErr};
 ghost use Rattle.feature_trees.specs.declared.value.Value.{Value};
 ghost use Rattle.feature_trees.specs.Kinds.{has, none, both};
 ghost use Rattle.feature_trees.specs.Tree.{entry, kind_of};
@@ -8,13 +8,13 @@ ghost use Rattle.clause_solver.specs.Literals.{Valuation, value_of_variable, Cov
 ghost use Rattle.clause_solver.specs.Solved.{IsSolved};
 ghost use Rattle.clause_solver.specs.Pairs.{HasPair};
 ghost use Rattle.clause_solver.specs.Stands.{Seen, Stands, Alive, Extends, HasEntry, IsDirectory, HasPut, HasValue};
-ghost use Rattle.clause_solver.specs.Variables.{fixed_in, limited, made_value, narrowed, possible, possible_by};
-ghost use Rattle.clause_solver.specs.Variables.{var_at};
+ghost use Rattle.clause_solver.specs.Variables.{fixed_in, limited, made_value, narrowed};
+ghost use Rattle.clause_solver.specs.Variables.{possible, possible_by, var_at};
 ghost use Rattle.feature_trees.specs.declared.value.Value.TheVariants as value;
 
 use crate::appended::{Found, append, find, resolve};
 use crate::clause::{Clause, Var};
-use crate::greatest::{decide, kind_made};
+use crate::greatest::{kind_made, redecide};
 use crate::literals::write_literals;
 use crate::new_name::new_name;
 use crate::start_tree::{grow, open_places};
@@ -31,6 +31,7 @@ pub struct Store {
     vars: Vec<Variable>,
     best: Vec<Kind>,
     current: u32,
+    alive: bool,
 }
 
 impl Model for Store {
@@ -64,6 +65,7 @@ impl Store {
             vars,
             best,
             current: 0,
+            alive: true,
         })
     }
 
@@ -85,11 +87,13 @@ impl Store {
         ensures alive { IsTrue result ↔ Alive self.new }
     {
         narrow(&mut self.vars, x.0 as usize, k);
-        decide(&self.vars, &mut self.best)
+        let alive = redecide(&self.vars, &mut self.best, self.alive, x.0 as usize);
+        self.alive = alive;
+        alive
     }
 
-    /// Whether the variable alone tells that no pair has a kind of this set there; where it tells nothing, some pair
-    /// may or may not have one. It takes no memory.
+    /// Whether the variable alone tells that no pair has a kind of this set there. Where it does not, there may be
+    /// such a pair or none. It takes no memory.
     pub fn excludes(&self, x: Var, k: Kinds) -> bool
         requires { x.0 < self.now.count }
         ensures { IsTrue result → (t : Value) (g : Valuation) → Stands self.now t g
@@ -308,6 +312,7 @@ impl Copied for Store {
             vars,
             best,
             current: self.current,
+            alive: self.alive,
         })
     }
 }

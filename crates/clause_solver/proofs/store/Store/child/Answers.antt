@@ -22,7 +22,7 @@ returns-in-Some-clause-entry c =
 
 module _ (c : goal.In_ok-y-in-Nothing) where
   abbrev new_absent : Inside
-  new_absent = record { vars = c.append.new.vars; best = c.append.new.best; current = c.self.inside.current }
+  new_absent = record { vars = c.append.new.vars; best = c.append.new.best; current = c.self.inside.current; alive = c.self.inside.alive }
 
   known_absent : c.args.x.0 < length c.self.inside.vars.items
   known_absent = rw (← c.self.view_is) at c.requires
@@ -34,7 +34,7 @@ module _ (c : goal.In_ok-y-in-Nothing) where
   is_absent = c.in_ok-y-in-Nothing.ensures.ok
 
 pub invariant_of-self-in-Nothing : goal.invariant_of-self-in-Nothing
-invariant_of-self-in-Nothing c = appended_settled c.self.inside (new_absent c) c.in_ok-y-in-Nothing.y (Made made.Absent) c.self.invariant tt (made_single c.self.inside.vars.items made.Absent) refl (is_absent c)
+invariant_of-self-in-Nothing c = appended_settled c.self.inside (new_absent c) c.in_ok-y-in-Nothing.y (Made made.Absent) c.self.invariant tt (made_single c.self.inside.vars.items made.Absent) refl refl (is_absent c)
 
 pub returns-in_ok-y-in-Nothing-clause-extends : goal.returns-in_ok-y-in-Nothing-clause-extends
 returns-in_ok-y-in-Nothing-clause-extends c = rw (← c.self.view_is) (appended_extends c.self.inside (new_absent c) c.in_ok-y-in-Nothing.y (Made made.Absent) c.self.invariant tt (made_single c.self.inside.vars.items made.Absent) refl (is_absent c))
@@ -44,7 +44,7 @@ returns-in_ok-y-in-Nothing-clause-entry c = absent_is_entry c.self.inside (new_a
 
 module _ (c : goal.In_ok-y-in-At) where
   abbrev new_child : Inside
-  new_child = record { vars = c.append-in-At.new.vars; best = c.append-in-At.new.best; current = c.self.inside.current }
+  new_child = record { vars = c.append-in-At.new.vars; best = c.append-in-At.new.best; current = c.self.inside.current; alive = c.self.inside.alive }
 
   known_child : c.args.x.0 < length c.self.inside.vars.items
   known_child = rw (← c.self.view_is) at c.requires
@@ -68,7 +68,7 @@ module _ (c : goal.In_ok-y-in-At) where
   single = child_single c.self.inside.vars.items c.in-At.n c.args.f.now none
 
 pub invariant_of-self-in-At : goal.invariant_of-self-in-At
-invariant_of-self-in-At c = appended_settled c.self.inside (new_child c) c.in_ok-y-in-At.y (Child c.in-At.n c.args.f.now) c.self.invariant (before c) (single c) refl (is_child c)
+invariant_of-self-in-At c = appended_settled c.self.inside (new_child c) c.in_ok-y-in-At.y (Child c.in-At.n c.args.f.now) c.self.invariant (before c) (single c) refl refl (is_child c)
 
 pub returns-in_ok-y-in-At-clause-extends : goal.returns-in_ok-y-in-At-clause-extends
 returns-in_ok-y-in-At-clause-extends c = rw (← c.self.view_is) (appended_extends c.self.inside (new_child c) c.in_ok-y-in-At.y (Child c.in-At.n c.args.f.now) c.self.invariant (before c) (single c) refl (is_child c))

@@ -8,7 +8,7 @@ use Rattle.clause_solver.proofs.store.Store.derive.Goals as goal
 
 module _ (c : goal.In_ok-z) where
   abbrev after : Inside
-  after = record { vars = c.append.new.vars; best = c.append.new.best; current = c.self.inside.current }
+  after = record { vars = c.append.new.vars; best = c.append.new.best; current = c.self.inside.current; alive = c.self.inside.alive }
 
   inside : (c.args.x.0 < length c.self.inside.vars.items) × (c.args.y.0 < length c.self.inside.vars.items)
   inside = rw (← c.self.view_is) at c.requires.known
@@ -23,7 +23,7 @@ module _ (c : goal.In_ok-z) where
   single = derived_single c.self.inside.vars.items c.args.x.0 c.args.y.0 c.args.f.now
 
 pub invariant_of-self-2 : goal.invariant_of-self-2
-invariant_of-self-2 c = appended_settled c.self.inside (after c) c.in_ok-z.z (Derived c.args.x.0 c.args.f.now c.args.y.0) c.self.invariant (before c) (single c) refl (is c)
+invariant_of-self-2 c = appended_settled c.self.inside (after c) c.in_ok-z.z (Derived c.args.x.0 c.args.f.now c.args.y.0) c.self.invariant (before c) (single c) refl refl (is c)
 
 pub returns-clause-extends : goal.returns-clause-extends
 returns-clause-extends c = rw (← c.self.view_is) (appended_extends c.self.inside (after c) c.in_ok-z.z (Derived c.args.x.0 c.args.f.now c.args.y.0) c.self.invariant (before c) (single c) refl (is c))

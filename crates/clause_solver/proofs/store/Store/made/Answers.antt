@@ -7,13 +7,13 @@ use Rattle.clause_solver.proofs.store.Store.made.Goals as goal
 
 module _ (c : goal.In_ok-y) where
   abbrev after : Inside
-  after = record { vars = c.append.new.vars; best = c.append.new.best; current = c.self.inside.current }
+  after = record { vars = c.append.new.vars; best = c.append.new.best; current = c.self.inside.current; alive = c.self.inside.alive }
 
   is : IsAppended c.self.inside.vars.items c.self.inside.best.items (Made c.args.value) c.append.new.vars.items c.append.new.best.items c.in_ok-y.y
   is = c.in_ok-y.ensures.ok
 
 pub invariant_of-self-2 : goal.invariant_of-self-2
-invariant_of-self-2 c = appended_settled c.self.inside (after c) c.in_ok-y.y (Made c.args.value) c.self.invariant tt (made_single c.self.inside.vars.items c.args.value) refl (is c)
+invariant_of-self-2 c = appended_settled c.self.inside (after c) c.in_ok-y.y (Made c.args.value) c.self.invariant tt (made_single c.self.inside.vars.items c.args.value) refl refl (is c)
 
 pub returns-clause-extends : goal.returns-clause-extends
 returns-clause-extends c = rw (← c.self.view_is) (appended_extends c.self.inside (after c) c.in_ok-y.y (Made c.args.value) c.self.invariant tt (made_single c.self.inside.vars.items c.args.value) refl (is c))

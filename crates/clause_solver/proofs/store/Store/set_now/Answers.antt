@@ -25,6 +25,10 @@ invariant_of-self c =
       now_known = known c;
       now_tree = always c;
       start_tree = inv.start_tree;
+      alive = (
+        λ t. let old = inv.alive.0 t in (old.0, old.1, (moved_same c.self.inside.vars.items c.self.inside.current c.args.x.0 inv.order inv.now_tree (always c) old.0 old.1).1 old.2),
+        λ new. inv.alive.1 (new.0, new.1, (moved_same c.self.inside.vars.items c.self.inside.current c.args.x.0 inv.order inv.now_tree (always c) new.0 new.1).0 new.2),
+      );
     }
 
 pub returns-clause-same : goal.returns-clause-same

@@ -19,4 +19,5 @@ invariant_of-result c =
       now_known = rw (vars_are c) inv.now_known;
       now_tree = rw (vars_are c) inv.now_tree;
       start_tree = rw (vars_are c) inv.start_tree;
+      alive = rw (vars_are c) inv.alive;
     }
