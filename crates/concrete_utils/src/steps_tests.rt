@@ -134,16 +134,29 @@ fn place(alloc: Global, name: &[u8], p: Path) -> Result<Act, Memory> {
     }
 }
 
-// The act of a package manager takes the row, and so does its copy.
+// The act of a package manager that a row names, by a word and a path.
+fn placed(alloc: Global, text: &str) -> Result<Act, Fail> {
+    let (name, path) = text.split_once(' ').unwrap_or(("", "/"));
+    let p = Path::read(alloc, path.as_bytes())?;
+    Ok(place(alloc, name.as_bytes(), p)?)
+}
+
+// A copy in the place of the act.
+fn copied(alloc: Global, a: Act) -> Result<Act, Memory> {
+    a.copy(alloc)
+}
+
+// The act of a package manager takes the row.
 fn expect_place<R: Abort + AllocGlobal>(rt: &R, row: &Taken) -> Result<(), Fail> {
-    if let Some((name, path)) = row.0.split_once(' ') {
-        let p = Path::read(rt.alloc(), path.as_bytes())?;
-        let a = place(rt.alloc(), name.as_bytes(), p)?;
-        let twin = a.copy(rt.alloc())?;
-        expect(rt, &a, row)?;
-        expect(rt, &twin, row)?;
-    }
-    Ok(())
+    let a = placed(rt.alloc(), row.0)?;
+    expect(rt, &a, row)
+}
+
+// So does its copy.
+fn expect_copy<R: Abort + AllocGlobal>(rt: &R, row: &Taken) -> Result<(), Fail> {
+    let a = placed(rt.alloc(), row.0)?;
+    let twin = copied(rt.alloc(), a)?;
+    expect(rt, &twin, row)
 }
 
 const QUESTIONS: &[Taken] = &[
@@ -288,6 +301,7 @@ fn changes_take_each_row(rt: HostRuntime) -> Result<(), Fail> {
 fn a_package_manager_takes_each_row(rt: HostRuntime) -> Result<(), Fail> {
     for row in PLACES {
         expect_place(&rt, row)?;
+        expect_copy(&rt, row)?;
     }
     Ok(())
 }
