@@ -2,8 +2,8 @@
 use Rattle.std.proofs.Common.{◌≡◌, ℕ, zero, suc, ◌+◌, ◌<◌, inl, inr, Bool, true, false, Option, Some, None, List, [], ◌∷◌, ◌++◌, length, get_or, refl, arith, append_assoc}
 use Rattle.std.specs.Prelude.{Contains}
 use Rattle.feature_trees.specs.declared.kind.Kinds.{Kinds}
-use Rattle.clause_solver.specs.declared.clause.Literal.{Literal}
-use Rattle.clause_solver.specs.declared.clause.Literal.TheVariants as L
+use Rattle.tree_clauses.specs.declared.clause.Literal.{Literal}
+use Rattle.tree_clauses.specs.declared.clause.Literal.TheVariants as L
 use Rattle.clause_solver.specs.declared.variable.MadeValue.{MadeValue}
 use Rattle.clause_solver.specs.declared.variable.MadeValue.TheVariants as made
 use Rattle.clause_solver.specs.declared.variable.Definition.{Definition}
@@ -11,7 +11,7 @@ use Rattle.clause_solver.specs.declared.variable.Definition.TheVariants.{Start, 
 use Rattle.clause_solver.specs.declared.variable.Variable.{Variable}
 use Rattle.clause_solver.specs.Variables.{var_at, Earlier, Ordered}
 use Rattle.clause_solver.specs.Written.{var, made_literals, definition_literals, is_all, kinds_literals, fence_literals, filled_literals, literals_from}
-use Rattle.clause_solver.specs.Solved.{Solves, done, entry, absent, reg, link, empty, similar, fact, none, one}
+use Rattle.tree_clauses.specs.Solved.{Solves, done, entry, absent, reg, link, empty, similar, fact, none, one}
 use Rattle.clause_solver.proofs.Names.{bool_cases, nat_cases}
 
 -- the numbers below n, the greatest first

@@ -7,9 +7,9 @@ use Rattle.feature_trees.specs.declared.kind.Kind.TheVariants as kind
 use Rattle.feature_trees.specs.Tree.{entry, kind_of}
 use Rattle.feature_trees.specs.Kinds.{has}
 use Rattle.feature_trees.specs.Sound.{sound}
-use Rattle.clause_solver.specs.declared.clause.Literal.{Literal}
-use Rattle.clause_solver.specs.declared.clause.Literal.TheVariants.{Entry, Kind, Fence, NotEmpty, Similar, Target}
-use Rattle.clause_solver.specs.declared.clause.Clause.{Clause}
+use Rattle.tree_clauses.specs.declared.clause.Literal.{Literal}
+use Rattle.tree_clauses.specs.declared.clause.Literal.TheVariants.{Entry, Kind, Fence, NotEmpty, Similar, Target}
+use Rattle.tree_clauses.specs.declared.clause.Clause.{Clause}
 
 -- a valuation gives each variable a value; it is kept as the list of the values, by the variables' numbers
 abbrev pub Valuation : Type 0

@@ -1,5 +1,5 @@
 -- Values of the file tree: their kinds, their entries, and values made of others.
-use Rattle.std.proofs.Common.{◌≡◌, ◌≢◌, ℕ, ◌⊎◌, inl, inr, IsTrue, List, [], ◌∷◌, refl, sym, ap, ◌∙◌}
+use Rattle.std.proofs.Common.{◌≡◌, ◌≢◌, ℕ, zero, suc, ◌<◌, ◌⊎◌, inl, inr, IsTrue, List, [], ◌∷◌, get_or, refl, sym, ap, ◌∙◌, arith}
 use Rattle.std.specs.List.{Contains}
 use Rattle.script_names.specs.Names.{is_name}
 use Rattle.feature_trees.specs.declared.kind.Kind.TheVariants as kind
@@ -9,8 +9,19 @@ use Rattle.feature_trees.specs.Tree.{entry, kind_of, find, update, entries_of}
 use Rattle.feature_trees.specs.Sound.{sound, sound_all}
 use Rattle.feature_trees.proofs.Laws.{Rises, rises_of, find-update_same, find-update_other}
 use Rattle.feature_trees.proofs.Kept.{sound-update, same_finds}
-use Rattle.clause_solver.specs.Literals.{AgreesOutside}
-use Rattle.clause_solver.proofs.Names.{name_cases, listed_from_contains}
+use Rattle.tree_clauses.specs.Literals.{AgreesOutside}
+use Rattle.tree_clauses.proofs.Names.{name_cases}
+
+-- a list of no name or one
+contains_none : (f : List ℕ) → ¬ (Contains [] f)
+contains_none f c = absurd (let w = c.1 in omega arith)
+
+contains_one : (f g : List ℕ) → Contains (g ∷ []) f → f ≡ g
+contains_one f g c = at_first c.0 c.1 c.2
+  where
+    at_first : (k : ℕ) → k < 1 → get_or (g ∷ []) k f ≡ f → f ≡ g
+    at_first zero w e = sym e
+    at_first (suc k) w e = absurd (omega arith)
 
 -- only a directory has an entry
 pub entry_of_dir : (v : Value) (f : List ℕ) → (kind_of v ≡ kind.Dir) ⊎ (entry v f ≡ Absent)
@@ -89,14 +100,14 @@ derived_from u v w f su sv sw n d agrees at_f =
     dir_kind u d ∙ ap Dir (same_finds (entries_of u) (update (entries_of v) f w) (rises_entries u su) (rises_of (update (entries_of v) f w) (derived_sound v w f sv sw n))
     (λ h. elim (name_cases f h) [
       | inl q ↦ ap (find (entries_of u)) (sym q.0) ∙ entry_is u f ∙ sym at_f ∙ sym (derived_same v w f sv) ∙ ap (find (update (entries_of v) f w)) q.0
-      | inr ne ↦ entry_is u h ∙ agrees h (λ c. elim (listed_from_contains h (f ∷ []) c) [ inl e ↦ ne.0 (sym e) | inr l ↦ l ]) ∙ sym (derived_other v w f h sv ne.0)
+      | inr ne ↦ entry_is u h ∙ agrees h (λ c. ne.0 (sym (contains_one h f c))) ∙ sym (derived_other v w f h sv ne.0)
     ]))
 
 pub ensured_from : (u v : Value) → IsTrue (sound u) → IsTrue (sound v) → kind_of u ≡ kind.Dir → AgreesOutside u [] v → u ≡ Dir (entries_of v)
 ensured_from u v su sv d agrees =
     dir_kind u d ∙ ap Dir (same_finds (entries_of u) (entries_of v) (rises_entries u su) (rises_entries v sv)
-    (λ h. entry_is u h ∙ agrees h (λ c. listed_from_contains h [] c) ∙ sym (entry_is v h)))
+    (λ h. entry_is u h ∙ agrees h (contains_none h) ∙ sym (entry_is v h)))
 
 pub empty_from : (u : Value) → IsTrue (sound u) → kind_of u ≡ kind.Dir → ((f : List ℕ) → ¬ (Contains [] f) → entry u f ≡ Absent) → u ≡ Dir []
 empty_from u su d none =
-    dir_kind u d ∙ ap Dir (same_finds (entries_of u) [] (rises_entries u su) tt (λ h. entry_is u h ∙ none h (λ c. listed_from_contains h [] c)))
+    dir_kind u d ∙ ap Dir (same_finds (entries_of u) [] (rises_entries u su) tt (λ h. entry_is u h ∙ none h (contains_none h)))

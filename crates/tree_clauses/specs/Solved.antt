@@ -4,10 +4,10 @@ use Rattle.std.specs.declared.cmp.Ordering.TheVariants.{Less}
 use Rattle.feature_trees.specs.declared.kind.Kind.TheVariants as kind
 use Rattle.feature_trees.specs.Kinds.{of}
 use Rattle.feature_trees.specs.Tree.{name_cmp}
-use Rattle.clause_solver.specs.declared.clause.Var.{Var}
-use Rattle.clause_solver.specs.declared.clause.Literal.{Literal}
-use Rattle.clause_solver.specs.declared.clause.Literal.TheVariants.{Entry, Kind, Fence, NotEmpty, Similar, Target}
-use Rattle.clause_solver.specs.declared.clause.Clause.{Clause}
+use Rattle.tree_clauses.specs.declared.clause.Var.{Var}
+use Rattle.tree_clauses.specs.declared.clause.Literal.{Literal}
+use Rattle.tree_clauses.specs.declared.clause.Literal.TheVariants.{Entry, Kind, Fence, NotEmpty, Similar, Target}
+use Rattle.tree_clauses.specs.declared.clause.Clause.{Clause}
 
 -- every variable of the literal is known
 abbrev pub AllKnown : List ℕ → Literal → Type 0

@@ -5,10 +5,10 @@ use Rattle.std.specs.Fmt.{decimal}
 use Rattle.feature_trees.specs.declared.kind.Kinds.{Kinds}
 use Rattle.shown_texts.specs.Lines.{line}
 use Rattle.shown_texts.specs.Show.{show}
-use Rattle.clause_solver.specs.declared.clause.Var.{Var}
-use Rattle.clause_solver.specs.declared.clause.Literal.{Literal}
-use Rattle.clause_solver.specs.declared.clause.Literal.TheVariants.{Entry, Kind, Fence, NotEmpty, Similar, Target}
-use Rattle.clause_solver.specs.declared.clause.Clause.{Clause}
+use Rattle.tree_clauses.specs.declared.clause.Var.{Var}
+use Rattle.tree_clauses.specs.declared.clause.Literal.{Literal}
+use Rattle.tree_clauses.specs.declared.clause.Literal.TheVariants.{Entry, Kind, Fence, NotEmpty, Similar, Target}
+use Rattle.tree_clauses.specs.declared.clause.Clause.{Clause}
 
 -- a text after a comma
 abbrev pub after_comma : List ℕ → List ℕ

@@ -1,8 +1,8 @@
 ghost use Rattle.std.specs.Prelude.{◌≡◌, ◌++◌, ◌||◌, ◌∷◌, [], IfOk, OnOk, OnErr, map, if◌then◌else◌};
 ghost use Rattle.std.specs.List.{flat_map};
 ghost use Rattle.shown_texts.specs.Show.{show};
-ghost use Rattle.clause_solver.specs.ClauseText.{after_comma, joined, var_text, kinds_text, names_text};
-ghost use Rattle.clause_solver.specs.ClauseText.{literal_content, literal_text, clause_text};
+ghost use Rattle.tree_clauses.specs.ClauseText.{after_comma, joined, var_text, kinds_text, names_text};
+ghost use Rattle.tree_clauses.specs.ClauseText.{literal_content, literal_text, clause_text};
 
 use crate::clause::{Clause, Literal, Var};
 use feature_trees::{Kind, Kinds};
