@@ -44,11 +44,16 @@ MeetsAll g (literal ∷ literals) = Meets g literal × MeetsAll g literals
 abbrev pub IsSound : Valuation → Type 0
 IsSound g = All (λ v. IsTrue (sound v)) g
 
--- the clause covers a pair of trees: some valuation that gives the one to `start` and the other to `now` meets all
--- literals
+-- the clause covers a pair of trees: some valuation that gives the one to `start` and the other, a directory, to `now`
+-- meets all literals
 pub record Covers (clause : Clause) (before after : Value) : Type 0 where
   pub valuation : Valuation
   pub values : IsSound valuation
   pub starts : value_of_variable valuation clause.start.0 ≡ before
   pub ends : value_of_variable valuation clause.now.0 ≡ after
+  pub tree : kind_of after ≡ kind.Dir
   pub met : MeetsAll valuation clause.literals
+
+-- the clause covers a tree: it covers it with some tree after it
+abbrev pub CoversTree : Clause → Value → Type 0
+CoversTree clause before = (after : Value) × Covers clause before after
