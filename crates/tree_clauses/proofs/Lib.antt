@@ -1,2 +1,7 @@
 pub mod Names
 pub mod Values
+pub mod Orders
+pub mod Edited
+pub mod Valuations
+pub mod Passing
+pub mod Decided
