@@ -1,5 +1,5 @@
 //! Clauses over the variables of feature trees, what a clause covers, and stores of start trees.
-//! It stands on feature_trees, shown_texts and script_names. Begin with `clause`, and with specs/Literals.antt for
+//! It stands on shared_table, feature_trees, shown_texts and script_names. Begin with `clause`, and with specs/Literals.antt for
 //! what a literal says; then `store`, and specs/Stands.antt for what a store stands for.
 #![tactic(auto)]
 
@@ -8,6 +8,7 @@ mod clause;
 mod greatest;
 mod literals;
 mod new_name;
+mod places;
 mod start_tree;
 mod store;
 mod text;
