@@ -1,5 +1,5 @@
 -- A variable has one of the kinds that it can have.
-use Rattle.std.proofs.Common.{◌≡◌, ℕ, ◌<◌, Bool, true, false, ◌&&◌, IsTrue, List, length, refl, sym, ap, ◌∙◌}
+use Rattle.std.proofs.Common.{◌≡◌, ℕ, ◌<◌, true, false, ◌&&◌, IsTrue, List, length, refl, sym, ap, ◌∙◌}
 use Rattle.feature_trees.specs.declared.kind.Kind.{Kind}
 use Rattle.feature_trees.specs.declared.kind.Kind.TheVariants.{Absent, Reg, Link, Other, Dir}
 use Rattle.feature_trees.specs.declared.kind.Kinds.{Kinds}

@@ -1,5 +1,5 @@
 -- Where a limit leaves a variable's greatest kind, it leaves all others, and a pair is left where that kind fits.
-use Rattle.std.proofs.Common.{◌≡◌, ◌≢◌, ℕ, ◌<◌, ◌≤◌, ◌↔◌, ◌&&◌, ◌∙◌, inl, inr, Bool, IsTrue, List, length, refl, sym, ap, length-set, get_or-set_other, get_or-set_same}
+use Rattle.std.proofs.Common.{◌≡◌, ℕ, ◌<◌, ◌≤◌, ◌↔◌, ◌&&◌, ◌∙◌, inl, inr, Bool, IsTrue, List, length, refl, length-set, get_or-set_other, get_or-set_same}
 use Rattle.feature_trees.specs.declared.kind.Kind.{Kind}
 use Rattle.feature_trees.specs.declared.kind.Kinds.{Kinds}
 use Rattle.feature_trees.specs.declared.value.Value.{Value}
@@ -10,7 +10,7 @@ use Rattle.clause_solver.specs.declared.variable.Definition.TheVariants.{Start, 
 use Rattle.clause_solver.specs.declared.variable.Variable.{Variable}
 use Rattle.tree_clauses.specs.Literals.{Valuation, value_of_variable}
 use Rattle.clause_solver.specs.Stands.{Stands, Alive}
-use Rattle.clause_solver.specs.Variables.{var_at, Fits, AllFit, Ordered, AlwaysDir, OnlyDir, limited}
+use Rattle.clause_solver.specs.Variables.{var_at, AllFit, Ordered, AlwaysDir, OnlyDir, limited}
 use Rattle.clause_solver.specs.Greatest.{IsBest, IsBestBut, IsSatisfied, unfenced, kind_at, best_by, best_of}
 use Rattle.clause_solver.proofs.Names.{nat_cases}
 use Rattle.std.proofs.lemmas.Bool.{and_parts, and_from}

@@ -22,38 +22,38 @@ use Rattle.clause_solver.proofs.Leads.{absent_entry, child_entry}
 abbrev pub IsSingle : List Variable → Definition → Type 0
 IsSingle vars d = (x : ℕ) (f : List ℕ) (i : ℕ) → d ≡ Child x f → ¬ (IsChild vars x f i)
 
-module _ (a b : Inside) (y : ℕ) (d : Definition) (inv : IsSettled a) (before : Earlier a.vars.items (length a.vars.items) d) (none : IsSingle a.vars.items d) (now : b.current ≡ a.current) (is : IsAppended a.vars.items a.best.items d b.vars.items b.best.items y) where
-  new_order : Ordered (a.vars.items ++ fresh d ∷ [])
-  new_order = append_order a.vars.items inv.order d before none
+module _ (a b : Inside) (y : ℕ) (d : Definition) (inv : IsSettled a) (before : Earlier a.vars (length a.vars) d) (none : IsSingle a.vars d) (now : b.current ≡ a.current) (is : IsAppended a.vars a.best d b.vars b.best y) where
+  new_order : Ordered (a.vars ++ fresh d ∷ [])
+  new_order = append_order a.vars inv.order d before none
 
   pub appended_extends : Extends (seen a) (seen b)
-  appended_extends = rw (is.variable, now) (append_extends a.vars.items inv.order d before a.current inv.now_known new_order)
+  appended_extends = rw (is.variable, now) (append_extends a.vars inv.order d before a.current inv.now_known new_order)
 
   -- the new variable has its defined value
   pub appended_is : (t : _) (g : _) → Stands (seen b) t g → value_of_variable g y ≡ defined g d
   appended_is t g h =
-      let h' : Stands (seen_of (a.vars.items ++ fresh d ∷ []) a.current) t g = rw (is.variable, now) at h in
-      rw is.at (append_is a.vars.items inv.order d before a.current inv.now_known new_order t g h')
+      let h' : Stands (seen_of (a.vars ++ fresh d ∷ []) a.current) t g = rw (is.variable, now) at h in
+      rw is.at (append_is a.vars inv.order d before a.current inv.now_known new_order t g h')
 
   pub appended_known : y < (seen b).count
-  appended_known = rw (is.variable, is.at, longer a.vars.items inv.order d before) (omega arith)
+  appended_known = rw (is.variable, is.at, longer a.vars inv.order d before) (omega arith)
 
-pub appended_settled : (a b : Inside) (y : ℕ) (d : Definition) (inv : IsSettled a) (before : Earlier a.vars.items (length a.vars.items) d) (none : IsSingle a.vars.items d) (now : b.current ≡ a.current) (live : b.alive ≡ a.alive) (is : IsAppended a.vars.items a.best.items d b.vars.items b.best.items y) → IsSettled b
+pub appended_settled : (a b : Inside) (y : ℕ) (d : Definition) (inv : IsSettled a) (before : Earlier a.vars (length a.vars) d) (none : IsSingle a.vars d) (now : b.current ≡ a.current) (live : b.alive ≡ a.alive) (is : IsAppended a.vars a.best d b.vars b.best y) → IsSettled b
 appended_settled a b y d inv before none now live is =
-    let long = longer a.vars.items inv.order d before in
-    let order = append_order a.vars.items inv.order d before none in
+    let long = longer a.vars inv.order d before in
+    let order = append_order a.vars inv.order d before none in
     let more = appended_extends a b y d inv before none now is in
     record {
       order = rw is.variable order;
       same = rw (is.variable, is.kind, length-append, length-append) (ap (λ n. n + 1) inv.same);
-      best = rw (is.variable, is.kind) (append_best a.vars.items inv.order d before a.best.items _ inv.same inv.best refl);
+      best = rw (is.variable, is.kind) (append_best a.vars inv.order d before a.best _ inv.same inv.best refl);
       small = rw (is.variable, long) (let r = is.room in omega arith);
       now_known = rw (is.variable, long, now) (let r = inv.now_known in omega arith);
-      now_tree = rw (is.variable, now) (append_always a.vars.items inv.order d before a.current inv.now_known inv.now_tree);
-      start_tree = rw is.variable (append_only a.vars.items inv.order d before 0 inv.order.some inv.start_tree);
+      now_tree = rw (is.variable, now) (append_always a.vars inv.order d before a.current inv.now_known inv.now_tree);
+      start_tree = rw is.variable (append_only a.vars inv.order d before 0 inv.order.some inv.start_tree);
       alive = (
         λ t. let old = inv.alive.0 (rw live at t) in let new = more.up old.0 old.1 old.2 in (old.0, new.0, new.1),
-        λ new. rw live (inv.alive.1 (new.0, take (length a.vars.items) new.1, more.down new.0 new.1 new.2)),
+        λ new. rw live (inv.alive.1 (new.0, take (length a.vars) new.1, more.down new.0 new.1 new.2)),
       );
     }
 
@@ -69,32 +69,32 @@ child_single vars n f none x g i e h =
     let eg : f ≡ g = cc in
     none i (rw (ex, eg) h)
 
-pub absent_is_entry : (a b : Inside) (y x : ℕ) (f : List ℕ) → IsSettled a → x < length a.vars.items → b.current ≡ a.current → IsAppended a.vars.items a.best.items (Made made.Absent) b.vars.items b.best.items y → LeadsTo a.vars.items x f Nothing → HasEntry (seen b) x f y
+pub absent_is_entry : (a b : Inside) (y x : ℕ) (f : List ℕ) → IsSettled a → x < length a.vars → b.current ≡ a.current → IsAppended a.vars a.best (Made made.Absent) b.vars b.best y → LeadsTo a.vars x f Nothing → HasEntry (seen b) x f y
 absent_is_entry a b y x f inv inside now is leads =
-    rw (is.variable, now, is.at) (absent_entry a.vars.items a.current x f inv.order inside (append_order a.vars.items inv.order (Made made.Absent) tt (made_single a.vars.items made.Absent)) leads)
+    rw (is.variable, now, is.at) (absent_entry a.vars a.current x f inv.order inside (append_order a.vars inv.order (Made made.Absent) tt (made_single a.vars made.Absent)) leads)
 
 pub child_before : (vars : List Variable) (x n : ℕ) (f : List ℕ) → IsTrue (is_name f) → LeadsTo vars x f (At n) → Earlier vars (length vars) (Child n f)
 child_before vars x n f name leads = (leads.0, leads.1, name)
 
-pub child_is_entry : (a b : Inside) (y x n : ℕ) (f : List ℕ) → IsSettled a → x < length a.vars.items → IsTrue (is_name f) → ((i : ℕ) → ¬ (IsChild a.vars.items n f i)) → b.current ≡ a.current → IsAppended a.vars.items a.best.items (Child n f) b.vars.items b.best.items y → LeadsTo a.vars.items x f (At n) → HasEntry (seen b) x f y
+pub child_is_entry : (a b : Inside) (y x n : ℕ) (f : List ℕ) → IsSettled a → x < length a.vars → IsTrue (is_name f) → ((i : ℕ) → ¬ (IsChild a.vars n f i)) → b.current ≡ a.current → IsAppended a.vars a.best (Child n f) b.vars b.best y → LeadsTo a.vars x f (At n) → HasEntry (seen b) x f y
 child_is_entry a b y x n f inv inside name none now is leads =
-    let before = child_before a.vars.items x n f name leads in
-    rw (is.variable, now, is.at) (child_entry a.vars.items a.current x f inv.order inside n before (append_order a.vars.items inv.order (Child n f) before (child_single a.vars.items n f none)) leads)
+    let before = child_before a.vars x n f name leads in
+    rw (is.variable, now, is.at) (child_entry a.vars a.current x f inv.order inside n before (append_order a.vars inv.order (Child n f) before (child_single a.vars n f none)) leads)
 
 pub derived_before : (vars : List Variable) (x y : ℕ) (f : List ℕ) → x < length vars → y < length vars → IsTrue (is_name f) → Earlier vars (length vars) (Derived x f y)
 derived_before vars x y f known value name = (known, value, name)
 
-pub derived_is_put : (a b : Inside) (z x y : ℕ) (f : List ℕ) → IsSettled a → x < length a.vars.items → y < length a.vars.items → IsTrue (is_name f) → b.current ≡ a.current → IsAppended a.vars.items a.best.items (Derived x f y) b.vars.items b.best.items z → HasPut (seen b) x f y z
+pub derived_is_put : (a b : Inside) (z x y : ℕ) (f : List ℕ) → IsSettled a → x < length a.vars → y < length a.vars → IsTrue (is_name f) → b.current ≡ a.current → IsAppended a.vars a.best (Derived x f y) b.vars b.best z → HasPut (seen b) x f y z
 derived_is_put a b z x y f inv inside known name now is =
-    let before = derived_before a.vars.items x y f inside known name in
-    let single = derived_single a.vars.items x y f in
+    let before = derived_before a.vars x y f inside known name in
+    let single = derived_single a.vars x y f in
     record {
       known = appended_known a b z (Derived x f y) inv before single now is;
       is = appended_is a b z (Derived x f y) inv before single now is;
     }
 
-pub made_is_value : (a b : Inside) (y : ℕ) (m : MadeValue) → IsSettled a → b.current ≡ a.current → IsAppended a.vars.items a.best.items (Made m) b.vars.items b.best.items y → HasValue (seen b) y (made_value m)
+pub made_is_value : (a b : Inside) (y : ℕ) (m : MadeValue) → IsSettled a → b.current ≡ a.current → IsAppended a.vars a.best (Made m) b.vars b.best y → HasValue (seen b) y (made_value m)
 made_is_value a b y m inv now is = record {
-  known = appended_known a b y (Made m) inv tt (made_single a.vars.items m) now is;
-  is = appended_is a b y (Made m) inv tt (made_single a.vars.items m) now is;
+  known = appended_known a b y (Made m) inv tt (made_single a.vars m) now is;
+  is = appended_is a b y (Made m) inv tt (made_single a.vars m) now is;
 }

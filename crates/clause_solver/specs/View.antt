@@ -8,15 +8,15 @@ use Rattle.clause_solver.specs.Written.{literals_from}
 
 -- the count of the variables, their literals, and the variable of the tree now
 abbrev pub seen : Inside → Seen
-seen a = record { count = length a.vars.items; literals = literals_from 0 a.vars.items; current = a.current }
+seen a = record { count = length a.vars; literals = literals_from 0 a.vars; current = a.current }
 
 -- the variables stand in order, each with its greatest kind, and both the start and the tree now are directories
 pub record IsSettled (a : Inside) : Type 0 where
-  pub order : Ordered a.vars.items
-  pub same : length a.best.items ≡ length a.vars.items
-  pub best : IsBest a.vars.items a.best.items
-  pub small : length a.vars.items ≤ 4294967295
-  pub now_known : a.current < length a.vars.items
-  pub now_tree : AlwaysDir a.vars.items a.current
-  pub start_tree : OnlyDir a.vars.items 0
+  pub order : Ordered a.vars
+  pub same : length a.best ≡ length a.vars
+  pub best : IsBest a.vars a.best
+  pub small : length a.vars ≤ 4294967295
+  pub now_known : a.current < length a.vars
+  pub now_tree : AlwaysDir a.vars a.current
+  pub start_tree : OnlyDir a.vars 0
   pub alive : IsTrue a.alive ↔ Alive (seen a)

@@ -1,4 +1,4 @@
-ghost use Rattle.std.specs.Prelude.{◌≡◌, ℕ, ◌<◌, ◌↔◌, List, [], ◌∷◌, length, IsTrue, ◌≢◌};
+ghost use Rattle.std.specs.Prelude.{◌≡◌, ℕ, ◌<◌, ◌↔◌, List, [], ◌∷◌, length, IsTrue, ◌≢◌, slice_set, IfOk, OnOk};
 ghost use Rattle.tree_clauses.specs.Literals.{Valuation, IsSound};
 ghost use Rattle.clause_solver.specs.Variables.{Ordered, Listed, member, allowed, var_at, is_node, made_value, AllFit};
 ghost use Rattle.clause_solver.specs.Greatest.{IsBest, IsBestBut, HasEntryOutside, IsSatisfied, IsSatisfiedAt, IsOpen};
@@ -11,9 +11,11 @@ ghost use Rattle.feature_trees.specs.Tree.{kind_of};
 ghost use Rattle.feature_trees.specs.Kinds.{has};
 ghost use Rattle.feature_trees.specs.declared.kind.Kind.TheVariants.{Absent};
 
+use crate::places::{definition_at, kind_at, var_at};
 use crate::variable::{Definition, MadeValue, Variable};
 use feature_trees::{Kind, Kinds};
-use script_names::{List, Name};
+use script_names::{List, Memory, Name};
+use shared_table::{Shared, fork_alone, set_alone};
 use std::cmp::Ordering;
 
 // The greatest kind of a set: a directory where it may be one, and absent last.
@@ -64,8 +66,8 @@ pub(crate) fn kind_made(value: &MadeValue) -> Kind
 
 // The greatest kind by a definition, given those of the earlier variables.
 pub(crate) fn greatest_by(
-    vars: &[Variable],
-    best: &[Kind],
+    vars: &Shared<Variable>,
+    best: &Shared<Kind>,
     kinds: Kinds,
     definition: &Definition,
 ) -> Kind
@@ -77,7 +79,7 @@ pub(crate) fn greatest_by(
         Definition::Start => choose(kinds),
         Definition::Child(of, f) => {
             let of = *of as usize;
-            if best[of] == Kind::Dir && allows(&vars[of].fence, f) {
+            if kind_at(best, of) == Kind::Dir && allows(&var_at(vars, of).fence, f) {
                 choose(kinds)
             } else {
                 Kind::Absent
@@ -90,26 +92,51 @@ pub(crate) fn greatest_by(
 }
 
 // The greatest kind of a variable, given those of the earlier ones.
-fn greatest(vars: &[Variable], best: &[Kind], i: usize) -> Kind
+fn greatest(vars: &Shared<Variable>, best: &Shared<Kind>, i: usize) -> Kind
     requires same { length best.now ≡ length vars.now }
     requires order { Ordered vars.now }
     requires inside { i < length vars.now }
     ensures { result ≡ best_of vars.now best.now i }
 {
-    greatest_by(vars, best, vars[i].kinds, &vars[i].definition)
+    greatest_by(vars, best, var_at(vars, i).kinds, definition_at(vars, i))
 }
 
-// Gives each variable its greatest kind.
-fn settle(vars: &[Variable], best: &mut [Kind])
+// Whether two kinds are the same.
+fn is_same(a: Kind, b: Kind) -> bool
+    ensures { IsTrue result ↔ (a ≡ b) }
+{
+    a == b
+}
+
+// Gives a variable its greatest kind; where it has it, nothing is written.
+fn settle_one(vars: &Shared<Variable>, best: &mut Shared<Kind>, i: usize) -> Result<(), Memory>
     requires same { length best.old ≡ length vars.now }
     requires order { Ordered vars.now }
-    ensures same { length best.new ≡ length vars.now }
-    ensures best { IsBest vars.now best.new }
+    requires inside { i < length vars.now }
+    ensures { OnOk result (best.new ≡ slice_set best.old i (best_of vars.now best.old i)) }
 {
-    for i in 0..vars.len() {
-        let k = greatest(vars, best, i);
-        best[i] = k;
+    let k = greatest(vars, best, i);
+    if is_same(kind_at(best, i), k) {
+        return Ok(());
     }
+    set_alone(best, i, k)?;
+    Ok(())
+}
+
+// The greatest kinds, where each variable but one has its greatest kind: those of the variables before it stay.
+fn settled(vars: &Shared<Variable>, best: &Shared<Kind>, x: usize) -> Result<Shared<Kind>, Memory>
+    requires same { length best.now ≡ length vars.now }
+    requires order { Ordered vars.now }
+    requires inside { x < length vars.now }
+    requires others { IsBestBut vars.now best.now x }
+    ensures same { IfOk result (λ new. length new ≡ length vars.now) }
+    ensures best { IfOk result (λ new. IsBest vars.now new) }
+{
+    let mut new = fork_alone(best)?;
+    for i in x..vars.len() {
+        settle_one(vars, &mut new, i)?;
+    }
+    Ok(new)
 }
 
 /// The names whose entries were replaced on the way down to a variable, the last one first.
@@ -130,18 +157,18 @@ fn listed(replaced: &ReplacedNames, f: &Name) -> bool
 }
 
 // Whether a place may have any entry, where places without a fence are counted.
-fn is_open(vars: &[Variable], best: &[Kind], counted: bool, x: usize) -> bool
+fn is_open(vars: &Shared<Variable>, best: &Shared<Kind>, counted: bool, x: usize) -> bool
     requires same { length best.now ≡ length vars.now }
     requires inside { x < length vars.now }
     ensures { IsTrue result ↔ IsOpen best.now (unfenced_if vars.now counted) x }
 {
-    counted && best[x] == Kind::Dir && vars[x].fence.is_none()
+    counted && kind_at(best, x) == Kind::Dir && var_at(vars, x).fence.is_none()
 }
 
 // Whether the variable m is an entry of x outside the replaced names, and is there.
 fn is_present_child(
-    vars: &[Variable],
-    best: &[Kind],
+    vars: &Shared<Variable>,
+    best: &Shared<Kind>,
     x: usize,
     replaced: &ReplacedNames,
     m: usize,
@@ -150,16 +177,21 @@ fn is_present_child(
     requires inside { m < length vars.now }
     ensures { IsTrue result ↔ IsPresentChild vars.now best.now x (names replaced.now) m }
 {
-    match &vars[m].definition {
+    match definition_at(vars, m) {
         Definition::Child(of, f) => *of as usize == x
-            && best[m] != Kind::Absent
+            && kind_at(best, m) != Kind::Absent
             && !listed(&*replaced, f),
         _ => false,
     }
 }
 
 // Whether some entry of x outside the replaced names is there.
-fn some_present_child(vars: &[Variable], best: &[Kind], x: usize, replaced: &ReplacedNames) -> bool
+fn some_present_child(
+    vars: &Shared<Variable>,
+    best: &Shared<Kind>,
+    x: usize,
+    replaced: &ReplacedNames,
+) -> bool
     requires same { length best.now ≡ length vars.now }
     ensures { IsTrue result
         ↔ ((m : ℕ) × (m < length vars.now) × IsPresentChild vars.now best.now x (names replaced.now) m) }
@@ -174,8 +206,8 @@ fn some_present_child(vars: &[Variable], best: &[Kind], x: usize, replaced: &Rep
 
 // Whether a place has an entry outside the replaced names, among the greatest kinds.
 fn node_has_entry(
-    vars: &[Variable],
-    best: &[Kind],
+    vars: &Shared<Variable>,
+    best: &Shared<Kind>,
     counted: bool,
     x: usize,
     replaced: &ReplacedNames,
@@ -192,18 +224,18 @@ fn node_has_entry(
 }
 
 // Whether the entry f, which is y's value, is outside the replaced names and is there.
-fn is_shown(best: &[Kind], y: usize, replaced: &ReplacedNames, f: &Name) -> bool
+fn is_shown(best: &Shared<Kind>, y: usize, replaced: &ReplacedNames, f: &Name) -> bool
     requires { y < length best.now }
     ensures { IsTrue result ↔ ((kind_at best.now y ≢ Absent) × (¬ (Listed f.now (names replaced.now)))) }
 {
-    best[y] != Kind::Absent && !listed(&*replaced, f)
+    kind_at(best, y) != Kind::Absent && !listed(&*replaced, f)
 }
 
 /// Whether a variable has an entry outside the replaced names, among the greatest kinds;
 /// places without a fence may be counted as having one more, or not.
 pub(crate) fn has_entry_outside(
-    vars: &[Variable],
-    best: &[Kind],
+    vars: &Shared<Variable>,
+    best: &Shared<Kind>,
     counted: bool,
     x: usize,
     replaced: &ReplacedNames,
@@ -213,7 +245,7 @@ pub(crate) fn has_entry_outside(
     requires inside { x < length vars.now }
     ensures { IsTrue result ↔ HasEntryOutside vars.now best.now (unfenced_if vars.now counted) x (names replaced.now) }
 {
-    match &vars[x].definition {
+    match definition_at(vars, x) {
         Definition::Start => node_has_entry(vars, best, counted, x, &*replaced),
         Definition::Child(_, _) => node_has_entry(vars, best, counted, x, &*replaced),
         Definition::Derived(of, f, y) => {
@@ -229,14 +261,15 @@ pub(crate) fn has_entry_outside(
 }
 
 // Whether the greatest kind of a variable fits, and it has an entry where it must.
-fn is_satisfied_at(vars: &[Variable], best: &[Kind], i: usize) -> bool
+fn is_satisfied_at(vars: &Shared<Variable>, best: &Shared<Kind>, i: usize) -> bool
     requires same { length best.now ≡ length vars.now }
     requires order { Ordered vars.now }
     requires inside { i < length vars.now }
     ensures { IsTrue result ↔ IsSatisfiedAt vars.now best.now (unfenced vars.now) i }
 {
-    let fits = vars[i].kinds.has(best[i]);
-    if vars[i].not_empty {
+    let v = var_at(vars, i);
+    let fits = v.kinds.has(kind_at(best, i));
+    if v.not_empty {
         let replaced = ReplacedNames::Nothing;
         let filled = has_entry_outside(vars, best, true, i, &replaced);
         fits & filled
@@ -245,15 +278,12 @@ fn is_satisfied_at(vars: &[Variable], best: &[Kind], i: usize) -> bool
     }
 }
 
-/// Gives each variable its greatest kind, and says whether some valuation is left.
-pub(crate) fn decide(vars: &[Variable], best: &mut [Kind]) -> bool
-    requires same { length best.old ≡ length vars.now }
+// Whether some valuation is left, where each variable has its greatest kind.
+fn is_satisfied(vars: &Shared<Variable>, best: &Shared<Kind>) -> bool
+    requires same { length best.now ≡ length vars.now }
     requires order { Ordered vars.now }
-    ensures same { length best.new ≡ length vars.now }
-    ensures best { IsBest vars.now best.new }
-    ensures satisfied { IsTrue result ↔ IsSatisfied vars.now best.new (unfenced vars.now) }
+    ensures { IsTrue result ↔ IsSatisfied vars.now best.now (unfenced vars.now) }
 {
-    settle(vars, best);
     let mut satisfied = true;
     for i in 0..vars.len() {
         let here = is_satisfied_at(vars, best, i);
@@ -262,31 +292,45 @@ pub(crate) fn decide(vars: &[Variable], best: &mut [Kind]) -> bool
     satisfied
 }
 
-// Whether two kinds are the same.
-fn is_same(a: Kind, b: Kind) -> bool
-    ensures { IsTrue result ↔ (a ≡ b) }
-{
-    a == b
+/// The greatest kinds, and whether some valuation is left.
+#[derive(Drop)]
+pub(crate) struct Decided {
+    pub(crate) best: Shared<Kind>,
+    pub(crate) alive: bool,
 }
 
-/// The same after one variable was limited, where it is known whether some valuation was left before: where its
-/// greatest kind stays, so do all others.
-pub(crate) fn redecide(vars: &[Variable], best: &mut [Kind], alive: bool, x: usize) -> bool
-    requires same { length best.old ≡ length vars.now }
+/// The greatest kinds after one variable was limited, and whether some valuation is left, where it is known whether
+/// some was left before: where the variable's greatest kind stays, so do all others.
+pub(crate) fn redecide(
+    vars: &Shared<Variable>,
+    best: &Shared<Kind>,
+    alive: bool,
+    x: usize,
+) -> Result<Decided, Memory>
+    requires same { length best.now ≡ length vars.now }
     requires order { Ordered vars.now }
     requires inside { x < length vars.now }
-    requires others { IsBestBut vars.now best.old x }
-    requires alive { IsBest vars.now best.old → IsTrue (has (var_at vars.now x).kinds (kind_at best.old x))
-        → (IsTrue alive ↔ IsSatisfied vars.now best.old (unfenced vars.now)) }
-    ensures same { length best.new ≡ length vars.now }
-    ensures best { IsBest vars.now best.new }
-    ensures satisfied { IsTrue result ↔ IsSatisfied vars.now best.new (unfenced vars.now) }
+    requires others { IsBestBut vars.now best.now x }
+    requires alive { IsBest vars.now best.now → IsTrue (has (var_at vars.now x).kinds (kind_at best.now x))
+        → (IsTrue alive ↔ IsSatisfied vars.now best.now (unfenced vars.now)) }
+    ensures same { IfOk result (λ new. length new.best ≡ length vars.now) }
+    ensures best { IfOk result (λ new. IsBest vars.now new.best) }
+    ensures satisfied { IfOk result (λ new. IsTrue new.alive ↔ IsSatisfied vars.now new.best (unfenced vars.now)) }
 {
     let k = greatest(vars, best, x);
-    let old = best[x];
+    let old = kind_at(best, x);
     if is_same(old, k) {
-        let fits = vars[x].kinds.has(k);
-        return alive & fits;
+        let new = fork_alone(best)?;
+        let fits = var_at(vars, x).kinds.has(k);
+        return Ok(Decided {
+            best: new,
+            alive: alive & fits,
+        });
     }
-    decide(vars, best)
+    let new = settled(vars, best, x)?;
+    let left = is_satisfied(vars, &new);
+    Ok(Decided {
+        best: new,
+        alive: left,
+    })
 }

@@ -1,12 +1,13 @@
 //! Stores of start trees: which trees may stand at the start of a path, by the literals of a clause.
-//! It stands on tree_clauses, feature_trees and script_names. Begin with `store`, and with specs/Stands.antt for what a
-//! store stands for.
+//! It stands on tree_clauses, shared_table, feature_trees and script_names. Begin with `store`, and with
+//! specs/Stands.antt for what a store stands for.
 #![tactic(auto)]
 
 mod appended;
 mod greatest;
 mod literals;
 mod new_name;
+mod places;
 mod start_tree;
 mod store;
 mod variable;

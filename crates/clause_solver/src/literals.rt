@@ -3,9 +3,11 @@ ghost use Rattle.clause_solver.specs.declared.variable.Definition.TheVariants as
 ghost use Rattle.clause_solver.specs.Written.{made_literals, definition_literals, is_all, kinds_literals};
 ghost use Rattle.clause_solver.specs.Written.{fence_literals, filled_literals, literals_of, literals_from};
 
+use crate::places::var_at;
 use crate::variable::{Definition, MadeValue, Variable};
 use feature_trees::{Kind, Kinds};
 use script_names::{Copied, List, Memory, Name};
+use shared_table::Shared;
 use std::alloc::Global;
 use tree_clauses::{Literal, Var};
 
@@ -127,20 +129,23 @@ fn add_variable(
 ) -> Result<(), Memory>
     ensures { OnOk result (literals.new ≡ literals.old ++ literals_of i v.now) }
 {
-    add_definition(alloc, literals, i, &v.definition)?;
+    add_definition(alloc, literals, i, v.definition.get())?;
     add_kinds(literals, i, v.kinds)?;
     add_fence(alloc, literals, i, &v.fence)?;
     add_filled(literals, i, v.not_empty)
 }
 
 /// The literals of the variables, in order.
-pub(crate) fn write_literals(alloc: Global, vars: &[Variable]) -> Result<List<Literal>, Memory>
+pub(crate) fn write_literals(
+    alloc: Global,
+    vars: &Shared<Variable>,
+) -> Result<List<Literal>, Memory>
     requires { length vars.now ≤ 4294967295 }
     ensures { IfOk result (λ v. v ≡ literals_from 0 vars.now) }
 {
     let mut literals = List::new(alloc);
     for i in 0..vars.len() {
-        add_variable(alloc, &mut literals, i as u32, &vars[i])?;
+        add_variable(alloc, &mut literals, i as u32, var_at(vars, i))?;
     }
     Ok(literals)
 }

@@ -1,8 +1,10 @@
 ghost use Rattle.std.specs.Prelude.{◌≡◌, ◌+◌, ◌<◌, ◌≤◌, ◌*◌, [], ◌∷◌, ◌++◌, length, IfOk, IsTrue};
 ghost use Rattle.clause_solver.specs.NewNames.{beginning, begins, name_used, is_letter, IsNew};
 
+use crate::places::definition_at;
 use crate::variable::{Definition, Variable};
 use script_names::{Memory, Name, NameFault};
+use shared_table::Shared;
 use std::alloc::Global;
 
 // Whether the bytes begin with p and then x.
@@ -30,12 +32,12 @@ fn uses(p: &[u8], x: u8, definition: &Definition) -> bool
 }
 
 // How many names in definitions begin with p and then x.
-fn count_going_on(vars: &[Variable], p: &[u8], x: u8) -> usize
+fn count_going_on(vars: &Shared<Variable>, p: &[u8], x: u8) -> usize
     ensures { result ≡ beginning (p.now ++ x ∷ []) vars.now }
 {
     let mut count = 0;
     for i in 0..vars.len() {
-        if uses(p, x, &vars[i].definition) {
+        if uses(p, x, definition_at(vars, i)) {
             count += 1;
         }
     }
@@ -43,7 +45,7 @@ fn count_going_on(vars: &[Variable], p: &[u8], x: u8) -> usize
 }
 
 // The letter that fewer of the names go on with.
-fn next_letter(vars: &[Variable], p: &[u8], room: usize) -> u8
+fn next_letter(vars: &Shared<Variable>, p: &[u8], room: usize) -> u8
     requires { beginning p.now vars.now < 2 * room }
     ensures letter { IsTrue (is_letter result) }
     ensures few { beginning (p.now ++ result ∷ []) vars.now < room }
@@ -56,7 +58,7 @@ fn next_letter(vars: &[Variable], p: &[u8], room: usize) -> u8
 }
 
 /// A name that no definition uses: 32 letters, each chosen so that fewer of the names go on with it.
-pub(crate) fn new_name(alloc: Global, vars: &[Variable]) -> Result<Name, Memory>
+pub(crate) fn new_name(alloc: Global, vars: &Shared<Variable>) -> Result<Name, Memory>
     requires { length vars.now ≤ 4294967295 }
     ensures { IfOk result (IsNew vars.now) }
 {

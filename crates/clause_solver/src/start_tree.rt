@@ -9,9 +9,11 @@ ghost use Rattle.clause_solver.specs.Opens.{mark_at, opened, IsRoot};
 ghost use Rattle.clause_solver.specs.Builds.{AreWithoutChildren, with_entry, moved_to_parent, ParentBelow};
 
 use crate::greatest::{ReplacedNames, has_entry_outside};
+use crate::places::{definition_at, kind_at, var_at};
 use crate::variable::{Definition, Variable};
 use feature_trees::{Entries, Kind, Value};
 use script_names::{Bytes, Memory, Name, NameFault};
+use shared_table::Shared;
 use std::alloc::Global;
 
 // A directory with one entry of that name where it is wanted.
@@ -44,19 +46,19 @@ fn value_without_children(
 }
 
 // Whether a place is marked, and has no fence.
-fn is_wanted(vars: &[Variable], marks: &[bool], i: usize) -> bool
+fn is_wanted(vars: &Shared<Variable>, marks: &[bool], i: usize) -> bool
     requires marks { length marks.now ≡ length vars.now }
     requires inside { i < length vars.now }
     ensures { result ≡ opened vars.now marks.now i }
 {
-    marks[i] && vars[i].fence.is_none()
+    marks[i] && var_at(vars, i).fence.is_none()
 }
 
 // Every variable of its greatest kind before any entry is known.
 fn values_without_children(
     alloc: Global,
-    vars: &[Variable],
-    best: &[Kind],
+    vars: &Shared<Variable>,
+    best: &Shared<Kind>,
     marks: &[bool],
     z: &Name,
 ) -> Result<Vec<Value>, Memory>
@@ -67,7 +69,7 @@ fn values_without_children(
     let mut bases = Vec::new(alloc);
     for i in 0..vars.len() {
         let wanted = is_wanted(vars, marks, i);
-        let base = value_without_children(alloc, best[i], wanted, z)?;
+        let base = value_without_children(alloc, kind_at(best, i), wanted, z)?;
         bases.push(base)?;
     }
     Ok(bases)
@@ -98,8 +100,8 @@ fn move_to_parent(values: &mut [Value], definition: &Definition, v: Value) -> Re
 /// The values are made from the last variable to the first, and each is moved into its parent once.
 pub(crate) fn grow(
     alloc: Global,
-    vars: &[Variable],
-    best: &[Kind],
+    vars: &Shared<Variable>,
+    best: &Shared<Kind>,
     marks: &[bool],
     z: &Name,
 ) -> Result<Value, Memory>
@@ -115,13 +117,13 @@ pub(crate) fn grow(
         if i == 0 {
             return Ok(v);
         }
-        move_to_parent(&mut built, &vars[i].definition, v)?;
+        move_to_parent(&mut built, definition_at(vars, i), v)?;
     }
     unreachable!()
 }
 
 // The place of the start tree that a variable is made from, where there is one.
-fn root(vars: &[Variable], x: usize) -> Option<usize>
+fn root(vars: &Shared<Variable>, x: usize) -> Option<usize>
     requires order { Ordered vars.now }
     requires inside { x < length vars.now }
     ensures within { IfSome result (λ r. r < length vars.now) }
@@ -129,7 +131,7 @@ fn root(vars: &[Variable], x: usize) -> Option<usize>
 {
     let mut here = x;
     loop {
-        match &vars[here].definition {
+        match definition_at(vars, here) {
             Definition::Start => return Some(here),
             Definition::Child(_, _) => return Some(here),
             Definition::Derived(of, _, _) => here = *of as usize,
@@ -140,7 +142,7 @@ fn root(vars: &[Variable], x: usize) -> Option<usize>
 }
 
 // Marks the place that a variable is made from, where the variable needs an entry and has none otherwise.
-fn open_for(vars: &[Variable], best: &[Kind], marks: &mut [bool], i: usize)
+fn open_for(vars: &Shared<Variable>, best: &Shared<Kind>, marks: &mut [bool], i: usize)
     requires same { length best.now ≡ length vars.now }
     requires marks { length marks.old ≡ length vars.now }
     requires order { Ordered vars.now }
@@ -152,7 +154,7 @@ fn open_for(vars: &[Variable], best: &[Kind], marks: &mut [bool], i: usize)
     ensures filled { IsTrue (var_at vars.now i).not_empty
         → HasEntryOutside vars.now best.now (opened vars.now marks.new) i [] }
 {
-    if !vars[i].not_empty {
+    if !var_at(vars, i).not_empty {
         return;
     }
     let replaced = ReplacedNames::Nothing;
@@ -169,8 +171,8 @@ fn open_for(vars: &[Variable], best: &[Kind], marks: &mut [bool], i: usize)
 /// Marks for the places that have to be shown with one more entry, so that each variable has one that needs it.
 pub(crate) fn open_places(
     alloc: Global,
-    vars: &[Variable],
-    best: &[Kind],
+    vars: &Shared<Variable>,
+    best: &Shared<Kind>,
 ) -> Result<Vec<bool>, Memory>
     requires same { length best.now ≡ length vars.now }
     requires order { Ordered vars.now }

@@ -1,5 +1,5 @@
 ghost use Rattle.std.specs.Prelude.{◌≡◌, ℕ, ◌+◌, ◌<◌, ◌≤◌, ◌↔◌, List, [], ◌∷◌, length, take, IsTrue};
-ghost use Rattle.std.specs.Prelude.{IfOk, IfSome, OnErr};
+ghost use Rattle.std.specs.Prelude.{IfOk, IfSome, OnOk, OnErr};
 ghost use Rattle.feature_trees.specs.declared.value.Value.{Value};
 ghost use Rattle.feature_trees.specs.Kinds.{has, none, both};
 ghost use Rattle.feature_trees.specs.Tree.{entry, kind_of};
@@ -16,10 +16,12 @@ use crate::appended::{Found, append, find, resolve};
 use crate::greatest::{kind_made, redecide};
 use crate::literals::write_literals;
 use crate::new_name::new_name;
+use crate::places::var_at;
 use crate::start_tree::{grow, open_places};
 use crate::variable::{Definition, MadeValue, Variable};
 use feature_trees::{Kind, Kinds, Value};
-use script_names::{Copied, Memory, Name};
+use script_names::{Common, Copied, Memory, Name};
+use shared_table::{Shared, fork_alone, push_alone, set_alone};
 use std::alloc::Global;
 use std::marker::Model;
 use tree_clauses::{Clause, Var};
@@ -28,10 +30,11 @@ use tree_clauses::{Clause, Var};
 /// so that a start tree decides the values of all.
 #[derive(Debug, Drop)]
 pub struct Store {
-    vars: Vec<Variable>,
-    best: Vec<Kind>,
+    vars: Shared<Variable>,
+    best: Shared<Kind>,
     current: u32,
     alive: bool,
+    alloc: Global,
 }
 
 impl Model for Store {
@@ -52,20 +55,39 @@ impl Store {
         ensures seen { IfOk result (λ s. (s.count ≡ 1) × (s.current ≡ 0)) }
         ensures pairs { IfOk result (λ s. (t : Value) (g : Valuation) → Stands s t g ↔ ((g ≡ t ∷ []) × IsTree t)) }
     {
-        let mut vars = Vec::new(alloc);
-        vars.push(Variable {
-            definition: Definition::Start,
+        let definition = Common::new(alloc, Definition::Start)?;
+        let first = Variable {
+            definition,
             kinds: Kinds::of(Kind::Dir),
             fence: None,
             not_empty: false,
-        })?;
-        let mut best = Vec::new(alloc);
-        best.push(Kind::Dir)?;
+        };
+        let mut vars = Shared::new(alloc);
+        push_alone(&mut vars, first)?;
+        let mut best = Shared::new(alloc);
+        push_alone(&mut best, Kind::Dir)?;
         Ok(Store {
             vars,
             best,
             current: 0,
             alive: true,
+            alloc,
+        })
+    }
+
+    /// An equal store, which owns the same nodes: no variable is copied, and a later change of the one store leaves the
+    /// other.
+    pub fn fork(&self) -> Result<Store, Memory>
+        ensures { IfOk result (λ fork. fork ≡ self.now) }
+    {
+        let vars = fork_alone(&self.vars)?;
+        let best = fork_alone(&self.best)?;
+        Ok(Store {
+            vars,
+            best,
+            current: self.current,
+            alive: self.alive,
+            alloc: self.alloc,
         })
     }
 
@@ -78,18 +100,22 @@ impl Store {
         Var(self.current)
     }
 
-    /// Limits a variable to a set of kinds, and says whether a pair is left. It takes no memory.
-    pub fn limit(&mut self, x: Var, k: Kinds) -> bool
+    /// Limits a variable to a set of kinds, and says whether a pair is left. For want of memory the store is as before.
+    pub fn limit(&mut self, x: Var, k: Kinds) -> Result<bool, Memory>
         requires { x.0 < self.old.count }
         ensures kept { (self.new.count ≡ self.old.count) × (self.new.current ≡ self.old.current) }
-        ensures exact { (t : Value) (g : Valuation) → Stands self.new t g
-            ↔ (Stands self.old t g × IsTrue (has k (kind_of (value_of_variable g x.0)))) }
-        ensures alive { IsTrue result ↔ Alive self.new }
+        ensures exact { IfOk result (λ left. (t : Value) (g : Valuation) → Stands self.new t g
+            ↔ (Stands self.old t g × IsTrue (has k (kind_of (value_of_variable g x.0))))) }
+        ensures alive { IfOk result (λ left. IsTrue left ↔ Alive self.new) }
+        ensures unchanged { OnErr result (self.new ≡ self.old) }
     {
-        narrow(&mut self.vars, x.0 as usize, k);
-        let alive = redecide(&self.vars, &mut self.best, self.alive, x.0 as usize);
-        self.alive = alive;
-        alive
+        let mut vars = fork_alone(&self.vars)?;
+        narrow(self.alloc, &mut vars, x.0 as usize, k)?;
+        let decided = redecide(&vars, &self.best, self.alive, x.0 as usize)?;
+        self.vars = vars;
+        self.best = decided.best;
+        self.alive = decided.alive;
+        Ok(decided.alive)
     }
 
     /// Whether the variable alone tells that no pair has a kind of this set there. Where it does not, there may be
@@ -132,16 +158,20 @@ impl Store {
             Found::Known(y) => Ok(Var(y)),
             Found::Nothing => {
                 let made = Definition::Made(MadeValue::Absent);
-                let y = append(&mut self.vars, &mut self.best, made)?;
+                let y = append(self.alloc, &mut self.vars, &mut self.best, made)?;
                 Ok(Var(y))
             }
             Found::At(n) => {
                 if let Some(y) = find(&self.vars, n, f) {
                     return Ok(Var(y));
                 }
-                let alloc = *self.vars.allocator();
-                let name = f.copy(alloc)?;
-                let y = append(&mut self.vars, &mut self.best, Definition::Child(n, name))?;
+                let name = f.copy(self.alloc)?;
+                let y = append(
+                    self.alloc,
+                    &mut self.vars,
+                    &mut self.best,
+                    Definition::Child(n, name),
+                )?;
                 Ok(Var(y))
             }
         }
@@ -158,10 +188,9 @@ impl Store {
         ensures count { self.new.count ≤ self.old.count + 1 }
     {
         f.is_sound();
-        let alloc = *self.vars.allocator();
-        let name = f.copy(alloc)?;
+        let name = f.copy(self.alloc)?;
         let derived = Definition::Derived(x.0, name, y.0);
-        let z = append(&mut self.vars, &mut self.best, derived)?;
+        let z = append(self.alloc, &mut self.vars, &mut self.best, derived)?;
         Ok(Var(z))
     }
 
@@ -192,7 +221,12 @@ impl Store {
         ensures kept { OnErr result (self.new ≡ self.old) }
         ensures count { self.new.count ≤ self.old.count + 1 }
     {
-        let y = append(&mut self.vars, &mut self.best, Definition::Made(value))?;
+        let y = append(
+            self.alloc,
+            &mut self.vars,
+            &mut self.best,
+            Definition::Made(value),
+        )?;
         Ok(Var(y))
     }
 
@@ -225,8 +259,7 @@ impl Store {
         ensures covers { IfOk result (λ c. (t u : Value) → Covers c t u ↔ HasPair self.now t u) }
         ensures solved { IfOk result IsSolved }
     {
-        let alloc = *self.vars.allocator();
-        let literals = write_literals(alloc, &self.vars)?;
+        let literals = write_literals(self.alloc, &self.vars)?;
         Ok(Clause {
             literals,
             start: Var(0),
@@ -235,20 +268,42 @@ impl Store {
     }
 }
 
-// Limits the variable at a place to a set of kinds.
-fn narrow(vars: &mut [Variable], x: usize, k: Kinds)
+// Limits the variable at a place to a set of kinds; for want of memory all is as before.
+fn narrow(alloc: Global, vars: &mut Shared<Variable>, x: usize, k: Kinds) -> Result<(), Memory>
     requires { x < length vars.old }
-    ensures { vars.new ≡ limited vars.old x k }
+    ensures { OnOk result (vars.new ≡ limited vars.old x k) }
 {
-    let kinds = narrowed(&vars[x], k);
-    vars[x].kinds = kinds;
+    let narrowed = narrowed_at(alloc, vars, x, k)?;
+    set_alone(vars, x, narrowed)?;
+    Ok(())
+}
+
+// The variable at a place, limited to a set of kinds.
+fn narrowed_at(
+    alloc: Global,
+    vars: &Shared<Variable>,
+    x: usize,
+    k: Kinds,
+) -> Result<Variable, Memory>
+    requires { x < length vars.now }
+    ensures { IfOk result (λ v. v ≡ record (var_at vars.now x) { kinds = narrowed (var_at vars.now x) k }) }
+{
+    let v = var_at(vars, x);
+    let definition = v.definition.fork()?;
+    let fence = v.fence.copy(alloc)?;
+    Ok(Variable {
+        definition,
+        kinds: narrowed(v, k),
+        fence,
+        not_empty: v.not_empty,
+    })
 }
 
 // The kinds of a variable that is limited to a set; where its definition says as much, they stay.
 fn narrowed(v: &Variable, k: Kinds) -> Kinds
     ensures { result ≡ narrowed v.now k }
 {
-    if fixed_in(&v.definition, k) {
+    if fixed_in(v.definition.get(), k) {
         v.kinds
     } else {
         Kinds::both(v.kinds, k)
@@ -269,11 +324,11 @@ fn fixed_in(definition: &Definition, k: Kinds) -> bool
 }
 
 // Whether a variable can have none of these kinds.
-fn allows_none(vars: &[Variable], x: usize, k: Kinds) -> bool
+fn allows_none(vars: &Shared<Variable>, x: usize, k: Kinds) -> bool
     requires { x < length vars.now }
     ensures { IsTrue result ↔ (both (possible (var_at vars.now x)) k ≡ none) }
 {
-    let kinds = possible(&vars[x]);
+    let kinds = possible(var_at(vars, x));
     Kinds::both(kinds, k).is_none()
 }
 
@@ -281,7 +336,7 @@ fn allows_none(vars: &[Variable], x: usize, k: Kinds) -> bool
 fn possible(v: &Variable) -> Kinds
     ensures { result ≡ possible v.now }
 {
-    possible_by(&v.definition, v.kinds)
+    possible_by(v.definition.get(), v.kinds)
 }
 
 // The one kind that a definition fixes, else the kinds that are given.
@@ -294,25 +349,5 @@ fn possible_by(definition: &Definition, kinds: Kinds) -> Kinds
         Definition::Derived(_, _, _) => Kinds::of(Kind::Dir),
         Definition::Ensured(_) => Kinds::of(Kind::Dir),
         Definition::Made(value) => Kinds::of(kind_made(value)),
-    }
-}
-
-impl Copied for Store {
-    fn copy(&self, alloc: Global) -> Result<Store, Memory> {
-        let mut vars = Vec::new(alloc);
-        for v in &self.vars {
-            let twin = v.copy(alloc)?;
-            vars.push(twin)?;
-        }
-        let mut best = Vec::new(alloc);
-        for k in &self.best {
-            best.push(*k)?;
-        }
-        Ok(Store {
-            vars,
-            best,
-            current: self.current,
-            alive: self.alive,
-        })
     }
 }

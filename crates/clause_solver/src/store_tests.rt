@@ -2,7 +2,7 @@ ghost use Rattle.std.specs.Prelude.{◌≡◌, ◌<◌, ◌≤◌, IfOk};
 
 use crate::store::Store;
 use feature_trees::{Kind, Kinds, Value, print_tree};
-use script_names::{Copied, Name};
+use script_names::Name;
 use std::process::Abort;
 use std::test::Fail;
 use tree_clauses::{Var, print_clause};
@@ -29,7 +29,7 @@ fn expect_clause<R: Abort + AllocGlobal>(rt: &R, s: &Store, text: &str) -> Resul
 // The tree of a store that has a pair, by a limit that leaves all pairs.
 fn expect_tree<R: Abort + AllocGlobal>(rt: &R, s: &mut Store, text: &str) -> Result<(), Fail> {
     let now = s.now();
-    assert!(rt; s.limit(now, Kinds::all()));
+    assert!(rt; s.limit(now, Kinds::all())?);
     let tree = s.start_tree(rt.alloc())?;
     assert!(rt; matches!(tree, Value::Dir(_)));
     let printed = print_tree(rt.alloc(), &tree)?;
@@ -43,19 +43,19 @@ fn limits(rt: HostRuntime) -> Result<(), Fail> {
     expect_clause(&rt, &s, "clause start v0 now v0\nkind v0 dir\n")?;
     expect_tree(&rt, &mut s, "")?;
     let etc = walk(&rt, &mut s, &[b"etc"])?;
-    assert!(rt; s.limit(etc, Kinds::of(Kind::Dir)));
+    assert!(rt; matches!(s.limit(etc, Kinds::of(Kind::Dir)), Ok(true)));
     let bin = walk(&rt, &mut s, &[b"usr", b"bin"])?;
-    assert!(rt; s.limit(bin, Kinds::of(Kind::Dir)));
+    assert!(rt; matches!(s.limit(bin, Kinds::of(Kind::Dir)), Ok(true)));
     let again = walk(&rt, &mut s, &[b"usr", b"bin"])?;
     assert_eq!(rt; (etc, bin, again), (Var(1), Var(3), Var(3)));
     expect_clause(&rt, &s, TWO_DIRECTORIES)?;
     expect_tree(&rt, &mut s, "d /etc\nd /usr\nd /usr/bin\n")?;
-    let mut copy = s.copy(rt.alloc())?;
+    let mut fork = s.fork()?;
     let now = s.now();
-    assert!(rt; !s.limit(now, Kinds::of(Kind::Reg)));
-    assert!(rt; !s.limit(now, Kinds::all()));
-    expect_clause(&rt, &copy, TWO_DIRECTORIES)?;
-    expect_tree(&rt, &mut copy, "d /etc\nd /usr\nd /usr/bin\n")
+    assert!(rt; matches!(s.limit(now, Kinds::of(Kind::Reg)), Ok(false)));
+    assert!(rt; matches!(s.limit(now, Kinds::all()), Ok(false)));
+    expect_clause(&rt, &fork, TWO_DIRECTORIES)?;
+    expect_tree(&rt, &mut fork, "d /etc\nd /usr\nd /usr/bin\n")
 }
 
 // Where `/etc` and `/usr/bin` are directories.
@@ -81,7 +81,7 @@ fn shows_each_kind(rt: HostRuntime) -> Result<(), Fail> {
     let mut s = Store::start(rt.alloc())?;
     for (word, kinds) in rows {
         let x = walk(&rt, &mut s, &[b"etc", word])?;
-        assert!(rt; s.limit(x, kinds));
+        assert!(rt; matches!(s.limit(x, kinds), Ok(true)));
     }
     expect_tree(
         &rt,
@@ -96,7 +96,7 @@ fn takes_many(rt: HostRuntime) -> Result<(), Fail> {
     let name: &[u8] = b"a";
     let x = walk(&rt, &mut deep, &[name; 64])?;
     assert_eq!(rt; x, Var(64));
-    assert!(rt; deep.limit(x, Kinds::of(Kind::Dir)));
+    assert!(rt; deep.limit(x, Kinds::of(Kind::Dir))?);
     let tree = deep.start_tree(rt.alloc())?;
     assert!(rt; matches!(tree, Value::Dir(_)));
     // the line of the k-th name has 2 k + 3 bytes
@@ -110,10 +110,10 @@ fn takes_many(rt: HostRuntime) -> Result<(), Fail> {
             b'0' + (i % 10) as u8,
         ];
         let x = walk(&rt, &mut wide, &[&digits])?;
-        assert!(rt; wide.limit(x, Kinds::of(Kind::Reg)));
+        assert!(rt; matches!(wide.limit(x, Kinds::of(Kind::Reg)), Ok(true)));
     }
     let now = wide.now();
-    assert!(rt; wide.limit(now, Kinds::all()));
+    assert!(rt; wide.limit(now, Kinds::all())?);
     match wide.start_tree(rt.alloc())? {
         Value::Dir(entries) => assert_eq!(rt; entries.len(), 2000),
         _ => assert!(rt; false),
@@ -148,7 +148,7 @@ fn put_under<R: Abort + AllocGlobal>(rt: &R, s: &mut Store, word: &[u8], y: Var)
 fn derives(rt: HostRuntime) -> Result<(), Fail> {
     let mut s = Store::start(rt.alloc())?;
     let a = walk(&rt, &mut s, &[b"a"])?;
-    assert!(rt; s.limit(a, Kinds::of(Kind::Absent)));
+    assert!(rt; matches!(s.limit(a, Kinds::of(Kind::Absent)), Ok(true)));
     let dir = make(&mut s, true)?;
     put_under(&rt, &mut s, b"a", dir)?;
     expect_clause(&rt, &s, ONE_MADE)?;
@@ -156,19 +156,19 @@ fn derives(rt: HostRuntime) -> Result<(), Fail> {
     let below = walk(&rt, &mut s, &[b"a", b"b"])?;
     let c = walk(&rt, &mut s, &[b"c"])?;
     assert_eq!(rt; (below, c), (Var(4), Var(5)));
-    assert!(rt; s.limit(c, Kinds::of(Kind::Reg)));
+    assert!(rt; matches!(s.limit(c, Kinds::of(Kind::Reg)), Ok(true)));
     let gone = make(&mut s, false)?;
     put_under(&rt, &mut s, b"c", gone)?;
     expect_clause(&rt, &s, ONE_GONE)?;
     expect_tree(&rt, &mut s, "f /c\n")?;
     // a limit that the definition has already writes nothing
     let now = s.now();
-    assert!(rt; s.limit(now, Kinds::of(Kind::Dir)));
+    assert!(rt; matches!(s.limit(now, Kinds::of(Kind::Dir)), Ok(true)));
     expect_clause(&rt, &s, ONE_GONE)?;
-    let mut copy = s.copy(rt.alloc())?;
-    let again = walk(&rt, &mut copy, &[b"c"])?;
+    let mut fork = s.fork()?;
+    let again = walk(&rt, &mut fork, &[b"c"])?;
     assert_eq!(rt; again, Var(6));
-    assert!(rt; !copy.limit(again, Kinds::of(Kind::Reg)));
+    assert!(rt; matches!(fork.limit(again, Kinds::of(Kind::Reg)), Ok(false)));
     expect_tree(&rt, &mut s, "f /c\n")
 }
 
@@ -225,6 +225,6 @@ fn derives_made_ones(rt: HostRuntime) -> Result<(), Fail> {
     let b = walk(&rt, &mut s, &[b"etc", b"b"])?;
     assert_eq!(rt; b, Var(2));
     let old = walk(&rt, &mut s, &[b"etc", b"c"])?;
-    assert!(rt; !s.limit(old, Kinds::of(Kind::Dir)));
+    assert!(rt; matches!(s.limit(old, Kinds::of(Kind::Dir)), Ok(false)));
     Ok(())
 }

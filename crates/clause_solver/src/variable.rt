@@ -1,7 +1,7 @@
 ghost use Rattle.std.specs.Prelude.{◌≡◌};
 
 use feature_trees::Kinds;
-use script_names::{Bytes, Copied, List, Memory, Name};
+use script_names::{Bytes, Common, Copied, List, Memory, Name};
 use std::alloc::Global;
 
 /// A value that a program makes.
@@ -28,10 +28,11 @@ pub(crate) enum Definition {
     Made(MadeValue),
 }
 
-/// A variable of a store: its definition, and what is known of its value.
+/// A variable of a store: its definition, which never changes and is shared by all copies of the variable, and what is
+/// known of its value.
 #[derive(Debug, Drop)]
 pub(crate) struct Variable {
-    pub(crate) definition: Definition,
+    pub(crate) definition: Common<Definition>,
     pub(crate) kinds: Kinds,
     /// The only names that its entries may have. Places of the start tree alone have a fence.
     pub(crate) fence: Option<List<Name>>,
@@ -39,36 +40,9 @@ pub(crate) struct Variable {
     pub(crate) not_empty: bool,
 }
 
-impl Copied for MadeValue {
-    fn copy(&self, alloc: Global) -> Result<MadeValue, Memory> {
-        match self {
-            MadeValue::Absent => Ok(MadeValue::Absent),
-            MadeValue::Reg => Ok(MadeValue::Reg),
-            MadeValue::Link(target) => Ok(MadeValue::Link(target.copy(alloc)?)),
-            MadeValue::Dir => Ok(MadeValue::Dir),
-        }
-    }
-}
-
-impl Copied for Definition {
-    fn copy(&self, alloc: Global) -> Result<Definition, Memory> {
-        match self {
-            Definition::Start => Ok(Definition::Start),
-            Definition::Child(of, name) => Ok(Definition::Child(*of, name.copy(alloc)?)),
-            Definition::Derived(of, name, value) => Ok(Definition::Derived(
-                *of,
-                name.copy(alloc)?,
-                *value,
-            )),
-            Definition::Ensured(of) => Ok(Definition::Ensured(*of)),
-            Definition::Made(value) => Ok(Definition::Made(value.copy(alloc)?)),
-        }
-    }
-}
-
 impl Copied for Variable {
     fn copy(&self, alloc: Global) -> Result<Variable, Memory> {
-        let definition = self.definition.copy(alloc)?;
+        let definition = self.definition.fork()?;
         let fence = self.fence.copy(alloc)?;
         Ok(Variable {
             definition,

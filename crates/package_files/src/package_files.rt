@@ -71,7 +71,7 @@ fn require_directory(store: &mut Store, path: &Path) -> Result<(), Memory>
     for f in path.names() {
         x = store.child(x, f)?;
     }
-    let _is_left = store.limit(x, Kinds::of(Kind::Dir));
+    let _is_left = store.limit(x, Kinds::of(Kind::Dir))?;
     Ok(())
 }
 

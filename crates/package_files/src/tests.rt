@@ -27,7 +27,7 @@ fn may_stand(alloc: Global, name: &[u8], kind: Kind) -> Result<bool, NameFault> 
     let mut store = start_store(alloc)?;
     let root = store.now();
     let entry = store.child(root, &name)?;
-    Ok(store.limit(entry, Kinds::of(kind)))
+    Ok(store.limit(entry, Kinds::of(kind))?)
 }
 
 #[test]

@@ -8,6 +8,7 @@ use clause_solver::Clause;
 use feature_trees::Value;
 use package_files::{CONFIGURE, Ending, Job, ending_of, start_store};
 use script_names::{List, Mark, Memory};
+use shared_table::Shared;
 use shell_rules::{Command, End};
 use std::alloc::Global;
 use symbolic_exec::{Ended, PathState, paths};
@@ -26,6 +27,20 @@ pub struct Outcome {
 // As many outcomes as can be numbered. So many fit no memory.
 const ROOM: usize = 4_294_967_294;
 
+// The marks of a trace, as a plain list.
+fn listed(alloc: Global, trace: &Shared<Mark>) -> Result<List<Mark>, Memory>
+    ensures { IfOk result (λ list. list ≡ trace.now) }
+{
+    let mut list = List::new(alloc);
+    for i in 0..trace.len() {
+        match trace.get(i) {
+            None => unreachable!(),
+            Some(mark) => list.add(*mark)?,
+        }
+    }
+    Ok(list)
+}
+
 // The outcome of a path, by its place in the list of paths.
 fn make_outcome(alloc: Global, place: u32, path: Ended<End>) -> Result<Outcome, Memory>
     requires alive { Alive path.state.store }
@@ -36,6 +51,7 @@ fn make_outcome(alloc: Global, place: u32, path: Ended<End>) -> Result<Outcome, 
     let PathState { store, trace } = state;
     let clause = store.clause()?;
     let shown = store.start_tree(alloc)?;
+    let trace = listed(alloc, &trace)?;
     Ok(Outcome {
         number: place + 1,
         ending: ending_of(end),
@@ -78,7 +94,7 @@ pub fn outcomes(alloc: Global, job: &Job) -> Result<List<Outcome>, Memory>
     let store = start_store(alloc)?;
     let from = PathState {
         store,
-        trace: List::new(alloc),
+        trace: Shared::new(alloc),
     };
     match paths(alloc, CONFIGURE, commands(job), from, ROOM) {
         Ok(found) => {

@@ -2,11 +2,13 @@
 //! It stands on script_names alone. Begin with `shared`.
 #![tactic(auto)]
 
+mod alone;
 mod node;
 mod shared;
 mod steps;
 #[cfg(test)]
 mod tests;
 
+pub use alone::{fork_alone, push_alone, set_alone};
 pub use shared::Shared;
 pub use steps::Steps;

@@ -6,7 +6,8 @@ ghost use Rattle.symbolic_exec.specs.Points.{Found, From};
 
 use crate::queue::Queue;
 use crate::state::{Ended, PathState, PathsFault};
-use script_names::{Copied, Done, List, Mark, Memory, Site};
+use script_names::{Done, Mark, Memory, Site};
+use shared_table::{Shared, fork_alone, push_alone};
 use shell_rules::End;
 use std::alloc::Global;
 use utility_calls::Act;
@@ -25,11 +26,11 @@ fn end_of_row(act: &Act, row: u8, negate: bool, site: Site) -> End
 }
 
 // The trace with one mark more.
-fn with_mark(alloc: Global, trace: &List<Mark>, site: Site, row: u8) -> Result<List<Mark>, Memory>
+fn with_mark(trace: &Shared<Mark>, site: Site, row: u8) -> Result<Shared<Mark>, Memory>
     ensures { IfOk result (λ t. t ≡ marked trace.now site row) }
 {
-    let mut more = trace.copy(alloc)?;
-    more.add(Mark { site, row })?;
+    let mut more = fork_alone(trace)?;
+    push_alone(&mut more, Mark { site, row })?;
     Ok(more)
 }
 
@@ -49,7 +50,7 @@ pub fn fork(
     let last = greatest_row(&from.store, act);
     let mut out = Queue::new(alloc);
     for row in 1..last {
-        let found = take_row(alloc, &from.store, act, row)?;
+        let found = take_row(&from.store, act, row)?;
         let store = match found {
             Some(store) => store,
             None => continue,
@@ -57,7 +58,7 @@ pub fn fork(
         if out.len() >= room {
             return Err(PathsFault::Over);
         }
-        let trace = with_mark(alloc, &from.trace, site, row)?;
+        let trace = with_mark(&from.trace, site, row)?;
         let end = end_of_row(act, row, negate, site);
         let state = PathState { store, trace };
         out.push(Ended { end, state })?;
@@ -70,7 +71,7 @@ pub fn fork(
     if room <= out.len() {
         return Err(PathsFault::Over);
     }
-    trace.add(Mark { site, row: last })?;
+    push_alone(&mut trace, Mark { site, row: last })?;
     let end = end_of_row(act, last, negate, site);
     let state = PathState { store, trace };
     out.push(Ended { end, state })?;

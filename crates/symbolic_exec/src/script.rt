@@ -28,7 +28,7 @@ pub fn paths(
 {
     let PathState { mut store, trace } = from;
     let now = store.now();
-    if !store.limit(now, Kinds::all()) {
+    if !store.limit(now, Kinds::all())? {
         return Ok(List::new(alloc));
     }
     if room == 0 {

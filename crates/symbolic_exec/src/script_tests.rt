@@ -4,6 +4,7 @@ use crate::{Ended, PathState, PathsFault, paths};
 use clause_solver::Store;
 use feature_trees::{Kind, Kinds};
 use script_names::{List, Mark, Memory, Name, Path, Reason, Site};
+use shared_table::Shared;
 use shell_rules::{Command, End};
 use std::alloc::Global;
 use utility_calls::{Act, Planned};
@@ -84,7 +85,7 @@ fn answer(alloc: Global, rows: &[Row], room: usize) -> Result<List<Ended<End>>, 
         Ok(store) => store,
         Err(_) => return Err(PathsFault::Memory),
     };
-    let trace = List::new(alloc);
+    let trace = Shared::new(alloc);
     paths(
         alloc,
         3,
@@ -94,15 +95,14 @@ fn answer(alloc: Global, rows: &[Row], room: usize) -> Result<List<Ended<End>>, 
     )
 }
 
-fn same_marks(trace: &List<Mark>, want: &[(u32, u8)]) -> bool {
-    let marks = trace.as_slice();
-    if marks.len() != want.len() {
+fn same_marks(trace: &Shared<Mark>, want: &[(u32, u8)]) -> bool {
+    if trace.len() != want.len() {
         return false;
     }
-    for i in 0..marks.len() {
+    for i in 0..want.len() {
         let (at, row) = want[i];
         let site = Site { step: 3, at };
-        if marks[i] != (Mark { site, row }) {
+        if trace.get(i) != Some(&Mark { site, row }) {
             return false;
         }
     }
@@ -327,10 +327,10 @@ fn known_calls(rt: HostRuntime) {
         Ok(mut store) => {
             let now = store.now();
             assert!(rt;
-                !store.limit(now, Kinds::of(Kind::Reg)),
+                matches!(store.limit(now, Kinds::of(Kind::Reg)), Ok(false)),
                 "a tree is no file"
             );
-            let trace = List::new(alloc);
+            let trace = Shared::new(alloc);
             match paths(alloc, 3, &[], PathState { store, trace }, 0) {
                 Ok(list) => assert!(rt; list.len() == 0, "no pair, no path"),
                 Err(_) => assert!(rt; false, "no pair, no fault"),

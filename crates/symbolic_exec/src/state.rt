@@ -1,13 +1,27 @@
 //! What a path is made of.
 
+ghost use Rattle.std.specs.Prelude.{◌≡◌, IfOk};
+
 use clause_solver::Store;
-use script_names::{List, Mark, Memory};
+use script_names::{Mark, Memory};
+use shared_table::{Shared, fork_alone};
 
 /// Where a path stands: the pairs of trees that are on it, and the marks of its acts, in order.
 #[derive(Debug, Drop)]
 pub struct PathState {
     pub store: Store,
-    pub trace: List<Mark>,
+    pub trace: Shared<Mark>,
+}
+
+impl PathState {
+    /// An equal state by forks of its parts; a later change of the one leaves the other.
+    pub fn fork(&self) -> Result<PathState, Memory>
+        ensures { IfOk result (λ fork. fork ≡ self.now) }
+    {
+        let store = self.store.fork()?;
+        let trace = fork_alone(&self.trace)?;
+        Ok(PathState { store, trace })
+    }
 }
 
 /// A path: how it ended, and its state then.

@@ -14,14 +14,13 @@ use crate::looks::{lacks, lacks_within};
 use crate::ways::{keep, keep_within};
 use clause_solver::Store;
 use feature_trees::{Kind, Kinds};
-use script_names::{Copied, Memory};
-use std::alloc::Global;
+use script_names::Memory;
 use utility_calls::Act;
 use utility_calls::theorems::rows_are_few;
 
 /// The pairs of a store in which the act takes a row, each with the tree that the act leaves; None exactly where no
 /// pair takes it.
-pub fn take_row(alloc: Global, store: &Store, act: &Act, row: u8) -> Result<Option<Store>, Memory>
+pub fn take_row(store: &Store, act: &Act, row: u8) -> Result<Option<Store>, Memory>
     ensures exact { IfOk result (λ o. IfSome o (λ new.
         (t v : Value) → HasPair new t v ↔ Taken store.now act.now row t v)) }
     ensures alive { IfOk result (λ o. IfSome o Alive) }
@@ -30,12 +29,12 @@ pub fn take_row(alloc: Global, store: &Store, act: &Act, row: u8) -> Result<Opti
     if is_refused(store, act, row) {
         return Ok(None);
     }
-    let new = store.copy(alloc)?;
+    let new = store.fork()?;
     let taken = take(new, act, row)?;
     Ok(taken)
 }
 
-/// The same for a store that is given away, so that nothing is copied.
+/// The same for a store that is given away, so that nothing is forked.
 pub fn into_row(store: Store, act: &Act, row: u8) -> Result<Option<Store>, Memory>
     ensures exact { IfOk result (λ o. IfSome o (λ new.
         (t v : Value) → HasPair new t v ↔ Taken store act.now row t v)) }

@@ -44,7 +44,7 @@ fn expect<R: Abort + AllocGlobal>(rt: &R, store: &Store, table: &[Taking]) -> Re
     for case in table {
         let act = act(rt, case.0, case.1, case.2)?;
         for row in 0..73 {
-            let took = take_row(rt.alloc(), store, &act, row)?.is_some();
+            let took = take_row(store, &act, row)?.is_some();
             assert_eq!(rt; took, case.3.contains(&row), "row {row}");
         }
     }
@@ -60,7 +60,7 @@ fn after<R: Abort + AllocGlobal>(
     row: u8,
 ) -> Result<Store, Fail> {
     let act = act(rt, call, words, false)?;
-    match take_row(rt.alloc(), store, &act, row)? {
+    match take_row(store, &act, row)? {
         Some(new) => Ok(new),
         None => {
             assert!(rt; false, "row {row}");
@@ -207,10 +207,7 @@ fn takes_rows_of_the_longest_path(rt: HostRuntime) -> Result<(), Fail> {
     ];
     for (call, row) in rows {
         let act = act(&rt, call, &[name; 64], false)?;
-        assert!(rt;
-            take_row(rt.alloc(), &all, &act, row)?.is_some(),
-            "row {row}"
-        );
+        assert!(rt; take_row(&all, &act, row)?.is_some(), "row {row}");
     }
     Ok(())
 }
@@ -389,7 +386,7 @@ fn expect_shown<R: Abort + AllocGlobal>(
     let printed = print_clause(rt.alloc(), &store.clause()?)?;
     assert_eq!(rt; printed.as_slice(), clause.as_bytes());
     let now = store.now();
-    assert!(rt; store.limit(now, Kinds::all()));
+    assert!(rt; store.limit(now, Kinds::all())?);
     let shown = store.start_tree(rt.alloc())?;
     let printed = print_tree(rt.alloc(), &shown)?;
     assert_eq!(rt; printed.as_slice(), tree.as_bytes());
@@ -401,10 +398,10 @@ fn shows_rows(rt: HostRuntime) -> Result<(), Fail> {
     let mut base = Store::start(rt.alloc())?;
     let now = base.now();
     let srv = base.child(now, &Name::read(rt.alloc(), b"srv")?)?;
-    assert!(rt; base.limit(srv, Kinds::of(Kind::Dir)));
+    assert!(rt; base.limit(srv, Kinds::of(Kind::Dir))?);
     for case in SHOWN {
         let act = act(&rt, case.0, case.1, case.2)?;
-        match take_row(rt.alloc(), &base, &act, case.3)? {
+        match take_row(&base, &act, case.3)? {
             Some(store) => expect_shown(&rt, store, case.4, case.5)?,
             None => assert!(rt; false, "no tree takes it"),
         }

@@ -19,7 +19,7 @@ pub(crate) fn keep(store: &mut Store, names: &[Name], kinds: Kinds) -> Result<bo
         NoLinkOnWay u names.now × IsTrue (has kinds (kind_of (at u names.now))))) }
 {
     let end = follow(store, names)?;
-    let left = store.limit(end, kinds);
+    let left = store.limit(end, kinds)?;
     Ok(left)
 }
 
@@ -40,7 +40,7 @@ pub(crate) fn keep_within(
     let last = names.len() - 1;
     let x = follow(store, &names[..last])?;
     let end = down(store, x, &names[last], parent_kinds)?;
-    let left = store.limit(end, kinds);
+    let left = store.limit(end, kinds)?;
     Ok(left)
 }
 
@@ -63,7 +63,7 @@ fn down(store: &mut Store, x: Var, f: &Name, kinds: Kinds) -> Result<Var, Memory
     ensures pairs { IfOk result (λ y. (p : List (List ℕ)) → IsAt store.old x.0 p
         → Keeps store.old store.new (λ u. IsTrue (has kinds (kind_of (at u p))))) }
 {
-    let _left = store.limit(x, kinds);
+    let _left = store.limit(x, kinds)?;
     let y = store.child(x, f)?;
     Ok(y)
 }

@@ -1,10 +1,9 @@
-use Rattle.std.proofs.Common.{◌≡◌, ◌∙◌, ap, IsTrue, ◌↔◌, ◌∷◌}
+use Rattle.std.proofs.Common.{◌≡◌, ◌∙◌, sym, IsTrue, ◌↔◌, ◌∷◌}
 use Rattle.clause_solver.specs.ReplacedNames.{names}
-use Rattle.clause_solver.specs.declared.variable.Variable.{Variable}
 use Rattle.clause_solver.specs.declared.variable.Definition.TheVariants.{Derived, Ensured, Made}
-use Rattle.clause_solver.specs.Variables.{var_at, no_variable}
+use Rattle.clause_solver.specs.Variables.{var_at}
 use Rattle.clause_solver.specs.Greatest.{HasEntryOutside, kept, unfenced_if}
-use Rattle.clause_solver.proofs.HasEntries.{derived_iff, has_entry_ensured, has_entry_made, replaced_also, var_same}
+use Rattle.clause_solver.proofs.HasEntries.{derived_iff, has_entry_ensured, has_entry_made, replaced_also}
 use Rattle.clause_solver.proofs.greatest.+has_entry_outside.Goals as goal
 
 pub returns-in-Derived : goal.returns-in-Derived
@@ -12,7 +11,7 @@ returns-in-Derived g c =
     let vars = c.args.vars.now in
     let best = c.args.best.now in
     let e : (var_at vars c.args.x).definition ≡ Derived c.in-Derived.of c.in-Derived.f c.in-Derived.y =
-    ap (λ (q : Variable). q.definition) (var_same vars c.args.x no_variable _ c.requires.inside) ∙ c.in-Derived.is in
+    sym c.definition_at.ensures ∙ c.in-Derived.is in
     let deep : IsTrue c.has_entry_outside-second.result ↔ HasEntryOutside vars best (unfenced_if vars c.args.counted) c.in-Derived.of (c.in-Derived.f ∷ names c.args.replaced.now) =
     rw (replaced_also _ c.args.replaced) at c.has_entry_outside-second.ensures in
     derived_iff vars best (unfenced_if vars c.args.counted) c.requires.order c.args.x c.in-Derived.of c.in-Derived.f c.in-Derived.y (names c.args.replaced.now) c.is_shown-first.result c.has_entry_outside-second.result e c.is_shown-first.ensures deep
@@ -23,7 +22,7 @@ returns-in-Ensured g c =
     let best = c.args.best.now in
     let ds = names c.args.replaced.now in
     let e : (var_at vars c.args.x).definition ≡ Ensured c.in-Ensured.of =
-    ap (λ (q : Variable). q.definition) (var_same vars c.args.x no_variable _ c.requires.inside) ∙ c.in-Ensured.is in
+    sym c.definition_at.ensures ∙ c.in-Ensured.is in
     let deep = c.has_entry_outside.ensures in
     (λ t. kept c.in-Ensured.of e (deep.0 t), λ l. deep.1 (has_entry_ensured vars best (unfenced_if vars c.args.counted) c.requires.order c.args.x c.in-Ensured.of ds e l))
 
@@ -33,5 +32,5 @@ returns-in-Made g c =
     let best = c.args.best.now in
     let ds = names c.args.replaced.now in
     let e : (var_at vars c.args.x).definition ≡ Made c.in-Made.field-0 =
-    ap (λ (q : Variable). q.definition) (var_same vars c.args.x no_variable _ c.requires.inside) ∙ c.in-Made.is in
+    sym c.definition_at.ensures ∙ c.in-Made.is in
     (λ t. cc, λ l. absurd (has_entry_made vars best (unfenced_if vars c.args.counted) c.requires.order c.args.x c.in-Made.field-0 ds e l))

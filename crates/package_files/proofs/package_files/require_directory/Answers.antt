@@ -19,7 +19,7 @@ pub returns : goal.returns
 returns c =
     let P : List (List ℕ) → Type 0 = λ names. Walked c.args.store.now c.loop-f.store names c.loop-f.x.0 in
     let walked = subst P (take_all c.names-f-items.result.now c.loop-f.f-index c.loop-f-test.false ∙ c.names-f-items.ensures.names) c.loop-f.invariant in
-    let Q : Kinds → Type 0 = λ k. (t : Value) (g : Valuation) → Stands c.limit-is_left.new.self t g
+    let Q : Kinds → Type 0 = λ k. (t : Value) (g : Valuation) → Stands c.limit.new.self t g
     ↔ (Stands c.loop-f.store t g × IsTrue (has k (kind_of (value_of_variable g c.loop-f.x.0)))) in
-    directory_pairs c.args.store.now c.loop-f.store c.limit-is_left.new.self c.args.path.now.names c.loop-f.x.0 walked c.limit-is_left.ensures.kept.1
-    (subst Q c.of.ensures c.limit-is_left.ensures.exact)
+    directory_pairs c.args.store.now c.loop-f.store c.limit.new.self c.args.path.now.names c.loop-f.x.0 walked c.in_ok-_is_left.ensures.kept.1
+    (subst Q c.of.ensures c.in_ok-_is_left.ensures.exact)

@@ -6,7 +6,7 @@ pub returns : goal.returns
 returns c = record {
   number = refl;
   ending = search rules;
-  trace = refl;
+  trace = c.in_ok-trace.ensures;
   covers = c.in_ok-clause.ensures.covers;
   shown = (value_of_variable c.in_ok-shown.ensures.0 c.args.path.state.store.current, (c.in_ok-shown.ensures.0, c.in_ok-shown.ensures.1, refl));
 }

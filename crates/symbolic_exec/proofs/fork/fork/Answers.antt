@@ -68,7 +68,7 @@ returns c =
     let last = c.greatest_row-last.result in
     let store = c.in-Some-2.store in
     let rows = rows_to c.args.act.now c.args.site end_of c.args.from c.loop-row.row last c.loop-row.out c.loop-row.invariant.below (omega (arith, c.loop-row-test.false)) c.loop-row.invariant.rows in
-    let n = taken_is c.args.site c.args.from last c.end_of_row-end-2.result (end_of last) store c.add.new.self c.loop-row.out c.push-2.new.self c.end_of_row-end-2.ensures c.in_ok-add.ensures.ok c.in_ok-push-2.ensures in
+    let n = taken_is c.args.site c.args.from last c.end_of_row-end-2.result (end_of last) store c.push_alone.new.list c.loop-row.out c.push-2.new.self c.end_of_row-end-2.ensures c.in_ok-push_alone.ensures.ok c.in_ok-push-2.ensures in
     let l = ap length n ∙ length-append c.loop-row.out (taken c.args.act.now c.args.site end_of c.args.from last store ∷ []) in
     end_rows c.args.act.now c.args.site end_of c.args.from last c.args.room c.push-2.new.self c.greatest_row-last.ensures.above (omega (arith, l, c.len-2.ensures, c.if-room-len.false))
     (add_row c.args.act.now c.args.site end_of c.args.from last c.loop-row.out c.push-2.new.self store

@@ -1,4 +1,4 @@
-use Rattle.std.proofs.Common.{rules, ◌≡◌, List, [], ◌∷◌, refl}
+use Rattle.std.proofs.Common.{rules, [], ◌∷◌, refl}
 use Rattle.feature_trees.specs.declared.value.Value.TheVariants as value
 use Rattle.clause_solver.proofs.store.Store.start.Goals as goal
 
