@@ -5,3 +5,5 @@ pub mod Edited
 pub mod Valuations
 pub mod Passing
 pub mod Decided
+pub mod Pieces
+pub mod ClauseLaw

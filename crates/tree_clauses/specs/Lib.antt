@@ -5,3 +5,5 @@ pub mod Decides
 pub mod Steps
 pub mod MadeValues
 pub mod Held
+pub mod Cuts
+pub mod ClauseRead
