@@ -28,7 +28,8 @@ pub fn paths(
 {
     let PathState { mut store, trace } = from;
     let now = store.now();
-    if !store.limit(now, Kinds::all())? {
+    let left = store.limit(now, Kinds::all())?;
+    if !left {
         return Ok(List::new(alloc));
     }
     if room == 0 {
