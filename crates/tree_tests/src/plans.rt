@@ -1,5 +1,5 @@
-use crate::acts::Act;
-use crate::calls::{Planned, plan};
+use utility_calls::acts::Act;
+use utility_calls::calls::{Planned, plan};
 use script_names::{Bytes, List, Memory, Path, Reason};
 use std::alloc::Global;
 use std::process::Abort;

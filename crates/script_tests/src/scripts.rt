@@ -6,7 +6,7 @@ mod long_lists;
 mod rows;
 mod show;
 
-use crate::parse;
+use shell_parser::parse;
 use rows::TABLES;
 use shell_grammar::ParseFault;
 use shell_lexer::lex;

@@ -1,6 +1,6 @@
 //! The usual template of a maintainer script, cut off behind each of its bytes, with what is answered by hand.
 
-use crate::parse;
+use shell_parser::parse;
 use shell_grammar::ParseFault;
 use shell_lexer::lex;
 use std::alloc::Global;

@@ -2,7 +2,7 @@
 
 mod rows;
 
-use crate::accepted::{FormFault, accept};
+use shell_forms::{FormFault, accept};
 use rows::TABLES;
 use script_names::{Bytes, Memory};
 use shell_lexer::lex;
