@@ -6,13 +6,13 @@
 
 mod rows;
 
-use shell_lexer::{LexFault, RawPart, Token, TokenKind, lex};
 use rows::{
     BLANKS_AND_COMMENTS, FAULTS_TOGETHER, OPENED, OPERATORS, PARAMETERS, QUOTES, REDIRECTIONS,
     REFUSED_PARAMETERS, REFUSED_REDIRECTIONS, SUBSTITUTIONS, TEMPLATE, TEMPLATE_TOKENS,
     WHOLE_TEXTS, WHOLE_WORDS,
 };
 use script_names::{Bytes, Copied, List, Memory};
+use shell_lexer::{LexFault, RawPart, Token, TokenKind, lex};
 use shell_syntax::{Form, Key, Redirect};
 use std::alloc::Global;
 use std::test::Fail;
