@@ -9,7 +9,3 @@ mod walks;
 
 pub use acts::act;
 
-#[cfg(test)]
-mod steps_tests;
-#[cfg(test)]
-mod tests;

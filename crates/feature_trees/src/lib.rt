@@ -17,7 +17,3 @@ pub use put::PutFault;
 pub use read::{MOST_NAMES, TreeFault, read_tree};
 pub use value::{Entries, Value};
 
-#[cfg(test)]
-mod read_tests;
-#[cfg(test)]
-mod tests;

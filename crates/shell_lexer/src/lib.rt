@@ -23,5 +23,3 @@ pub use fault::LexFault;
 pub use lexer::lex;
 pub use token::{Lexed, RawPart, Token, TokenKind};
 
-#[cfg(test)]
-mod tests;

@@ -13,5 +13,3 @@ mod trees;
 
 pub use script::parse;
 
-#[cfg(test)]
-mod tests;

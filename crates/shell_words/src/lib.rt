@@ -20,5 +20,3 @@ pub use pattern::matches;
 pub use piece::Piece;
 pub use trim::trim_newlines;
 
-#[cfg(test)]
-mod tests;

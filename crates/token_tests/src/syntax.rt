@@ -1,7 +1,9 @@
 //! One script in which each form of command and of part stands, copied and compared.
 
-use crate::{Assign, CaseArm, Command, Form, IfArm, Key, Link, Part, Redirect, Script, Word};
 use script_names::{Boxed as Box, Bytes, Copied, List, Memory};
+use shell_syntax::{
+    Assign, CaseArm, Command, Form, IfArm, Key, Link, Part, Redirect, Script, Word,
+};
 use std::alloc::Global;
 use std::test::Fail;
 

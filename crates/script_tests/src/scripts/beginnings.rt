@@ -1,8 +1,8 @@
 //! The usual template of a maintainer script, cut off behind each of its bytes, with what is answered by hand.
 
-use crate::parse;
 use shell_grammar::ParseFault;
 use shell_lexer::lex;
+use shell_parser::parse;
 use std::alloc::Global;
 use std::test::Fail;
 

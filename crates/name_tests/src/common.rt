@@ -1,4 +1,4 @@
-use crate::{Bytes, Common};
+use script_names::{Bytes, Common};
 use std::test::Fail;
 
 #[test]

@@ -1,8 +1,6 @@
 //! Texts of trees, each by hand with the tree's own text, or with the line at fault and why.
 
-use crate::print::print_tree;
-use crate::read::{TreeFault, read_tree};
-use crate::value::{Entries, Value};
+use feature_trees::{Entries, TreeFault, Value, print_tree, read_tree};
 use script_names::{Bytes, Name};
 use std::alloc::Global;
 use std::test::Fail;

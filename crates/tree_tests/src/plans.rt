@@ -1,9 +1,9 @@
-use crate::acts::Act;
-use crate::calls::{Planned, plan};
 use script_names::{Bytes, List, Memory, Path, Reason};
 use std::alloc::Global;
 use std::process::Abort;
 use std::test::Fail;
+use utility_calls::acts::Act;
+use utility_calls::calls::{Planned, plan};
 
 // `/` and so many bytes, so many times.
 fn long_path(alloc: Global, names: usize, bytes: usize) -> Result<Bytes, Memory> {

@@ -1,8 +1,8 @@
 //! Lists of many members: their reading needs no more stack than that of short ones.
 
 use super::show::Page;
-use crate::parse;
 use shell_lexer::lex;
+use shell_parser::parse;
 use shell_syntax::Command;
 use std::alloc::Global;
 use std::test::Fail;

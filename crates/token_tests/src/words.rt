@@ -2,8 +2,8 @@
 //! In a row `<..>` is a split piece, `".."` a quoted one and anything else plain; `_` is a newline, `~` a tab,
 //! `%` a carriage return, and `#` stands for 65,535 times `a`. `|` ends a column.
 
-use crate::{Env, Piece, WordFault, fields, join, matches, trim_newlines};
 use script_names::{Bytes, Copied, List, Memory};
+use shell_words::{Env, Piece, WordFault, fields, join, matches, trim_newlines};
 use std::alloc::Global;
 use std::test::Fail;
 

@@ -1,11 +1,11 @@
 //! Each text by hand, a row for each: a value with its text, or a text that no value has, and why.
 
-use crate::{
+use script_names::{Bytes, List, Mark, Name, Reason, Site};
+use shown_texts::{
     push_line, push_lines, push_mark, push_name, push_number, push_path, push_reason, push_shown,
     push_site, read_lines, read_mark, read_number, read_path, read_reason, read_shown, read_site,
     show,
 };
-use script_names::{Bytes, List, Mark, Name, Reason, Site};
 use std::alloc::Global;
 use std::test::Fail;
 

@@ -1,4 +1,4 @@
-use crate::steps::act;
+use concrete_utils::steps::act;
 use feature_trees::{Entries, Value};
 use script_names::{Bytes, Copied, Done, List, Memory, Path, Reason};
 use std::alloc::Global;

@@ -1,4 +1,4 @@
-use crate::acts::act;
+use concrete_utils::act;
 use feature_trees::{Entries, Kind, Value};
 use script_names::{Bytes, Copied, Done, List, Name, Path, Reason};
 use std::process::Abort;

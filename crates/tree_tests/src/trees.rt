@@ -1,7 +1,4 @@
-use crate::kind::{Kind, Kinds};
-use crate::print::{print_tree, put_tree};
-use crate::put::PutFault;
-use crate::value::{Entries, Value};
+use feature_trees::{Entries, Kind, Kinds, PutFault, Value, print_tree, put_tree};
 use script_names::{Bytes, Copied, List, Name, Path};
 use std::process::Abort;
 use std::test::Fail;

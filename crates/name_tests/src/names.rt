@@ -1,4 +1,4 @@
-use crate::{
+use script_names::{
     Boxed, Bytes, Copied, Done, List, MAX_NAMES, Mark, Memory, Name, NameFault, Path, PathFault,
     Reason, Site, Text,
 };

@@ -6,10 +6,10 @@ mod long_lists;
 mod rows;
 mod show;
 
-use crate::parse;
 use rows::TABLES;
 use shell_grammar::ParseFault;
 use shell_lexer::lex;
+use shell_parser::parse;
 use show::{Page, show_command};
 use std::alloc::Global;
 use std::test::Fail;

@@ -3,7 +3,7 @@
 //! column. An answer is a fault, or the names in braces (one of 255 bytes by its length, more than 8 by their
 //! number), and `/` where the path has a slash.
 
-use crate::{Bytes, Memory, Name, NameFault, Path, PathFault};
+use script_names::{Bytes, Memory, Name, NameFault, Path, PathFault};
 use std::alloc::Global;
 use std::test::Fail;
 

@@ -2,9 +2,9 @@
 
 mod rows;
 
-use crate::accepted::{FormFault, accept};
 use rows::TABLES;
 use script_names::{Bytes, Memory};
+use shell_forms::{FormFault, accept};
 use shell_lexer::lex;
 use shell_lexer::theorems::limit_only_refuses;
 use shell_parser::parse;

@@ -1,4 +1,4 @@
-//! Texts and their tokens by hand (tests/rows.rt), in a printed form: `strict ` where the first line has `-e`, and a
+//! Texts and their tokens by hand (tokens/rows.rt), in a printed form: `strict ` where the first line has `-e`, and a
 //! token as its offset, `:` and its spelling. A word is its parts: `[plain]`, `<quoted>`, `$name`,
 //! `${name:-default}`, `$at(tokens)`, each expansion in `"` where it is quoted, and `"$@"`. A newline is `nl`, a
 //! redirection `>null`, `2>null`, `<null`, `>&2` or `2>&1`. A fault is its name and its offset. Where there is
@@ -6,13 +6,13 @@
 
 mod rows;
 
-use crate::{LexFault, RawPart, Token, TokenKind, lex};
 use rows::{
     BLANKS_AND_COMMENTS, FAULTS_TOGETHER, OPENED, OPERATORS, PARAMETERS, QUOTES, REDIRECTIONS,
     REFUSED_PARAMETERS, REFUSED_REDIRECTIONS, SUBSTITUTIONS, TEMPLATE, TEMPLATE_TOKENS,
     WHOLE_TEXTS, WHOLE_WORDS,
 };
 use script_names::{Bytes, Copied, List, Memory};
+use shell_lexer::{LexFault, RawPart, Token, TokenKind, lex};
 use shell_syntax::{Form, Key, Redirect};
 use std::alloc::Global;
 use std::test::Fail;
