@@ -31,6 +31,7 @@ use Rattle.shell_rules.specs.Loops as l
 use Rattle.shell_rules.specs.Cases as k
 use Rattle.shell_rules.specs.Calls as u
 use Rattle.shell_rules.specs.Laws.{state_of, run_with_more, more_turns, is_bound, Keeps, Lawful, IsLawful, AllLawful}
+use Rattle.shell_rules.specs.Laws.{LinksLawful, ArmsLawful, PatternsLawful, CaseArmsLawful, SetsLawful}
 use Rattle.shell_rules.proofs.Keeping.{stays, from_same, then_lawful, if_keeps, GoesBack, closed_keeps, turn_keeps}
 use Rattle.shell_rules.proofs.Keeping.{body_keeps, condition_keeps}
 
@@ -175,10 +176,6 @@ pub all_lawful : (commands : List Action) → AllLawful commands → IsLawful (c
 all_lawful [] h p n s = stays refl refl refl
 all_lawful (command ∷ commands) h p n s = rest_lawful (command ∷ commands) h p n s
 
-abbrev pub LinksLawful : List (Bool × Action) → Type 0
-LinksLawful [] = Unit {0}
-LinksLawful (link ∷ links) = IsLawful link.1 × LinksLawful links
-
 pub links_lawful : (links : List (Bool × Action)) → LinksLawful links → IsLawful (c.do_links links)
 links_lawful [] h p n s = stays refl refl refl
 links_lawful ((and, command) ∷ []) h p n s =
@@ -202,10 +199,6 @@ pub not_lawful : (command : Action) → IsLawful command → IsLawful (c.do_not 
 not_lawful command h p =
     then_lawful (command (except p)) (λ _ s. Go tt (st.with_status (not s.conc.status) s)) (h (except p))
     (λ _ n s. stays refl refl refl)
-
-abbrev pub ArmsLawful : List (Action × Action) → Type 0
-ArmsLawful [] = Unit {0}
-ArmsLawful (arm ∷ arms) = IsLawful arm.0 × IsLawful arm.1 × ArmsLawful arms
 
 pub if_lawful : (arms : List (Action × Action)) (otherwise : Action) → ArmsLawful arms → IsLawful otherwise
     → IsLawful (c.do_if arms otherwise)
@@ -322,10 +315,6 @@ answer_lawful subject letters p n s =
     if_keeps (is_left_out letters) (st.stopped reason.Pattern p s) answer
     (st.stopped reason.Pattern p (more_turns n s)) other (stays refl refl refl) (stays refl refl refl)
 
-abbrev pub PatternsLawful : List (List (Doing PieceParts)) → Type 0
-PatternsLawful [] = Unit {0}
-PatternsLawful (pattern ∷ patterns) = AllLawful pattern × PatternsLawful patterns
-
 pub patterns_lawful : (subject : Text) (patterns : List (List (Doing PieceParts))) → PatternsLawful patterns
     → IsLawful (k.some_pattern subject patterns)
 patterns_lawful subject [] h p = λ n s. stays refl refl refl
@@ -338,10 +327,6 @@ patterns_lawful subject (pattern ∷ patterns) h p =
       (λ fits n s. if_keeps fits (Go true s) (k.some_pattern subject patterns p s) (Go true (more_turns n s))
         (k.some_pattern subject patterns p (more_turns n s)) (stays refl refl refl)
         (patterns_lawful subject patterns h.1 p n s)))
-
-abbrev pub CaseArmsLawful : List (List (List (Doing PieceParts)) × Action) → Type 0
-CaseArmsLawful [] = Unit {0}
-CaseArmsLawful (arm ∷ arms) = PatternsLawful arm.0 × IsLawful arm.1 × CaseArmsLawful arms
 
 case_arms_lawful : (subject : Text) (arms : List (List (List (Doing PieceParts)) × Action)) → CaseArmsLawful arms
     → IsLawful (k.first_arm subject arms)
@@ -406,10 +391,6 @@ call_lawful at words h p =
     (λ n s. from_same refl (omega arith) (fields_lawful words h q n (u.no_substitution s)))
     (λ fields. then_lawful (u.do_call_of fields q) (λ _ s. c.checked q s) (call_of_lawful fields q)
       (λ _. checked_lawful q))
-
-abbrev pub SetsLawful : List (Text × Doing Text) → Type 0
-SetsLawful [] = Unit {0}
-SetsLawful (set ∷ sets) = IsLawful set.1 × SetsLawful sets
 
 assignments_lawful : (sets : List (Text × Doing Text)) → SetsLawful sets → IsLawful (u.do_assignments sets)
 assignments_lawful [] h p = λ n s. stays refl refl refl

@@ -6,6 +6,8 @@ use Rattle.script_names.specs.declared.mark.Site.{Site}
 use Rattle.script_names.specs.declared.reason.Reason.{Reason}
 use Rattle.feature_trees.specs.declared.value.Value.{Value}
 use Rattle.shell_rules.specs.declared.state.Conc.{Conc}
+pub use Rattle.shell_rules.specs.declared.leave.Leave.{Leave}
+pub use Rattle.shell_rules.specs.declared.leave.Leave.TheVariants.{Broke, Continued, Returned, Exited, Stopped, Bound}
 
 -- a string of bytes
 abbrev pub Text : Type 0
@@ -18,16 +20,6 @@ pub record State : Type 0 where
   pub tree : Value
   pub trace : List Mark
   pub substituted : Bool
-
--- How a command leaves what stands round it: by `break`, `continue`, `return` or `exit`; without a result, since what
--- is met at the site has no specification here; or with no turn left for the loop at the site.
-pub data Leave : Type 0 where
-  Broke : Leave
-  Continued : Leave
-  Returned : Leave
-  Exited : Leave
-  Stopped : (reason : Reason) (site : Site) → Leave
-  Bound : (site : Site) → Leave
 
 -- a run goes on with a value and a state, or is left in a state
 pub data Run (A : Type 0) : Type 0 where

@@ -5,11 +5,13 @@
 #![tactic(auto)]
 
 mod command;
+mod leave;
 mod own_names;
 mod run;
 mod state;
 
 pub use command::Command;
+pub use leave::Leave;
 pub use own_names::is_shells_own;
 pub use run::{End, Run};
 pub use state::{Conc, Trace};
