@@ -5,6 +5,7 @@ pub mod Expansion
 pub mod Laws
 pub mod Loops
 pub mod OwnNames
+pub mod RuleLaws
 pub mod State
 pub mod Strict
 pub mod Whole
