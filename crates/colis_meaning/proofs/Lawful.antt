@@ -1,8 +1,7 @@
 -- What a program does keeps the three laws: by one induction over the syntax.
-use Rattle.std.proofs.Common.{◌≡◌, ◌+◌, ℕ, Bool, true, false, List, [], ◌∷◌, map, Option, Some, None, refl, sym, ap, subst}
-use Rattle.std.proofs.Common.{◌∙◌, if◌then◌else◌}
+use Rattle.std.proofs.Common.{◌≡◌, Bool, true, false, List, [], ◌∷◌, map, Option, Some, sym, subst}
+use Rattle.std.proofs.Common.{if◌then◌else◌}
 use Rattle.std.specs.Str.{bytes_eq}
-use Rattle.shell_words.specs.Pieces.{PieceParts}
 use Rattle.colis_syntax.specs.declared.syntax.Stmt.{Stmt, roll-Stmt}
 use Rattle.colis_syntax.specs.declared.syntax.Str.{Str, roll-Str}
 use Rattle.colis_syntax.specs.declared.syntax.StrPiece.{StrPiece, roll-StrPiece}
@@ -17,8 +16,7 @@ use Rattle.colis_syntax.specs.declared.syntax.Fields.TheFolds.{fold-roll-Stmt, f
 use Rattle.colis_syntax.specs.declared.syntax.Fields.TheFolds.{fold-roll-Fields, fold-roll-SetTo, fold-roll-ChainPart}
 use Rattle.colis_syntax.specs.declared.syntax.Fields.TheFolds.{fold-roll-StmtArm, fold-roll-PatArm, ind-Stmt}
 use Rattle.colis_syntax.specs.declared.syntax.Fields.TheFolds.{map-Fields, map-Stmt, map-Str, map-StrPiece}
-use Rattle.colis_syntax.specs.declared.syntax.Fields.TheFolds.{map-ChainPart, map-PatArm, map-SetTo, map-StmtArm}
-use Rattle.shell_rules.specs.State.{Text, Doing, Action, Funs, Does, with}
+use Rattle.shell_rules.specs.State.{Doing, Action, Funs, Does, with}
 use Rattle.shell_rules.specs.Calls.{found}
 use Rattle.shell_rules.specs.Laws.{more_turns, Keeps, IsLawful, AllLawful, FunsLawful}
 use Rattle.shell_rules.specs.Laws.{LinksLawful, ArmsLawful, PatternsLawful, CaseArmsLawful, SetsLawful}
@@ -34,35 +32,49 @@ Obeys does = (f : Funs) → FunsLawful f → IsLawful (does f)
 
 abbrev PF : Fields → Type 0
 PF q = Obeys (co_fields q)
+
 abbrev PS : Stmt → Type 0
 PS q = Obeys (co_stmt q)
+
 abbrev PT : Str → Type 0
 PT q = Obeys (co_str q)
+
 abbrev PP : StrPiece → Type 0
 PP q = Obeys (co_piece q)
+
 abbrev PL : ChainPart → Type 0
 PL q = Obeys (λ f. (co_link q f).1)
+
 abbrev PC : PatArm → Type 0
 PC q = (f : Funs) → FunsLawful f → PatternsLawful (co_case_arm q f).0 × IsLawful (co_case_arm q f).1
+
 abbrev PA : SetTo → Type 0
 PA q = Obeys (λ f. (co_set q f).1)
+
 abbrev PM : StmtArm → Type 0
 PM q = (f : Funs) → FunsLawful f → IsLawful (co_arm q f).0 × IsLawful (co_arm q f).1
 
 abbrev YF : Type 0
 YF = (q : Fields) × PF q
+
 abbrev YS : Type 0
 YS = (q : Stmt) × PS q
+
 abbrev YT : Type 0
 YT = (q : Str) × PT q
+
 abbrev YP : Type 0
 YP = (q : StrPiece) × PP q
+
 abbrev YL : Type 0
 YL = (q : ChainPart) × PL q
+
 abbrev YC : Type 0
 YC = (q : PatArm) × PC q
+
 abbrev YA : Type 0
 YA = (q : SetTo) × PA q
+
 abbrev YM : Type 0
 YM = (q : StmtArm) × PM q
 
@@ -138,7 +150,7 @@ stmt_from : (x : o.Stmt-F Fields Stmt Str StrPiece ChainPart PatArm SetTo StmtAr
 stmt_from x h f hf p n s =
     subst (λ (d : Does). Keeps n s (d f p s) (d f p (more_turns n s)))
     (sym (fold-roll-Stmt FieldsDo Does StrDoes PieceDoes LinkDoes CaseArmDoes SetDoes ArmDoes
-      fields_layer stmt_layer str_layer piece_layer link_layer case_arm_layer set_layer arm_layer x)) (h f hf p n s)
+    fields_layer stmt_layer str_layer piece_layer link_layer case_arm_layer set_layer arm_layer x)) (h f hf p n s)
 
 -- the same of the other types of the syntax
 abbrev str_of : o.Str-F Fields Stmt Str StrPiece ChainPart PatArm SetTo StmtArm → StrDoes
@@ -164,7 +176,7 @@ str_from : (x : o.Str-F Fields Stmt Str StrPiece ChainPart PatArm SetTo StmtArm)
 str_from x h f hf p n s =
     subst (λ (d : StrDoes). Keeps n s (d f p s) (d f p (more_turns n s)))
     (sym (fold-roll-Str FieldsDo Does StrDoes PieceDoes LinkDoes CaseArmDoes SetDoes ArmDoes
-      fields_layer stmt_layer str_layer piece_layer link_layer case_arm_layer set_layer arm_layer x)) (h f hf p n s)
+    fields_layer stmt_layer str_layer piece_layer link_layer case_arm_layer set_layer arm_layer x)) (h f hf p n s)
 
 abbrev piece_of : o.StrPiece-F Fields Stmt Str StrPiece ChainPart PatArm SetTo StmtArm → PieceDoes
 piece_of x = piece_layer (map-StrPiece Fields Stmt Str StrPiece ChainPart PatArm SetTo StmtArm
@@ -187,7 +199,7 @@ piece_from : (x : o.StrPiece-F Fields Stmt Str StrPiece ChainPart PatArm SetTo S
 piece_from x h f hf p n s =
     subst (λ (d : PieceDoes). Keeps n s (d f p s) (d f p (more_turns n s)))
     (sym (fold-roll-StrPiece FieldsDo Does StrDoes PieceDoes LinkDoes CaseArmDoes SetDoes ArmDoes
-      fields_layer stmt_layer str_layer piece_layer link_layer case_arm_layer set_layer arm_layer x)) (h f hf p n s)
+    fields_layer stmt_layer str_layer piece_layer link_layer case_arm_layer set_layer arm_layer x)) (h f hf p n s)
 
 abbrev fields_from_parts : o.Fields-F Fields Stmt Str StrPiece ChainPart PatArm SetTo StmtArm → FieldsDo
 fields_from_parts x = fields_layer (map-Fields Fields Stmt Str StrPiece ChainPart PatArm SetTo StmtArm
@@ -209,7 +221,7 @@ fields_from : (x : o.Fields-F Fields Stmt Str StrPiece ChainPart PatArm SetTo St
 fields_from x h f hf p n s =
     subst (λ (d : FieldsDo). Keeps n s (d f p s) (d f p (more_turns n s)))
     (sym (fold-roll-Fields FieldsDo Does StrDoes PieceDoes LinkDoes CaseArmDoes SetDoes ArmDoes
-      fields_layer stmt_layer str_layer piece_layer link_layer case_arm_layer set_layer arm_layer x)) (h f hf p n s)
+    fields_layer stmt_layer str_layer piece_layer link_layer case_arm_layer set_layer arm_layer x)) (h f hf p n s)
 
 -- ---- the induction
 
@@ -222,25 +234,25 @@ stmt_lawful =
     (λ x y is. subst (λ x. PT (roll-Str x)) is (str_from (base_str y) (str_obeys y)))
     (λ x y is. subst (λ x. PP (roll-StrPiece x)) is (piece_from (base_piece y) (piece_obeys y)))
     (λ x y is. subst (λ x. PL (roll-ChainPart x)) is (λ f hf p n s.
-      subst (λ (d : LinkDoes). Keeps n s ((d f).1 p s) ((d f).1 p (more_turns n s)))
-      (sym (fold-roll-ChainPart FieldsDo Does StrDoes PieceDoes LinkDoes CaseArmDoes SetDoes ArmDoes
-        fields_layer stmt_layer str_layer piece_layer link_layer case_arm_layer set_layer arm_layer _))
-      (y.stmt.1 f hf p n s)))
+    subst (λ (d : LinkDoes). Keeps n s ((d f).1 p s) ((d f).1 p (more_turns n s)))
+    (sym (fold-roll-ChainPart FieldsDo Does StrDoes PieceDoes LinkDoes CaseArmDoes SetDoes ArmDoes
+    fields_layer stmt_layer str_layer piece_layer link_layer case_arm_layer set_layer arm_layer _))
+    (y.stmt.1 f hf p n s)))
     (λ x y is. subst (λ x. PC (roll-PatArm x)) is (λ f hf.
-      subst (λ (d : CaseArmDoes). PatternsLawful (d f).0 × IsLawful (d f).1)
-      (sym (fold-roll-PatArm FieldsDo Does StrDoes PieceDoes LinkDoes CaseArmDoes SetDoes ArmDoes
-        fields_layer stmt_layer str_layer piece_layer link_layer case_arm_layer set_layer arm_layer _))
-      (patterns_obey f hf y.patterns, y.body.1 f hf)))
+    subst (λ (d : CaseArmDoes). PatternsLawful (d f).0 × IsLawful (d f).1)
+    (sym (fold-roll-PatArm FieldsDo Does StrDoes PieceDoes LinkDoes CaseArmDoes SetDoes ArmDoes
+    fields_layer stmt_layer str_layer piece_layer link_layer case_arm_layer set_layer arm_layer _))
+    (patterns_obey f hf y.patterns, y.body.1 f hf)))
     (λ x y is. subst (λ x. PA (roll-SetTo x)) is (λ f hf p n s.
-      subst (λ (d : SetDoes). Keeps n s ((d f).1 p s) ((d f).1 p (more_turns n s)))
-      (sym (fold-roll-SetTo FieldsDo Does StrDoes PieceDoes LinkDoes CaseArmDoes SetDoes ArmDoes
-        fields_layer stmt_layer str_layer piece_layer link_layer case_arm_layer set_layer arm_layer _))
-      (y.value.1 f hf p n s)))
+    subst (λ (d : SetDoes). Keeps n s ((d f).1 p s) ((d f).1 p (more_turns n s)))
+    (sym (fold-roll-SetTo FieldsDo Does StrDoes PieceDoes LinkDoes CaseArmDoes SetDoes ArmDoes
+    fields_layer stmt_layer str_layer piece_layer link_layer case_arm_layer set_layer arm_layer _))
+    (y.value.1 f hf p n s)))
     (λ x y is. subst (λ x. PM (roll-StmtArm x)) is (λ f hf.
-      subst (λ (d : ArmDoes). IsLawful (d f).0 × IsLawful (d f).1)
-      (sym (fold-roll-StmtArm FieldsDo Does StrDoes PieceDoes LinkDoes CaseArmDoes SetDoes ArmDoes
-        fields_layer stmt_layer str_layer piece_layer link_layer case_arm_layer set_layer arm_layer _))
-      (y.cond.1 f hf, y.body.1 f hf)))
+    subst (λ (d : ArmDoes). IsLawful (d f).0 × IsLawful (d f).1)
+    (sym (fold-roll-StmtArm FieldsDo Does StrDoes PieceDoes LinkDoes CaseArmDoes SetDoes ArmDoes
+    fields_layer stmt_layer str_layer piece_layer link_layer case_arm_layer set_layer arm_layer _))
+    (y.cond.1 f hf, y.body.1 f hf)))
 
 -- ---- programs
 
@@ -257,8 +269,8 @@ pub funs_lawful : (defs : List Def) (f : Funs) → FunsLawful f → FunsLawful (
 funs_lawful [] f h = h
 funs_lawful (def ∷ defs) f h =
     funs_lawful defs ((def.name, co_stmt def.body f) ∷ f) (λ name body e.
-      one_more (bytes_eq def.name name) (co_stmt def.body f) body (found name f) (stmt_lawful def.body f h) (h name body)
-      e)
+    one_more (bytes_eq def.name name) (co_stmt def.body f) body (found name f) (stmt_lawful def.body f h) (h name body)
+    e)
 
 -- the body of a program
 pub program_lawful : (defs : List Def) (body : Stmt) → IsLawful (co_stmt body (funs_of defs []))

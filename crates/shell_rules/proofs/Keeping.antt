@@ -1,9 +1,9 @@
 -- How the three laws pass from the parts of a run to the whole.
-use Rattle.std.proofs.Common.{◌≡◌, ◌≤◌, ◌<◌, ◌+◌, ℕ, zero, suc, Bool, true, false, IsTrue, List, [], ◌∷◌, ◌++◌, ◌⊎◌}
+use Rattle.std.proofs.Common.{◌≡◌, ◌≤◌, ◌<◌, ◌+◌, ℕ, zero, suc, Bool, true, false, IsTrue, List, [], ◌++◌, ◌⊎◌}
 use Rattle.std.proofs.Common.{inl, inr, refl, sym, ap, subst, ◌∙◌, if◌then◌else◌, append-nil, append_assoc, arith}
 use Rattle.script_names.specs.declared.mark.Mark.{Mark}
 use Rattle.shell_rules.specs.State.{State, Leave, Broke, Continued, Returned, Exited, Stopped, Bound, Run, Go, Left}
-use Rattle.shell_rules.specs.State.{then_do, closed_off, Place, Doing, with_status}
+use Rattle.shell_rules.specs.State.{then_do, closed_off, Place, with_status}
 use Rattle.shell_rules.specs.Loops.{with_turns, turn_from, take_turn, after_body, after_condition}
 use Rattle.shell_rules.specs.Laws.{state_of, Extends, more_turns, run_with_more, is_bound, IsBound, Keeps, Lawful}
 

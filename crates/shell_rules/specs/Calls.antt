@@ -15,7 +15,7 @@ use Rattle.utility_calls.specs.declared.planned.Planned.{Planned}
 use Rattle.utility_calls.specs.declared.planned.Planned.TheVariants.{Known, Ask, Print, Change, Unspecified}
 use Rattle.utility_calls.specs.Acts.{row, tree_after}
 use Rattle.utility_calls.specs.Calls.{call}
-use Rattle.shell_rules.specs.State.{Text, State, Leave, Returned, Exited, Run, Go, Left, then_do, closed_off}
+use Rattle.shell_rules.specs.State.{Text, State, Leave, Returned, Exited, Go, Left, then_do, closed_off}
 use Rattle.shell_rules.specs.State.{by_return, no_value, Place, at_command, site_of, stopped, Doing, Action, Funs}
 use Rattle.shell_rules.specs.State.{with_status, with_arguments}
 use Rattle.shell_rules.specs.Expansion.{do_short, do_fields}
@@ -93,7 +93,7 @@ abbrev pub do_call : ℕ → List (Doing (List Text)) → Action
 do_call at words p s =
     let q : Place = at_command at p in
     then_do (do_fields words q (no_substitution s)) (λ fields s.
-      then_do (do_call_of fields q s) (λ _ s. checked q s))
+    then_do (do_call_of fields q s) (λ _ s. checked q s))
 
 -- ---- assignments
 
@@ -207,7 +207,7 @@ abbrev pub do_export : ℕ → List (Doing (List Text)) → Action
 do_export at words p s =
     let q : Place = at_command at p in
     then_do (do_fields words q s) (λ fields s.
-      then_do (export_each fields q s) (λ _ s. Go tt (with_status true s)))
+    then_do (export_each fields q s) (λ _ s. Go tt (with_status true s)))
 
 -- a variable is taken away
 abbrev pub unassign : Text → State → State
@@ -228,4 +228,4 @@ abbrev pub do_unset : ℕ → List (Doing (List Text)) → Action
 do_unset at words p s =
     let q : Place = at_command at p in
     then_do (do_fields words q s) (λ fields s.
-      then_do (unset_each fields q s) (λ _ s. Go tt (with_status true s)))
+    then_do (unset_each fields q s) (λ _ s. Go tt (with_status true s)))

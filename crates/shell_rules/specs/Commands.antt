@@ -3,7 +3,7 @@
 use Rattle.std.specs.Prelude.{ℕ, Bool, true, false, not, ◌&&◌, List, [], ◌∷◌, Option, Some, None, if◌then◌else◌}
 use Rattle.script_names.specs.declared.reason.Reason.{Reason}
 use Rattle.script_names.specs.declared.reason.Reason.TheVariants as reason
-use Rattle.shell_rules.specs.State.{Text, State, Leave, Exited, Stopped, Run, Go, Left, then_do, closed_off}
+use Rattle.shell_rules.specs.State.{Text, State, Leave, Exited, Stopped, Go, Left, then_do, closed_off}
 use Rattle.shell_rules.specs.State.{by_nothing, by_exit, no_value, Place, at_command, except, site_of, stopped}
 use Rattle.shell_rules.specs.State.{Action, with_status, with_strict, success_if_none}
 

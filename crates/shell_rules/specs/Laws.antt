@@ -1,8 +1,7 @@
 -- What every rule keeps: a run only adds to the trace; turns never rise; and a run that is not bound is, with more
 -- turns, the same run but for the turns that are left.
-use Rattle.std.specs.Prelude.{◌≡◌, ◌≤◌, ◌+◌, ◌⊎◌, ℕ, Bool, true, false, IsTrue, List, [], ◌∷◌, ◌++◌, Option, Some}
+use Rattle.std.specs.Prelude.{◌≡◌, ◌≤◌, ◌+◌, ◌⊎◌, ℕ, Bool, true, false, IsTrue, List, [], ◌∷◌, ◌++◌, Some}
 use Rattle.script_names.specs.declared.mark.Mark.{Mark}
-use Rattle.script_names.specs.declared.reason.Reason.{Reason}
 use Rattle.feature_trees.specs.declared.value.Value.{Value}
 use Rattle.shell_words.specs.Pieces.{PieceParts}
 use Rattle.shell_rules.specs.declared.state.Conc.{Conc}

@@ -1,7 +1,7 @@
 -- Loops (POSIX.1-2017, XCU 2.9.4.2 The for Loop, 2.9.4.5 The while Loop, 2.14 break and continue).
-use Rattle.std.specs.Prelude.{ℕ, zero, suc, Bool, true, false, List, [], ◌∷◌, if◌then◌else◌}
+use Rattle.std.specs.Prelude.{ℕ, zero, suc, Bool, true, List, [], ◌∷◌, if◌then◌else◌}
 use Rattle.std.specs.FinMap as map
-use Rattle.shell_rules.specs.State.{Text, State, Leave, Broke, Continued, Returned, Exited, Stopped, Bound, Run, Go}
+use Rattle.shell_rules.specs.State.{Text, State, Broke, Continued, Returned, Exited, Stopped, Bound, Run, Go}
 use Rattle.shell_rules.specs.State.{Left, then_do, Place, at_command, except, site_of, Doing, Action, with_status}
 use Rattle.shell_rules.specs.State.{success_if_none}
 use Rattle.shell_rules.specs.Expansion.{do_fields}

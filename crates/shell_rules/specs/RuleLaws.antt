@@ -1,5 +1,5 @@
 -- Each rule keeps the three laws where its parts do; and what else holds of the rules.
-use Rattle.std.specs.Prelude.{◌≡◌, ◌↔◌, ℕ, Bool, true, List, [], ◌∷◌, Option, Some, is_none, IsTrue}
+use Rattle.std.specs.Prelude.{◌≡◌, ◌↔◌, ℕ, Bool, true, List, Option, Some, is_none, IsTrue}
 use Rattle.std.specs.List.{list_all}
 use Rattle.script_names.specs.declared.reason.Reason.{Reason}
 use Rattle.shell_words.specs.declared.pattern.Item.{Item}
