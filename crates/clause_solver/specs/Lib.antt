@@ -8,6 +8,7 @@ pub mod Solved
 pub mod ReplacedNames
 pub mod Fresh
 pub mod Appends
+pub mod Linked
 pub mod View
 pub mod Grown
 pub mod NewNames

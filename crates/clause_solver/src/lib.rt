@@ -4,8 +4,10 @@
 #![tactic(auto)]
 
 mod appended;
+mod children;
 mod clause;
 mod greatest;
+mod kin;
 mod literals;
 mod new_name;
 mod places;
