@@ -6,7 +6,7 @@ use Rattle.tree_clauses.specs.declared.clause.Literal.{Literal}
 use Rattle.tree_clauses.specs.declared.clause.Literal.TheVariants as L
 use Rattle.tree_clauses.specs.Solved.{IsInOrder, Solves}
 use Rattle.tree_clauses.specs.Solved as solved
-use Rattle.tree_clauses.specs.Plain.{PlainOrder, done, entry, absent, reg, link, dir, same, replaced, kinds, empty, filled, IsPlain, PlainCasesAreSolved}
+use Rattle.tree_clauses.specs.Plain.{PlainOrder, done, entry, absent, reg, link, dir, same, replaced, kinds, empty, filled, PlainCasesAreSolved}
 use Rattle.tree_clauses.proofs.Orders.{contains_head, contains_tail}
 
 -- a set of no name, or of one, is in order

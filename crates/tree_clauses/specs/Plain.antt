@@ -53,8 +53,8 @@ pub data PlainOrder : List Literal → List ℕ → List Literal → List ℕ �
       → ¬ (Contains known y.0) → IsLimited before x
       → PlainOrder (Similar y [] x ∷ before) (y.0 ∷ known) literals after
       → PlainOrder before known (Similar y [] x ∷ literals) after
-  replaced : {before : List Literal} {known after : List ℕ} {literals : List Literal} (y : Var) (f : List ℕ) (x z : Var)
-      → Contains known x.0 → ¬ (Contains known y.0) → Contains known z.0 → IsLimited before x
+  replaced : {before : List Literal} {known after : List ℕ} {literals : List Literal} (y : Var) (f : List ℕ)
+      (x z : Var) → Contains known x.0 → ¬ (Contains known y.0) → Contains known z.0 → IsLimited before x
       → PlainOrder (Entry y f z ∷ Similar y (f ∷ []) x ∷ before) (y.0 ∷ known) literals after
       → PlainOrder before known (Similar y (f ∷ []) x ∷ Entry y f z ∷ literals) after
   -- facts on known variables: their kinds, no entry, an entry
