@@ -1,6 +1,7 @@
 pub mod Calls
 pub mod Cases
 pub mod Commands
+pub mod Examples
 pub mod Expansion
 pub mod Laws
 pub mod Loops
