@@ -7,6 +7,7 @@ pub mod Laws
 pub mod Loops
 pub mod OwnNames
 pub mod RuleLaws
+pub mod Scopes
 pub mod State
 pub mod Strict
 pub mod Whole

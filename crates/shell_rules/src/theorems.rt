@@ -4,6 +4,7 @@ ghost use Rattle.shell_rules.specs.RuleLaws.{ExpansionsKeep, CommandsKeep, Loops
 ghost use Rattle.shell_rules.specs.RuleLaws.{TrimmedIsOne, MatchesDecides, SpecialNamesAreNoUtilities};
 ghost use Rattle.shell_rules.specs.Examples.{Hold, strict_examples, status_examples, loop_examples};
 ghost use Rattle.shell_rules.specs.Examples.{word_examples, act_examples, order_examples, case_examples};
+ghost use Rattle.shell_rules.specs.Scopes.{SubshellsClose, OutputsClose, FunctionsClose, QuietsClose};
 
 /// Each rule keeps three laws where its parts do: a run only adds to the trace, it has no more turns left than it
 /// began with, and one that is not bound is the same run with more turns, but for the turns that are left.
@@ -13,6 +14,15 @@ pub fn rules_are_lawful()
     ensures loops { LoopsKeep }
     ensures calls { CallsKeep }
     ensures whole { WholeRunsKeep }
+{}
+
+/// What goes out of a subshell, a command substitution, the body of a function and a command whose output is taken
+/// away, however they end; all else is as before.
+pub fn scopes_close()
+    ensures subshells { SubshellsClose }
+    ensures outputs { OutputsClose }
+    ensures functions { FunctionsClose }
+    ensures quiet { QuietsClose }
 {}
 
 /// The text that a substitution gives and the test of a pattern are those of shell_words.
