@@ -7,8 +7,8 @@ use Rattle.shell_rules.specs.Commands.{do_subshell, do_quiet, with_captured}
 use Rattle.shell_rules.specs.Calls.{do_body}
 use Rattle.shell_rules.specs.Laws.{state_of}
 
--- a state behind a subshell, from the state before it and the one in which its body ended: the variables, the arguments
--- and the strict flag are as before; the rest goes out
+-- a state behind a subshell, from the state before it and the one in which its body ended: the variables, the
+-- arguments and the strict flag are as before; the rest goes out
 pub record IsBehindSubshell (before inner behind : State) : Type 0 where
   pub variables : behind.conc.vars ≡ before.conc.vars
   pub arguments : behind.conc.args ≡ before.conc.args
