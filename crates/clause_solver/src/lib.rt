@@ -1,6 +1,6 @@
 //! Clauses over the variables of feature trees, what a clause covers, and stores of start trees.
-//! It stands on shared_table, feature_trees, shown_texts and script_names. Begin with `clause`, and with specs/Literals.antt for
-//! what a literal says; then `store`, and specs/Stands.antt for what a store stands for.
+//! It stands on shared_table, feature_trees, shown_texts and script_names. Begin with `clause`, and with
+//! specs/Literals.antt for what a literal says; then `store`, and specs/Stands.antt for what a store stands for.
 #![tactic(auto)]
 
 mod appended;
