@@ -1,0 +1,4 @@
+pub mod Ends
+pub mod Meets
+pub mod Valued
+pub mod Leading

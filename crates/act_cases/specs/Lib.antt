@@ -1,0 +1,5 @@
+pub mod Looks
+pub mod Puts
+pub mod Plans
+pub mod Tables
+pub mod Cases
