@@ -6,3 +6,4 @@ pub mod Seeing
 pub mod RuleSees
 pub mod Tabled
 pub mod OneRowTaken
+pub mod EachCase
