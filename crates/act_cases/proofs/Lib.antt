@@ -7,3 +7,4 @@ pub mod RuleSees
 pub mod Tabled
 pub mod OneRowTaken
 pub mod EachCase
+pub mod AllCases
