@@ -15,9 +15,11 @@ use Rattle.utility_calls.specs.ActRows.{IsAmong}
 use Rattle.act_cases.specs.declared.case.Case.{Case}
 use Rattle.act_cases.specs.Plans.{case_of}
 use Rattle.act_cases.specs.Tables.{link_plan, slash_plan}
+use Rattle.act_cases.specs.Plain.{IsPlain}
 use Rattle.act_cases.specs.Cases.{IsOnOnePath, link_row, link_rows, slash_rows, rows_of, IsExact, AnswersAs, case_answer, row_answer, AreCases, link_cases, slash_cases, rule_case, cases_of}
 use Rattle.act_cases.proofs.Meets.{AreNames}
 use Rattle.act_cases.proofs.OneRowTaken.{Says, way, slash, table, row_says}
+use Rattle.act_cases.proofs.PlainCases.{link_plain, slash_plain, rule_plain}
 use Rattle.act_cases.proofs.EachCase.{IsOne, link_one, slash_one, rule_one}
 
 -- ---- what holds of each
@@ -181,6 +183,8 @@ module _ (act : Act) (one_path : IsOnOnePath act) (performed : IsPerformed act) 
       (rule_one act one_path performed few named inside) in
       record {
         rows = all_answers act;
+        plain = every_all IsPlain (cases_of act)
+            (every_case act IsPlain (λ k low high. link_plain (path_of act).names k) (λ s. slash_plain (path_of act).names) (rule_plain act one_path performed));
         exact = every_all (IsExact act) (cases_of act) (every_map (IsOne act) (IsExact act) (cases_of act) (λ x h. h.exact) ones);
         answers = every_all (AnswersAs act) (cases_of act) (every_map (IsOne act) (AnswersAs act) (cases_of act) (λ x h. h.answers) ones);
         every = every_row;

@@ -8,3 +8,5 @@ pub mod Tabled
 pub mod OneRowTaken
 pub mod EachCase
 pub mod AllCases
+pub mod Ordered
+pub mod PlainCases

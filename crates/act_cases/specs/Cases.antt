@@ -12,6 +12,7 @@ use Rattle.utility_calls.specs.Table.{Rule, rules, row_of, stop}
 use Rattle.utility_calls.specs.Acts.{path_of, inner_name, target_of, moved, slash_row, row, tree_after}
 use Rattle.act_cases.specs.declared.case.Case.{Case}
 use Rattle.act_cases.specs.Plans.{case_of}
+use Rattle.act_cases.specs.Plain.{IsPlain}
 use Rattle.act_cases.specs.Tables.{link_plan, slash_plan, plan_of, names_at, is_inner}
 
 -- the act looks along one path alone, and below it: every act but a move
@@ -62,9 +63,10 @@ case_answer made = (made.row, made.done)
 abbrev pub row_answer : Row → ℕ × Done
 row_answer r = (r.number, r.answer)
 
--- the cases of an act: one for each row, with its answer, in the order of the rows
+-- the cases of an act: one plain case for each row, with its answer, in the order of the rows
 pub record AreCases (act : Act) (cases : List Case) : Type 0 where
   pub rows : map case_answer cases ≡ map row_answer (rows_of act)
+  pub plain : All IsPlain cases
   pub exact : All (IsExact act) cases
   pub answers : All (AnswersAs act) cases
   -- on each tree there is one
