@@ -62,28 +62,28 @@ some_names (suc n) (f ∷ rest) h = by (some_names n rest (later_names f rest h)
 
 -- ---- kinds
 
-is_link : (k : Kind) → IsTrue (has (of Link) k) → k ≡ Link
+pub is_link : (k : Kind) → IsTrue (has (of Link) k) → k ≡ Link
 is_link Absent h = cc
 is_link Reg h = cc
 is_link Link h = refl
 is_link Other h = cc
 is_link Dir h = cc
 
-thing : (k : Kind) → IsTrue (has (three Reg Link Other) k) → (k ≢ Absent) × (k ≢ Dir)
+pub thing : (k : Kind) → IsTrue (has (three Reg Link Other) k) → (k ≢ Absent) × (k ≢ Dir)
 thing Absent h = absurd (cc)
 thing Reg h = (λ e. cc, λ e. cc)
 thing Link h = (λ e. cc, λ e. cc)
 thing Other h = (λ e. cc, λ e. cc)
 thing Dir h = absurd (cc)
 
-is_thing : (k : Kind) → k ≢ Absent → k ≢ Dir → IsTrue (has (three Reg Link Other) k)
+pub is_thing : (k : Kind) → k ≢ Absent → k ≢ Dir → IsTrue (has (three Reg Link Other) k)
 is_thing Absent na nd = absurd (na refl)
 is_thing Reg na nd = refl
 is_thing Link na nd = refl
 is_thing Other na nd = refl
 is_thing Dir na nd = absurd (nd refl)
 
-link_there : (k : Kind) → k ≡ Link → k ≢ Absent
+pub link_there : (k : Kind) → k ≡ Link → k ≢ Absent
 link_there k e h = let q : Link ≡ Absent = sym e ∙ h in cc
 
 -- ---- a case and its row
@@ -95,7 +95,7 @@ pub record IsOne (act : Act) (made : Case) : Type 0 where
 
 -- what is owed for a case without an effect, or with one: the row is taken exactly where it sees what it looks at
 module _ (act : Act) (made : Case) (r : Row) where
-  one_of : made.row ≡ r.number → made.done ≡ r.answer → ((t : Value) → IsTree t → (row act t).number ≡ made.row → row act t ≡ r)
+  pub one_of : made.row ≡ r.number → made.done ≡ r.answer → ((t : Value) → IsTree t → (row act t).number ≡ made.row → row act t ≡ r)
       → ((t u : Value) → IsTree t → Leads made t u → (row act t ≡ r) × (u ≡ effect_on r.effect act t))
       → ((t u : Value) → IsTree t → row act t ≡ r → u ≡ effect_on r.effect act t → Leads made t u) → IsOne act made
   one_of number answer is from to = record {

@@ -10,3 +10,10 @@ pub mod EachCase
 pub mod AllCases
 pub mod Ordered
 pub mod PlainCases
+pub mod Moving
+pub mod AnyRow
+pub mod MoveTabled
+pub mod Stays
+pub mod MoveCases
+pub mod PlainMoves
+pub mod AllMoves

@@ -66,7 +66,7 @@ pub along_end : (g : Valuation) (x y : ℕ) (v : Value) (names : List (List ℕ)
 along_end g x y v [] e a = e
 along_end g x y v (f ∷ rest) e a = along_end g y (y + 1) (entry v f) rest a.0 a.1
 
-end_more : (x y : ℕ) (f : List ℕ) (rest : List (List ℕ)) → end_of x y (f ∷ rest) ≡ y + length rest
+pub end_more : (x y : ℕ) (f : List ℕ) (rest : List (List ℕ)) → end_of x y (f ∷ rest) ≡ y + length rest
 end_more x y f [] = omega arith
 end_more x y f (g ∷ rest) = end_more y (y + 1) g rest ∙ omega arith
 

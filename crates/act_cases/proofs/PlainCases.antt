@@ -33,7 +33,7 @@ use Rattle.act_cases.proofs.Meets.{meets_split, end_length}
 use Rattle.act_cases.proofs.Tabled.{all_of, test_of, implies}
 use Rattle.act_cases.proofs.Ordered.{firsts, below_contains, contains_below, not_yet, Within, AllLimited, limited_within, AllKinds, through_limited, way_order, all_below, put_order}
 
-end_order : (e : End) (x m : ℕ) (b rest : List Literal) (after : List ℕ) → x < m → ((b' : List Literal) → Within b b' → PlainOrder b' (firsts m) rest after)
+pub end_order : (e : End) (x m : ℕ) (b rest : List Literal) (after : List ℕ) → x < m → ((b' : List Literal) → Within b b' → PlainOrder b' (firsts m) rest after)
     → PlainOrder b (firsts m) (end_literals e x ++ rest) after
 end_order Any x m b rest after lt next = next b (λ l h. h)
 end_order Empty x m b rest after lt next = empty_fact (var x) (below_contains m x lt) (next _ (λ l h. inr h))
@@ -64,7 +64,7 @@ made_order Moves target x z m b rest after p lt le limited next = absurd (cc)
 made_order MovesInside target x z m b rest after p lt le limited next = absurd (cc)
 
 -- the kinds at the end
-last_kinds : (b : List Literal) (w : Ways) (x y : ℕ) (names : List (List ℕ)) → AllKinds b w x y names → IsOneOf b (Kind (var (end_of x y names)) w.last)
+pub last_kinds : (b : List Literal) (w : Ways) (x y : ℕ) (names : List (List ℕ)) → AllKinds b w x y names → IsOneOf b (Kind (var (end_of x y names)) w.last)
 last_kinds b w x y [] h = h
 last_kinds b w x y (f ∷ rest) h = last_kinds b w y (y + 1) rest h.1
 
@@ -166,7 +166,7 @@ through_by : (s : Bool) (ks : Kinds) (c : Bool) → not c ≡ true
 through_by s ks true h = absurd (cc)
 through_by s ks false h = refl
 
-through_ways : (s : Bool) (place : Where) → is_through place ≡ true → ways_of s place ≡ through (ways_of s place).last
+pub through_ways : (s : Bool) (place : Where) → is_through place ≡ true → ways_of s place ≡ through (ways_of s place).last
 through_ways s anything h = absurd (cc)
 through_ways s (is ks) h = through_by s ks (has ks kind.Absent) h
 through_ways s within h = refl

@@ -1,7 +1,8 @@
 -- The cases of an act: one for each of its rows, and what holds of them.
 use Rattle.std.specs.Prelude.{◌≡◌, ℕ, zero, suc, ◌+◌, ◌-◌, ◌↔◌, Bool, true, false, All, Contains}
-use Rattle.std.specs.Prelude.{List, [], ◌∷◌, ◌++◌, length, map, take, None}
+use Rattle.std.specs.Prelude.{List, [], ◌∷◌, ◌++◌, length, map, take, Option, Some, None}
 use Rattle.script_names.specs.declared.reason.Done.{Done}
+use Rattle.script_names.specs.Paths.{PathParts}
 use Rattle.feature_trees.specs.declared.value.Value.{Value}
 use Rattle.feature_trees.specs.Sound.{IsTree}
 use Rattle.clause_solver.specs.Literals.{Valuation, value_of_variable, IsSound, MeetsAll}
@@ -9,7 +10,8 @@ use Rattle.utility_calls.specs.declared.acts.Act.{Act}
 use Rattle.utility_calls.specs.declared.sights.Row.{Row}
 use Rattle.utility_calls.specs.declared.sights.Effect.TheVariants.{Nothing}
 use Rattle.utility_calls.specs.Table.{Rule, rules, row_of, stop}
-use Rattle.utility_calls.specs.Acts.{path_of, inner_name, target_of, moved, slash_row, row, tree_after}
+use Rattle.utility_calls.specs.Acts.{path_of, place_of, inner_name, target_of, moved, is_below, slash_row, row}
+use Rattle.utility_calls.specs.Acts.{tree_after}
 use Rattle.act_cases.specs.declared.case.Case.{Case}
 use Rattle.act_cases.specs.Plans.{case_of}
 use Rattle.act_cases.specs.Plain.{IsPlain}
@@ -18,6 +20,11 @@ use Rattle.act_cases.specs.Tables.{link_plan, slash_plan, plan_of, names_at, is_
 -- the act looks along one path alone, and below it: every act but a move
 abbrev pub IsOnOnePath : Act → Type 0
 IsOnOnePath act = moved act ≡ None
+
+-- the act is a move
+abbrev pub HasSource : Option PathParts → Type 0
+HasSource None = ⊥
+HasSource (Some a) = Unit {0}
 
 -- the row of a link on the way, at the first so many names
 abbrev pub link_row : ℕ → Row
@@ -33,10 +40,17 @@ abbrev pub slash_rows : Bool → List Row
 slash_rows false = []
 slash_rows true = slash_row ∷ []
 
--- the rows of an act on one path, as their numbers rise
+-- the rows of links on the way of the second path, which a move has
+abbrev pub second_rows : Option PathParts → List (List ℕ) → List Row
+second_rows None names = []
+second_rows (Some a) names = link_rows 129 (length names - 1)
+
+-- the rows of an act, as their numbers rise
 abbrev pub rows_of : Act → List Row
 rows_of act =
-    link_rows 1 (length (path_of act).names - 1) ++ (slash_rows (path_of act).slash ++ map row_of (rules false act))
+    link_rows 1 (length (path_of act).names - 1)
+    ++ (slash_rows (path_of act).slash
+    ++ (map row_of (rules (is_below act) act) ++ second_rows (moved act) (place_of act)))
 
 -- the case leads from a tree to a value: some valuation with the one for variable 0 and the other for the root meets
 -- its literals

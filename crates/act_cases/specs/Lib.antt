@@ -4,3 +4,4 @@ pub mod Plans
 pub mod Tables
 pub mod Plain
 pub mod Cases
+pub mod Moves

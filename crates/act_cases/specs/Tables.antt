@@ -1,5 +1,5 @@
 -- The tables of the acts as the code has them, and what a row of a table looks at.
-use Rattle.std.specs.Prelude.{ℕ, Bool, true, false, List, Option, Some, None, if◌then◌else◌}
+use Rattle.std.specs.Prelude.{ℕ, Bool, true, false, List, Option, if◌then◌else◌}
 use Rattle.script_names.specs.declared.reason.Reason.TheVariants as reason
 use Rattle.script_names.specs.declared.reason.Done.TheVariants as done
 use Rattle.feature_trees.specs.declared.kind.Kind.TheVariants.{Absent, Reg, Link, Other, Dir}
@@ -20,6 +20,7 @@ use Rattle.act_cases.specs.declared.tables.TableRow.{TableRow}
 
 -- the condition of a row
 abbrev pub where_of : Place → Where
+where_of place.Anything = anything
 where_of (place.Is kinds) = is kinds
 where_of place.Within = within
 where_of (place.Inside kinds) = inside kinds
@@ -27,12 +28,14 @@ where_of place.Outside = outside
 where_of place.Empty = empty
 where_of place.Full = full
 where_of (place.Into kinds) = into kinds
+where_of place.IntoEmpty = into_empty
+where_of place.IntoFull = into_full
 
 -- the row of the table
 abbrev pub rule_of : TableRow → Rule
 rule_of row = record {
   number = row.number;
-  source = None;
+  source = row.source;
   place = where_of row.place;
   answer = row.answer;
   effect = row.effect;

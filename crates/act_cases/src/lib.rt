@@ -1,14 +1,18 @@
 //! Acts as cases: for each row of an act the clause of the trees that take it, and of the tree that it leaves.
-//! It stands on utility_calls, clause_solver, feature_trees and script_names. Begin with `cases`, and with
+//! It stands on utility_calls, clause_solver, feature_trees and script_names. Begin with `making`, and with
 //! specs/Cases.antt for what the cases of an act are.
 #![tactic(auto)]
 
 mod case;
-mod cases;
 mod looks;
+mod making;
+mod moves;
 mod plans;
 mod puts;
 mod tables;
 
 pub use case::Case;
-pub use cases::path_cases;
+pub use making::cases;
+
+#[cfg(test)]
+mod tests;

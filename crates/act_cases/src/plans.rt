@@ -43,8 +43,8 @@ fn is_put(effect: Effect) -> bool
     }
 }
 
-// Adds the literals of what is asked of the entries.
-fn add_end(alloc: Global, literals: &mut List<Literal>, end: End, x: u32) -> Result<(), Memory>
+/// Adds the literals of what is asked of the entries.
+pub(crate) fn add_end(alloc: Global, literals: &mut List<Literal>, end: End, x: u32) -> Result<(), Memory>
     ensures { OnOk result (literals.new ≡ literals.old ++ end_literals end x) }
 {
     match end {

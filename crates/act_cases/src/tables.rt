@@ -1,15 +1,16 @@
-ghost use Rattle.std.specs.Prelude.{◌≡◌, false, map, IfOk};
+ghost use Rattle.std.specs.Prelude.{◌≡◌, map, IfOk};
 ghost use Rattle.feature_trees.specs.declared.kind.Kind.TheVariants.{Link};
 ghost use Rattle.feature_trees.specs.Kinds.{of};
 ghost use Rattle.utility_calls.specs.Sights.{but, two, three, is};
-ghost use Rattle.utility_calls.specs.Table.{rules, remove_by, symlink_by, leaves, does, stop};
+ghost use Rattle.utility_calls.specs.Table.{rules, remove_by, symlink_by, move_by, stop};
+ghost use Rattle.utility_calls.specs.Table.{leaves, does, leaves_from, does_from, some, no_dir, file, move_rules};
+ghost use Rattle.utility_calls.specs.Table.{move_below_rules};
 ghost use Rattle.utility_calls.specs.Table.{exists_rules, is_reg_rules, is_dir_rules, is_link_rules, can_run_rules};
 ghost use Rattle.utility_calls.specs.Table.{make_dir_rules, ensure_dir_rules, remove_dir_rules, remove_rules};
 ghost use Rattle.utility_calls.specs.Table.{remove_deep_rules, remove_force_rules, remove_force_deep_rules};
 ghost use Rattle.utility_calls.specs.Table.{touch_rules, place_file_rules, place_link_rules, place_conf_rules};
 ghost use Rattle.utility_calls.specs.Table.{discard_rules, discard_dir_rules, symlink_rules, symlink_force_rules};
 ghost use Rattle.act_cases.specs.Tables.{where_of, rule_of};
-ghost use Rattle.act_cases.specs.Cases.{IsOnOnePath};
 
 use feature_trees::{Kind, Kinds};
 use script_names::{Done, List, Memory, Reason};
@@ -21,6 +22,8 @@ use utility_calls::sights::Effect;
 /// below the path.
 #[derive(Clone, Copy, Debug, PartialEq, Eq)]
 pub enum Place {
+    /// Whatever is seen.
+    Anything,
     /// V is of one of these kinds.
     Is(Kinds),
     /// P is a directory.
@@ -35,12 +38,17 @@ pub enum Place {
     Full,
     /// V is a directory, and W is of one of these kinds.
     Into(Kinds),
+    /// V and W are directories, W without an entry.
+    IntoEmpty,
+    /// V and W are directories, W with an entry.
+    IntoFull,
 }
 
-/// A row of the table of the acts on one path.
+/// A row of the table of the acts; `source` are the kinds of what is moved, where they matter.
 #[derive(Clone, Copy, Debug, PartialEq, Eq)]
 pub struct TableRow {
     pub number: u8,
+    pub source: Option<Kinds>,
     pub place: Place,
     pub answer: Done,
     pub effect: Effect,
@@ -94,6 +102,7 @@ fn leaves(number: u8, place: Place, answer: Done) -> TableRow
 {
     TableRow {
         number,
+        source: None,
         place,
         answer,
         effect: Effect::Nothing,
@@ -106,6 +115,33 @@ fn does(number: u8, place: Place, effect: Effect) -> TableRow
 {
     TableRow {
         number,
+        source: None,
+        place,
+        answer: Done::Ok,
+        effect,
+    }
+}
+
+// The same of a move, for the kinds of what it moves.
+fn leaves_from(number: u8, source: Kinds, place: Place, answer: Done) -> TableRow
+    ensures { rule_of result ≡ leaves_from number source (where_of place) answer }
+{
+    TableRow {
+        number,
+        source: Some(source),
+        place,
+        answer,
+        effect: Effect::Nothing,
+    }
+}
+
+// A row of a move that succeeds, for the kinds of what it moves.
+fn does_from(number: u8, source: Kinds, place: Place, effect: Effect) -> TableRow
+    ensures { rule_of result ≡ does_from number source (where_of place) effect }
+{
+    TableRow {
+        number,
+        source: Some(source),
         place,
         answer: Done::Ok,
         effect,
@@ -345,6 +381,76 @@ fn symlink_force_rows() -> [TableRow; 5]
     ]
 }
 
+// The rows of `mv` to a path below the moved one.
+fn move_below_rows() -> [TableRow; 2]
+    ensures { map rule_of result ≡ move_below_rules }
+{
+    [
+        stops(),
+        leaves(66, Place::Is(but(Kind::Link)), Done::Failed),
+    ]
+}
+
+// What may be moved: anything that is there.
+fn some() -> Kinds
+    ensures { result ≡ some }
+{
+    but(Kind::Absent)
+}
+
+// What is there and no directory.
+fn no_dir() -> Kinds
+    ensures { result ≡ no_dir }
+{
+    three(Kind::Reg, Kind::Link, Kind::Other)
+}
+
+// A file, or another thing.
+fn file() -> Kinds
+    ensures { result ≡ file }
+{
+    two(Kind::Reg, Kind::Other)
+}
+
+// The rows of `mv` to another path; W is what stands there under the moved path's last name.
+fn move_rows() -> [TableRow; 17]
+    ensures { map rule_of result ≡ move_rules }
+{
+    let dir = Kinds::of(Kind::Dir);
+    let link = Kinds::of(Kind::Link);
+    let none = Kinds::of(Kind::Absent);
+    [
+        leaves_from(65, some(), Place::Is(link), Done::Stopped(Reason::Link)),
+        leaves_from(66, none, Place::Anything, Done::Failed),
+        leaves_from(67, some(), Place::Outside, Done::Failed),
+        does_from(68, no_dir(), Place::Inside(none), Effect::Moves),
+        does_from(69, dir, Place::Inside(none), Effect::Moves),
+        leaves_from(70, dir, Place::Is(file()), Done::Failed),
+        does_from(71, no_dir(), Place::Into(none), Effect::MovesInside),
+        leaves_from(72, no_dir(), Place::Into(dir), Done::Failed),
+        does_from(73, dir, Place::Into(none), Effect::MovesInside),
+        leaves_from(74, dir, Place::Into(no_dir()), Done::Failed),
+        leaves_from(75, dir, Place::IntoFull, Done::Failed),
+        does_from(76, dir, Place::IntoEmpty, Effect::MovesInside),
+        does_from(77, file(), Place::Is(file()), Effect::Moves),
+        leaves_from(78, link, Place::Is(file()), Done::Stopped(Reason::Same)),
+        does_from(79, file(), Place::Into(file()), Effect::MovesInside),
+        leaves_from(80, link, Place::Into(no_dir()), Done::Stopped(Reason::Same)),
+        leaves_from(81, file(), Place::Into(link), Done::Stopped(Reason::Same)),
+    ]
+}
+
+// The rows of `mv` by whether its second path is below the first.
+fn move_by(alloc: Global, below: bool) -> Result<List<TableRow>, Memory>
+    ensures { IfOk result (λ list. map rule_of list ≡ move_by below) }
+{
+    if below {
+        listed(alloc, &move_below_rows())
+    } else {
+        listed(alloc, &move_rows())
+    }
+}
+
 // The rows in a list.
 fn listed(alloc: Global, rows: &[TableRow]) -> Result<List<TableRow>, Memory>
     ensures { IfOk result (λ list. list ≡ rows.now) }
@@ -379,10 +485,9 @@ fn symlink_by(alloc: Global, force: bool) -> Result<List<TableRow>, Memory>
     }
 }
 
-/// The rows of the table of an act on one path; none of a move.
-pub(crate) fn table_of(alloc: Global, act: &Act) -> Result<List<TableRow>, Memory>
-    requires { IsOnOnePath act.now }
-    ensures { IfOk result (λ list. map rule_of list ≡ rules false act.now) }
+/// The rows of an act's table; those of a move by whether its second path is below the first.
+pub(crate) fn table_of(alloc: Global, act: &Act, below: bool) -> Result<List<TableRow>, Memory>
+    ensures { IfOk result (λ list. map rule_of list ≡ rules below act.now) }
 {
     match act {
         Act::Exists(_) => listed(alloc, &exists_rows()),
@@ -406,6 +511,6 @@ pub(crate) fn table_of(alloc: Global, act: &Act) -> Result<List<TableRow>, Memor
         Act::PlaceConf(_) => listed(alloc, &place_conf_rows()),
         Act::Discard(_) => listed(alloc, &discard_rows()),
         Act::DiscardDir(_) => listed(alloc, &discard_dir_rows()),
-        Act::Move { a: _, b: _ } => unreachable!(),
+        Act::Move { a: _, b: _ } => move_by(alloc, below),
     }
 }

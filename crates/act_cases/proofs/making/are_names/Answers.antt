@@ -1,7 +1,7 @@
 use Rattle.std.proofs.Common.{◌≡◌, ℕ, ◌+◌, ◌<◌, List, length, get_or, IsTrue, subst, sym, ◌∙◌, arith, below_more}
 use Rattle.std.proofs.lemmas.List.{get_or_default}
 use Rattle.script_names.specs.Names.{is_name}
-use Rattle.act_cases.proofs.cases.are_names.Goals as goal
+use Rattle.act_cases.proofs.making.are_names.Goals as goal
 
 pub loop-f-preserved : goal.loop-f-preserved
 loop-f-preserved c = λ k d.

@@ -3,7 +3,7 @@ use Rattle.act_cases.specs.declared.case.Case.{Case}
 use Rattle.act_cases.specs.Plans.{case_of}
 use Rattle.act_cases.specs.Tables.{link_plan}
 use Rattle.act_cases.specs.Cases.{link_cases}
-use Rattle.act_cases.proofs.cases.add_links.Goals as goal
+use Rattle.act_cases.proofs.making.add_links.Goals as goal
 
 -- the first of the cases, and those behind it
 first_link : (names : List (List ℕ)) (n more less : ℕ) → more ≡ suc less
