@@ -10,7 +10,7 @@ use Rattle.feature_trees.specs.Sound.{IsTree}
 use Rattle.utility_calls.specs.declared.acts.Act.{Act}
 use Rattle.utility_calls.specs.declared.sights.Row.{Row}
 use Rattle.utility_calls.specs.Table.{Rule, rules, row_of}
-use Rattle.utility_calls.specs.Acts.{path_of, place_of, inner_name, moved, begins, is_below, with_name, row, IsPerformed}
+use Rattle.utility_calls.specs.Acts.{path_of, place_of, inner_name, moved, begins, is_below, with_name, is_question, row, IsPerformed}
 use Rattle.utility_calls.specs.ActRows.{IsAmong}
 use Rattle.act_cases.specs.declared.case.Case.{Case}
 use Rattle.act_cases.specs.Plans.{case_of}
@@ -20,6 +20,9 @@ use Rattle.act_cases.specs.Cases.{IsOnOnePath, link_row, link_rows, slash_rows, 
 use Rattle.act_cases.proofs.Meets.{AreNames}
 use Rattle.act_cases.proofs.OneRowTaken.{Says, way, slash, table, row_says}
 use Rattle.act_cases.proofs.PlainCases.{link_plain, slash_plain, rule_plain}
+use Rattle.act_cases.proofs.RuleSees.{some_name}
+use Rattle.act_cases.proofs.Tabled.{suits, suits_is, test_of, tabled}
+use Rattle.act_cases.proofs.RisingRows.{cases_rise}
 use Rattle.act_cases.proofs.EachCase.{IsOne, link_one, slash_one, rule_one}
 
 -- ---- what holds of each
@@ -200,6 +203,9 @@ module _ (act : Act) (one_path : IsOnOnePath act) (performed : IsPerformed act) 
       (rule_one act one_path performed few named inside) in
       record {
         rows = all_answers act one_path;
+        rising = cases_rise act few
+            (λ r among. (suits_is (is_question act) (some_name (inner_name act)) r (test_of (suits (is_question act) (some_name (inner_name act))) (rules false act) r (tabled act one_path).0 among)).number)
+            (tabled act one_path).1;
         plain = every_all IsPlain (cases_of act)
             (every_case act IsPlain (λ k low high. link_plain (path_of act).names k) (λ s. slash_plain (path_of act).names) (rule_plain act one_path performed));
         exact = every_all (IsExact act) (cases_of act) (every_map (IsOne act) (IsExact act) (cases_of act) (λ x h. h.exact) ones);

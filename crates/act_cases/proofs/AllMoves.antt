@@ -21,6 +21,8 @@ use Rattle.act_cases.proofs.AnyRow.{Tells, way, slash, second, table, row_tells}
 use Rattle.act_cases.proofs.EachCase.{IsOne}
 use Rattle.act_cases.proofs.PlainCases.{link_plain, slash_plain}
 use Rattle.act_cases.proofs.AllCases.{Every, every_all, every_join, every_map, every_link, every_slash, answers_join, rows_join, link_answers, slash_answers, rows_answers, In, in_contains, HasRow, row_left, row_right, row_later, has_link, has_slash}
+use Rattle.act_cases.proofs.MoveTabled.{move_well, moves_apart}
+use Rattle.act_cases.proofs.RisingRows.{moves_rise}
 use Rattle.act_cases.proofs.MoveCases.{move_link_one, move_slash_one, move_second_one, move_rule_one}
 use Rattle.act_cases.proofs.PlainMoves.{second_plain, move_rule_plain}
 
@@ -137,6 +139,8 @@ module _ (a b : PathParts) (performed : IsPerformed (Move a b)) where
       (move_rule_one a b performed few_a few_b named_a named_b inside) (move_second_one a b performed few_a few_b named_a named_b inside) in
       record {
         rows = move_answers a b;
+        rising = moves_rise act few_a (λ r among. (move_well (is_prefix a.names b.names) r among).low) (λ r among. (move_well (is_prefix a.names b.names) r among).high)
+            (moves_apart (is_prefix a.names b.names));
         plain = every_all IsPlain (move_cases act)
             (every_move act IsPlain (λ k low high. link_plain a.names k) (λ s. slash_plain a.names) (move_rule_plain a b performed)
             (λ j low high. second_plain a.slash (is_prefix a.names b.names) j a.names (take j b.names)));

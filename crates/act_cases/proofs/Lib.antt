@@ -17,3 +17,4 @@ pub mod Stays
 pub mod MoveCases
 pub mod PlainMoves
 pub mod AllMoves
+pub mod RisingRows

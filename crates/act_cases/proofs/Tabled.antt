@@ -33,7 +33,7 @@ abbrev pub apart : List Rule → Bool
 apart [] = true
 apart (r ∷ rs) = above r.number rs && apart rs
 
-above_one : (n : ℕ) (rs : List Rule) (r : Rule) → above n rs ≡ true → IsAmong r rs → n < r.number
+pub above_one : (n : ℕ) (rs : List Rule) (r : Rule) → above n rs ≡ true → IsAmong r rs → n < r.number
 above_one n rs r h among = ltb-true n r.number (test_of (λ o. nat_lt n o.number) rs r h among)
 
 -- a row of a table is told by its number

@@ -1,5 +1,5 @@
 -- The cases of an act: one for each of its rows, and what holds of them.
-use Rattle.std.specs.Prelude.{◌≡◌, ℕ, zero, suc, ◌+◌, ◌-◌, ◌↔◌, Bool, true, false, All, Contains}
+use Rattle.std.specs.Prelude.{◌≡◌, ℕ, zero, suc, ◌+◌, ◌-◌, ◌<◌, ◌↔◌, Bool, true, false, All, Contains}
 use Rattle.std.specs.Prelude.{List, [], ◌∷◌, ◌++◌, length, map, take, Option, Some, None}
 use Rattle.script_names.specs.declared.reason.Done.{Done}
 use Rattle.script_names.specs.Paths.{PathParts}
@@ -77,9 +77,20 @@ case_answer made = (made.row, made.done)
 abbrev pub row_answer : Row → ℕ × Done
 row_answer r = (r.number, r.answer)
 
--- the cases of an act: one plain case for each row, with its answer, in the order of the rows
+-- the number of a case's row
+abbrev pub case_row : Case → ℕ
+case_row made = made.row
+
+-- numbers that rise
+abbrev pub Rising : List ℕ → Type 0
+Rising [] = Unit {0}
+Rising (n ∷ []) = Unit {0}
+Rising (n ∷ m ∷ rest) = (n < m) × Rising (m ∷ rest)
+
+-- the cases of an act: one plain case for each row, with its answer, by rising row
 pub record AreCases (act : Act) (cases : List Case) : Type 0 where
   pub rows : map case_answer cases ≡ map row_answer (rows_of act)
+  pub rising : Rising (map case_row cases)
   pub plain : All IsPlain cases
   pub exact : All (IsExact act) cases
   pub answers : All (AnswersAs act) cases
