@@ -12,10 +12,10 @@ use Rattle.utility_calls.specs.declared.sights.Row.{Row}
 use Rattle.utility_calls.specs.Table.{Rule, rules, row_of}
 use Rattle.utility_calls.specs.Acts.{path_of, place_of, inner_name, moved, begins, is_below, with_name, is_question, row, IsPerformed}
 use Rattle.utility_calls.specs.ActRows.{IsAmong}
-use Rattle.act_cases.specs.declared.case.Case.{Case}
+use Rattle.tree_clauses.specs.declared.case.Case.{Case}
 use Rattle.act_cases.specs.Plans.{case_of}
 use Rattle.act_cases.specs.Tables.{link_plan, slash_plan}
-use Rattle.act_cases.specs.Plain.{IsPlain}
+use Rattle.tree_clauses.specs.Plain.{IsPlain}
 use Rattle.act_cases.specs.Cases.{IsOnOnePath, link_row, link_rows, slash_rows, second_rows, rows_of, IsExact, AnswersAs, case_answer, row_answer, AreCases, link_cases, slash_cases, rule_case, cases_of}
 use Rattle.act_cases.proofs.Meets.{AreNames}
 use Rattle.act_cases.proofs.OneRowTaken.{Says, way, slash, table, row_says}

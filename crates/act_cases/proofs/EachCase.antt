@@ -16,7 +16,7 @@ use Rattle.utility_calls.specs.Sights.{three}
 use Rattle.utility_calls.specs.Table.{Rule, rules, row_of}
 use Rattle.utility_calls.specs.Acts.{path_of, place_of, inner_name, target_of, with_name, slash_row, row, effect_on, tree_after, is_question, IsPerformed}
 use Rattle.utility_calls.specs.ActRows.{IsAmong, Reaches}
-use Rattle.act_cases.specs.declared.case.Case.{Case}
+use Rattle.tree_clauses.specs.declared.case.Case.{Case}
 use Rattle.act_cases.specs.declared.plans.Plan.{Plan}
 use Rattle.act_cases.specs.Looks.{Sees}
 use Rattle.act_cases.specs.Plans.{put_by, case_of}

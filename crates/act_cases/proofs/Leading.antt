@@ -7,7 +7,7 @@ use Rattle.feature_trees.specs.Tree.{entry, at, kind_of, put, entries_of}
 use Rattle.feature_trees.specs.Sound.{sound, IsTree}
 use Rattle.feature_trees.proofs.Laws.{sound-entry}
 use Rattle.feature_trees.proofs.Kept.{sound_entries}
-use Rattle.clause_solver.specs.Literals.{Valuation, value_of_variable, IsSound, MeetsAll}
+use Rattle.tree_clauses.specs.Literals.{Valuation, value_of_variable, IsSound, MeetsAll}
 use Rattle.utility_calls.specs.declared.sights.Effect.{Effect}
 use Rattle.utility_calls.specs.declared.sights.Effect.TheVariants.{Nothing, MakesDir, KeepsDir, MakesFile, MakesLink, LinksInside, TakesAway, Moves, MovesInside}
 use Rattle.act_cases.specs.declared.plans.Plan.{Plan}

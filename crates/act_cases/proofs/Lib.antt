@@ -1,3 +1,4 @@
+pub mod KindSets
 pub mod Ends
 pub mod Meets
 pub mod Valued

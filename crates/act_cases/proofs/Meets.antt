@@ -9,12 +9,11 @@ use Rattle.feature_trees.specs.Kinds.{has}
 use Rattle.feature_trees.specs.Tree.{entry, at, kind_of, put, update, entries_of}
 use Rattle.feature_trees.specs.Sound.{sound}
 use Rattle.feature_trees.proofs.Laws.{sound-entry}
-use Rattle.clause_solver.specs.declared.clause.Literal.{Literal}
-use Rattle.clause_solver.specs.Literals.{Valuation, value_of_variable, MeetsAll, IsSound}
-use Rattle.clause_solver.proofs.Names.{listed_from_contains, contains_from_listed}
-use Rattle.clause_solver.proofs.KindSets.{of_absent, of_reg, of_dir}
-use Rattle.clause_solver.proofs.Values.{absent_kind, reg_kind, entry_is, derived_same, derived_other, derived_from, ensured_from, empty_from}
-use Rattle.clause_solver.proofs.Pairs.{sound_at}
+use Rattle.tree_clauses.specs.declared.clause.Literal.{Literal}
+use Rattle.tree_clauses.specs.Literals.{Valuation, value_of_variable, MeetsAll, IsSound}
+use Rattle.act_cases.proofs.KindSets.{of_absent, of_reg, of_dir, none_contained, one_contained}
+use Rattle.tree_clauses.proofs.Values.{absent_kind, reg_kind, entry_is, derived_same, derived_other, derived_from, ensured_from, empty_from}
+use Rattle.tree_clauses.proofs.Valuations.{sound_at}
 use Rattle.utility_calls.specs.declared.sights.Effect.{Effect}
 use Rattle.utility_calls.specs.declared.sights.Effect.TheVariants.{Nothing, MakesDir, KeepsDir, MakesFile, MakesLink, LinksInside, TakesAway, Moves, MovesInside}
 use Rattle.act_cases.specs.declared.looks.Ways.{Ways}
@@ -78,7 +77,7 @@ end_length (f ∷ rest) = end_more 0 1 f rest ∙ omega arith
 
 pub end_from : (g : Valuation) (e : End) (x : ℕ) (v : Value) → value_of_variable g x ≡ v → MeetsAll g (end_literals e x) → EndMet e v
 end_from g Any x v is m = tt
-end_from g Empty x v is m = none_has v (λ f. ap (λ u. entry u f) (sym is) ∙ m.0 f (λ c. listed_from_contains f [] c))
+end_from g Empty x v is m = none_has v (λ f. ap (λ u. entry u f) (sym is) ∙ m.0 f (λ c. none_contained f c))
 end_from g Full x v is m = some_has v m.0.0 (λ none. m.0.1 (ap (λ u. entry u m.0.0) is ∙ none))
 
 pub end_to : (g : Valuation) (e : End) (x : ℕ) (v : Value) → value_of_variable g x ≡ v → EndMet e v → MeetsAll g (end_literals e x)
@@ -93,9 +92,9 @@ end_to g Full x v is m =
 pub made_from : (g : Valuation) (e : Effect) (target : List ℕ) (x z : ℕ) (v : Value) → IsSound g → is_put e ≡ true → value_of_variable g x ≡ v
     → MeetsAll g (made_literals e target x z) → value_of_variable g z ≡ made_value e target v
 made_from g Nothing target x z v s p is m = absurd (cc)
-made_from g MakesDir target x z v s p is m = empty_from (value_of_variable g z) (sound_at g s z) (of_dir _ m.0) m.1.0
+made_from g MakesDir target x z v s p is m = empty_from (value_of_variable g z) (sound_at g z s) (of_dir _ m.0) m.1.0
 made_from g KeepsDir target x z v s p is m =
-    ensured_from (value_of_variable g z) (value_of_variable g x) (sound_at g s z) (sound_at g s x) m.0.0 m.0.1
+    ensured_from (value_of_variable g z) (value_of_variable g x) (sound_at g z s) (sound_at g x s) m.0.0 m.0.1
     ∙ ap (λ u. value.Dir (entries_of u)) is
 made_from g MakesFile target x z v s p is m = reg_kind (value_of_variable g z) (of_reg _ m.0)
 made_from g MakesLink target x z v s p is m = m.0
@@ -136,8 +135,8 @@ put_from g x y z r v w (f ∷ rest) s n e a ew m =
     let parts = meets_split g (put_literals y (y + 1) rest z r) _ m in
     let inner : value_of_variable g (root_of rest z r) ≡ put (entry v f) rest w =
     put_from g y (y + 1) z r (entry v f) w rest s (later_names f rest n) a.0 a.1 ew parts.0 in
-    derived_from (value_of_variable g (r + length rest)) (value_of_variable g x) (value_of_variable g (root_of rest z r)) f (sound_at g s (r + length rest))
-    (sound_at g s x) (sound_at g s (root_of rest z r)) (first_name f rest n) parts.1.0.0 parts.1.0.1 parts.1.1.0
+    derived_from (value_of_variable g (r + length rest)) (value_of_variable g x) (value_of_variable g (root_of rest z r)) f (sound_at g (r + length rest) s)
+    (sound_at g x s) (sound_at g (root_of rest z r) s) (first_name f rest n) parts.1.0.0 parts.1.0.1 parts.1.1.0
     ∙ ap (λ u. value.Dir (update (entries_of u) f (value_of_variable g (root_of rest z r)))) e
     ∙ ap (λ u. value.Dir (update (entries_of v) f u)) inner
 
@@ -159,6 +158,6 @@ put_to g x y z r v w (f ∷ rest) s e a ew u =
     let is : value_of_variable g (r + length rest) ≡ value.Dir (update (entries_of v) f (put (entry v f) rest w)) = u.1 in
     meets_join g (put_literals y (y + 1) rest z r) _ (put_to g y (y + 1) z r (entry v f) w rest (sound-entry v f s) a.0 a.1 ew u.0)
     ((ap kind_of is, λ h out.
-    ap (λ b. entry b h) is ∙ derived_other v (put (entry v f) rest w) f h s (λ same. out (contains_from_listed h (f ∷ []) (inl (sym same))))
+    ap (λ b. entry b h) is ∙ derived_other v (put (entry v f) rest w) f h s (λ same. out (one_contained f h same))
     ∙ sym (ap (λ b. entry b h) e)),
     (inner ∙ sym (ap (λ b. entry b f) is ∙ derived_same v (put (entry v f) rest w) f s), tt))

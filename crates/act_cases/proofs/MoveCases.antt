@@ -24,7 +24,7 @@ use Rattle.utility_calls.specs.Sights.{Where, anything, is as of_kinds, within, 
 use Rattle.utility_calls.specs.Table.{Rule, rules, is_source, rule_holds, row_of, move_by}
 use Rattle.utility_calls.specs.Acts.{path_of, place_of, inner_name, inner_at, last_name, with_name, is_prefix, is_there, slash_row, source_of, sight_on, row, effect_on, IsPerformed}
 use Rattle.utility_calls.specs.ActRows.{IsAmong, Reaches, LooksAtWay}
-use Rattle.act_cases.specs.declared.case.Case.{Case}
+use Rattle.tree_clauses.specs.declared.case.Case.{Case}
 use Rattle.act_cases.specs.Looks.{Sees}
 use Rattle.act_cases.specs.Plans.{EndMet, case_of}
 use Rattle.act_cases.specs.Tables.{through, ways_of, end_of_place, is_inner, names_at, link_plan, slash_plan}

@@ -9,9 +9,9 @@ use Rattle.feature_trees.specs.Tree.{entry, at, kind_of, put, has_parents}
 use Rattle.feature_trees.specs.Sound.{sound}
 use Rattle.feature_trees.proofs.Laws.{sound-entry}
 use Rattle.feature_trees.proofs.Kept.{sound-put}
-use Rattle.clause_solver.specs.Literals.{Valuation, value_of_variable, IsSound, MeetsAll}
-use Rattle.clause_solver.proofs.KindSets.{of_absent}
-use Rattle.clause_solver.proofs.Values.{absent_kind}
+use Rattle.tree_clauses.specs.Literals.{Valuation, value_of_variable, IsSound, MeetsAll}
+use Rattle.act_cases.proofs.KindSets.{of_absent}
+use Rattle.tree_clauses.proofs.Values.{absent_kind}
 use Rattle.act_cases.specs.declared.looks.Ways.{Ways}
 use Rattle.act_cases.specs.declared.moves.MovePlan.{MovePlan}
 use Rattle.act_cases.specs.Looks.{kinds_from, Sees, way_literals, look_literals, end_of}

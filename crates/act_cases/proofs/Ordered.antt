@@ -6,14 +6,14 @@ use Rattle.feature_trees.specs.declared.kind.Kind.{Kind as AnyKind}
 use Rattle.feature_trees.specs.declared.kind.Kind.TheVariants as kind
 use Rattle.feature_trees.specs.declared.kind.Kinds.{Kinds}
 use Rattle.feature_trees.specs.Kinds.{of}
-use Rattle.clause_solver.proofs.KindSets.{of_dir}
-use Rattle.clause_solver.specs.declared.clause.Literal.{Literal}
-use Rattle.clause_solver.specs.declared.clause.Literal.TheVariants.{Entry, Kind, Similar}
+use Rattle.act_cases.proofs.KindSets.{of_dir}
+use Rattle.tree_clauses.specs.declared.clause.Literal.{Literal}
+use Rattle.tree_clauses.specs.declared.clause.Literal.TheVariants.{Entry, Kind, Similar}
 use Rattle.act_cases.specs.declared.looks.Ways.{Ways}
 use Rattle.act_cases.specs.Looks.{var, kinds_from, way_literals}
 use Rattle.act_cases.specs.Puts.{put_literals, root_of}
 use Rattle.act_cases.specs.Tables.{through}
-use Rattle.act_cases.specs.Plain.{IsOneOf, AreNoneOrDir, IsLimited, PlainOrder, entry, replaced, kinds}
+use Rattle.tree_clauses.specs.Plain.{IsOneOf, AreNoneOrDir, IsLimited, PlainOrder, entry, replaced, kinds}
 
 -- ---- the first so many variables, from the last on
 

@@ -7,9 +7,9 @@ use Rattle.feature_trees.specs.declared.kind.Kinds.{Kinds}
 use Rattle.feature_trees.specs.Kinds.{has, of}
 use Rattle.feature_trees.specs.Tree.{kind_of}
 use Rattle.feature_trees.proofs.Laws.{and_parts}
-use Rattle.clause_solver.specs.declared.clause.Literal.{Literal}
-use Rattle.clause_solver.specs.declared.clause.Literal.TheVariants.{Entry, Kind, Fence, NotEmpty, Similar, Target}
-use Rattle.clause_solver.specs.Literals.{Valuation, value_of_variable, MeetsAll}
+use Rattle.tree_clauses.specs.declared.clause.Literal.{Literal}
+use Rattle.tree_clauses.specs.declared.clause.Literal.TheVariants.{Entry, Kind, Fence, NotEmpty, Similar, Target}
+use Rattle.tree_clauses.specs.Literals.{Valuation, value_of_variable, MeetsAll}
 use Rattle.utility_calls.specs.declared.acts.Act.{Act}
 use Rattle.utility_calls.specs.declared.acts.Act.TheVariants.{Exists, IsReg, IsDir, IsLink, CanRun, MakeDir, EnsureDir, RemoveDir, Remove, Touch, Symlink, Move, PlaceFile, PlaceLink, PlaceConf, Discard, DiscardDir}
 use Rattle.utility_calls.specs.declared.sights.Effect.{Effect}
@@ -18,7 +18,7 @@ use Rattle.utility_calls.specs.Sights.{Where, anything, is, within, inside, outs
 use Rattle.utility_calls.specs.Table.{Rule, rules, remove_by, symlink_by}
 use Rattle.utility_calls.specs.Acts.{path_of, inner_name, target_of, with_name, is_question, IsPerformed}
 use Rattle.utility_calls.specs.ActRows.{IsAmong}
-use Rattle.act_cases.specs.declared.case.Case.{Case}
+use Rattle.tree_clauses.specs.declared.case.Case.{Case}
 use Rattle.act_cases.specs.declared.looks.Ways.{Ways}
 use Rattle.act_cases.specs.declared.plans.Plan.{Plan}
 use Rattle.act_cases.specs.declared.plans.End.{End}
@@ -27,7 +27,7 @@ use Rattle.act_cases.specs.Looks.{var, kinds_from, look_literals, way_literals, 
 use Rattle.act_cases.specs.Puts.{put_literals, root_of}
 use Rattle.act_cases.specs.Plans.{end_literals, is_put, made_literals, changes, locals_by, root_by, case_of}
 use Rattle.act_cases.specs.Tables.{fitting, free, through, ways_of, is_inner, names_at, plan_of, link_plan, slash_plan}
-use Rattle.act_cases.specs.Plain.{IsOneOf, AreNoneOrDir, IsLimited, PlainOrder, done, absent, reg, link, dir, same, kinds, empty as empty_fact, filled, IsPlain}
+use Rattle.tree_clauses.specs.Plain.{IsOneOf, AreNoneOrDir, IsLimited, PlainOrder, done, absent, reg, link, dir, same, kinds, empty as empty_fact, filled, IsPlain}
 use Rattle.act_cases.specs.Cases.{IsOnOnePath, rule_case, cases_of}
 use Rattle.act_cases.proofs.Meets.{meets_split, end_length}
 use Rattle.act_cases.proofs.Tabled.{all_of, test_of, implies}

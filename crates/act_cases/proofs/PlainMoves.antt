@@ -6,9 +6,9 @@ use Rattle.feature_trees.specs.declared.kind.Kind.TheVariants as kind
 use Rattle.feature_trees.specs.declared.kind.Kinds.{Kinds}
 use Rattle.feature_trees.specs.Kinds.{has, of, all}
 use Rattle.feature_trees.specs.Tree.{kind_of}
-use Rattle.clause_solver.specs.declared.clause.Literal.{Literal}
-use Rattle.clause_solver.specs.declared.clause.Literal.TheVariants.{Kind}
-use Rattle.clause_solver.specs.Literals.{Valuation, value_of_variable, MeetsAll}
+use Rattle.tree_clauses.specs.declared.clause.Literal.{Literal}
+use Rattle.tree_clauses.specs.declared.clause.Literal.TheVariants.{Kind}
+use Rattle.tree_clauses.specs.Literals.{Valuation, value_of_variable, MeetsAll}
 use Rattle.utility_calls.specs.declared.acts.Act.{Act}
 use Rattle.utility_calls.specs.declared.acts.Act.TheVariants.{Move}
 use Rattle.utility_calls.specs.Table.{Rule, move_by}
@@ -21,7 +21,7 @@ use Rattle.act_cases.specs.Puts.{put_literals, root_of}
 use Rattle.act_cases.specs.Plans.{end_literals}
 use Rattle.act_cases.specs.Tables.{through, ways_of, end_of_place, is_inner, names_at}
 use Rattle.act_cases.specs.Moves.{spare, freed, onward, outward, placed, moved_literals, moves_by, move_locals, move_root, move_case, source_where, is_anything, second_names, is_move, move_plan, second_plan, move_rule_case}
-use Rattle.act_cases.specs.Plain.{IsOneOf, IsLimited, PlainOrder, done, absent, kinds, IsPlain}
+use Rattle.tree_clauses.specs.Plain.{IsOneOf, IsLimited, PlainOrder, done, absent, kinds, IsPlain}
 use Rattle.act_cases.proofs.Meets.{meets_split}
 use Rattle.act_cases.proofs.Ordered.{firsts, below_contains, contains_below, not_yet, Within, AllLimited, limited_within, AllKinds, through_limited, way_order, AllBelow, all_below, put_order}
 use Rattle.act_cases.proofs.PlainCases.{is_through, through_ways, end_order}

@@ -5,7 +5,7 @@ use Rattle.utility_calls.specs.declared.acts.Act.{Act}
 use Rattle.utility_calls.specs.Table.{Rule, rules}
 use Rattle.utility_calls.specs.Acts.{path_of, place_of, is_below}
 use Rattle.utility_calls.specs.ActRows.{IsAmong}
-use Rattle.act_cases.specs.declared.case.Case.{Case}
+use Rattle.tree_clauses.specs.declared.case.Case.{Case}
 use Rattle.act_cases.specs.Moves.{move_rule_case, second_cases, move_cases}
 use Rattle.act_cases.specs.Cases.{Rising, case_row, link_cases, slash_cases, rule_case, cases_of}
 use Rattle.act_cases.proofs.Tabled.{above, apart, above_one}

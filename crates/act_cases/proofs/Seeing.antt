@@ -9,7 +9,7 @@ use Rattle.feature_trees.specs.Kinds.{has, of, all, both}
 use Rattle.feature_trees.specs.Tree.{entry, at, kind_of, is_dir, has_parents}
 use Rattle.feature_trees.proofs.Found.{at_Absent}
 use Rattle.feature_trees.proofs.Laws.{and_parts, and_made}
-use Rattle.clause_solver.proofs.KindSets.{has_both}
+use Rattle.act_cases.proofs.KindSets.{has_both}
 use Rattle.utility_calls.specs.Rows.{in_dir}
 use Rattle.utility_calls.specs.Applies.{kind_at, NoLinkOnWay}
 use Rattle.utility_calls.specs.Sights.{but, two, three}

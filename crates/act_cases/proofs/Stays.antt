@@ -7,8 +7,8 @@ use Rattle.feature_trees.specs.declared.value.Value.TheVariants as value
 use Rattle.feature_trees.specs.Tree.{entry, is_dir, put, update, entries_of, has_parents}
 use Rattle.feature_trees.specs.Sound.{sound}
 use Rattle.feature_trees.proofs.Laws.{and_parts, sound-entry}
-use Rattle.clause_solver.proofs.Names.{name_cases}
-use Rattle.clause_solver.proofs.Values.{derived_same, derived_other}
+use Rattle.tree_clauses.proofs.Names.{name_cases}
+use Rattle.tree_clauses.proofs.Values.{derived_same, derived_other}
 use Rattle.utility_calls.specs.Acts.{is_prefix, with_name}
 
 -- no strict prefix of the second names begins with the first, or is the same

@@ -9,7 +9,7 @@ use Rattle.feature_trees.specs.Tree.{entry, put}
 use Rattle.feature_trees.specs.Sound.{sound}
 use Rattle.feature_trees.proofs.Laws.{sound-entry}
 use Rattle.feature_trees.proofs.Kept.{sound-put}
-use Rattle.clause_solver.specs.Literals.{Valuation, value_of_variable, IsSound}
+use Rattle.tree_clauses.specs.Literals.{Valuation, value_of_variable, IsSound}
 use Rattle.act_cases.proofs.Meets.{Along, Outwards, AreNames, later_names}
 
 -- the entries along the names

@@ -5,16 +5,16 @@ use Rattle.script_names.specs.declared.reason.Done.{Done}
 use Rattle.script_names.specs.Paths.{PathParts}
 use Rattle.feature_trees.specs.declared.value.Value.{Value}
 use Rattle.feature_trees.specs.Sound.{IsTree}
-use Rattle.clause_solver.specs.Literals.{Valuation, value_of_variable, IsSound, MeetsAll}
+use Rattle.tree_clauses.specs.Literals.{Valuation, value_of_variable, IsSound, MeetsAll}
 use Rattle.utility_calls.specs.declared.acts.Act.{Act}
 use Rattle.utility_calls.specs.declared.sights.Row.{Row}
 use Rattle.utility_calls.specs.declared.sights.Effect.TheVariants.{Nothing}
 use Rattle.utility_calls.specs.Table.{Rule, rules, row_of, stop}
 use Rattle.utility_calls.specs.Acts.{path_of, place_of, inner_name, target_of, moved, is_below, slash_row, row}
 use Rattle.utility_calls.specs.Acts.{tree_after}
-use Rattle.act_cases.specs.declared.case.Case.{Case}
+use Rattle.tree_clauses.specs.declared.case.Case.{Case}
 use Rattle.act_cases.specs.Plans.{case_of}
-use Rattle.act_cases.specs.Plain.{IsPlain}
+use Rattle.tree_clauses.specs.Plain.{IsPlain}
 use Rattle.act_cases.specs.Tables.{link_plan, slash_plan, plan_of, names_at, is_inner}
 
 -- the act looks along one path alone, and below it: every act but a move

@@ -2,6 +2,5 @@ pub mod Looks
 pub mod Puts
 pub mod Plans
 pub mod Tables
-pub mod Plain
 pub mod Cases
 pub mod Moves

@@ -4,9 +4,9 @@ use Rattle.feature_trees.specs.declared.value.Value.{Value}
 use Rattle.feature_trees.specs.declared.kind.Kinds.{Kinds}
 use Rattle.feature_trees.specs.Kinds.{has}
 use Rattle.feature_trees.specs.Tree.{entry, kind_of}
-use Rattle.clause_solver.specs.declared.clause.Var.{Var}
-use Rattle.clause_solver.specs.declared.clause.Literal.{Literal}
-use Rattle.clause_solver.specs.declared.clause.Literal.TheVariants.{Entry, Kind}
+use Rattle.tree_clauses.specs.declared.clause.Var.{Var}
+use Rattle.tree_clauses.specs.declared.clause.Literal.{Literal}
+use Rattle.tree_clauses.specs.declared.clause.Literal.TheVariants.{Entry, Kind}
 use Rattle.act_cases.specs.declared.looks.Ways.{Ways}
 
 -- the variable with this number

@@ -7,8 +7,8 @@ use Rattle.feature_trees.specs.declared.kind.Kind.TheVariants.{Absent, Link}
 use Rattle.feature_trees.specs.declared.kind.Kinds.{Kinds}
 use Rattle.feature_trees.specs.Kinds.{of, all}
 use Rattle.feature_trees.specs.Tree.{at, put}
-use Rattle.clause_solver.specs.declared.clause.Literal.{Literal}
-use Rattle.clause_solver.specs.declared.clause.Literal.TheVariants.{Kind}
+use Rattle.tree_clauses.specs.declared.clause.Literal.{Literal}
+use Rattle.tree_clauses.specs.declared.clause.Literal.TheVariants.{Kind}
 use Rattle.utility_calls.specs.declared.acts.Act.{Act}
 use Rattle.utility_calls.specs.declared.sights.Effect.{Effect}
 use Rattle.utility_calls.specs.declared.sights.Effect.TheVariants.{Nothing, MakesDir, KeepsDir, MakesFile, MakesLink}
@@ -17,7 +17,7 @@ use Rattle.utility_calls.specs.Sights.{Where, but}
 use Rattle.utility_calls.specs.Sights.{anything, is, within, inside, outside, empty, full, into, into_empty, into_full}
 use Rattle.utility_calls.specs.Table.{Rule, rules, stop}
 use Rattle.utility_calls.specs.Acts.{path_of, place_of, inner_name, is_below}
-use Rattle.act_cases.specs.declared.case.Case.{Case}
+use Rattle.tree_clauses.specs.declared.case.Case.{Case}
 use Rattle.act_cases.specs.declared.plans.End.TheVariants as end
 use Rattle.act_cases.specs.declared.moves.MovePlan.{MovePlan}
 use Rattle.act_cases.specs.Looks.{var, look_literals, end_of}

@@ -5,13 +5,13 @@ use Rattle.feature_trees.specs.declared.value.Value.TheVariants as value
 use Rattle.feature_trees.specs.declared.kind.Kind.TheVariants as kind
 use Rattle.feature_trees.specs.Kinds.{of}
 use Rattle.feature_trees.specs.Tree.{at, entries_of, put}
-use Rattle.clause_solver.specs.declared.clause.Literal.{Literal}
-use Rattle.clause_solver.specs.declared.clause.Literal.TheVariants.{Kind, Fence, NotEmpty, Similar, Target}
+use Rattle.tree_clauses.specs.declared.clause.Literal.{Literal}
+use Rattle.tree_clauses.specs.declared.clause.Literal.TheVariants.{Kind, Fence, NotEmpty, Similar, Target}
 use Rattle.utility_calls.specs.declared.sights.Effect.{Effect}
 use Rattle.utility_calls.specs.declared.sights.Effect.TheVariants.{Nothing, MakesDir, KeepsDir, MakesFile, MakesLink}
 use Rattle.utility_calls.specs.declared.sights.Effect.TheVariants.{LinksInside, TakesAway, Moves, MovesInside}
 use Rattle.utility_calls.specs.Sights.{has_entry}
-use Rattle.act_cases.specs.declared.case.Case.{Case}
+use Rattle.tree_clauses.specs.declared.case.Case.{Case}
 use Rattle.act_cases.specs.declared.plans.Plan.{Plan}
 use Rattle.act_cases.specs.declared.plans.End.{End}
 use Rattle.act_cases.specs.declared.plans.End.TheVariants.{Any, Empty, Full}

@@ -1,7 +1,7 @@
 -- A value put at names: the literals of the tree that comes of it, from the last directory on the way outwards.
 use Rattle.std.specs.Prelude.{ℕ, zero, suc, ◌+◌, List, [], ◌∷◌, ◌++◌, length}
-use Rattle.clause_solver.specs.declared.clause.Literal.{Literal}
-use Rattle.clause_solver.specs.declared.clause.Literal.TheVariants.{Entry, Similar}
+use Rattle.tree_clauses.specs.declared.clause.Literal.{Literal}
+use Rattle.tree_clauses.specs.declared.clause.Literal.TheVariants.{Entry, Similar}
 use Rattle.act_cases.specs.Looks.{var}
 
 -- the variable of what the first so many names lead to: x is that of the value that they go from, and those of the

@@ -1,9 +1,8 @@
 //! Acts as cases: for each row of an act the clause of the trees that take it, and of the tree that it leaves.
-//! It stands on utility_calls, clause_solver, feature_trees and script_names. Begin with `making`, and with
+//! It stands on utility_calls, tree_clauses, feature_trees and script_names. Begin with `making`, and with
 //! specs/Cases.antt for what the cases of an act are.
 #![tactic(auto)]
 
-mod case;
 mod looks;
 mod making;
 mod moves;
@@ -11,7 +10,6 @@ mod plans;
 mod puts;
 mod tables;
 
-pub use case::Case;
 pub use making::cases;
 
 #[cfg(test)]

@@ -1,8 +1,8 @@
 ghost use Rattle.std.specs.Prelude.{◌≡◌, ◌+◌, ◌≤◌, ◌++◌, ◌∷◌, [], length, OnOk};
-ghost use Rattle.clause_solver.specs.declared.clause.Literal.TheVariants as literal;
+ghost use Rattle.tree_clauses.specs.declared.clause.Literal.TheVariants as literal;
 ghost use Rattle.act_cases.specs.Looks.{var, kinds_from, look_literals};
 
-use clause_solver::{Literal, Var};
+use tree_clauses::{Literal, Var};
 use feature_trees::Kinds;
 use script_names::{Copied, List, Memory, Name};
 use std::alloc::Global;

@@ -9,7 +9,7 @@ ghost use Rattle.act_cases.specs.Moves.{source_where, is_anything, is_move, move
 ghost use Rattle.act_cases.specs.Moves.{move_rule_case, second_cases, move_cases};
 ghost use Rattle.act_cases.specs.Cases.{IsOnOnePath, HasSource, AreCases, link_cases, slash_cases, rule_case, cases_of};
 
-use crate::case::Case;
+use tree_clauses::Case;
 use crate::looks::Ways;
 use crate::moves::{MovePlan, make_move_case};
 use crate::plans::{End, Plan, make_case};

@@ -5,11 +5,11 @@ ghost use Rattle.act_cases.specs.Moves.{moved_literals, move_case};
 ghost use Rattle.act_cases.specs.Tables.{through};
 ghost use Rattle.feature_trees.specs.Kinds.{all};
 
-use crate::case::Case;
+use tree_clauses::Case;
 use crate::looks::{Ways, add_look};
 use crate::plans::{End, add_end};
 use crate::puts::add_put;
-use clause_solver::{Literal, Var};
+use tree_clauses::{Literal, Var};
 use feature_trees::{Kind, Kinds};
 use script_names::{Done, List, Memory, Name};
 use std::alloc::Global;

@@ -3,10 +3,10 @@ ghost use Rattle.utility_calls.specs.declared.sights.Effect.TheVariants.{MakesDi
 ghost use Rattle.act_cases.specs.Puts.{root_of};
 ghost use Rattle.act_cases.specs.Plans.{is_put, made_literals, end_literals, change_literals, case_of};
 
-use crate::case::Case;
+use tree_clauses::Case;
 use crate::looks::{Ways, add_look};
 use crate::puts::add_put;
-use clause_solver::{Literal, Var};
+use tree_clauses::{Literal, Var};
 use feature_trees::{Kind, Kinds};
 use script_names::{Bytes, Copied, Done, List, Memory, Name};
 use std::alloc::Global;

@@ -1,9 +1,9 @@
 ghost use Rattle.std.specs.Prelude.{◌≡◌, ◌+◌, ◌≤◌, ◌++◌, ◌∷◌, [], length, OnOk};
-ghost use Rattle.clause_solver.specs.declared.clause.Literal.TheVariants as literal;
+ghost use Rattle.tree_clauses.specs.declared.clause.Literal.TheVariants as literal;
 ghost use Rattle.act_cases.specs.Looks.{var};
 ghost use Rattle.act_cases.specs.Puts.{variable_at, put_literals};
 
-use clause_solver::{Literal, Var};
+use tree_clauses::{Literal, Var};
 use script_names::{Copied, List, Memory, Name};
 use std::alloc::Global;
 

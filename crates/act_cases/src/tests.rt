@@ -1,6 +1,6 @@
-use crate::case::Case;
+use tree_clauses::Case;
 use crate::making::cases;
-use clause_solver::{Clause, Var, print_clause};
+use tree_clauses::{Clause, Var, print_clause};
 use script_names::{Bytes, Copied, Done, List, Memory, Reason};
 use std::alloc::Global;
 use std::process::Abort;

@@ -3,7 +3,7 @@ use Rattle.std.proofs.Common.{◌≡◌, ℕ, ◌<◌, ◌≤◌, ◌↔◌, Boo
 use Rattle.feature_trees.specs.declared.kind.Kind.{Kind}
 use Rattle.feature_trees.specs.Tree.{kind_of}
 use Rattle.clause_solver.specs.declared.variable.Variable.{Variable}
-use Rattle.clause_solver.specs.Literals.{Valuation, value_of_variable, IsSound}
+use Rattle.tree_clauses.specs.Literals.{Valuation, value_of_variable, IsSound}
 use Rattle.clause_solver.specs.Stands.{Stands, Alive}
 use Rattle.clause_solver.specs.Variables.{var_at, AllFit, Ordered, AlwaysDir, OnlyDir, is_node}
 use Rattle.clause_solver.specs.Greatest.{IsBest, IsSatisfied, unfenced, is_unfenced}

@@ -11,7 +11,7 @@ use Rattle.feature_trees.specs.Tree.{update}
 use Rattle.clause_solver.specs.declared.variable.Definition.{Definition}
 use Rattle.clause_solver.specs.declared.variable.Definition.TheVariants.{Start, Child, Derived, Ensured, Made}
 use Rattle.clause_solver.specs.declared.variable.Variable.{Variable}
-use Rattle.clause_solver.specs.Literals.{Valuation, value_of_variable}
+use Rattle.tree_clauses.specs.Literals.{Valuation, value_of_variable}
 use Rattle.clause_solver.specs.Variables.{no_variable, var_at}
 use Rattle.clause_solver.specs.Greatest.{kind_at}
 use Rattle.clause_solver.specs.Grown.{grown, add, children, extra, values}

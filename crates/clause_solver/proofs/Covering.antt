@@ -4,9 +4,10 @@ use Rattle.std.proofs.lemmas.List.{length-append, get_or_append_left}
 use Rattle.std.proofs.Math.Seq.{get_or-append_seam}
 use Rattle.feature_trees.specs.declared.value.Value.{Value}
 use Rattle.feature_trees.specs.declared.value.Value.TheVariants as value
-use Rattle.clause_solver.specs.declared.clause.Clause.{Clause}
+use Rattle.feature_trees.specs.Tree.{kind_of}
+use Rattle.tree_clauses.specs.declared.clause.Clause.{Clause}
 use Rattle.clause_solver.specs.declared.variable.Variable.{Variable}
-use Rattle.clause_solver.specs.Literals.{Valuation, value_of_variable, IsSound, MeetsAll, Covers}
+use Rattle.tree_clauses.specs.Literals.{Valuation, value_of_variable, IsSound, MeetsAll, Covers}
 use Rattle.clause_solver.specs.Stands.{Stands}
 use Rattle.clause_solver.specs.Variables.{var_at, AllFit, Ordered, AlwaysDir, OnlyDir}
 use Rattle.clause_solver.specs.Written.{literals_from}
@@ -62,6 +63,7 @@ covers_iff vars now order known tree start c literals first last t u = (
         values = stands.values;
         starts = ap (value_of_variable g) first ∙ stands.starts;
         ends = ap (value_of_variable g) last ∙ ends;
+        tree = ap kind_of (sym ends) ∙ stands.ends;
         met = rw literals stands.met;
       },
 )

@@ -17,13 +17,13 @@ use Rattle.feature_trees.proofs.Kept.{sound-update}
 use Rattle.clause_solver.specs.declared.variable.Definition.{Definition}
 use Rattle.clause_solver.specs.declared.variable.Definition.TheVariants.{Start, Child, Derived, Ensured, Made}
 use Rattle.clause_solver.specs.declared.variable.Variable.{Variable}
-use Rattle.clause_solver.specs.Literals.{Valuation, value_of_variable, IsSound}
+use Rattle.tree_clauses.specs.Literals.{Valuation, value_of_variable, IsSound}
 use Rattle.clause_solver.specs.Variables.{var_at, Listed, allowed, defined, made_value, AllFit, is_node, Earlier, Ordered}
 use Rattle.clause_solver.specs.Greatest.{kind_at, is_dir, best_by, IsBest, HasEntryOutside, free, child_present, here, below, kept, IsSatisfied}
 use Rattle.clause_solver.specs.Grown.{grown, add, children, extra, values}
 use Rattle.clause_solver.proofs.Names.{nat_cases, bool_cases, eq_cases, same_yes, name_cases}
 use Rattle.clause_solver.proofs.KindSets.{is_dir_cases}
-use Rattle.clause_solver.proofs.Values.{entry_of_dir, absent_kind, present_kind, derived_same, derived_other, entry_is}
+use Rattle.tree_clauses.proofs.Values.{entry_of_dir, absent_kind, present_kind, derived_same, derived_other, entry_is}
 use Rattle.clause_solver.proofs.Pairs.{sound_at}
 use Rattle.clause_solver.proofs.OneMore.{defined_sound, defined_same, sound_push}
 

@@ -1,17 +1,19 @@
 -- The literals of a store are in solved order.
 use Rattle.std.proofs.Common.{◌≡◌, ℕ, zero, suc, ◌+◌, ◌<◌, inl, inr, Bool, true, false, Option, Some, None, List, [], ◌∷◌, ◌++◌, length, get_or, refl, arith, append_assoc}
 use Rattle.std.specs.Prelude.{Contains}
+use Rattle.feature_trees.specs.declared.kind.Kind.TheVariants as kind
 use Rattle.feature_trees.specs.declared.kind.Kinds.{Kinds}
-use Rattle.clause_solver.specs.declared.clause.Literal.{Literal}
-use Rattle.clause_solver.specs.declared.clause.Literal.TheVariants as L
+use Rattle.feature_trees.specs.Kinds.{of}
+use Rattle.tree_clauses.specs.declared.clause.Literal.{Literal}
+use Rattle.tree_clauses.specs.declared.clause.Literal.TheVariants as L
 use Rattle.clause_solver.specs.declared.variable.MadeValue.{MadeValue}
-use Rattle.clause_solver.specs.declared.variable.MadeValue.TheVariants as made
+use Rattle.clause_solver.specs.declared.variable.MadeValue.TheVariants as value
 use Rattle.clause_solver.specs.declared.variable.Definition.{Definition}
 use Rattle.clause_solver.specs.declared.variable.Definition.TheVariants.{Start, Child, Derived, Ensured, Made}
 use Rattle.clause_solver.specs.declared.variable.Variable.{Variable}
 use Rattle.clause_solver.specs.Variables.{var_at, Earlier, Ordered}
 use Rattle.clause_solver.specs.Written.{var, made_literals, definition_literals, is_all, kinds_literals, fence_literals, filled_literals, literals_from}
-use Rattle.clause_solver.specs.Solved.{Solves, done, entry, absent, reg, link, empty, similar, fact, none, one}
+use Rattle.tree_clauses.specs.Solved.{IsInOrder, Solves, done, made, fact}
 use Rattle.clause_solver.proofs.Names.{bool_cases, nat_cases}
 
 -- the numbers below n, the greatest first
@@ -60,18 +62,32 @@ facts_on i n v rest after w h =
     rw (append_assoc (kinds_literals i v.kinds) (fence_literals i v.fence ++ filled_literals i v.not_empty) rest, append_assoc (fence_literals i v.fence) (filled_literals i v.not_empty) rest)
     (kinds_on i n v.kinds _ after w (fence_on i n v.fence _ after w (filled_on i n v.not_empty rest after w h)))
 
+-- a set of no name, or of one, is in order
+none_in_order : IsInOrder [] []
+none_in_order = record { rises = tt; same = λ f. (λ c. c, λ c. c) }
+
+one_in_order : (f : List ℕ) → IsInOrder (f ∷ []) (f ∷ [])
+one_in_order f = record { rises = tt; same = λ g. (λ c. c, λ c. c) }
+
 -- a definition makes its variable known
 made_on : (i : ℕ) (m : MadeValue) (rest : List Literal) (after : List ℕ) → Solves (below (suc i)) rest after → Solves (below i) (made_literals i m ++ rest) after
-made_on i made.Absent rest after h = absent (var i) (not_below i) h
-made_on i made.Reg rest after h = reg (var i) (not_below i) h
-made_on i (made.Link b) rest after h = link (var i) b (not_below i) h
-made_on i made.Dir rest after h = empty (var i) (not_below i) h
+made_on i value.Absent rest after h = made (L.Kind (var i) (of kind.Absent)) (not_below i) (inl refl) h
+made_on i value.Reg rest after h = made (L.Kind (var i) (of kind.Reg)) (not_below i) (inr (inl refl)) h
+made_on i (value.Link b) rest after h = made (L.Target (var i) b) (not_below i) tt h
+made_on i value.Dir rest after h =
+    made (L.Kind (var i) (of kind.Dir)) (not_below i) (inr (inr (refl, (refl, refl))))
+    (fact (L.Fence (var i) []) (contains_below (suc i) i (omega arith)) h)
 
 definition_on : (vars : List Variable) (i : ℕ) (d : Definition) (rest : List Literal) (after : List ℕ) → 0 < i → Earlier vars i d → Solves (below (suc i)) rest after → Solves (below i) (definition_literals i d ++ rest) after
 definition_on vars i Start rest after w e h = absurd (omega arith)
-definition_on vars i (Child p f) rest after w e h = entry (var p) f (var i) (contains_below i p e.0) (not_below i) h
-definition_on vars i (Derived x f y) rest after w e h = similar (var i) (f ∷ []) (var x) (L.Entry (var i) f (var y) ∷ []) (contains_below i x e.0) (not_below i) tt (one f (var y) (contains_below i y e.1) none) h
-definition_on vars i (Ensured x) rest after w e h = similar (var i) [] (var x) [] (contains_below i x e) (not_below i) tt none h
+definition_on vars i (Child p f) rest after w e h = made (L.Entry (var p) f (var i)) (not_below i) (contains_below i p e.0) h
+definition_on vars i (Derived x f y) rest after w e h =
+    let known = contains_below i y e.1 in
+    made (L.Similar (var i) (f ∷ []) (var x)) (not_below i)
+    (contains_below i x e.0, (f ∷ [], one_in_order f, ((refl, refl, known), tt)))
+    (fact (L.Entry (var i) f (var y)) (contains_below (suc i) i (omega arith), contains_tail y i (below i) known) h)
+definition_on vars i (Ensured x) rest after w e h =
+    made (L.Similar (var i) [] (var x)) (not_below i) (contains_below i x e, ([], none_in_order, tt)) h
 definition_on vars i (Made m) rest after w e h = made_on i m rest after h
 
 variables_on : (vars : List Variable) (k : ℕ) (vs : List Variable) → 0 < k → ((i : ℕ) → i < length vs → Earlier vars (k + i) (var_at vs i).definition) → Solves (below k) (literals_from k vs) (below (k + length vs))

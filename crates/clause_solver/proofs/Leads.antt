@@ -8,12 +8,12 @@ use Rattle.clause_solver.specs.declared.variable.MadeValue.TheVariants as made
 use Rattle.clause_solver.specs.declared.variable.Definition.{Definition}
 use Rattle.clause_solver.specs.declared.variable.Definition.TheVariants.{Child, Derived, Made}
 use Rattle.clause_solver.specs.declared.variable.Variable.{Variable}
-use Rattle.clause_solver.specs.Literals.{Valuation, value_of_variable, IsSound}
+use Rattle.tree_clauses.specs.Literals.{Valuation, value_of_variable, IsSound}
 use Rattle.clause_solver.specs.Stands.{Seen, Extends, HasEntry}
 use Rattle.clause_solver.specs.Variables.{var_at, AllFit, Earlier, Ordered, IsChild, defined}
 use Rattle.clause_solver.specs.Appends.{SameEntry, LeadsTo}
 use Rattle.clause_solver.specs.Fresh.{fresh}
-use Rattle.clause_solver.proofs.Values.{derived_same, derived_other}
+use Rattle.tree_clauses.proofs.Values.{derived_same, derived_other}
 use Rattle.clause_solver.proofs.Pairs.{sound_at, fits_from}
 use Rattle.clause_solver.proofs.OneMore.{seen_of, longer, append_down, sound_take}
 

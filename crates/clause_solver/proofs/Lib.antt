@@ -1,6 +1,5 @@
 pub mod Names
 pub mod KindSets
-pub mod Values
 pub mod HasEntries
 pub mod Pairs
 pub mod OneMore

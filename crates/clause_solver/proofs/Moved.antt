@@ -2,7 +2,7 @@
 use Rattle.std.proofs.Common.{ℕ, ◌↔◌, List}
 use Rattle.feature_trees.specs.declared.value.Value.{Value}
 use Rattle.clause_solver.specs.declared.variable.Variable.{Variable}
-use Rattle.clause_solver.specs.Literals.{Valuation}
+use Rattle.tree_clauses.specs.Literals.{Valuation}
 use Rattle.clause_solver.specs.Stands.{Stands, IsDirectory}
 use Rattle.clause_solver.specs.Variables.{Ordered, AlwaysDir, OnlyDir}
 use Rattle.clause_solver.proofs.Pairs.{fits_from}

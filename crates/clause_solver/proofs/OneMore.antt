@@ -15,7 +15,7 @@ use Rattle.clause_solver.specs.declared.variable.MadeValue.TheVariants as made
 use Rattle.clause_solver.specs.declared.variable.Definition.{Definition}
 use Rattle.clause_solver.specs.declared.variable.Definition.TheVariants.{Start, Child, Derived, Ensured, Made}
 use Rattle.clause_solver.specs.declared.variable.Variable.{Variable}
-use Rattle.clause_solver.specs.Literals.{Valuation, value_of_variable, IsSound}
+use Rattle.tree_clauses.specs.Literals.{Valuation, value_of_variable, IsSound}
 use Rattle.clause_solver.specs.Stands.{Seen, Stands, Extends}
 use Rattle.clause_solver.specs.Variables.{no_variable, var_at, defined, made_value, Fits, AllFit, Earlier, Ordered, AlwaysDir, OnlyDir, IsChild}
 use Rattle.clause_solver.specs.Greatest.{kind_at, best_by, IsBest}
@@ -23,7 +23,7 @@ use Rattle.clause_solver.specs.Fresh.{fresh}
 use Rattle.clause_solver.specs.Written.{literals_from}
 use Rattle.clause_solver.proofs.Names.{last_cases}
 use Rattle.clause_solver.proofs.KindSets.{all_have}
-use Rattle.clause_solver.proofs.Values.{derived_sound, sound_entries}
+use Rattle.tree_clauses.proofs.Values.{derived_sound, sound_entries}
 use Rattle.clause_solver.proofs.Pairs.{sound_at, fits_from, fits_to}
 
 abbrev pub seen_of : List Variable → ℕ → Seen

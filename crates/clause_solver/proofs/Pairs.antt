@@ -6,19 +6,19 @@ use Rattle.feature_trees.specs.declared.value.Value.TheVariants as value
 use Rattle.feature_trees.specs.Kinds.{has}
 use Rattle.feature_trees.specs.Tree.{entry, kind_of}
 use Rattle.feature_trees.specs.Sound.{sound}
-use Rattle.clause_solver.specs.declared.clause.Literal.{Literal}
+use Rattle.tree_clauses.specs.declared.clause.Literal.{Literal}
 use Rattle.clause_solver.specs.declared.variable.MadeValue.{MadeValue}
 use Rattle.clause_solver.specs.declared.variable.MadeValue.TheVariants as made
 use Rattle.clause_solver.specs.declared.variable.Definition.{Definition}
 use Rattle.clause_solver.specs.declared.variable.Definition.TheVariants.{Start, Child, Derived, Ensured, Made}
 use Rattle.clause_solver.specs.declared.variable.Variable.{Variable}
-use Rattle.clause_solver.specs.Literals.{Valuation, value_of_variable, MeetsAll, IsSound}
+use Rattle.tree_clauses.specs.Literals.{Valuation, value_of_variable, MeetsAll, IsSound}
 use Rattle.clause_solver.specs.Variables.{var_at, allowed, member, defined, made_value, Fits, AllFit, Earlier, Ordered}
-use Rattle.clause_solver.specs.declared.clause.Literal.TheVariants.{Kind as KindLiteral}
+use Rattle.tree_clauses.specs.declared.clause.Literal.TheVariants.{Kind as KindLiteral}
 use Rattle.clause_solver.specs.Written.{var, made_literals, definition_literals, is_all, kinds_literals, fence_literals, filled_literals, literals_of, literals_from}
 use Rattle.clause_solver.proofs.Names.{bool_cases, listed_from_member, member_from_listed, listed_from_contains, contains_from_listed}
 use Rattle.clause_solver.proofs.KindSets.{all_have, of_absent, of_reg, of_dir}
-use Rattle.clause_solver.proofs.Values.{absent_or_not, absent_kind, reg_kind, derived_same, derived_other, derived_from, ensured_from, empty_from, entry_is}
+use Rattle.tree_clauses.proofs.Values.{absent_or_not, absent_kind, reg_kind, derived_same, derived_other, derived_from, ensured_from, empty_from, entry_is}
 
 below_or : (i n : ℕ) → (i < n) ⊎ (n ≤ i)
 below_or i zero = inr (omega arith)

@@ -8,7 +8,7 @@ use Rattle.feature_trees.specs.Tree.{kind_of}
 use Rattle.clause_solver.specs.declared.variable.Definition.{Definition}
 use Rattle.clause_solver.specs.declared.variable.Definition.TheVariants.{Start, Child, Derived, Ensured, Made}
 use Rattle.clause_solver.specs.declared.variable.Variable.{Variable}
-use Rattle.clause_solver.specs.Literals.{Valuation, value_of_variable}
+use Rattle.tree_clauses.specs.Literals.{Valuation, value_of_variable}
 use Rattle.clause_solver.specs.Stands.{Stands, Alive}
 use Rattle.clause_solver.specs.Variables.{var_at, Fits, AllFit, Ordered, AlwaysDir, OnlyDir, limited}
 use Rattle.clause_solver.specs.Greatest.{IsBest, IsBestBut, IsSatisfied, unfenced, kind_at, best_by, best_of}

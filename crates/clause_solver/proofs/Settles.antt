@@ -9,7 +9,7 @@ use Rattle.clause_solver.specs.declared.variable.Definition.TheVariants.{Child, 
 use Rattle.clause_solver.specs.declared.variable.Variable.{Variable}
 use Rattle.clause_solver.specs.declared.appended.Found.TheVariants.{Nothing, At}
 use Rattle.clause_solver.specs.declared.store.Store.TheInside.{Inside}
-use Rattle.clause_solver.specs.Literals.{value_of_variable}
+use Rattle.tree_clauses.specs.Literals.{value_of_variable}
 use Rattle.clause_solver.specs.Stands.{Stands, Extends, HasEntry, HasPut, HasValue}
 use Rattle.clause_solver.specs.Variables.{Ordered, Earlier, IsChild, defined, made_value}
 use Rattle.clause_solver.specs.Fresh.{fresh}

@@ -4,7 +4,7 @@ use Rattle.std.proofs.lemmas.List.{ext_get_or}
 use Rattle.feature_trees.specs.declared.value.Value.{Value}
 use Rattle.feature_trees.specs.declared.value.Value.TheVariants as value
 use Rattle.clause_solver.specs.declared.variable.Variable.{Variable}
-use Rattle.clause_solver.specs.Literals.{Valuation, value_of_variable}
+use Rattle.tree_clauses.specs.Literals.{Valuation, value_of_variable}
 use Rattle.clause_solver.specs.Stands.{Stands}
 use Rattle.clause_solver.specs.Variables.{var_at, AllFit, Ordered}
 use Rattle.clause_solver.proofs.Pairs.{fits_from}

@@ -9,7 +9,7 @@ use Rattle.clause_solver.specs.declared.variable.Definition.TheVariants.{Start, 
 use Rattle.clause_solver.specs.declared.variable.Variable.{Variable}
 use Rattle.clause_solver.specs.declared.appended.Found.{Found}
 use Rattle.clause_solver.specs.declared.appended.Found.TheVariants.{Known, Nothing, At}
-use Rattle.clause_solver.specs.Literals.{Valuation, value_of_variable, IsSound}
+use Rattle.tree_clauses.specs.Literals.{Valuation, value_of_variable, IsSound}
 use Rattle.clause_solver.specs.Variables.{var_at, is_node, AllFit}
 use Rattle.clause_solver.specs.Greatest.{best_by}
 use Rattle.clause_solver.specs.Fresh.{fresh}

@@ -7,7 +7,7 @@ use Rattle.clause_solver.specs.declared.variable.Definition.{Definition}
 use Rattle.clause_solver.specs.declared.variable.Definition.TheVariants.{Start, Child, Derived, Ensured, Made}
 use Rattle.feature_trees.specs.declared.kind.Kind.{Kind}
 use Rattle.clause_solver.specs.declared.variable.Variable.{Variable}
-use Rattle.clause_solver.specs.Literals.{Valuation, value_of_variable}
+use Rattle.tree_clauses.specs.Literals.{Valuation, value_of_variable}
 use Rattle.clause_solver.specs.Greatest.{kind_at}
 use Rattle.clause_solver.specs.Grown.{grown, children, extra, values}
 use Rattle.clause_solver.specs.Opens.{opened, without_children}

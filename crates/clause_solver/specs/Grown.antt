@@ -10,7 +10,7 @@ use Rattle.feature_trees.specs.View.{node_of}
 use Rattle.clause_solver.specs.declared.variable.Definition.{Definition}
 use Rattle.clause_solver.specs.declared.variable.Definition.TheVariants.{Start, Child, Derived, Ensured, Made}
 use Rattle.clause_solver.specs.declared.variable.Variable.{Variable}
-use Rattle.clause_solver.specs.Literals.{Valuation}
+use Rattle.tree_clauses.specs.Literals.{Valuation}
 use Rattle.clause_solver.specs.Greatest.{kind_at}
 
 -- the target of a link of which nothing is known: `x`

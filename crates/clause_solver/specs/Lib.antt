@@ -1,10 +1,7 @@
-pub mod Literals
-pub mod ClauseText
 pub mod Stands
 pub mod Variables
 pub mod Greatest
 pub mod Written
-pub mod Solved
 pub mod ReplacedNames
 pub mod Fresh
 pub mod Appends

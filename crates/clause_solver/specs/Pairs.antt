@@ -1,7 +1,7 @@
 -- The pairs of a store: a start tree and the tree now.
 use Rattle.std.specs.Prelude.{◌≡◌}
 use Rattle.feature_trees.specs.declared.value.Value.{Value}
-use Rattle.clause_solver.specs.Literals.{Valuation, value_of_variable}
+use Rattle.tree_clauses.specs.Literals.{Valuation, value_of_variable}
 use Rattle.clause_solver.specs.Stands.{Seen, Stands}
 
 -- the store has this pair: some valuation that it stands for has the one tree for the start and the other for the

@@ -3,8 +3,8 @@ use Rattle.std.specs.Prelude.{◌≡◌, ℕ, ◌<◌, ◌≤◌, List, [], ◌�
 use Rattle.feature_trees.specs.declared.value.Value.{Value}
 use Rattle.feature_trees.specs.declared.kind.Kind.TheVariants as kind
 use Rattle.feature_trees.specs.Tree.{entry, kind_of, put}
-use Rattle.clause_solver.specs.declared.clause.Literal.{Literal}
-use Rattle.clause_solver.specs.Literals.{Valuation, value_of_variable, MeetsAll, IsSound}
+use Rattle.tree_clauses.specs.declared.clause.Literal.{Literal}
+use Rattle.tree_clauses.specs.Literals.{Valuation, value_of_variable, MeetsAll, IsSound}
 
 -- a store is seen as the count of its variables, their literals, and the variable of the tree now; variable 0 is the
 -- start

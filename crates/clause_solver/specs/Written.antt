@@ -3,9 +3,9 @@ use Rattle.std.specs.Prelude.{ℕ, suc, List, [], ◌∷◌, ◌++◌, Option, S
 use Rattle.feature_trees.specs.declared.kind.Kind.TheVariants as kind
 use Rattle.feature_trees.specs.declared.kind.Kinds.{Kinds}
 use Rattle.feature_trees.specs.Kinds.{of}
-use Rattle.clause_solver.specs.declared.clause.Var.{Var}
-use Rattle.clause_solver.specs.declared.clause.Literal.{Literal}
-use Rattle.clause_solver.specs.declared.clause.Literal.TheVariants.{Entry, Kind, Fence, NotEmpty, Similar, Target}
+use Rattle.tree_clauses.specs.declared.clause.Var.{Var}
+use Rattle.tree_clauses.specs.declared.clause.Literal.{Literal}
+use Rattle.tree_clauses.specs.declared.clause.Literal.TheVariants.{Entry, Kind, Fence, NotEmpty, Similar, Target}
 use Rattle.clause_solver.specs.declared.variable.MadeValue.{MadeValue}
 use Rattle.clause_solver.specs.declared.variable.MadeValue.TheVariants as made
 use Rattle.clause_solver.specs.declared.variable.Definition.{Definition}

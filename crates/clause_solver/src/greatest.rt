@@ -1,5 +1,5 @@
 ghost use Rattle.std.specs.Prelude.{◌≡◌, ℕ, ◌<◌, ◌↔◌, List, [], ◌∷◌, length, IsTrue, ◌≢◌};
-ghost use Rattle.clause_solver.specs.Literals.{Valuation, IsSound};
+ghost use Rattle.tree_clauses.specs.Literals.{Valuation, IsSound};
 ghost use Rattle.clause_solver.specs.Variables.{Ordered, Listed, member, allowed, var_at, is_node, made_value, AllFit};
 ghost use Rattle.clause_solver.specs.Greatest.{IsBest, IsBestBut, HasEntryOutside, IsSatisfied, IsSatisfiedAt, IsOpen};
 ghost use Rattle.clause_solver.specs.Greatest.{IsPresentChild, kind_at, best_by, best_of, choose, unfenced};

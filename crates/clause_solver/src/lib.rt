@@ -1,23 +1,18 @@
-//! Clauses over the variables of feature trees, what a clause covers, and stores of start trees.
-//! It stands on feature_trees, shown_texts and script_names. Begin with `clause`, and with specs/Literals.antt for
-//! what a literal says; then `store`, and specs/Stands.antt for what a store stands for.
+//! Stores of start trees: which trees may stand at the start of a path, by the literals of a clause.
+//! It stands on tree_clauses, feature_trees and script_names. Begin with `store`, and with specs/Stands.antt for what a
+//! store stands for.
 #![tactic(auto)]
 
 mod appended;
-mod clause;
 mod greatest;
 mod literals;
 mod new_name;
 mod start_tree;
 mod store;
-mod text;
 mod variable;
 
-pub use clause::{Clause, Literal, Var};
 pub use store::Store;
-pub use text::{print_clause, put_clause};
+pub use tree_clauses::{Clause, Literal, Var, print_clause, put_clause};
 
 #[cfg(test)]
 mod store_tests;
-#[cfg(test)]
-mod text_tests;

@@ -3,11 +3,11 @@ ghost use Rattle.clause_solver.specs.declared.variable.Definition.TheVariants as
 ghost use Rattle.clause_solver.specs.Written.{made_literals, definition_literals, is_all, kinds_literals};
 ghost use Rattle.clause_solver.specs.Written.{fence_literals, filled_literals, literals_of, literals_from};
 
-use crate::clause::{Literal, Var};
 use crate::variable::{Definition, MadeValue, Variable};
 use feature_trees::{Kind, Kinds};
 use script_names::{Copied, List, Memory, Name};
 use std::alloc::Global;
+use tree_clauses::{Literal, Var};
 
 // Whether every kind is in the set.
 fn is_all(kinds: Kinds) -> bool

@@ -1,6 +1,6 @@
 ghost use Rattle.std.specs.Prelude.{◌≡◌, ℕ, ◌<◌, ◌≤◌, List, [], length, IsTrue, OnOk, IfOk, IfSome, Some};
 ghost use Rattle.feature_trees.specs.declared.value.Value.TheVariants as value;
-ghost use Rattle.clause_solver.specs.Literals.{value_of_variable};
+ghost use Rattle.tree_clauses.specs.Literals.{value_of_variable};
 ghost use Rattle.clause_solver.specs.Variables.{Ordered, var_at};
 ghost use Rattle.clause_solver.specs.Greatest.{IsSatisfied, HasEntryOutside, unfenced, kind_at};
 ghost use Rattle.clause_solver.specs.Grown.{values, grown, some_target, extra};

@@ -4,8 +4,8 @@ ghost use Rattle.feature_trees.specs.declared.value.Value.{Value};
 ghost use Rattle.feature_trees.specs.Kinds.{has, none, both};
 ghost use Rattle.feature_trees.specs.Tree.{entry, kind_of};
 ghost use Rattle.feature_trees.specs.Sound.{IsTree};
-ghost use Rattle.clause_solver.specs.Literals.{Valuation, value_of_variable, Covers};
-ghost use Rattle.clause_solver.specs.Solved.{IsSolved};
+ghost use Rattle.tree_clauses.specs.Literals.{Valuation, value_of_variable, Covers};
+ghost use Rattle.tree_clauses.specs.Solved.{IsSolved};
 ghost use Rattle.clause_solver.specs.Pairs.{HasPair};
 ghost use Rattle.clause_solver.specs.Stands.{Seen, Stands, Alive, Extends, HasEntry, IsDirectory, HasPut, HasValue};
 ghost use Rattle.clause_solver.specs.Variables.{fixed_in, limited, made_value, narrowed};
@@ -13,7 +13,6 @@ ghost use Rattle.clause_solver.specs.Variables.{possible, possible_by, var_at};
 ghost use Rattle.feature_trees.specs.declared.value.Value.TheVariants as value;
 
 use crate::appended::{Found, append, find, resolve};
-use crate::clause::{Clause, Var};
 use crate::greatest::{kind_made, redecide};
 use crate::literals::write_literals;
 use crate::new_name::new_name;
@@ -23,6 +22,7 @@ use feature_trees::{Kind, Kinds, Value};
 use script_names::{Copied, Memory, Name};
 use std::alloc::Global;
 use std::marker::Model;
+use tree_clauses::{Clause, Var};
 
 /// A set of pairs of a start tree and a tree now, by values for variables: each variable is defined from earlier ones,
 /// so that a start tree decides the values of all.

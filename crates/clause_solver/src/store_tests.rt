@@ -1,12 +1,11 @@
 ghost use Rattle.std.specs.Prelude.{◌≡◌, ◌<◌, ◌≤◌, IfOk};
 
-use crate::clause::Var;
 use crate::store::Store;
-use crate::text::print_clause;
 use feature_trees::{Kind, Kinds, Value, print_tree};
 use script_names::{Copied, Name};
 use std::process::Abort;
 use std::test::Fail;
+use tree_clauses::{Var, print_clause};
 
 // The variable of a path, from the tree now on.
 fn walk<R: Abort + AllocGlobal>(rt: &R, s: &mut Store, words: &[&[u8]]) -> Result<Var, Fail>

@@ -9,7 +9,7 @@ use Rattle.shown_texts.specs.Lines.{line}
 use Rattle.shown_texts.specs.Marks.{site_text, mark_text, reason_name}
 use Rattle.shown_texts.specs.Show.{show}
 use Rattle.feature_trees.specs.TreeText.{tree_text}
-use Rattle.clause_solver.specs.ClauseText.{clause_text}
+use Rattle.tree_clauses.specs.ClauseText.{clause_text}
 use Rattle.package_files.specs.declared.dpkg_scenarios.Ending.{Ending}
 use Rattle.package_files.specs.declared.dpkg_scenarios.Ending.TheVariants.{Done, Failed, Incomplete, Bound}
 use Rattle.package_files.specs.declared.job_run.ScriptCall.{ScriptCall}

@@ -7,7 +7,7 @@ use Rattle.feature_trees.specs.declared.kind.Kind.{Kind}
 use Rattle.feature_trees.specs.declared.kind.Kind.TheVariants.{Absent, Reg, Link, Other, Dir}
 use Rattle.feature_trees.specs.Tree.{at, entry, kind_of}
 use Rattle.feature_trees.specs.Kinds.{has, of}
-use Rattle.clause_solver.specs.Literals.{Valuation, value_of_variable}
+use Rattle.tree_clauses.specs.Literals.{Valuation, value_of_variable}
 use Rattle.clause_solver.specs.Stands.{Seen, Stands, Extends, HasEntry}
 use Rattle.clause_solver.specs.Pairs.{HasPair}
 use Rattle.feature_trees.specs.Sound.{IsTree}

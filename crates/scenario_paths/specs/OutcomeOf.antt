@@ -1,7 +1,7 @@
 -- The outcome that a path of a job is reported as.
 use Rattle.std.specs.Prelude.{◌≡◌, ◌↔◌, ◌+◌, ℕ, suc, List, [], ◌∷◌}
 use Rattle.feature_trees.specs.declared.value.Value.{Value}
-use Rattle.clause_solver.specs.Literals.{Covers}
+use Rattle.tree_clauses.specs.Literals.{Covers}
 use Rattle.clause_solver.specs.Pairs.{HasPair}
 use Rattle.shell_rules.specs.declared.run.End.{End}
 use Rattle.symbolic_exec.specs.declared.state.Ended.{Ended}

@@ -2,7 +2,7 @@
 use Rattle.std.specs.Prelude.{◌≡◌, ◌⊎◌, ℕ, ◌+◌, ◌<◌, List, [], ◌∷◌, Option, Some, None, slice_get}
 use Rattle.script_names.specs.declared.mark.Mark.{Mark}
 use Rattle.feature_trees.specs.declared.value.Value.{Value}
-use Rattle.clause_solver.specs.Literals.{Covers}
+use Rattle.tree_clauses.specs.Literals.{Covers}
 use Rattle.shell_rules.specs.declared.command.Command.{Command}
 use Rattle.package_files.specs.declared.package_files.Script.{Script}
 use Rattle.package_files.specs.declared.package_files.Job.{Job}

@@ -9,7 +9,7 @@ use Rattle.symbolic_exec.specs.declared.state.PathsFault.{PathsFault}
 use Rattle.symbolic_exec.specs.declared.state.PathsFault.TheVariants as fault
 use Rattle.clause_solver.specs.Pairs.{HasPair}
 use Rattle.clause_solver.specs.Stands.{Seen, Alive}
-use Rattle.clause_solver.specs.Literals.{value_of_variable}
+use Rattle.tree_clauses.specs.Literals.{value_of_variable}
 use Rattle.symbolic_exec.specs.State.{Key, State, RunOf, ends, at_tree, run_at}
 use Rattle.symbolic_exec.specs.Traces.{Begins, AllBegin, Rising}
 use Rattle.symbolic_exec.specs.Points.{Point, Points, From, then_by, Going, trace_of, traces, AllAlive, Sound, Reaches, AllMet, Many, Within, Found}

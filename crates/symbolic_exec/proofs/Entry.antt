@@ -8,7 +8,7 @@ use Rattle.feature_trees.specs.declared.kind.Kind.TheVariants as kind
 use Rattle.feature_trees.specs.declared.kind.Kinds.{Kinds}
 use Rattle.feature_trees.specs.Kinds.{has, all}
 use Rattle.feature_trees.specs.Tree.{kind_of}
-use Rattle.clause_solver.specs.Literals.{Valuation, value_of_variable}
+use Rattle.tree_clauses.specs.Literals.{Valuation, value_of_variable}
 use Rattle.clause_solver.specs.Stands.{Seen, Stands, Alive}
 use Rattle.symbolic_exec.specs.declared.state.PathState.{PathState}
 use Rattle.symbolic_exec.specs.declared.state.Ended.{Ended}

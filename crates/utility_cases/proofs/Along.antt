@@ -6,7 +6,7 @@ use Rattle.feature_trees.specs.declared.kind.Kind.TheVariants as kind
 use Rattle.feature_trees.specs.declared.value.Value.{Value}
 use Rattle.feature_trees.specs.declared.value.Value.TheVariants as value
 use Rattle.feature_trees.specs.Tree.{entry, kind_of, is_dir, has_parents, put, update, entries_of}
-use Rattle.clause_solver.specs.Literals.{Valuation, value_of_variable}
+use Rattle.tree_clauses.specs.Literals.{Valuation, value_of_variable}
 use Rattle.clause_solver.specs.Stands.{Seen, Stands, Extends, HasEntry, IsDirectory, HasPut}
 use Rattle.utility_calls.specs.Rows.{in_dir}
 use Rattle.utility_calls.proofs.Changes.{parents}

@@ -7,7 +7,7 @@ use Rattle.feature_trees.specs.declared.value.Value.{Value}
 use Rattle.feature_trees.specs.declared.value.Value.TheVariants as value
 use Rattle.feature_trees.specs.Kinds.{has}
 use Rattle.feature_trees.specs.Tree.{at, kind_of}
-use Rattle.clause_solver.specs.Literals.{Valuation, value_of_variable}
+use Rattle.tree_clauses.specs.Literals.{Valuation, value_of_variable}
 use Rattle.clause_solver.specs.Stands.{Seen, Stands, HasEntry}
 use Rattle.clause_solver.specs.Pairs.{HasPair}
 use Rattle.clause_solver.proofs.Leads.{extends_itself}

@@ -5,7 +5,7 @@ use Rattle.feature_trees.specs.declared.kind.Kind.TheVariants as kind
 use Rattle.feature_trees.specs.declared.value.Value.TheVariants as value
 use Rattle.feature_trees.specs.declared.value.Value.{Value}
 use Rattle.feature_trees.specs.Tree.{kind_of, put}
-use Rattle.clause_solver.specs.Literals.{Valuation, value_of_variable}
+use Rattle.tree_clauses.specs.Literals.{Valuation, value_of_variable}
 use Rattle.clause_solver.specs.Stands.{Seen, Stands, Alive, Extends, IsDirectory, HasValue}
 use Rattle.clause_solver.specs.Pairs.{HasPair}
 use Rattle.utility_calls.specs.declared.act.Act.{Act}

@@ -1,5 +1,5 @@
 use Rattle.std.proofs.Common.{◌≡◌, ℕ, ◌<◌, length}
-use Rattle.clause_solver.specs.Literals.{value_of_variable}
+use Rattle.tree_clauses.specs.Literals.{value_of_variable}
 use Rattle.clause_solver.specs.Opens.{without_children}
 use Rattle.clause_solver.proofs.start_tree.values_without_children.Given as goal
 

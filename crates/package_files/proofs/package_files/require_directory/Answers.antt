@@ -3,7 +3,7 @@ use Rattle.feature_trees.specs.declared.value.Value.{Value}
 use Rattle.feature_trees.specs.declared.kind.Kinds.{Kinds}
 use Rattle.feature_trees.specs.Tree.{kind_of}
 use Rattle.feature_trees.specs.Kinds.{has}
-use Rattle.clause_solver.specs.Literals.{Valuation, value_of_variable}
+use Rattle.tree_clauses.specs.Literals.{Valuation, value_of_variable}
 use Rattle.clause_solver.specs.Stands.{Stands}
 use Rattle.package_files.proofs.Base.{Walked, walked_more, directory_pairs, take_one, take_all}
 use Rattle.package_files.proofs.package_files.require_directory.Goals as goal

@@ -1,5 +1,5 @@
 use Rattle.std.proofs.Common.{refl, rules}
-use Rattle.clause_solver.specs.Literals.{value_of_variable}
+use Rattle.tree_clauses.specs.Literals.{value_of_variable}
 use Rattle.scenario_paths.proofs.scenario_paths.make_outcome.Goals as goal
 
 pub returns : goal.returns

@@ -1,5 +1,5 @@
 use Rattle.std.proofs.Common.{◌≡◌}
-use Rattle.clause_solver.specs.Literals.{value_of_variable}
+use Rattle.tree_clauses.specs.Literals.{value_of_variable}
 use Rattle.clause_solver.specs.Grown.{values}
 use Rattle.clause_solver.specs.NewNames.{IsNew}
 use Rattle.clause_solver.specs.Opens.{opened}

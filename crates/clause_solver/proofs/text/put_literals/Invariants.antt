@@ -1,7 +1,0 @@
-use Rattle.std.proofs.Common.{◌≡◌, ◌++◌, take}
-use Rattle.std.specs.List.{flat_map}
-use Rattle.clause_solver.specs.ClauseText.{literal_text}
-use Rattle.clause_solver.proofs.text.put_literals.Given as goal
-
-abbrev pub invariant-loop-literal : goal.invariant-loop-literal
-invariant-loop-literal l = l.text ≡ l.initial.text ++ flat_map literal_text (take l.literal-index l.literals)

@@ -1,0 +1,10 @@
+pub mod Names
+pub mod Values
+pub mod Orders
+pub mod Edited
+pub mod Valuations
+pub mod Passing
+pub mod Decided
+pub mod Pieces
+pub mod ClauseLaw
+pub mod PlainCases

@@ -1,0 +1,10 @@
+pub mod Literals
+pub mod ClauseText
+pub mod Solved
+pub mod Decides
+pub mod Steps
+pub mod MadeValues
+pub mod Held
+pub mod Cuts
+pub mod ClauseRead
+pub mod Plain

@@ -1,0 +1,79 @@
+ghost use Rattle.std.specs.Prelude.{◌≡◌, IfOk};
+ghost use Rattle.feature_trees.specs.Tree.{is_dir};
+ghost use Rattle.tree_clauses.specs.Decides.{Decides};
+ghost use Rattle.tree_clauses.specs.Held.{known_in};
+ghost use Rattle.tree_clauses.specs.Solved.{subject};
+ghost use Rattle.tree_clauses.specs.Steps.{StepIs};
+
+use crate::clause::{Clause, Literal, Var};
+use crate::facts::{is_directory, read_fact};
+use crate::known_values::Values;
+use crate::making::make;
+use feature_trees::Value;
+use script_names::Memory;
+use std::alloc::Global;
+
+/// Whether the clause covers the tree: whether some tree stands for `now` when this tree stands for `start`. None
+/// exactly where the clause isn't in solved order.
+pub fn meets(alloc: Global, clause: &Clause, tree: &Value) -> Result<Option<bool>, Memory>
+    ensures { IfOk result (λ found. Decides clause.entry.now tree.now found) }
+{
+    tree.is_sound();
+    let mut values = Values::of(alloc, clause.start, tree)?;
+    let mut holds = true;
+    let mut left = clause.literals.as_slice();
+    while let [literal, rest @ ..] = left {
+        match pass(alloc, &mut values, literal, rest)? {
+            Some(one) => holds = holds & one,
+            None => return Ok(None),
+        }
+        left = rest;
+    }
+    match values.get(clause.now) {
+        Some(now) => Ok(Some(holds & is_directory(now))),
+        None => Ok(None),
+    }
+}
+
+// Passes a literal that stands directly before others: whether it holds, and the value of its subject where it makes
+// that known. None where the literals are in no solved order from there on.
+fn pass(
+    alloc: Global,
+    values: &mut Values,
+    literal: &Literal,
+    rest: &[Literal],
+) -> Result<Option<bool>, Memory>
+    ensures { let old = known_in values.old in let new = known_in values.new in
+        IfOk result (λ found. StepIs old new literal.now rest.now found) }
+{
+    match read_fact(alloc, values, literal)? {
+        Some(holds) => Ok(Some(holds)),
+        None => {
+            let y = subject(literal);
+            if values.has(y) {
+                return Ok(None);
+            }
+            match make(alloc, values, literal, rest)? {
+                Some(value) => {
+                    values.give(y, value)?;
+                    Ok(Some(true))
+                }
+                None => Ok(None),
+            }
+        }
+    }
+}
+
+// The variable that a literal can make known.
+fn subject(literal: &Literal) -> Var
+    ensures { result.0 ≡ subject literal.now }
+{
+    match literal {
+        Literal::Entry(_, _, y) => *y,
+        Literal::Kind(y, _) => *y,
+        Literal::Fence(x, _) => *x,
+        Literal::NotEmpty(x) => *x,
+        Literal::Similar(y, _, _) => *y,
+        Literal::Target(y, _) => *y,
+    }
+}

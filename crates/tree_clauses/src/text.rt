@@ -1,0 +1,145 @@
+ghost use Rattle.std.specs.Prelude.{◌≡◌, ◌++◌, ◌||◌, ◌∷◌, [], IfOk, OnOk, OnErr, map, if◌then◌else◌};
+ghost use Rattle.std.specs.List.{flat_map};
+ghost use Rattle.shown_texts.specs.Show.{show};
+ghost use Rattle.tree_clauses.specs.ClauseText.{after_comma, joined, var_text, kinds_text, names_text};
+ghost use Rattle.tree_clauses.specs.ClauseText.{literal_content, literal_text, clause_text};
+
+use crate::clause::{Clause, Literal, Var};
+use feature_trees::{Kind, Kinds};
+use script_names::{Bytes, Memory, Name};
+use shown_texts::{push_number, push_shown};
+use std::alloc::Global;
+
+/// The text of a clause: the line of its two variables, then one line per literal, in their order.
+pub fn print_clause(alloc: Global, clause: &Clause) -> Result<Bytes, Memory>
+    ensures { IfOk result (λ text. text ≡ clause_text clause.entry.now) }
+{
+    let mut text = Bytes::new(alloc);
+    put_var(&mut text, b"clause start ", clause.start)?;
+    put_var(&mut text, b" now ", clause.now)?;
+    text.extend(b"\n")?;
+    put_literals(&mut text, clause.literals.as_slice())?;
+    Ok(text)
+}
+
+/// Adds the text of a clause to a text; for want of memory the text is as before.
+pub fn put_clause(alloc: Global, text: &mut Bytes, clause: &Clause) -> Result<(), Memory>
+    ensures ok { OnOk result (text.new ≡ text.old ++ clause_text clause.entry.now) }
+    ensures kept { OnErr result (text.new ≡ text.old) }
+{
+    let more = print_clause(alloc, clause)?;
+    text.extend(more.as_slice())
+}
+
+// Adds the lines of literals.
+fn put_literals(text: &mut Bytes, literals: &[Literal]) -> Result<(), Memory>
+    ensures { OnOk result (text.new ≡ text.old ++ flat_map literal_text literals.now) }
+{
+    for literal in literals {
+        put_literal(text, literal)?;
+        text.extend(b"\n")?;
+    }
+    Ok(())
+}
+
+// Adds a literal, without the newline of its line.
+fn put_literal(text: &mut Bytes, literal: &Literal) -> Result<(), Memory>
+    ensures { OnOk result (text.new ≡ text.old ++ literal_content literal.now) }
+{
+    match literal {
+        Literal::Entry(x, f, y) => {
+            put_var(text, b"entry ", *x)?;
+            text.extend(b" ")?;
+            push_shown(text, f.as_slice())?;
+            put_var(text, b" ", *y)
+        }
+        Literal::Kind(x, kinds) => {
+            put_var(text, b"kind ", *x)?;
+            text.extend(b" ")?;
+            put_kinds(text, *kinds)
+        }
+        Literal::Fence(x, names) => {
+            put_var(text, b"fence ", *x)?;
+            text.extend(b" ")?;
+            put_names(text, names.as_slice())
+        }
+        Literal::NotEmpty(x) => put_var(text, b"notempty ", *x),
+        Literal::Similar(y, names, x) => {
+            put_var(text, b"similar ", *y)?;
+            text.extend(b" ")?;
+            put_names(text, names.as_slice())?;
+            put_var(text, b" ", *x)
+        }
+        Literal::Target(x, target) => {
+            put_var(text, b"target ", *x)?;
+            text.extend(b" ")?;
+            push_shown(text, target.as_slice())
+        }
+    }
+}
+
+// Adds a variable behind a word.
+fn put_var(text: &mut Bytes, word: &[u8], x: Var) -> Result<(), Memory>
+    ensures { OnOk result (text.new ≡ text.old ++ (word.now ++ var_text x)) }
+{
+    text.extend(word)?;
+    text.extend(b"v")?;
+    push_number(text, u64::from(x.0))
+}
+
+// Adds a set of names.
+fn put_names(text: &mut Bytes, names: &[Name]) -> Result<(), Memory>
+    ensures { OnOk result (text.new ≡ text.old ++ names_text names.now) }
+{
+    text.extend(b"{")?;
+    match names {
+        [] => {}
+        [first, rest @ ..] => {
+            push_shown(text, first.as_slice())?;
+            put_others(text, rest)?;
+        }
+    }
+    text.extend(b"}")
+}
+
+// Adds names, each after a comma.
+fn put_others(text: &mut Bytes, names: &[Name]) -> Result<(), Memory>
+    ensures { OnOk result (text.new ≡ text.old ++ flat_map after_comma (map show names.now)) }
+{
+    for name in names {
+        text.extend(b",")?;
+        push_shown(text, name.as_slice())?;
+    }
+    Ok(())
+}
+
+// Adds a set of kinds.
+fn put_kinds(text: &mut Bytes, kinds: Kinds) -> Result<(), Memory>
+    ensures { OnOk result (text.new ≡ text.old ++ kinds_text kinds) }
+{
+    if kinds.is_none() {
+        return text.extend(b"-");
+    }
+    let some = put_word(text, false, kinds.has(Kind::Absent), b"absent")?;
+    let some = put_word(text, some, kinds.has(Kind::Reg), b"reg")?;
+    let some = put_word(text, some, kinds.has(Kind::Link), b"link")?;
+    let some = put_word(text, some, kinds.has(Kind::Other), b"other")?;
+    let _some = put_word(text, some, kinds.has(Kind::Dir), b"dir")?;
+    Ok(())
+}
+
+// Adds a word where it is in the set, after a comma where some word stands before it, and says whether one stands now.
+fn put_word(text: &mut Bytes, some: bool, has: bool, word: &[u8]) -> Result<bool, Memory>
+    ensures text { let said = if some then after_comma word.now else word.now in
+        OnOk result (text.new ≡ text.old ++ (if has then said else [])) }
+    ensures some { IfOk result (λ now. now ≡ some || has) }
+{
+    if !has {
+        return Ok(some);
+    }
+    if some {
+        text.extend(b",")?;
+    }
+    text.extend(word)?;
+    Ok(true)
+}
