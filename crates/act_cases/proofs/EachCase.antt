@@ -27,7 +27,8 @@ use Rattle.act_cases.proofs.Leading.{leads_from, leads_to}
 use Rattle.act_cases.proofs.Seeing.{through_from, through_to, parents_clear, there_parents}
 use Rattle.act_cases.proofs.RuleSees.{some_name, needs_name, rule_from, rule_to}
 use Rattle.act_cases.proofs.Tabled.{Suits, suits_is, suits, all_of, apart, test_of, same_rule, tabled, effect_fits}
-use Rattle.act_cases.proofs.OneRowTaken.{link_taken, slash_taken, own_taken, Holds, Says, way, slash, table, row_says}
+use Rattle.act_cases.proofs.AnyRow.{link_taken, slash_taken}
+use Rattle.act_cases.proofs.OneRowTaken.{own_taken, Holds, Says, way, slash, table, row_says}
 
 -- ---- what an effect leaves
 
@@ -101,11 +102,11 @@ module _ (act : Act) (made : Case) (r : Row) where
   one_of number answer is from to = record {
     exact = λ t u tree. (
       λ h.
-        let x = from t u tree h in
-        (ap (λ (r : Row). r.number) x.0 ∙ sym number, x.1 ∙ sym (ap (λ (r : Row). effect_on r.effect act t) x.0)),
+          let x = from t u tree h in
+          (ap (λ (r : Row). r.number) x.0 ∙ sym number, x.1 ∙ sym (ap (λ (r : Row). effect_on r.effect act t) x.0)),
       λ h.
-        let same = is t tree h.0 in
-        to t u tree same (h.1 ∙ ap (λ (r : Row). effect_on r.effect act t) same),
+          let same = is t tree h.0 in
+          to t u tree same (h.1 ∙ ap (λ (r : Row). effect_on r.effect act t) same),
     );
     answers = λ t tree h. answer ∙ sym (ap (λ (r : Row). r.answer) (is t tree h));
   }
@@ -128,15 +129,15 @@ module _ (act : Act) (one_path : IsOnOnePath act) (performed : IsPerformed act) 
 
   pub link_one : (k : ℕ) → 1 ≤ k → k < length names → IsOne act (case_of (link_plan k) (take k names) [])
   link_one k low high = one_of act (case_of (link_plan k) (take k names) []) (link_row k) refl refl
-      (λ t tree e. link_taken act one_path performed t tree.dir k low high (link_says t (row act t).number k e low high tree.dir (row_says act one_path performed t tree.dir)))
+      (λ t tree e. link_taken act t k low high (link_says t (row act t).number k e low high tree.dir (row_says act one_path performed t tree.dir)))
       (λ t u tree h.
-        let x = leads_from (link_plan k) (take k names) [] (some_names k names named) t u h in
-        let is = is_link (kind_at t names k) (through_from (of Link) t (take k names) x.0).1 in
-        (link_taken act one_path performed t tree.dir k low high is, x.2))
+      let x = leads_from (link_plan k) (take k names) [] (some_names k names named) t u h in
+      let is = is_link (kind_at t names k) (through_from (of Link) t (take k names) x.0).1 in
+      (link_taken act t k low high is, x.2))
       (λ t u tree same is.
-        let at_link = link_says t (row act t).number k (ap (λ (r : Row). r.number) same) low high tree.dir (row_says act one_path performed t tree.dir) in
-        leads_to (link_plan k) (take k names) [] (some_names k names named) t u tree.sound
-        (through_to (of Link) t (take k names) (there_parents t (take k names) (link_there _ at_link)) (ap (has (of Link)) at_link)) tt is)
+      let at_link = link_says t (row act t).number k (ap (λ (r : Row). r.number) same) low high tree.dir (row_says act one_path performed t tree.dir) in
+      leads_to (link_plan k) (take k names) [] (some_names k names named) t u tree.sound
+      (through_to (of Link) t (take k names) (there_parents t (take k names) (link_there _ at_link)) (ap (has (of Link)) at_link)) tt is)
 
   -- ---- a slash
 
@@ -149,17 +150,17 @@ module _ (act : Act) (one_path : IsOnOnePath act) (performed : IsPerformed act) 
   pub slash_one : (path_of act).slash ≡ true → IsOne act (case_of slash_plan names [])
   slash_one s = one_of act (case_of slash_plan names []) slash_row refl refl
       (λ t tree e.
-        let x = slash_says t (row act t).number e tree.dir (row_says act one_path performed t tree.dir) in
-        slash_taken act one_path performed t tree.dir x.0 s x.2 x.3)
+      let x = slash_says t (row act t).number e tree.dir (row_says act one_path performed t tree.dir) in
+      slash_taken act t x.0 s x.2 x.3)
       (λ t u tree h.
-        let x = leads_from slash_plan names [] named t u h in
-        let parts = through_from (three Reg Link Other) t names x.0 in
-        let is = thing (kind_of (at t names)) parts.1 in
-        (slash_taken act one_path performed t tree.dir (parents_clear t names parts.0) s is.0 is.1, x.2))
+      let x = leads_from slash_plan names [] named t u h in
+      let parts = through_from (three Reg Link Other) t names x.0 in
+      let is = thing (kind_of (at t names)) parts.1 in
+      (slash_taken act t (parents_clear t names parts.0) s is.0 is.1, x.2))
       (λ t u tree same is.
-        let x = slash_says t (row act t).number (ap (λ (r : Row). r.number) same) tree.dir (row_says act one_path performed t tree.dir) in
-        leads_to slash_plan names [] named t u tree.sound
-        (through_to (three Reg Link Other) t names (there_parents t names x.2) (is_thing (kind_of (at t names)) x.2 x.3)) tt is)
+      let x = slash_says t (row act t).number (ap (λ (r : Row). r.number) same) tree.dir (row_says act one_path performed t tree.dir) in
+      leads_to slash_plan names [] named t u tree.sound
+      (through_to (three Reg Link Other) t names (there_parents t names x.2) (is_thing (kind_of (at t names)) x.2 x.3)) tt is)
 
   -- ---- a row of the table
 
@@ -185,14 +186,14 @@ module _ (act : Act) (one_path : IsOnOnePath act) (performed : IsPerformed act) 
       let looked = names_at (is_inner r.place) names (inner_name act) in
       one_of act (rule_case act r) (row_of r) refl refl
       (λ t tree e.
-        let x = rule_says t r (row act t).number e among tree.dir (row_says act one_path performed t tree.dir) in
-        own_taken act one_path performed t tree.dir r x.0 among s.source x.1)
+      let x = rule_says t r (row act t).number e among tree.dir (row_says act one_path performed t tree.dir) in
+      own_taken act one_path performed t tree.dir r x.0 among s.source x.1)
       (λ t u tree h.
-        let x = leads_from plan looked (target_of act) (looked_names (is_inner r.place)) t u h in
-        let y = rule_from t names (path_of act).slash (inner_name act) r.place (has_name r among) s.inner_name x.0 x.1 in
-        (own_taken act one_path performed t tree.dir r y.0 among s.source y.1, x.2 ∙ sym (effect_is act t r.effect (is_inner r.place) s.effect)))
+      let x = leads_from plan looked (target_of act) (looked_names (is_inner r.place)) t u h in
+      let y = rule_from t names (path_of act).slash (inner_name act) r.place (has_name r among) s.inner_name x.0 x.1 in
+      (own_taken act one_path performed t tree.dir r y.0 among s.source y.1, x.2 ∙ sym (effect_is act t r.effect (is_inner r.place) s.effect)))
       (λ t u tree same is.
-        let x = rule_says t r (row act t).number (ap (λ (r : Row). r.number) same) among tree.dir (row_says act one_path performed t tree.dir) in
-        let y = rule_to t names (path_of act).slash (inner_name act) r.place (has_name r among) s.inner_name x.0 x.1 in
-        leads_to plan looked (target_of act) (looked_names (is_inner r.place)) t u tree.sound y.0 y.1
-        (is ∙ effect_is act t r.effect (is_inner r.place) s.effect))
+      let x = rule_says t r (row act t).number (ap (λ (r : Row). r.number) same) among tree.dir (row_says act one_path performed t tree.dir) in
+      let y = rule_to t names (path_of act).slash (inner_name act) r.place (has_name r among) s.inner_name x.0 x.1 in
+      leads_to plan looked (target_of act) (looked_names (is_inner r.place)) t u tree.sound y.0 y.1
+      (is ∙ effect_is act t r.effect (is_inner r.place) s.effect))

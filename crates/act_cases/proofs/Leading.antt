@@ -60,9 +60,11 @@ module _ (plan : Plan) (names : List (List ℕ)) (target : List ℕ) (named : Ar
       let g = h.valuation in
       let one = meets_split g (look_literals plan.ways 0 1 names) _ h.met in
       let two = meets_split g (end_literals plan.end n) _ one.1 in
-      let way = way_from plan.ways g 0 1 t names h.starts (subst (λ (v : Value). IsTrue (has (kinds_from plan.ways names) (kind_of v))) h.starts one.0.0) one.0.1 in
-      (way.0, end_from g plan.end n (at t names) (at_end g t names h.starts way.1) two.0,
-      sym h.ends ∙ root_from (is_put plan.effect) refl g h.values h.starts way.1 two.1)
+      let way = way_from plan.ways g 0 1 t names h.starts (subst (λ (v : Value). IsTrue (has (kinds_from plan.ways names) (kind_of v))) h.starts one.0.0) one.0.1 in (
+        way.0,
+        end_from g plan.end n (at t names) (at_end g t names h.starts way.1) two.0,
+        sym h.ends ∙ root_from (is_put plan.effect) refl g h.values h.starts way.1 two.1,
+      )
 
   -- the values behind the entries
   abbrev last : Bool → Valuation

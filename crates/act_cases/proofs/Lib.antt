@@ -6,13 +6,13 @@ pub mod Leading
 pub mod Seeing
 pub mod RuleSees
 pub mod Tabled
+pub mod AnyRow
 pub mod OneRowTaken
 pub mod EachCase
 pub mod AllCases
 pub mod Ordered
 pub mod PlainCases
 pub mod Moving
-pub mod AnyRow
 pub mod MoveTabled
 pub mod Stays
 pub mod MoveCases

@@ -55,10 +55,13 @@ way_from w g x y v (f ∷ rest) e k m =
 pub way_to : (w : Ways) (g : Valuation) (x y : ℕ) (v : Value) (names : List (List ℕ)) → value_of_variable g x ≡ v
     → Sees w v names → Along g y v names → MeetsAll g (way_literals w x y names)
 way_to w g x y v [] e s a = tt
-way_to w g x y v (f ∷ rest) e s a =
-    (a.0 ∙ sym (ap (λ u. entry u f) e),
-    (subst (λ u. IsTrue (has (kinds_from w rest) (kind_of u))) (sym a.0) (first_seen w (entry v f) rest s.1),
-    way_to w g y (y + 1) (entry v f) rest a.0 s.1 a.1))
+way_to w g x y v (f ∷ rest) e s a = (
+  a.0 ∙ sym (ap (λ u. entry u f) e),
+  (
+    subst (λ u. IsTrue (has (kinds_from w rest) (kind_of u))) (sym a.0) (first_seen w (entry v f) rest s.1),
+    way_to w g y (y + 1) (entry v f) rest a.0 s.1 a.1,
+  ),
+)
 
 pub along_end : (g : Valuation) (x y : ℕ) (v : Value) (names : List (List ℕ)) → value_of_variable g x ≡ v → Along g y v names
     → value_of_variable g (end_of x y names) ≡ at v names
@@ -156,8 +159,12 @@ put_to g x y z r v w [] s e a ew u = tt
 put_to g x y z r v w (f ∷ rest) s e a ew u =
     let inner : value_of_variable g (root_of rest z r) ≡ put (entry v f) rest w = outwards_root g z r (entry v f) w rest ew u.0 in
     let is : value_of_variable g (r + length rest) ≡ value.Dir (update (entries_of v) f (put (entry v f) rest w)) = u.1 in
-    meets_join g (put_literals y (y + 1) rest z r) _ (put_to g y (y + 1) z r (entry v f) w rest (sound-entry v f s) a.0 a.1 ew u.0)
-    ((ap kind_of is, λ h out.
-    ap (λ b. entry b h) is ∙ derived_other v (put (entry v f) rest w) f h s (λ same. out (one_contained f h same))
-    ∙ sym (ap (λ b. entry b h) e)),
-    (inner ∙ sym (ap (λ b. entry b f) is ∙ derived_same v (put (entry v f) rest w) f s), tt))
+    meets_join g (put_literals y (y + 1) rest z r) _ (put_to g y (y + 1) z r (entry v f) w rest (sound-entry v f s) a.0 a.1 ew u.0) (
+      (
+        ap kind_of is,
+        λ h out.
+            ap (λ b. entry b h) is ∙ derived_other v (put (entry v f) rest w) f h s (λ same. out (one_contained f h same))
+            ∙ sym (ap (λ b. entry b h) e),
+      ),
+      (inner ∙ sym (ap (λ b. entry b f) is ∙ derived_same v (put (entry v f) rest w) f s), tt),
+    )

@@ -142,13 +142,13 @@ module _ (a b : PathParts) (performed : IsPerformed (Move a b)) (few_a : length 
   move_link_one k low high = one_of act (case_of (link_plan k) (take k p) []) (link_row k) refl refl
       (λ t tree e. link_taken act t k low high (link_tells t (row act t).number k e low high (row_tells act t performed tree.dir)))
       (λ t u tree h.
-        let x = leads_from (link_plan k) (take k p) [] (some_names k p named_a) t u h in
-        let is = is_link (kind_at t p k) (through_from (of Link) t (take k p) x.0).1 in
-        (link_taken act t k low high is, x.2))
+      let x = leads_from (link_plan k) (take k p) [] (some_names k p named_a) t u h in
+      let is = is_link (kind_at t p k) (through_from (of Link) t (take k p) x.0).1 in
+      (link_taken act t k low high is, x.2))
       (λ t u tree same is.
-        let at_link = link_tells t (row act t).number k (ap (λ (r : Row). r.number) same) low high (row_tells act t performed tree.dir) in
-        leads_to (link_plan k) (take k p) [] (some_names k p named_a) t u tree.sound
-        (through_to (of Link) t (take k p) (there_parents t (take k p) (link_there _ at_link)) (ap (has (of Link)) at_link)) tt is)
+      let at_link = link_tells t (row act t).number k (ap (λ (r : Row). r.number) same) low high (row_tells act t performed tree.dir) in
+      leads_to (link_plan k) (take k p) [] (some_names k p named_a) t u tree.sound
+      (through_to (of Link) t (take k p) (there_parents t (take k p) (link_there _ at_link)) (ap (has (of Link)) at_link)) tt is)
 
   -- ---- a slash
 
@@ -161,17 +161,17 @@ module _ (a b : PathParts) (performed : IsPerformed (Move a b)) (few_a : length 
   pub move_slash_one : a.slash ≡ true → IsOne act (case_of slash_plan p [])
   move_slash_one s = one_of act (case_of slash_plan p []) slash_row refl refl
       (λ t tree e.
-        let x = slash_tells t (row act t).number e (row_tells act t performed tree.dir) in
-        slash_taken act t x.0 s x.2 x.3)
+      let x = slash_tells t (row act t).number e (row_tells act t performed tree.dir) in
+      slash_taken act t x.0 s x.2 x.3)
       (λ t u tree h.
-        let x = leads_from slash_plan p [] named_a t u h in
-        let parts = through_from (three Reg Link Other) t p x.0 in
-        let is = thing (kind_of (at t p)) parts.1 in
-        (slash_taken act t (parents_clear t p parts.0) s is.0 is.1, x.2))
+      let x = leads_from slash_plan p [] named_a t u h in
+      let parts = through_from (three Reg Link Other) t p x.0 in
+      let is = thing (kind_of (at t p)) parts.1 in
+      (slash_taken act t (parents_clear t p parts.0) s is.0 is.1, x.2))
       (λ t u tree same is.
-        let x = slash_tells t (row act t).number (ap (λ (r : Row). r.number) same) (row_tells act t performed tree.dir) in
-        leads_to slash_plan p [] named_a t u tree.sound
-        (through_to (three Reg Link Other) t p (there_parents t p x.2) (is_thing (kind_of (at t p)) x.2 x.3)) tt is)
+      let x = slash_tells t (row act t).number (ap (λ (r : Row). r.number) same) (row_tells act t performed tree.dir) in
+      leads_to slash_plan p [] named_a t u tree.sound
+      (through_to (three Reg Link Other) t p (there_parents t p x.2) (is_thing (kind_of (at t p)) x.2 x.3)) tt is)
 
   -- ---- a link on the way of the second path
 
@@ -188,17 +188,17 @@ module _ (a b : PathParts) (performed : IsPerformed (Move a b)) (few_a : length 
       let named = some_names k q named_b in
       one_of act (move_case plan p (take k q)) (link_row (128 + k)) refl refl
       (λ t tree e.
-        let x = second_tells t (row act t).number k e (row_tells act t performed tree.dir) in
-        second_taken act t k x.0 x.1 low high x.2)
+      let x = second_tells t (row act t).number k e (row_tells act t performed tree.dir) in
+      second_taken act t k x.0 x.1 low high x.2)
       (λ t u tree h.
-        let x = moves_from p (take k q) named_a named t plan u h in
-        let y = looked_from t p a.slash below x.0 in
-        let is = is_link (kind_at t q k) (through_from (of Link) t (take k q) x.1).1 in
-        (second_taken act t k y.0 y.1 low high is, x.3))
+      let x = moves_from p (take k q) named_a named t plan u h in
+      let y = looked_from t p a.slash below x.0 in
+      let is = is_link (kind_at t q k) (through_from (of Link) t (take k q) x.1).1 in
+      (second_taken act t k y.0 y.1 low high is, x.3))
       (λ t u tree same is.
-        let x = second_tells t (row act t).number k (ap (λ (r : Row). r.number) same) (row_tells act t performed tree.dir) in
-        moves_to p (take k q) named_a named t plan u tree.sound (looked_to t p a.slash below x.0 x.1)
-        (through_to (of Link) t (take k q) (there_parents t (take k q) (link_there _ x.2)) (ap (has (of Link)) x.2)) tt (λ c. absurd (cc)) is)
+      let x = second_tells t (row act t).number k (ap (λ (r : Row). r.number) same) (row_tells act t performed tree.dir) in
+      moves_to p (take k q) named_a named t plan u tree.sound (looked_to t p a.slash below x.0 x.1)
+      (through_to (of Link) t (take k q) (there_parents t (take k q) (link_there _ x.2)) (ap (has (of Link)) x.2)) tt (λ c. absurd (cc)) is)
 
   -- ---- a row of the table
 
@@ -259,20 +259,21 @@ module _ (a b : PathParts) (performed : IsPerformed (Move a b)) (few_a : length 
       let some = last_some p somewhere_a in
       one_of act (move_rule_case act r) (row_of r) refl refl
       (λ t tree e.
-        let x = rule_tells t r (row act t).number e among (row_tells act t performed tree.dir) in
-        table_taken act t performed r x.0 x.1 among x.2)
+      let x = rule_tells t r (row act t).number e among (row_tells act t performed tree.dir) in
+      table_taken act t performed r x.0 x.1 among x.2)
       (λ t u tree h.
-        let x = moves_from p names named_a (second_named c i) t plan u h in
-        let y = source_from t p a.slash r.source x.0 in
-        let z = place_from t q m somewhere_b some r.place c refl x.1 x.2 in
-        (table_taken act t performed r y.0 (clear_by t r c among refl y.1 z.0) among (and_made (is_source r.source (kind_of (at t p))) (holds r.place (seen t q false m)) y.1 z.1),
-        x.3 ∙ sym (move_effect t r.effect i c w.fits w.named)))
+      let x = moves_from p names named_a (second_named c i) t plan u h in
+      let y = source_from t p a.slash r.source x.0 in
+      let z = place_from t q m somewhere_b some r.place c refl x.1 x.2 in (
+        table_taken act t performed r y.0 (clear_by t r c among refl y.1 z.0) among (and_made (is_source r.source (kind_of (at t p))) (holds r.place (seen t q false m)) y.1 z.1),
+        x.3 ∙ sym (move_effect t r.effect i c w.fits w.named),
+      ))
       (λ t u tree same is.
-        let x = rule_tells t r (row act t).number (ap (λ (r : Row). r.number) same) among (row_tells act t performed tree.dir) in
-        let parts = and_parts (is_source r.source (kind_of (at t p))) (holds r.place (seen t q false m)) x.2 in
-        let z = place_to t q m somewhere_b some r.place c refl (λ e. x.1 (looks_where below c r.source (kind_of (at t p)) w.looks e parts.0)) parts.1 in
-        moves_to p names named_a (second_named c i) t plan u tree.sound (source_to t p a.slash r.source x.0 parts.0) z.0 z.1
-        (λ moves.
-          room_by t names tree.sound (clear_second m c i (w.beside moves) (w.named moves))
-          (through_from (ways_of false r.place).last t names (subst (λ v. Sees v t names) (through_ways false r.place (w.through moves)) z.0)).0)
-        (is ∙ move_effect t r.effect i c w.fits w.named))
+      let x = rule_tells t r (row act t).number (ap (λ (r : Row). r.number) same) among (row_tells act t performed tree.dir) in
+      let parts = and_parts (is_source r.source (kind_of (at t p))) (holds r.place (seen t q false m)) x.2 in
+      let z = place_to t q m somewhere_b some r.place c refl (λ e. x.1 (looks_where below c r.source (kind_of (at t p)) w.looks e parts.0)) parts.1 in
+      moves_to p names named_a (second_named c i) t plan u tree.sound (source_to t p a.slash r.source x.0 parts.0) z.0 z.1
+      (λ moves.
+      room_by t names tree.sound (clear_second m c i (w.beside moves) (w.named moves))
+      (through_from (ways_of false r.place).last t names (subst (λ v. Sees v t names) (through_ways false r.place (w.through moves)) z.0)).0)
+      (is ∙ move_effect t r.effect i c w.fits w.named))

@@ -76,9 +76,12 @@ module _ (p q : List (List ℕ)) (named_p : AreNames p) (named_q : AreNames q) (
       let first = look_from plan.source g 0 1 t p h.starts one.0 in
       let two = meets_split g (look_literals plan.place 0 (n + 1) q) _ one.1 in
       let second = look_from plan.place g 0 (n + 1) t q h.starts two.0 in
-      let three = meets_split g (end_literals plan.end (end_of 0 (n + 1) q)) _ two.1 in
-      (first.0, second.0, end_from g plan.end (end_of 0 (n + 1) q) (at t q) (along_end g 0 (n + 1) t q h.starts second.1) three.0,
-      sym h.ends ∙ root_from plan.moves g h.values h.starts first.1 three.1)
+      let three = meets_split g (end_literals plan.end (end_of 0 (n + 1) q)) _ two.1 in (
+        first.0,
+        second.0,
+        end_from g plan.end (end_of 0 (n + 1) q) (at t q) (along_end g 0 (n + 1) t q h.starts second.1) three.0,
+        sym h.ends ∙ root_from plan.moves g h.values h.starts first.1 three.1,
+      )
 
   -- ---- to the literals
 
@@ -168,13 +171,14 @@ module _ (p q : List (List ℕ)) (named_p : AreNames p) (named_q : AreNames q) (
 
   moved_met : (c : Bool) → IsTrue (sound t) → (c ≡ true → IsTrue (has_parents without q)) → MeetsAll (values c) (moves_by c p q)
   moved_met false s room = tt
-  moved_met true s room =
-      (subst (λ (u : Value). IsTrue (has (of Absent) (kind_of u))) (sym none_here) refl,
-      meets_join (values true) (put_literals 0 1 p (spare p q) (spare p q + 1)) _
-      (put_to (values true) 0 1 (spare p q) (spare p q + 1) t value.Absent p s refl (along_p true) none_here outwards_p)
-      (meets_join (values true) (look_literals (through all) (freed p q) (onward p q) q) _
-      (look_to (through all) (values true) (freed p q) (onward p q) without q freed_is (through_to all without q (room refl) (has_all _)) along_onward)
-      (put_to (values true) (freed p q) (onward p q) n (outward p q) without thing q (without_sound s) freed_is along_onward thing_here outwards_q)))
+  moved_met true s room = (
+    subst (λ (u : Value). IsTrue (has (of Absent) (kind_of u))) (sym none_here) refl,
+    meets_join (values true) (put_literals 0 1 p (spare p q) (spare p q + 1)) _
+        (put_to (values true) 0 1 (spare p q) (spare p q + 1) t value.Absent p s refl (along_p true) none_here outwards_p)
+        (meets_join (values true) (look_literals (through all) (freed p q) (onward p q) q) _
+        (look_to (through all) (values true) (freed p q) (onward p q) without q freed_is (through_to all without q (room refl) (has_all _)) along_onward)
+        (put_to (values true) (freed p q) (onward p q) n (outward p q) without thing q (without_sound s) freed_is along_onward thing_here outwards_q)),
+  )
 
   root_is : (c : Bool) → value_of_variable (values c) (move_root c p q) ≡ moved_by c p q t
   root_is false = refl
@@ -183,9 +187,11 @@ module _ (p q : List (List ℕ)) (named_p : AreNames p) (named_q : AreNames q) (
   last_sound : (c : Bool) → IsTrue (sound t) → Each (last c)
   last_sound false s = tt
   last_sound true s =
-      let w = without_sound s in
-      (refl, each_join b3 _ (rings_sound t value.Absent p s refl named_p)
-      (each_join b4 _ (line_sound without q w) (each_join b5 [] (rings_sound without thing q w (at_sound p t s) named_q) tt)))
+      let w = without_sound s in (
+        refl,
+        each_join b3 _ (rings_sound t value.Absent p s refl named_p)
+            (each_join b4 _ (line_sound without q w) (each_join b5 [] (rings_sound without thing q w (at_sound p t s) named_q) tt)),
+      )
 
   values_sound : (c : Bool) → IsTrue (sound t) → Each (values c)
   values_sound c s = (s, each_join (line t p) _ (line_sound t p s) (each_join b1 (last c) (line_sound t q s) (last_sound c s)))

@@ -125,7 +125,7 @@ put_order x y z r n (f ∷ names) b rest after e lt below limited next =
     subst (λ (l : List Literal). PlainOrder b (firsts n) l after) (sym (append_assoc (put_literals y (y + 1) names z r) (top ∷ held ∷ []) rest))
     (put_order y (y + 1) z r n names b (top ∷ held ∷ rest) after e lt below.1 limited.1
     (λ m b' em within.
-      replaced (var (r + length names)) f (var x) (var (root_of names z r)) (below_contains m x (omega (arith, em, e, below.0))) (not_yet m (r + length names) (omega (arith, em)))
-      (below_contains m (root_of names z r) (root_below names z r m (omega (arith, e)) em)) (limited.0.0, within _ limited.0.1, limited.0.2)
-      (subst (λ i. PlainOrder (held ∷ top ∷ b') (i ∷ firsts m) rest after) em
-      (next (suc m) (held ∷ top ∷ b') (omega (arith, em)) (λ l h. inr (inr (within l h)))))))
+    replaced (var (r + length names)) f (var x) (var (root_of names z r)) (below_contains m x (omega (arith, em, e, below.0))) (not_yet m (r + length names) (omega (arith, em)))
+    (below_contains m (root_of names z r) (root_below names z r m (omega (arith, e)) em)) (limited.0.0, within _ limited.0.1, limited.0.2)
+    (subst (λ i. PlainOrder (held ∷ top ∷ b') (i ∷ firsts m) rest after) em
+    (next (suc m) (held ∷ top ∷ b') (omega (arith, em)) (λ l h. inr (inr (within l h)))))))

@@ -93,11 +93,11 @@ module _ (plan : Plan) (names : List (List ℕ)) (target : List ℕ) where
       made_order plan.effect target n (n + 1) m b (put_literals 0 1 names (n + 1) (n + 2)) (firsts (n + 1 + n + 1)) e (omega arith) (omega arith)
       (λ k. (p.last, at_end, p.kept k))
       (λ b' within.
-        subst (λ i. PlainOrder b' (i ∷ firsts m) (put_literals 0 1 names (n + 1) (n + 2)) (firsts (n + 1 + n + 1))) (omega arith)
-        (subst (λ (l : List Literal). PlainOrder b' (firsts (suc m)) l (firsts (n + 1 + n + 1))) (append-nil (put_literals 0 1 names (n + 1) (n + 2)))
-        (put_order 0 1 (n + 1) (n + 2) (suc m) names b' [] (firsts (n + 1 + n + 1)) (omega arith) (omega arith) (all_below (suc m) 0 1 names (omega arith) (omega arith))
-        (limited_within b b' 0 1 names within (through_limited b p.last 0 1 names all'))
-        (λ k b'' ek more. known_end b'' k (n + 1 + n + 1) (omega (arith, ek))))))
+      subst (λ i. PlainOrder b' (i ∷ firsts m) (put_literals 0 1 names (n + 1) (n + 2)) (firsts (n + 1 + n + 1))) (omega arith)
+      (subst (λ (l : List Literal). PlainOrder b' (firsts (suc m)) l (firsts (n + 1 + n + 1))) (append-nil (put_literals 0 1 names (n + 1) (n + 2)))
+      (put_order 0 1 (n + 1) (n + 2) (suc m) names b' [] (firsts (n + 1 + n + 1)) (omega arith) (omega arith) (all_below (suc m) 0 1 names (omega arith) (omega arith))
+      (limited_within b b' 0 1 names within (through_limited b p.last 0 1 names all'))
+      (λ k b'' ek more. known_end b'' k (n + 1 + n + 1) (omega (arith, ek))))))
 
   all_limited_within : (b b' : List Literal) (w : Ways) (x y : ℕ) (ns : List (List ℕ)) → Within b b' → AllKinds b w x y ns → AllKinds b' w x y ns
   all_limited_within b b' w x y [] h all = h _ all
@@ -111,8 +111,8 @@ module _ (plan : Plan) (names : List (List ℕ)) (target : List ℕ) where
       kinds (var 0) (kinds_from plan.ways names) (0, omega arith, refl)
       (way_order plan.ways 0 1 1 names (first ∷ []) (end_literals plan.end n ++ changes c plan.effect names target) (firsts (locals_by c names + 1)) refl (omega arith) (inl refl)
       (λ m b em within all.
-        end_order plan.end n m b (changes c plan.effect names target) (firsts (locals_by c names + 1)) (omega (arith, em))
-        (λ b' more. changes_order c refl puts m em b' (all_limited_within b b' plan.ways 0 1 names more all))))
+      end_order plan.end n m b (changes c plan.effect names target) (firsts (locals_by c names + 1)) (omega (arith, em))
+      (λ b' more. changes_order c refl puts m em b' (all_limited_within b b' plan.ways 0 1 names more all))))
 
   known_all : (l i : ℕ) → Contains (firsts (l + 1)) i ↔ (i ≤ l)
   known_all l i = (λ h. let lt = contains_below (l + 1) i h in omega (arith, lt), λ le. below_contains (l + 1) i (omega arith))
@@ -253,13 +253,13 @@ module _ (act : Act) (one_path : IsOnOnePath act) (performed : IsPerformed act) 
       let well = and_parts (implies (is_put r.effect) (not (is_question act) && is_through r.place)) _ (well_by s (is_question act) (rules false act) r (put_well act one_path) among) in
       case_plain (plan_of s r) (names_at (is_inner r.place) (path_of act).names (inner_name act)) (target_of act)
       (λ e.
-        let more = and_parts (not (is_question act)) (is_through r.place) (implied (is_put r.effect) (not (is_question act) && is_through r.place) well.0 e) in
-        record {
-          somewhere = longer (path_of act).names (inner_name act) (is_inner r.place) (performed.0 (not_true (is_question act) more.0)).0;
-          last = (ways_of s r.place).last;
-          through_is = through_ways s r.place more.1;
-          kept = λ k. limits (ways_of s r.place).last (implied (keeps r.effect) (none_or_dir (ways_of s r.place).last) well.1 k);
-        })
+      let more = and_parts (not (is_question act)) (is_through r.place) (implied (is_put r.effect) (not (is_question act) && is_through r.place) well.0 e) in
+      record {
+        somewhere = longer (path_of act).names (inner_name act) (is_inner r.place) (performed.0 (not_true (is_question act) more.0)).0;
+        last = (ways_of s r.place).last;
+        through_is = through_ways s r.place more.1;
+        kept = λ k. limits (ways_of s r.place).last (implied (keeps r.effect) (none_or_dir (ways_of s r.place).last) well.1 k);
+      })
 
 pub link_plain : (names : List (List ℕ)) (k : ℕ) → IsPlain (case_of (link_plan k) (take k names) [])
 link_plain names k = case_plain (link_plan k) (take k names) [] (λ e. absurd (cc))

@@ -80,13 +80,13 @@ module _ (plan : MovePlan) (p q : List (List ℕ)) where
       (put_order 0 1 (spare p q) (spare p q + 1) (suc m) p (Kind (var (spare p q)) (of kind.Absent) ∷ b) (third ++ fourth) last (omega (arith, em)) (omega (arith, em))
       (all_below (suc m) 0 1 p (omega arith) (omega (arith, em))) (limited_within b (Kind (var (spare p q)) (of kind.Absent) ∷ b) 0 1 p (λ l h. inr h) limited)
       (λ m2 b2 em2 in2.
-        look_order (through all) (freed p q) (onward p q) m2 q b2 fourth last (omega (arith, em2)) (root_low p (spare p q) (spare p q + 1) m2 (omega (arith, em2)) (omega (arith, em2)))
-        (λ m3 b3 em3 in3 kinds3.
-          subst (λ (l : List Literal). PlainOrder b3 (firsts m3) l last) (append-nil fourth)
-          (put_order (freed p q) (onward p q) n (outward p q) m3 q b3 [] last (omega (arith, em3)) (omega (arith, em3))
-          (all_below m3 (freed p q) (onward p q) q (root_low p (spare p q) (spare p q + 1) m3 (omega (arith, em3)) (omega (arith, em3))) (omega (arith, em3)))
-          (through_limited b3 all (freed p q) (onward p q) q kinds3)
-          (λ m4 b4 em4 in4. known_end b4 m4 (move_locals true p q + 1) (omega (arith, em4))))))))
+      look_order (through all) (freed p q) (onward p q) m2 q b2 fourth last (omega (arith, em2)) (root_low p (spare p q) (spare p q + 1) m2 (omega (arith, em2)) (omega (arith, em2)))
+      (λ m3 b3 em3 in3 kinds3.
+      subst (λ (l : List Literal). PlainOrder b3 (firsts m3) l last) (append-nil fourth)
+      (put_order (freed p q) (onward p q) n (outward p q) m3 q b3 [] last (omega (arith, em3)) (omega (arith, em3))
+      (all_below m3 (freed p q) (onward p q) q (root_low p (spare p q) (spare p q + 1) m3 (omega (arith, em3)) (omega (arith, em3))) (omega (arith, em3)))
+      (through_limited b3 all (freed p q) (onward p q) q kinds3)
+      (λ m4 b4 em4 in4. known_end b4 m4 (move_locals true p q + 1) (omega (arith, em4))))))))
 
   kinds_within : (b b' : List Literal) (w : Ways) (x y : ℕ) (ns : List (List ℕ)) → Within b b' → AllKinds b w x y ns → AllKinds b' w x y ns
   kinds_within b b' w x y [] h a = h _ a
@@ -98,11 +98,11 @@ module _ (plan : MovePlan) (p q : List (List ℕ)) where
       let ends = end_literals plan.end (end_of 0 (n + 1) q) ++ moves_by plan.moves p q in
       look_order plan.source 0 1 1 p [] (look_literals plan.place 0 (n + 1) q ++ ends) last refl (omega arith)
       (λ m b em in1 first.
-        look_order plan.place 0 (n + 1) m q b ends last (omega (arith, em)) (omega (arith, em))
-        (λ m2 b2 em2 in2 second.
-          end_order plan.end (end_of 0 (n + 1) q) m2 b2 (moves_by plan.moves p q) last (omega (arith, em2, end_in))
-          (λ b3 in3.
-            moved_order plan.moves moves m2 (omega (arith, em2)) b3 (kinds_within b b3 plan.source 0 1 p (λ l h. in3 l (in2 l h)) first))))
+      look_order plan.place 0 (n + 1) m q b ends last (omega (arith, em)) (omega (arith, em))
+      (λ m2 b2 em2 in2 second.
+      end_order plan.end (end_of 0 (n + 1) q) m2 b2 (moves_by plan.moves p q) last (omega (arith, em2, end_in))
+      (λ b3 in3.
+      moved_order plan.moves moves m2 (omega (arith, em2)) b3 (kinds_within b b3 plan.source 0 1 p (λ l h. in3 l (in2 l h)) first))))
 
   known_all : (l i : ℕ) → Contains (firsts (l + 1)) i ↔ (i ≤ l)
   known_all l i = (λ h. let lt = contains_below (l + 1) i h in omega (arith, lt), λ le. below_contains (l + 1) i (omega arith))

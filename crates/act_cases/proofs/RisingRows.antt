@@ -55,9 +55,10 @@ module _ (f : Rule → Case) (row_is : (r : Rule) → (f r).row ≡ r.number) wh
   rules_from low (r ∷ rs) each h =
       let parts = and_parts (above r.number rs) (apart rs) h in
       let e = row_is r in
-      let here = each r (inl refl) in
-      (omega (arith, e, here),
-      rules_from ((f r).row + 1) rs (λ q among. let up = above_one r.number rs q parts.0 among in omega (arith, e, up)) parts.1)
+      let here = each r (inl refl) in (
+        omega (arith, e, here),
+        rules_from ((f r).row + 1) rs (λ q among. let up = above_one r.number rs q parts.0 among in omega (arith, e, up)) parts.1,
+      )
 
   rules_under : (high : ℕ) (rs : List Rule) → ((r : Rule) → IsAmong r rs → r.number < high) → Under high (map f rs)
   rules_under high [] each = tt

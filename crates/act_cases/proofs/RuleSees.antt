@@ -157,14 +157,16 @@ module _ (t : Value) (names : List (List ℕ)) (slash : Bool) where
       ((parents_clear t names b.parents, dir_fits b.dir), and_made (has (of Dir) (kind_of here)) _ (ap (has (of Dir)) b.dir) b.kind)
   rule_from m into_empty ne inner s e =
       let b = below_from (of Dir) m (inner refl) s in
-      let none : has_entry (inner_at here m) ≡ false = ap has_entry (sym (inner_is m (inner refl))) ∙ e in
-      ((parents_clear t names b.parents, dir_fits b.dir),
-      and_made (has (of Dir) (kind_of here)) _ (ap (has (of Dir)) b.dir) (and_made (has (of Dir) (kind_of (inner_at here m))) _ b.kind (not_of (has_entry (inner_at here m)) none)))
+      let none : has_entry (inner_at here m) ≡ false = ap has_entry (sym (inner_is m (inner refl))) ∙ e in (
+        (parents_clear t names b.parents, dir_fits b.dir),
+        and_made (has (of Dir) (kind_of here)) _ (ap (has (of Dir)) b.dir) (and_made (has (of Dir) (kind_of (inner_at here m))) _ b.kind (not_of (has_entry (inner_at here m)) none)),
+      )
   rule_from m into_full ne inner s e =
       let b = below_from (of Dir) m (inner refl) s in
-      let some : has_entry (inner_at here m) ≡ true = ap has_entry (sym (inner_is m (inner refl))) ∙ e in
-      ((parents_clear t names b.parents, dir_fits b.dir),
-      and_made (has (of Dir) (kind_of here)) _ (ap (has (of Dir)) b.dir) (and_made (has (of Dir) (kind_of (inner_at here m))) _ b.kind some))
+      let some : has_entry (inner_at here m) ≡ true = ap has_entry (sym (inner_is m (inner refl))) ∙ e in (
+        (parents_clear t names b.parents, dir_fits b.dir),
+        and_made (has (of Dir) (kind_of here)) _ (ap (has (of Dir)) b.dir) (and_made (has (of Dir) (kind_of (inner_at here m))) _ b.kind some),
+      )
 
   -- ---- to what is looked at
 

@@ -115,9 +115,10 @@ free_from kinds v (f ∷ rest) s =
 
 pub free_to : (kinds : Kinds) (v : Value) (names : List (List ℕ)) → NoLinkOnWay v names → IsTrue (has kinds (kind_of (at v names))) → Sees (free kinds) v names
 free_to kinds v [] clear h = h
-free_to kinds v (f ∷ rest) clear h =
-    (subst (λ ks. IsTrue (has ks (kind_of v))) (sym (free_kinds kinds f rest)) (link_no (kind_of v) (clear 0 (omega arith))),
-    free_to kinds (entry v f) rest (clear_rest v f rest clear) h)
+free_to kinds v (f ∷ rest) clear h = (
+  subst (λ ks. IsTrue (has ks (kind_of v))) (sym (free_kinds kinds f rest)) (link_no (kind_of v) (clear 0 (omega arith))),
+  free_to kinds (entry v f) rest (clear_rest v f rest clear) h,
+)
 
 -- ---- directories all the way
 

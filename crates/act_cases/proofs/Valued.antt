@@ -38,10 +38,11 @@ value_at before after v n e = ap (value_of_variable (before ++ v ∷ after)) e �
 pub along_at : (before after : Valuation) (v : Value) (names : List (List ℕ)) (y : ℕ) → y ≡ length before
     → Along (before ++ (line v names ++ after)) y v names
 along_at before after v [] y e = tt
-along_at before after v (f ∷ rest) y e =
-    (value_at before (line (entry v f) rest ++ after) (entry v f) y e,
-    subst (λ g. Along g (y + 1) (entry v f) rest) (append_assoc before (entry v f ∷ []) (line (entry v f) rest ++ after))
-    (along_at (before ++ entry v f ∷ []) after (entry v f) rest (y + 1) (omega (arith, e, length-append before (entry v f ∷ [])))))
+along_at before after v (f ∷ rest) y e = (
+  value_at before (line (entry v f) rest ++ after) (entry v f) y e,
+  subst (λ g. Along g (y + 1) (entry v f) rest) (append_assoc before (entry v f ∷ []) (line (entry v f) rest ++ after))
+      (along_at (before ++ entry v f ∷ []) after (entry v f) rest (y + 1) (omega (arith, e, length-append before (entry v f ∷ [])))),
+)
 
 pub outwards_at : (before after : Valuation) (v w : Value) (names : List (List ℕ)) (r : ℕ) → r ≡ length before
     → Outwards (before ++ (rings v names w ++ after)) r v names w
@@ -50,10 +51,11 @@ outwards_at before after v w (f ∷ rest) r e =
     let inner = rings (entry v f) rest w in
     let made = put v (f ∷ rest) w in
     subst (λ g. Outwards g r (entry v f) rest w × (value_of_variable g (r + length rest) ≡ made))
-    (ap (λ l. before ++ l) (sym (append_assoc inner (made ∷ []) after)))
-    (outwards_at before (made ∷ after) (entry v f) w rest r e,
-    ap (λ g. value_of_variable g (r + length rest)) (sym (append_assoc before inner (made ∷ after)))
-    ∙ value_at (before ++ inner) after made (r + length rest) (omega (arith, e, length-append before inner, rings_length (entry v f) w rest)))
+    (ap (λ l. before ++ l) (sym (append_assoc inner (made ∷ []) after))) (
+      outwards_at before (made ∷ after) (entry v f) w rest r e,
+      ap (λ g. value_of_variable g (r + length rest)) (sym (append_assoc before inner (made ∷ after)))
+          ∙ value_at (before ++ inner) after made (r + length rest) (omega (arith, e, length-append before inner, rings_length (entry v f) w rest)),
+    )
 
 -- ---- the values are sound
 

@@ -2,10 +2,10 @@ ghost use Rattle.std.specs.Prelude.{◌≡◌, ◌+◌, ◌≤◌, ◌++◌, ◌
 ghost use Rattle.tree_clauses.specs.declared.clause.Literal.TheVariants as literal;
 ghost use Rattle.act_cases.specs.Looks.{var, kinds_from, look_literals};
 
-use tree_clauses::{Literal, Var};
 use feature_trees::Kinds;
 use script_names::{Copied, List, Memory, Name};
 use std::alloc::Global;
+use tree_clauses::{Literal, Var};
 
 /// Which kinds the values along names have.
 #[derive(Clone, Copy, Debug, PartialEq, Eq)]

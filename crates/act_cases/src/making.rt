@@ -5,11 +5,12 @@ ghost use Rattle.utility_calls.specs.Sights.{but};
 ghost use Rattle.utility_calls.specs.Acts.{path_of, place_of, inner_name, target_of, moved, with_name, IsPerformed};
 ghost use Rattle.act_cases.specs.Tables.{where_of, rule_of, fitting, through, free, beside, ways_of, end_of_place};
 ghost use Rattle.act_cases.specs.Tables.{is_inner, names_at, plan_of, link_plan, slash_plan};
-ghost use Rattle.act_cases.specs.Moves.{source_where, is_anything, is_move, move_plan, looked, second_plan, second_names};
+ghost use Rattle.act_cases.specs.Moves.{source_where, is_anything, is_move};
+ghost use Rattle.act_cases.specs.Moves.{move_plan, looked, second_plan, second_names};
 ghost use Rattle.act_cases.specs.Moves.{move_rule_case, second_cases, move_cases};
-ghost use Rattle.act_cases.specs.Cases.{IsOnOnePath, HasSource, AreCases, link_cases, slash_cases, rule_case, cases_of};
+ghost use Rattle.act_cases.specs.Cases.{IsOnOnePath, HasSource, AreCases};
+ghost use Rattle.act_cases.specs.Cases.{link_cases, slash_cases, rule_case, cases_of};
 
-use tree_clauses::Case;
 use crate::looks::Ways;
 use crate::moves::{MovePlan, make_move_case};
 use crate::plans::{End, Plan, make_case};
@@ -17,6 +18,7 @@ use crate::tables::{Place, TableRow, table_of};
 use feature_trees::{Kind, Kinds};
 use script_names::{Bytes, Copied, Done, List, Memory, Name, Reason};
 use std::alloc::Global;
+use tree_clauses::Case;
 use utility_calls::acts::Act;
 use utility_calls::sights::Effect;
 

@@ -5,14 +5,13 @@ ghost use Rattle.act_cases.specs.Moves.{moved_literals, move_case};
 ghost use Rattle.act_cases.specs.Tables.{through};
 ghost use Rattle.feature_trees.specs.Kinds.{all};
 
-use tree_clauses::Case;
 use crate::looks::{Ways, add_look};
 use crate::plans::{End, add_end};
 use crate::puts::add_put;
-use tree_clauses::{Literal, Var};
 use feature_trees::{Kind, Kinds};
 use script_names::{Done, List, Memory, Name};
 use std::alloc::Global;
+use tree_clauses::{Case, Literal, Var};
 
 /// A row of a move as it is made into a case: what the values along the path of what is moved are, what those along
 /// the path of the place, and whether it moves something there.

@@ -3,13 +3,12 @@ ghost use Rattle.utility_calls.specs.declared.sights.Effect.TheVariants.{MakesDi
 ghost use Rattle.act_cases.specs.Puts.{root_of};
 ghost use Rattle.act_cases.specs.Plans.{is_put, made_literals, end_literals, change_literals, case_of};
 
-use tree_clauses::Case;
 use crate::looks::{Ways, add_look};
 use crate::puts::add_put;
-use tree_clauses::{Literal, Var};
 use feature_trees::{Kind, Kinds};
 use script_names::{Bytes, Copied, Done, List, Memory, Name};
 use std::alloc::Global;
+use tree_clauses::{Case, Literal, Var};
 use utility_calls::sights::Effect;
 
 /// What is asked of the entries of the value at the end of names.
@@ -44,7 +43,12 @@ fn is_put(effect: Effect) -> bool
 }
 
 /// Adds the literals of what is asked of the entries.
-pub(crate) fn add_end(alloc: Global, literals: &mut List<Literal>, end: End, x: u32) -> Result<(), Memory>
+pub(crate) fn add_end(
+    alloc: Global,
+    literals: &mut List<Literal>,
+    end: End,
+    x: u32,
+) -> Result<(), Memory>
     ensures { OnOk result (literals.new ≡ literals.old ++ end_literals end x) }
 {
     match end {

@@ -3,9 +3,9 @@ ghost use Rattle.tree_clauses.specs.declared.clause.Literal.TheVariants as liter
 ghost use Rattle.act_cases.specs.Looks.{var};
 ghost use Rattle.act_cases.specs.Puts.{variable_at, put_literals};
 
-use tree_clauses::{Literal, Var};
 use script_names::{Copied, List, Memory, Name};
 use std::alloc::Global;
+use tree_clauses::{Literal, Var};
 
 // The variable of what the first `i` names lead to, where x is that of the value that they go from, and those of the
 // entries begin with y.

@@ -73,26 +73,11 @@ fn but(k: Kind) -> Kinds
     ensures { result ≡ but k }
 {
     match k {
-        Kind::Absent => Kinds::either(
-            two(Kind::Reg, Kind::Link),
-            two(Kind::Other, Kind::Dir),
-        ),
-        Kind::Reg => Kinds::either(
-            two(Kind::Absent, Kind::Link),
-            two(Kind::Other, Kind::Dir),
-        ),
-        Kind::Link => Kinds::either(
-            two(Kind::Absent, Kind::Reg),
-            two(Kind::Other, Kind::Dir),
-        ),
-        Kind::Other => Kinds::either(
-            two(Kind::Absent, Kind::Reg),
-            two(Kind::Link, Kind::Dir),
-        ),
-        Kind::Dir => Kinds::either(
-            two(Kind::Absent, Kind::Reg),
-            two(Kind::Link, Kind::Other),
-        ),
+        Kind::Absent => Kinds::either(two(Kind::Reg, Kind::Link), two(Kind::Other, Kind::Dir)),
+        Kind::Reg => Kinds::either(two(Kind::Absent, Kind::Link), two(Kind::Other, Kind::Dir)),
+        Kind::Link => Kinds::either(two(Kind::Absent, Kind::Reg), two(Kind::Other, Kind::Dir)),
+        Kind::Other => Kinds::either(two(Kind::Absent, Kind::Reg), two(Kind::Link, Kind::Dir)),
+        Kind::Dir => Kinds::either(two(Kind::Absent, Kind::Reg), two(Kind::Link, Kind::Other)),
     }
 }
 
@@ -152,7 +137,11 @@ fn does_from(number: u8, source: Kinds, place: Place, effect: Effect) -> TableRo
 fn stops() -> TableRow
     ensures { rule_of result ≡ leaves 65 (is (of Link)) stop }
 {
-    leaves(65, Place::Is(Kinds::of(Kind::Link)), Done::Stopped(Reason::Link))
+    leaves(
+        65,
+        Place::Is(Kinds::of(Kind::Link)),
+        Done::Stopped(Reason::Link),
+    )
 }
 
 // The rows of `test -e`.
@@ -162,7 +151,11 @@ fn exists_rows() -> [TableRow; 3]
     [
         stops(),
         leaves(66, Place::Is(Kinds::of(Kind::Absent)), Done::Failed),
-        leaves(67, Place::Is(three(Kind::Reg, Kind::Other, Kind::Dir)), Done::Ok),
+        leaves(
+            67,
+            Place::Is(three(Kind::Reg, Kind::Other, Kind::Dir)),
+            Done::Ok,
+        ),
     ]
 }
 
@@ -172,7 +165,11 @@ fn is_reg_rows() -> [TableRow; 3]
 {
     [
         stops(),
-        leaves(66, Place::Is(three(Kind::Absent, Kind::Other, Kind::Dir)), Done::Failed),
+        leaves(
+            66,
+            Place::Is(three(Kind::Absent, Kind::Other, Kind::Dir)),
+            Done::Failed,
+        ),
         leaves(67, Place::Is(Kinds::of(Kind::Reg)), Done::Ok),
     ]
 }
@@ -183,7 +180,11 @@ fn is_dir_rows() -> [TableRow; 3]
 {
     [
         stops(),
-        leaves(66, Place::Is(three(Kind::Absent, Kind::Reg, Kind::Other)), Done::Failed),
+        leaves(
+            66,
+            Place::Is(three(Kind::Absent, Kind::Reg, Kind::Other)),
+            Done::Failed,
+        ),
         leaves(67, Place::Is(Kinds::of(Kind::Dir)), Done::Ok),
     ]
 }
@@ -206,7 +207,11 @@ fn can_run_rows() -> [TableRow; 4]
         stops(),
         leaves(66, Place::Is(Kinds::of(Kind::Absent)), Done::Failed),
         leaves(67, Place::Is(Kinds::of(Kind::Dir)), Done::Ok),
-        leaves(68, Place::Is(two(Kind::Reg, Kind::Other)), Done::Stopped(Reason::Run)),
+        leaves(
+            68,
+            Place::Is(two(Kind::Reg, Kind::Other)),
+            Done::Stopped(Reason::Run),
+        ),
     ]
 }
 
@@ -229,7 +234,11 @@ fn ensure_dir_rows() -> [TableRow; 4]
         stops(),
         leaves(66, Place::Outside, Done::Failed),
         leaves(67, Place::Is(two(Kind::Reg, Kind::Other)), Done::Failed),
-        does(68, Place::Inside(two(Kind::Absent, Kind::Dir)), Effect::KeepsDir),
+        does(
+            68,
+            Place::Inside(two(Kind::Absent, Kind::Dir)),
+            Effect::KeepsDir,
+        ),
     ]
 }
 
@@ -251,7 +260,11 @@ fn remove_rows() -> [TableRow; 3]
     [
         leaves(66, Place::Is(Kinds::of(Kind::Absent)), Done::Failed),
         leaves(67, Place::Is(Kinds::of(Kind::Dir)), Done::Failed),
-        does(68, Place::Is(three(Kind::Reg, Kind::Link, Kind::Other)), Effect::TakesAway),
+        does(
+            68,
+            Place::Is(three(Kind::Reg, Kind::Link, Kind::Other)),
+            Effect::TakesAway,
+        ),
     ]
 }
 
@@ -293,7 +306,11 @@ fn touch_rows() -> [TableRow; 4]
     [
         stops(),
         leaves(66, Place::Outside, Done::Failed),
-        does(67, Place::Inside(two(Kind::Absent, Kind::Reg)), Effect::MakesFile),
+        does(
+            67,
+            Place::Inside(two(Kind::Absent, Kind::Reg)),
+            Effect::MakesFile,
+        ),
         leaves(68, Place::Is(two(Kind::Other, Kind::Dir)), Done::Ok),
     ]
 }
@@ -315,7 +332,11 @@ fn place_link_rows() -> [TableRow; 3]
 {
     [
         leaves(66, Place::Outside, Done::Failed),
-        leaves(67, Place::Is(Kinds::of(Kind::Dir)), Done::Stopped(Reason::Link)),
+        leaves(
+            67,
+            Place::Is(Kinds::of(Kind::Dir)),
+            Done::Stopped(Reason::Link),
+        ),
         does(68, Place::Inside(but(Kind::Dir)), Effect::MakesLink),
     ]
 }
@@ -327,8 +348,16 @@ fn place_conf_rows() -> [TableRow; 4]
     [
         leaves(66, Place::Outside, Done::Failed),
         leaves(67, Place::Is(Kinds::of(Kind::Dir)), Done::Failed),
-        does(68, Place::Inside(two(Kind::Absent, Kind::Reg)), Effect::MakesFile),
-        leaves(69, Place::Is(two(Kind::Link, Kind::Other)), Done::Stopped(Reason::Conffile)),
+        does(
+            68,
+            Place::Inside(two(Kind::Absent, Kind::Reg)),
+            Effect::MakesFile,
+        ),
+        leaves(
+            69,
+            Place::Is(two(Kind::Link, Kind::Other)),
+            Done::Stopped(Reason::Conffile),
+        ),
     ]
 }
 
@@ -362,9 +391,17 @@ fn symlink_rows() -> [TableRow; 6]
         stops(),
         leaves(66, Place::Outside, Done::Failed),
         leaves(67, Place::Is(two(Kind::Reg, Kind::Other)), Done::Failed),
-        does(68, Place::Inside(Kinds::of(Kind::Absent)), Effect::MakesLink),
+        does(
+            68,
+            Place::Inside(Kinds::of(Kind::Absent)),
+            Effect::MakesLink,
+        ),
         leaves(70, Place::Into(but(Kind::Absent)), Done::Failed),
-        does(71, Place::Into(Kinds::of(Kind::Absent)), Effect::LinksInside),
+        does(
+            71,
+            Place::Into(Kinds::of(Kind::Absent)),
+            Effect::LinksInside,
+        ),
     ]
 }
 
@@ -375,7 +412,11 @@ fn symlink_force_rows() -> [TableRow; 5]
     [
         stops(),
         leaves(66, Place::Outside, Done::Failed),
-        does(69, Place::Inside(three(Kind::Absent, Kind::Reg, Kind::Other)), Effect::MakesLink),
+        does(
+            69,
+            Place::Inside(three(Kind::Absent, Kind::Reg, Kind::Other)),
+            Effect::MakesLink,
+        ),
         leaves(72, Place::Into(Kinds::of(Kind::Dir)), Done::Failed),
         does(73, Place::Into(but(Kind::Dir)), Effect::LinksInside),
     ]

@@ -1,10 +1,9 @@
-use tree_clauses::Case;
 use crate::making::cases;
-use tree_clauses::{Clause, Var, print_clause};
 use script_names::{Bytes, Copied, Done, List, Memory, Reason};
 use std::alloc::Global;
 use std::process::Abort;
 use std::test::Fail;
+use tree_clauses::{Case, Clause, Var, print_clause};
 use utility_calls::acts::Act;
 use utility_calls::calls::{Planned, plan};
 
