@@ -3,7 +3,7 @@ use Rattle.std.specs.Prelude.{Bool, Result, Ok, Err}
 use Rattle.script_names.specs.declared.memory.Memory.{Memory}
 use Rattle.shell_rules.specs.declared.run.End.{End}
 use Rattle.shell_rules.specs.declared.run.End.TheVariants as end
-use Rattle.colis_interp.specs.declared.halt.Leave.TheVariants as leave
+use Rattle.shell_rules.specs.declared.leave.Leave.TheVariants as leave
 use Rattle.colis_interp.specs.declared.halt.Halt.TheVariants as halt
 use Rattle.colis_interp.specs.Halts.{Answer}
 

@@ -3,3 +3,4 @@ pub mod Halts
 pub mod Runs
 pub mod Operands
 pub mod Ends
+pub mod Performed

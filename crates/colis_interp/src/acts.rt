@@ -15,7 +15,7 @@ use utility_calls::acts::Act;
 pub(crate) fn do_act(alloc: Global, a: &Act, place: Place, shell: &mut Shell) -> Result<bool, Halt>
     requires { IsPerformed a.now }
     ensures turns { shell.new.conc.turns ≤ shell.old.conc.turns }
-    ensures runs { Runs (do_act a.now (place_of place) (state_of shell.old)) result shell.new }
+    ensures runs { Runs (do_act a.now (place_of place.entry) (state_of shell.old)) result shell.new }
 {
     let site = place.site();
     let (row, done) = shell.root.act(alloc, a)?;
@@ -31,7 +31,7 @@ pub(crate) fn do_act(alloc: Global, a: &Act, place: Place, shell: &mut Shell) ->
 pub(crate) fn do_acts(alloc: Global, acts: &[Act], place: Place, shell: &mut Shell) -> Result<bool, Halt>
     requires { All (λ a. IsPerformed a) acts.now }
     ensures turns { shell.new.conc.turns ≤ shell.old.conc.turns }
-    ensures runs { Runs (do_acts acts.now (place_of place) (state_of shell.old)) result shell.new }
+    ensures runs { Runs (do_acts acts.now (place_of place.entry) (state_of shell.old)) result shell.new }
 {
     for a in acts {
         let ok = do_act(alloc, a, place, shell)?;
@@ -51,7 +51,7 @@ pub(crate) fn do_operands(
 ) -> Result<bool, Halt>
     requires { All (λ acts. All (λ a. IsPerformed a) acts) operands.now }
     ensures turns { shell.new.conc.turns ≤ shell.old.conc.turns }
-    ensures runs { Runs (do_operands true operands.now (place_of place) (state_of shell.old)) result shell.new }
+    ensures runs { Runs (do_operands true operands.now (place_of place.entry) (state_of shell.old)) result shell.new }
 {
     let mut all = true;
     for acts in operands {

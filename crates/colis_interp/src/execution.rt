@@ -9,9 +9,9 @@ ghost use Rattle.colis_syntax.specs.declared.def.Def.{Def as DefRecord};
 ghost use Rattle.colis_meaning.specs.Meaning.{co_stmt, co_str, co_piece, co_fields, co_set, co_link, co_arm};
 ghost use Rattle.colis_meaning.specs.Meaning.{co_case_arm, funs_of};
 ghost use Rattle.colis_interp.specs.Places.{place_of};
-ghost use Rattle.colis_interp.specs.Runs.{Runs, state_of, leave_of};
+ghost use Rattle.colis_interp.specs.Runs.{Runs, state_of};
 
-use crate::halt::{Behind, Halt, Leave, behind_body, behind_condition, ended_by_exit, ended_by_return, halt_of};
+use crate::halt::{Behind, Halt, behind_body, behind_condition, ended_by_exit, ended_by_return, halt_of};
 use crate::leaving::leave_with;
 use crate::names::{export_each, unset_each};
 use crate::place::Place;
@@ -20,6 +20,7 @@ use crate::strings::{append, argument, count, pattern_answer, short, trimmed, va
 use crate::utilities::call_utility;
 use colis_syntax::{ChainPart, Def, Fields, PatArm, SetTo, Stmt, StmtArm, Str, StrPiece};
 use script_names::{Bytes, Copied, List, Reason};
+use shell_rules::Leave;
 use shell_words::{Piece, fields as cut_fields};
 use std::alloc::Global;
 use std::mem;
@@ -34,7 +35,7 @@ pub(crate) fn run_stmt(
     shell: &mut Shell,
 ) -> Result<(), Halt>
     ensures turns { shell.new.conc.turns ≤ shell.old.conc.turns }
-    ensures runs { Runs (co_stmt stmt.now (funs_of defs.now []) (place_of place) (state_of shell.old)) result shell.new }
+    ensures runs { Runs (co_stmt stmt.now (funs_of defs.now []) (place_of place.entry) (state_of shell.old)) result shell.new }
 {
     match stmt {
         Stmt::Skip => {
@@ -67,17 +68,17 @@ pub(crate) fn run_stmt(
             run_arms(alloc, arms.as_slice(), last.get(), defs, place, shell)
         }
         Stmt::For { at, name, fields, body } => {
-            let place = Place { at: *at, ..place };
-            let fields = run_fields(alloc, fields.as_slice(), defs, place, shell)?;
-            run_for(alloc, body.get(), name, fields.as_slice(), defs, place, shell)
+            let here = Place { at: *at, ..place };
+            let fields = run_fields(alloc, fields.as_slice(), defs, here, shell)?;
+            run_for(alloc, body.get(), name, fields.as_slice(), defs, here, shell)
         }
         Stmt::While { at, cond, body } => {
             run_while(alloc, cond.get(), body.get(), *at, defs, place, shell)
         }
         Stmt::Case { at, subject, arms } => {
-            let place = Place { at: *at, ..place };
-            let text = run_short(alloc, subject, defs, place, shell)?;
-            run_case(alloc, arms.as_slice(), text.as_slice(), defs, place, shell)
+            let here = Place { at: *at, ..place };
+            let text = run_short(alloc, subject, defs, here, shell)?;
+            run_case(alloc, arms.as_slice(), text.as_slice(), defs, here, shell)
         }
         Stmt::Sub { at, body } => {
             run_sub(alloc, body.get(), defs, place, shell)?;
@@ -90,11 +91,11 @@ pub(crate) fn run_stmt(
             ran
         }
         Stmt::Err { at, body } => {
-            let place = Place { at: *at, ..place };
+            let here = Place { at: *at, ..place };
             if shell.conc.captured.is_some() {
-                return Err(place.stop(Reason::Message));
+                return Err(here.stop(Reason::Message));
             }
-            run_stmt(alloc, body.get(), defs, place, shell)
+            run_stmt(alloc, body.get(), defs, here, shell)
         }
         Stmt::Strict => {
             shell.conc.strict = true;
@@ -107,12 +108,12 @@ pub(crate) fn run_stmt(
             Ok(())
         }
         Stmt::Exit { at, fields } => {
-            let place = Place { at: *at, ..place };
-            run_leave(alloc, fields.as_slice(), Leave::Exited, defs, place, shell)
+            let here = Place { at: *at, ..place };
+            run_leave(alloc, fields.as_slice(), Leave::Exited, defs, here, shell)
         }
         Stmt::Return { at, fields } => {
-            let place = Place { at: *at, ..place };
-            run_leave(alloc, fields.as_slice(), Leave::Returned, defs, place, shell)
+            let here = Place { at: *at, ..place };
+            run_leave(alloc, fields.as_slice(), Leave::Returned, defs, here, shell)
         }
         Stmt::Break => {
             shell.conc.status = true;
@@ -129,8 +130,8 @@ pub(crate) fn run_stmt(
             run_unset(alloc, fields.as_slice(), *at, defs, place, shell)
         }
         Stmt::Stop { at, reason } => {
-            let place = Place { at: *at, ..place };
-            Err(place.stop(*reason))
+            let here = Place { at: *at, ..place };
+            Err(here.stop(*reason))
         }
     }
 }
@@ -147,7 +148,7 @@ fn run_all(
     ensures turns { shell.new.conc.turns ≤ shell.old.conc.turns }
     ensures runs {
         let f = funs_of defs.now [] in
-        Runs (rule.do_all (with f (map co_stmt stmts.now)) (place_of place) (state_of shell.old)) result shell.new }
+        Runs (rule.do_all (with f (map co_stmt stmts.now)) (place_of place.entry) (state_of shell.old)) result shell.new }
 {
     if stmts.is_empty() {
         shell.conc.status = true;
@@ -171,7 +172,7 @@ fn run_links(
     ensures turns { shell.new.conc.turns ≤ shell.old.conc.turns }
     ensures runs {
         let f = funs_of defs.now [] in
-        Runs (rule.do_links (with f (map co_link links.now)) (place_of place) (state_of shell.old)) result shell.new }
+        Runs (rule.do_links (with f (map co_link links.now)) (place_of place.entry) (state_of shell.old)) result shell.new }
 {
     let mut left = links.len();
     for link in links {
@@ -199,7 +200,7 @@ fn run_arms(
     ensures turns { shell.new.conc.turns ≤ shell.old.conc.turns }
     ensures runs {
         let f = funs_of defs.now [] in
-        Runs (rule.do_if (with f (map co_arm arms.now)) (co_stmt last.now f) (place_of place) (state_of shell.old))
+        Runs (rule.do_if (with f (map co_arm arms.now)) (co_stmt last.now f) (place_of place.entry) (state_of shell.old))
           result shell.new }
 {
     for arm in arms {
@@ -226,7 +227,7 @@ fn run_for(
     ensures runs {
         let b = co_stmt body.now (funs_of defs.now []) in
         let begun = success_if_none fields.now (state_of shell.old) in
-        Runs (loops.for_each name.now b fields.now (place_of place) begun) result shell.new }
+        Runs (loops.for_each name.now b fields.now (place_of place.entry) begun) result shell.new }
 {
     if fields.is_empty() {
         shell.conc.status = true;
@@ -258,22 +259,22 @@ fn run_while(
     ensures turns { shell.new.conc.turns ≤ shell.old.conc.turns }
     ensures runs {
         let f = funs_of defs.now [] in
-        Runs (loops.do_while at (co_stmt cond.now f) (co_stmt body.now f) (place_of place) (state_of shell.old))
+        Runs (loops.do_while at (co_stmt cond.now f) (co_stmt body.now f) (place_of place.entry) (state_of shell.old))
           result shell.new }
 {
-    let place = Place { at, ..place };
+    let here = Place { at, ..place };
     let mut last = true;
     'rounds: loop {
-        let met = run_stmt(alloc, cond, defs, Place { excepted: true, ..place }, shell);
+        let met = run_stmt(alloc, cond, defs, Place { excepted: true, ..here }, shell);
         match behind_condition(met, shell.conc.status)? {
             Behind::Ends => {
                 shell.conc.status = last;
                 return Ok(());
             }
-            Behind::Again => take_turn(place, shell)?,
+            Behind::Again => take_turn(here, shell)?,
             Behind::Holds => {
-                take_turn(place, shell)?;
-                let ran = run_stmt(alloc, body, defs, place, shell);
+                take_turn(here, shell)?;
+                let ran = run_stmt(alloc, body, defs, here, shell);
                 if !behind_body(ran)? {
                     return Ok(());
                 }
@@ -296,7 +297,7 @@ fn run_case(
     ensures turns { shell.new.conc.turns ≤ shell.old.conc.turns }
     ensures runs {
         let arms = with (funs_of defs.now []) (map co_case_arm arms.now) in
-        Runs (cases.first_arm subject.now arms (place_of place) (state_of shell.old)) result shell.new }
+        Runs (cases.first_arm subject.now arms (place_of place.entry) (state_of shell.old)) result shell.new }
 {
     for arm in arms {
         if run_patterns(alloc, arm.patterns.as_slice(), subject, defs, place, shell)? {
@@ -320,7 +321,7 @@ fn run_patterns(
     ensures turns { shell.new.conc.turns ≤ shell.old.conc.turns }
     ensures runs {
         let patterns = map (with (funs_of defs.now [])) (map (λ pieces. map co_piece pieces) patterns.now) in
-        Runs (cases.some_pattern subject.now patterns (place_of place) (state_of shell.old)) result shell.new }
+        Runs (cases.some_pattern subject.now patterns (place_of place.entry) (state_of shell.old)) result shell.new }
 {
     for pattern in patterns {
         let pieces = run_pieces(alloc, pattern.as_slice(), defs, place, shell)?;
@@ -343,7 +344,7 @@ fn run_sub(
     ensures turns { shell.new.conc.turns ≤ shell.old.conc.turns }
     ensures runs {
         let s = state_of shell.old in
-        let ran = co_stmt body.now (funs_of defs.now []) (place_of place) s in
+        let ran = co_stmt body.now (funs_of defs.now []) (place_of place.entry) s in
         Runs (closed_off by_exit no_value (rule.after_subshell s) ran) result shell.new }
 {
     let vars = shell.conc.vars.copy(alloc)?;
@@ -369,16 +370,16 @@ fn run_set(
     ensures turns { shell.new.conc.turns ≤ shell.old.conc.turns }
     ensures runs {
         let f = funs_of defs.now [] in
-        Runs (calls.do_set at (with f (map co_set sets.now)) (place_of place) (state_of shell.old)) result shell.new }
+        Runs (calls.do_set at (with f (map co_set sets.now)) (place_of place.entry) (state_of shell.old)) result shell.new }
 {
-    let place = Place { at, ..place };
+    let here = Place { at, ..place };
     shell.substituted = true;
     for set in sets {
-        let text = run_short(alloc, &set.value, defs, place, shell)?;
+        let text = run_short(alloc, &set.value, defs, here, shell)?;
         assign(set.name.as_slice(), text, shell)?;
     }
     shell.conc.status = shell.substituted;
-    checked(place, shell)
+    checked(here, shell)
 }
 
 // Runs a utility.
@@ -394,14 +395,14 @@ fn run_call(
     ensures turns { shell.new.conc.turns ≤ shell.old.conc.turns }
     ensures runs {
         let f = funs_of defs.now [] in
-        Runs (calls.do_call at (with f (map co_fields words.now)) (place_of place) (state_of shell.old))
+        Runs (calls.do_call at (with f (map co_fields words.now)) (place_of place.entry) (state_of shell.old))
           result shell.new }
 {
-    let place = Place { at, ..place };
+    let here = Place { at, ..place };
     shell.substituted = true;
-    let fields = run_fields(alloc, words, defs, place, shell)?;
-    call_utility(alloc, &fields, place, shell)?;
-    checked(place, shell)
+    let fields = run_fields(alloc, words, defs, here, shell)?;
+    call_utility(alloc, &fields, here, shell)?;
+    checked(here, shell)
 }
 
 // Runs a function.
@@ -419,13 +420,13 @@ fn run_function(
     ensures runs {
         let f = funs_of defs.now [] in
         let words = with f (map co_fields words.now) in
-        Runs (calls.do_function at (calls.found name.now f) words (place_of place) (state_of shell.old))
+        Runs (calls.do_function at (calls.found name.now f) words (place_of place.entry) (state_of shell.old))
           result shell.new }
 {
-    let place = Place { at, ..place };
-    let fields = run_fields(alloc, words, defs, place, shell)?;
-    run_body(alloc, name, fields, defs, place, shell)?;
-    checked(place, shell)
+    let here = Place { at, ..place };
+    let fields = run_fields(alloc, words, defs, here, shell)?;
+    run_body(alloc, name, fields, defs, here, shell)?;
+    checked(here, shell)
 }
 
 // Runs the body of a function with these arguments; the arguments that it finds are put back.
@@ -441,7 +442,7 @@ fn run_body(
     ensures turns { shell.new.conc.turns ≤ shell.old.conc.turns }
     ensures runs {
         let body = calls.found name.now (funs_of defs.now []) in
-        Runs (calls.do_body body fields (place_of place) (state_of shell.old)) result shell.new }
+        Runs (calls.do_body body fields (place_of place.entry) (state_of shell.old)) result shell.new }
 {
     match find(defs, name) {
         None => Err(place.stop(Reason::Call)),
@@ -484,7 +485,7 @@ fn run_leave(
     ensures turns { shell.new.conc.turns ≤ shell.old.conc.turns }
     ensures runs {
         let words = with (funs_of defs.now []) (map co_fields words.now) in
-        Runs (calls.do_leave (leave_of how) words (place_of place) (state_of shell.old)) result shell.new }
+        Runs (calls.do_leave how words (place_of place.entry) (state_of shell.old)) result shell.new }
 {
     let fields = run_fields(alloc, words, defs, place, shell)?;
     leave_with(how, fields.as_slice(), place, shell)
@@ -503,11 +504,11 @@ fn run_export(
     ensures turns { shell.new.conc.turns ≤ shell.old.conc.turns }
     ensures runs {
         let words = with (funs_of defs.now []) (map co_fields words.now) in
-        Runs (calls.do_export at words (place_of place) (state_of shell.old)) result shell.new }
+        Runs (calls.do_export at words (place_of place.entry) (state_of shell.old)) result shell.new }
 {
-    let place = Place { at, ..place };
-    let fields = run_fields(alloc, words, defs, place, shell)?;
-    export_each(alloc, fields.as_slice(), place, shell)?;
+    let here = Place { at, ..place };
+    let fields = run_fields(alloc, words, defs, here, shell)?;
+    export_each(alloc, fields.as_slice(), here, shell)?;
     shell.conc.status = true;
     Ok(())
 }
@@ -525,11 +526,11 @@ fn run_unset(
     ensures turns { shell.new.conc.turns ≤ shell.old.conc.turns }
     ensures runs {
         let words = with (funs_of defs.now []) (map co_fields words.now) in
-        Runs (calls.do_unset at words (place_of place) (state_of shell.old)) result shell.new }
+        Runs (calls.do_unset at words (place_of place.entry) (state_of shell.old)) result shell.new }
 {
-    let place = Place { at, ..place };
-    let fields = run_fields(alloc, words, defs, place, shell)?;
-    unset_each(fields.as_slice(), place, shell)?;
+    let here = Place { at, ..place };
+    let fields = run_fields(alloc, words, defs, here, shell)?;
+    unset_each(fields.as_slice(), here, shell)?;
     shell.conc.status = true;
     Ok(())
 }
@@ -546,12 +547,12 @@ fn run_fields(
     ensures turns { shell.new.conc.turns ≤ shell.old.conc.turns }
     ensures runs {
         let words = with (funs_of defs.now []) (map co_fields words.now) in
-        Runs (word.do_fields words (place_of place) (state_of shell.old)) result shell.new }
+        Runs (word.do_fields words (place_of place.entry) (state_of shell.old)) result shell.new }
 {
     let mut fields = List::new(alloc);
     for one in words {
         let more = run_word(alloc, one, defs, place, shell)?;
-        append(&mut fields, more)?;
+        append(alloc, &mut fields, &more)?;
     }
     Ok(fields)
 }
@@ -567,7 +568,7 @@ fn run_word(
 ) -> Result<List<Bytes>, Halt>
     ensures turns { shell.new.conc.turns ≤ shell.old.conc.turns }
     ensures runs {
-        Runs (co_fields word.now (funs_of defs.now []) (place_of place) (state_of shell.old)) result shell.new }
+        Runs (co_fields word.now (funs_of defs.now []) (place_of place.entry) (state_of shell.old)) result shell.new }
 {
     match word {
         Fields::Word(pieces) => {
@@ -593,7 +594,7 @@ fn run_pieces(
     ensures turns { shell.new.conc.turns ≤ shell.old.conc.turns }
     ensures runs {
         let pieces = with (funs_of defs.now []) (map co_piece pieces.now) in
-        Runs (word.do_pieces pieces (place_of place) (state_of shell.old)) result shell.new }
+        Runs (word.do_pieces pieces (place_of place.entry) (state_of shell.old)) result shell.new }
 {
     let mut parts = List::new(alloc);
     for piece in pieces {
@@ -614,7 +615,7 @@ fn run_piece(
 ) -> Result<Piece, Halt>
     ensures turns { shell.new.conc.turns ≤ shell.old.conc.turns }
     ensures runs {
-        Runs (co_piece piece.now (funs_of defs.now []) (place_of place) (state_of shell.old)) result shell.new }
+        Runs (co_piece piece.now (funs_of defs.now []) (place_of place.entry) (state_of shell.old)) result shell.new }
 {
     match piece {
         StrPiece::Plain(string) => {
@@ -644,7 +645,7 @@ fn run_short(
     ensures turns { shell.new.conc.turns ≤ shell.old.conc.turns }
     ensures runs {
         let string = co_str string.now (funs_of defs.now []) in
-        Runs (word.do_short string (place_of place) (state_of shell.old)) result shell.new }
+        Runs (word.do_short string (place_of place.entry) (state_of shell.old)) result shell.new }
 {
     let text = run_str(alloc, string, defs, place, shell)?;
     short(text, place)
@@ -661,7 +662,7 @@ fn run_str(
 ) -> Result<Bytes, Halt>
     ensures turns { shell.new.conc.turns ≤ shell.old.conc.turns }
     ensures runs {
-        Runs (co_str string.now (funs_of defs.now []) (place_of place) (state_of shell.old)) result shell.new }
+        Runs (co_str string.now (funs_of defs.now []) (place_of place.entry) (state_of shell.old)) result shell.new }
 {
     match string {
         Str::Lit(bytes) => Ok(bytes.copy(alloc)?),
@@ -692,7 +693,7 @@ fn run_join(
     ensures turns { shell.new.conc.turns ≤ shell.old.conc.turns }
     ensures runs {
         let parts = with (funs_of defs.now []) (map co_str parts.now) in
-        Runs (word.do_join parts (place_of place) (state_of shell.old)) result shell.new }
+        Runs (word.do_join parts (place_of place.entry) (state_of shell.old)) result shell.new }
 {
     let mut text = Bytes::new(alloc);
     for part in parts {
@@ -714,7 +715,7 @@ fn run_output(
     ensures turns { shell.new.conc.turns ≤ shell.old.conc.turns }
     ensures runs {
         let body = co_stmt body.now (funs_of defs.now []) in
-        Runs (word.do_output body (place_of place) (state_of shell.old)) result shell.new }
+        Runs (word.do_output body (place_of place.entry) (state_of shell.old)) result shell.new }
 {
     let vars = shell.conc.vars.copy(alloc)?;
     let args = shell.conc.args.copy(alloc)?;

@@ -2,20 +2,9 @@ ghost use Rattle.std.specs.Prelude.{◌≡◌};
 ghost use Rattle.colis_interp.specs.Halts.{ended_by_exit, ended_by_return, behind_body, behind_condition, halt_of};
 
 use crate::place::Place;
-use script_names::{Memory, Reason, Site};
+use script_names::{Memory, Reason};
+use shell_rules::Leave;
 use shell_words::WordFault;
-
-/// How a command leaves what stands round it: by `break`, `continue`, `return` or `exit`, without a result since what is
-/// met at the site has no specification, or with no turn left for the loop at the site.
-#[derive(Clone, Copy, Debug, PartialEq, Eq)]
-pub(crate) enum Leave {
-    Broke,
-    Continued,
-    Returned,
-    Exited,
-    Stopped(Reason, Site),
-    Bound(Site),
-}
 
 /// Why a command does not go on: it leaves what stands round it, or memory is missing.
 #[derive(Clone, Copy, Debug, PartialEq, Eq)]
@@ -122,7 +111,7 @@ pub(crate) fn behind_condition(ran: Result<(), Halt>, status: bool) -> Result<Be
 
 /// What a word without a value stops the run for, at the command.
 pub(crate) fn halt_of(fault: WordFault, place: Place) -> Halt
-    ensures { result ≡ halt_of fault place }
+    ensures { result ≡ halt_of fault place.entry }
 {
     match fault {
         WordFault::Long => place.stop(Reason::Long),

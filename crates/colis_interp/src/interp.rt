@@ -6,14 +6,14 @@ ghost use Rattle.colis_meaning.specs.Meaning.{co_program};
 ghost use Rattle.colis_interp.specs.Ends.{end_answer};
 
 use crate::execution::run_stmt;
-use crate::halt::{Halt, Leave};
+use crate::halt::Halt;
 use crate::place::Place;
 use crate::root::Root;
 use crate::shell::Shell;
 use colis_syntax::Program;
 use feature_trees::Value;
 use script_names::{Copied, List, Memory};
-use shell_rules::{Conc, End, Trace};
+use shell_rules::{Conc, End, Leave, Trace};
 use shell_words::Env;
 use std::alloc::Global;
 use std::mem;

@@ -1,12 +1,13 @@
 ghost use Rattle.std.specs.Prelude.{◌≡◌, ◌≤◌, Some, None, if◌then◌else◌};
 ghost use Rattle.shell_rules.specs.Calls.{is_digit, is_status, number_behind, leave_with};
 ghost use Rattle.colis_interp.specs.Places.{place_of};
-ghost use Rattle.colis_interp.specs.Runs.{Runs, state_of, leave_of};
+ghost use Rattle.colis_interp.specs.Runs.{Runs, state_of};
 
-use crate::halt::{Halt, Leave};
+use crate::halt::Halt;
 use crate::place::Place;
 use crate::shell::Shell;
 use script_names::{Bytes, Reason};
+use shell_rules::Leave;
 
 /// Whether a byte is a decimal digit.
 pub(crate) fn is_digit(byte: u8) -> bool
@@ -48,7 +49,7 @@ fn status_number(text: &[u8]) -> Option<u32>
 /// Leaves what stands round the command, with the status that its operand gives, or with the one that holds.
 pub(crate) fn leave_with(how: Leave, fields: &[Bytes], place: Place, shell: &mut Shell) -> Result<(), Halt>
     ensures turns { shell.new.conc.turns ≤ shell.old.conc.turns }
-    ensures runs { Runs (leave_with (leave_of how) fields.now (place_of place) (state_of shell.old)) result shell.new }
+    ensures runs { Runs (leave_with how fields.now (place_of place.entry) (state_of shell.old)) result shell.new }
 {
     match fields {
         [] => Err(Halt::Left(how)),

@@ -16,3 +16,6 @@ mod strings;
 mod utilities;
 
 pub use interp::run;
+
+#[cfg(test)]
+mod tests;

@@ -29,8 +29,15 @@ fn is_name(text: &[u8]) -> bool
 {
     match text {
         [] => false,
-        [first, ..] => !is_digit(*first) && text.iter().all(|byte| is_name_byte(*byte)),
+        [first, ..] => !is_digit(*first) && are_name_bytes(text),
     }
+}
+
+// Whether each byte may stand in a name.
+fn are_name_bytes(text: &[u8]) -> bool
+    ensures { result ≡ list_all is_name_byte text.now }
+{
+    text.iter().all(|byte| is_name_byte(*byte))
 }
 
 // Whether a text is the name of a variable that may be changed.
@@ -56,7 +63,7 @@ fn equals_at(field: &[u8]) -> usize
 // One operand of `export`: NAME or NAME=VALUE.
 fn export_one(alloc: Global, field: &[u8], place: Place, shell: &mut Shell) -> Result<(), Halt>
     ensures turns { shell.new.conc.turns ≤ shell.old.conc.turns }
-    ensures runs { Runs (export_one (cut_at_equals field.now) (place_of place) (state_of shell.old)) result shell.new }
+    ensures runs { Runs (export_one (cut_at_equals field.now) (place_of place.entry) (state_of shell.old)) result shell.new }
 {
     let at = equals_at(field);
     if !is_changeable(&field[..at]) {
@@ -78,7 +85,7 @@ pub(crate) fn export_each(
     shell: &mut Shell,
 ) -> Result<(), Halt>
     ensures turns { shell.new.conc.turns ≤ shell.old.conc.turns }
-    ensures runs { Runs (export_each fields.now (place_of place) (state_of shell.old)) result shell.new }
+    ensures runs { Runs (export_each fields.now (place_of place.entry) (state_of shell.old)) result shell.new }
 {
     for field in fields {
         export_one(alloc, field.as_slice(), place, shell)?;
@@ -90,13 +97,19 @@ pub(crate) fn export_each(
 fn is_function(name: &[u8], functions: &[Def]) -> bool
     ensures { result ≡ list_any (bytes_eq name.now) (names_of functions.now) }
 {
+    has_name(name, functions)
+}
+
+fn has_name(name: &[u8], functions: &[Def]) -> bool
+    ensures { result ≡ list_any (λ def. bytes_eq name.now def.name) functions.now }
+{
     functions.iter().any(|def| name == def.name.as_slice())
 }
 
 // One operand of `unset`.
 fn unset_one(name: &[u8], place: Place, shell: &mut Shell) -> Result<(), Halt>
     ensures turns { shell.new.conc.turns ≤ shell.old.conc.turns }
-    ensures runs { Runs (unset_one name.now (place_of place) (state_of shell.old)) result shell.new }
+    ensures runs { Runs (unset_one name.now (place_of place.entry) (state_of shell.old)) result shell.new }
 {
     if is_changeable(name) && !is_function(name, place.functions) {
         shell.conc.vars.unset(name);
@@ -108,7 +121,7 @@ fn unset_one(name: &[u8], place: Place, shell: &mut Shell) -> Result<(), Halt>
 /// Takes the variables of `unset` away.
 pub(crate) fn unset_each(fields: &[Bytes], place: Place, shell: &mut Shell) -> Result<(), Halt>
     ensures turns { shell.new.conc.turns ≤ shell.old.conc.turns }
-    ensures runs { Runs (unset_each fields.now (place_of place) (state_of shell.old)) result shell.new }
+    ensures runs { Runs (unset_each fields.now (place_of place.entry) (state_of shell.old)) result shell.new }
 {
     for field in fields {
         unset_one(field.as_slice(), place, shell)?;

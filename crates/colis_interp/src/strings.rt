@@ -22,7 +22,7 @@ const STRING_LIMIT: usize = 65536;
 
 /// The value of a variable.
 pub(crate) fn variable(alloc: Global, name: &[u8], place: Place, shell: &Shell) -> Result<Bytes, Halt>
-    ensures { Runs (do_variable name.now (place_of place) (state_of shell.now)) result shell.now }
+    ensures { Runs (do_variable name.now (place_of place.entry) (state_of shell.now)) result shell.now }
 {
     if is_shells_own(name) {
         return Err(place.stop(Reason::Call));
@@ -35,7 +35,7 @@ pub(crate) fn variable(alloc: Global, name: &[u8], place: Place, shell: &Shell) 
 
 /// The argument with this number, counted from 1.
 pub(crate) fn argument(alloc: Global, number: u8, place: Place, shell: &Shell) -> Result<Bytes, Halt>
-    ensures { Runs (do_argument number (place_of place) (state_of shell.now)) result shell.now }
+    ensures { Runs (do_argument number (place_of place.entry) (state_of shell.now)) result shell.now }
 {
     let at = if number == 0 { 0 } else { number - 1 };
     match shell.conc.args.get(usize::from(at)) {
@@ -46,7 +46,7 @@ pub(crate) fn argument(alloc: Global, number: u8, place: Place, shell: &Shell) -
 
 /// How many arguments there are, in decimal.
 pub(crate) fn count(alloc: Global, place: Place, shell: &Shell) -> Result<Bytes, Halt>
-    ensures { Runs (do_count (place_of place) (state_of shell.now)) result shell.now }
+    ensures { Runs (do_count (place_of place.entry) (state_of shell.now)) result shell.now }
 {
     let mut text = Bytes::new(alloc);
     push_number(&mut text, shell.conc.args.len() as u64)?;
@@ -55,7 +55,7 @@ pub(crate) fn count(alloc: Global, place: Place, shell: &Shell) -> Result<Bytes,
 
 /// A string that may be assigned, or be the subject of a `case`: it has at most 65,536 bytes.
 pub(crate) fn short(text: Bytes, place: Place) -> Result<Bytes, Halt>
-    ensures { (s : ShellRecord) → Runs (given (short text) (place_of place) (state_of s)) result s }
+    ensures { (s : ShellRecord) → Runs (given (short text) (place_of place.entry) (state_of s)) result s }
 {
     if text.len() > STRING_LIMIT {
         return Err(place.stop(Reason::Long));
@@ -71,7 +71,7 @@ pub(crate) fn pattern_answer(
     place: Place,
 ) -> Result<bool, Halt>
     ensures { (s : ShellRecord)
-        → Runs (pattern_answer subject.now (pattern_letters pattern.now) (place_of place) (state_of s)) result s }
+        → Runs (pattern_answer subject.now (pattern_letters pattern.now) (place_of place.entry) (state_of s)) result s }
 {
     match matches(alloc, pattern, subject) {
         Ok(yes) => Ok(yes),
@@ -94,11 +94,12 @@ pub(crate) fn trimmed(alloc: Global, captured: Option<Bytes>) -> Bytes
 }
 
 /// Adds fields to others.
-pub(crate) fn append(fields: &mut List<Bytes>, more: List<Bytes>) -> Result<(), Memory>
-    ensures { OnOk result (fields.new ≡ fields.old ++ more) }
+pub(crate) fn append(alloc: Global, fields: &mut List<Bytes>, more: &List<Bytes>) -> Result<(), Memory>
+    ensures { OnOk result (fields.new ≡ fields.old ++ more.now) }
 {
-    for field in more.into_vec() {
-        fields.add(field)?;
+    for field in more.as_slice() {
+        let twin = field.copy(alloc)?;
+        fields.add(twin)?;
     }
     Ok(())
 }
