@@ -1,6 +1,6 @@
 -- What a program does: of each construct, from what its parts do. The rules are those of shell_rules, one for each
 -- construct.
-use Rattle.std.specs.Prelude.{ℕ, Bool, true, false, List, [], ◌∷◌, map}
+use Rattle.std.specs.Prelude.{ℕ, Bool, List, [], ◌∷◌, map}
 use Rattle.script_names.specs.declared.mark.Mark.{Mark}
 use Rattle.feature_trees.specs.declared.value.Value.{Value}
 use Rattle.shell_words.specs.Pieces.{PieceParts}

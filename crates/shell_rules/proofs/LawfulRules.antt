@@ -1,6 +1,6 @@
 -- Each rule keeps the three laws where its parts do.
 use Rattle.std.proofs.Common.{◌≡◌, ◌≤◌, ◌<◌, ◌+◌, ℕ, zero, suc, Bool, true, false, not, List, [], ◌∷◌, ◌++◌, Option}
-use Rattle.std.proofs.Common.{Some, None, Result, Ok, Err, refl, sym, ap, subst, ◌∙◌, if◌then◌else◌, arith, IsTrue, inr}
+use Rattle.std.proofs.Common.{Some, None, Result, Ok, Err, refl, if◌then◌else◌, arith, IsTrue, inr}
 use Rattle.std.specs.Prelude.{◌&&◌, nat_eq}
 use Rattle.std.specs.List.{list_any}
 use Rattle.std.specs.Str.{bytes_eq}
@@ -32,7 +32,7 @@ use Rattle.shell_rules.specs.Cases as k
 use Rattle.shell_rules.specs.Calls as u
 use Rattle.shell_rules.specs.Laws.{state_of, run_with_more, more_turns, is_bound, Keeps, Lawful, IsLawful, AllLawful}
 use Rattle.shell_rules.specs.Laws.{LinksLawful, ArmsLawful, PatternsLawful, CaseArmsLawful, SetsLawful}
-use Rattle.shell_rules.proofs.Keeping.{stays, from_same, then_lawful, if_keeps, GoesBack, closed_keeps, turn_keeps}
+use Rattle.shell_rules.proofs.Keeping.{stays, from_same, then_lawful, if_keeps, closed_keeps, turn_keeps}
 use Rattle.shell_rules.proofs.Keeping.{body_keeps, condition_keeps}
 
 -- an act: one mark more
@@ -69,7 +69,8 @@ pub default_lawful : (string : Doing Text) (other : Text) → IsLawful string �
 default_lawful string other h p =
     then_lawful (string p) (λ text s. Go (w.unless_empty text other) s) (h p) (λ text n s. stays refl refl refl)
 
-join_lawful_behind : (strings : List (Doing Text)) → AllLawful strings → (before : Text) → IsLawful (w.join_behind before strings)
+join_lawful_behind : (strings : List (Doing Text)) → AllLawful strings → (before : Text)
+    → IsLawful (w.join_behind before strings)
 join_lawful_behind [] h before p = λ n s. stays refl refl refl
 join_lawful_behind (string ∷ strings) h before p =
     then_lawful (string p) (λ text s. w.join_behind (before ++ text) strings p s) (h.0 p)
@@ -206,17 +207,17 @@ if_lawful [] otherwise h k p = k p
 if_lawful ((condition, body) ∷ arms) otherwise h k p =
     then_lawful (condition (except p)) (λ _ s. if s.conc.status then body p s else c.do_if arms otherwise p s)
     (h.0 (except p)) (λ _ n s.
-      if_keeps s.conc.status (body p s) (c.do_if arms otherwise p s) (body p (more_turns n s))
-      (c.do_if arms otherwise p (more_turns n s)) (h.1 p n s) (if_lawful arms otherwise h.2 k p n s))
+    if_keeps s.conc.status (body p s) (c.do_if arms otherwise p s) (body p (more_turns n s))
+    (c.do_if arms otherwise p (more_turns n s)) (h.1 p n s) (if_lawful arms otherwise h.2 k p n s))
 
 pub subshell_lawful : (at : ℕ) (body : Action) → IsLawful body → IsLawful (c.do_subshell at body)
 subshell_lawful at body h p =
     then_lawful (λ s. closed_off st.by_exit st.no_value (c.after_subshell s) (body p s))
     (λ _ s. c.checked (at_command at p) s)
     (λ n s. closed_keeps st.by_exit st.no_value (c.after_subshell s) (c.after_subshell (more_turns n s)) (body p s)
-      (body p (more_turns n s))
-      (record { trace = λ t. refl; turns = λ t. refl; more = λ t. refl; same_value = λ t. refl; bound = exit_not_bound })
-      (h p n s))
+    (body p (more_turns n s))
+    (record { trace = λ t. refl; turns = λ t. refl; more = λ t. refl; same_value = λ t. refl; bound = exit_not_bound })
+    (h p n s))
     (λ _. checked_lawful (at_command at p))
 
 pub quiet_lawful : (body : Action) → IsLawful body → IsLawful (c.do_quiet body)
@@ -249,9 +250,9 @@ each_lawful name body (field ∷ fields) h p n s =
     let next : State → Run (Unit {0}) = l.for_each name body fields p in
     let turn : State → Run (Unit {0}) = λ t. l.after_body (body p (l.assign name field t)) next in
     turn_keeps p turn turn (λ t lt.
-      body_keeps (body p (l.assign name field t)) (body p (l.assign name field (more_turns n t))) next next
-      (from_same refl (omega arith) (h p n (l.assign name field t)))
-      (λ t le. each_lawful name body fields h p n t))
+    body_keeps (body p (l.assign name field t)) (body p (l.assign name field (more_turns n t))) next next
+    (from_same refl (omega arith) (h p n (l.assign name field t)))
+    (λ t le. each_lawful name body fields h p n t))
 
 some_fields_lawful : (name : Text) (body : Action) (fields : List Text) (p : Place) → IsLawful body
     → Lawful (λ s. l.for_each name body fields p (st.success_if_none fields s))
@@ -272,7 +273,8 @@ NextRound n m next other =
 
 round_keeps : (n : ℕ) (condition body : Action) (p : Place) (next other : Bool → State → Run (Unit {0})) (last : Bool)
     (s : State) → IsLawful condition → IsLawful body → NextRound n s.conc.turns next other
-    → Keeps n s (l.while_round condition body p next last s) (l.while_round condition body p other last (more_turns n s))
+    → Keeps n s (l.while_round condition body p next last s)
+    (l.while_round condition body p other last (more_turns n s))
 round_keeps n condition body p next other last s hc hb h =
     let turn : State → Run (Unit {0}) = λ t. l.after_body (body p t) (λ u. next u.conc.status u) in
     let turn' : State → Run (Unit {0}) = λ t. l.after_body (body p t) (λ u. other u.conc.status u) in
@@ -281,8 +283,8 @@ round_keeps n condition body p next other last s hc hb h =
     (λ t. then_do (l.take_turn p t) (λ _. turn')) (λ t. then_do (l.take_turn p t) (λ _ t. other last t))
     (hc (except p) n s)
     (λ t le. turn_keeps p turn turn' (λ u lt.
-      body_keeps (body p u) (body p (more_turns n u)) (λ v. next v.conc.status v) (λ v. other v.conc.status v)
-      (hb p n u) (λ v lv. h v.conc.status v (omega (arith, le, lt, lv)))))
+    body_keeps (body p u) (body p (more_turns n u)) (λ v. next v.conc.status v) (λ v. other v.conc.status v)
+    (hb p n u) (λ v lv. h v.conc.status v (omega (arith, le, lt, lv)))))
     (λ t le. turn_keeps p (λ t. next last t) (λ t. other last t) (λ u lt. h last u (omega (arith, le, lt))))
 
 rounds_keep : (n a b : ℕ) (condition body : Action) (p : Place) (last : Bool) (s : State) → IsLawful condition
@@ -304,7 +306,8 @@ rounds_keep n (suc a) (suc b) condition body p last s hc hb le le' =
 pub while_lawful : (at : ℕ) (condition body : Action) → IsLawful condition → IsLawful body
     → IsLawful (l.do_while at condition body)
 while_lawful at condition body hc hb p n s =
-    rounds_keep n s.conc.turns (s.conc.turns + n) condition body (at_command at p) true s hc hb (omega arith) (omega arith)
+    rounds_keep n s.conc.turns (s.conc.turns + n) condition body (at_command at p) true s hc hb (omega arith)
+    (omega arith)
 
 -- ---- `case`
 
@@ -320,13 +323,14 @@ pub patterns_lawful : (subject : Text) (patterns : List (List (Doing PieceParts)
 patterns_lawful subject [] h p = λ n s. stays refl refl refl
 patterns_lawful subject (pattern ∷ patterns) h p =
     let rest : Bool → State → Run Bool = λ fits s. if fits then Go true s else k.some_pattern subject patterns p s in
-    then_lawful (w.do_pieces pattern p) (λ parts s. then_do (k.pattern_answer subject (pattern_letters parts) p s) rest)
+    then_lawful (w.do_pieces pattern p)
+    (λ parts s. then_do (k.pattern_answer subject (pattern_letters parts) p s) rest)
     (pieces_lawful pattern h.0 p)
     (λ parts. then_lawful (k.pattern_answer subject (pattern_letters parts) p) rest
-      (answer_lawful subject (pattern_letters parts) p)
-      (λ fits n s. if_keeps fits (Go true s) (k.some_pattern subject patterns p s) (Go true (more_turns n s))
-        (k.some_pattern subject patterns p (more_turns n s)) (stays refl refl refl)
-        (patterns_lawful subject patterns h.1 p n s)))
+    (answer_lawful subject (pattern_letters parts) p)
+    (λ fits n s. if_keeps fits (Go true s) (k.some_pattern subject patterns p s) (Go true (more_turns n s))
+    (k.some_pattern subject patterns p (more_turns n s)) (stays refl refl refl)
+    (patterns_lawful subject patterns h.1 p n s)))
 
 case_arms_lawful : (subject : Text) (arms : List (List (List (Doing PieceParts)) × Action)) → CaseArmsLawful arms
     → IsLawful (k.first_arm subject arms)
@@ -335,7 +339,7 @@ case_arms_lawful subject ((patterns, body) ∷ arms) h p =
     then_lawful (k.some_pattern subject patterns p) (λ fits s. if fits then body p s else k.first_arm subject arms p s)
     (patterns_lawful subject patterns h.0 p)
     (λ fits n s. if_keeps fits (body p s) (k.first_arm subject arms p s) (body p (more_turns n s))
-      (k.first_arm subject arms p (more_turns n s)) (h.1 p n s) (case_arms_lawful subject arms h.2 p n s))
+    (k.first_arm subject arms p (more_turns n s)) (h.1 p n s) (case_arms_lawful subject arms h.2 p n s))
 
 pub case_lawful : (at : ℕ) (subject : Doing Text) (arms : List (List (List (Doing PieceParts)) × Action))
     → IsLawful subject → CaseArmsLawful arms → IsLawful (k.do_case at subject arms)
@@ -360,7 +364,7 @@ acts_lawful [] p = λ n s. stays refl refl refl
 acts_lawful (act ∷ acts) p =
     then_lawful (u.do_act act p) (λ ok s. if ok then u.do_acts acts p s else Go false s) (act_lawful act p)
     (λ ok n s. if_keeps ok (u.do_acts acts p s) (Go false s) (u.do_acts acts p (more_turns n s))
-      (Go false (more_turns n s)) (acts_lawful acts p n s) (stays refl refl refl))
+    (Go false (more_turns n s)) (acts_lawful acts p n s) (stays refl refl refl))
 
 operands_lawful : (all : Bool) (lists : List (List Act)) → IsLawful (u.do_operands all lists)
 operands_lawful all [] p = λ n s. stays refl refl refl
@@ -390,7 +394,7 @@ call_lawful at words h p =
     (λ fields s. then_do (u.do_call_of fields q s) (λ _ s. c.checked q s))
     (λ n s. from_same refl (omega arith) (fields_lawful words h q n (u.no_substitution s)))
     (λ fields. then_lawful (u.do_call_of fields q) (λ _ s. c.checked q s) (call_of_lawful fields q)
-      (λ _. checked_lawful q))
+    (λ _. checked_lawful q))
 
 assignments_lawful : (sets : List (Text × Doing Text)) → SetsLawful sets → IsLawful (u.do_assignments sets)
 assignments_lawful [] h p = λ n s. stays refl refl refl
@@ -413,7 +417,13 @@ body_lawful None fields h p n s = stays refl refl refl
 body_lawful (Some body) fields h p n s =
     closed_keeps st.by_return st.no_value (st.with_arguments s.conc.args) (st.with_arguments s.conc.args)
     (body p (st.with_arguments fields s)) (body p (st.with_arguments fields (more_turns n s)))
-    (record { trace = λ t. refl; turns = λ t. refl; more = λ t. refl; same_value = λ t. refl; bound = return_not_bound })
+    (record {
+      trace = λ t. refl;
+      turns = λ t. refl;
+      more = λ t. refl;
+      same_value = λ t. refl;
+      bound = return_not_bound;
+    })
     (from_same refl (omega arith) (h body refl p n (st.with_arguments fields s)))
 
 pub function_lawful : (at : ℕ) (body : Option Action) (words : List (Doing (List Text)))
@@ -423,7 +433,7 @@ function_lawful at body words hb hw p =
     then_lawful (w.do_fields words q) (λ fields s. then_do (u.do_body body fields q s) (λ _ s. c.checked q s))
     (fields_lawful words hw q)
     (λ fields. then_lawful (u.do_body body fields q) (λ _ s. c.checked q s) (body_lawful body fields hb q)
-      (λ _. checked_lawful q))
+    (λ _. checked_lawful q))
 
 leave_with_lawful : (how : Leave) (fields : List Text) → IsLawful (u.leave_with how fields)
 leave_with_lawful how [] p n s = stays refl refl refl
@@ -469,7 +479,7 @@ export_lawful at words h p =
     then_lawful (w.do_fields words q)
     (λ fields s. then_do (u.export_each fields q s) (λ _ s. Go tt (st.with_status true s))) (fields_lawful words h q)
     (λ fields. then_lawful (u.export_each fields q) (λ _ s. Go tt (st.with_status true s))
-      (export_each_lawful fields q) (λ _ n s. stays refl refl refl))
+    (export_each_lawful fields q) (λ _ n s. stays refl refl refl))
 
 unset_one_lawful : (name : Text) → IsLawful (u.unset_one name)
 unset_one_lawful name p n s =
@@ -489,4 +499,4 @@ unset_lawful at words h p =
     then_lawful (w.do_fields words q)
     (λ fields s. then_do (u.unset_each fields q s) (λ _ s. Go tt (st.with_status true s))) (fields_lawful words h q)
     (λ fields. then_lawful (u.unset_each fields q) (λ _ s. Go tt (st.with_status true s))
-      (unset_each_lawful fields q) (λ _ n s. stays refl refl refl))
+    (unset_each_lawful fields q) (λ _ n s. stays refl refl refl))

@@ -1,13 +1,12 @@
 -- The test whether a pattern matches decides the relation.
-use Rattle.std.proofs.Common.{◌≡◌, ℕ, Bool, true, false, List, [], ◌∷◌, ◌++◌, refl, sym, ap, subst, ◌∙◌, ◌⊎◌, inl, inr}
-use Rattle.std.specs.Prelude.{◌&&◌, ◌||◌, ◌↔◌}
+use Rattle.std.proofs.Common.{◌≡◌, ℕ, Bool, true, false, List, [], ◌∷◌, ◌++◌, refl, sym, ap, subst, ◌⊎◌, inl, inr}
 use Rattle.std.specs.List.{list_any}
 use Rattle.std.proofs.lemmas.Bool.{and_parts, and_from, or_cases, or_left, or_right}
 use Rattle.shell_words.specs.declared.pattern.Item.{Item}
 use Rattle.shell_words.specs.declared.pattern.Item.TheVariants.{Byte, Any, Star, Set}
 use Rattle.shell_words.specs.Patterns.{allows, Matches, matches_end, matches_byte, matches_star}
 use Rattle.shell_rules.specs.State.{Text}
-use Rattle.shell_rules.specs.Cases.{tails, byte_matches, item_matches, is_empty, matches}
+use Rattle.shell_rules.specs.Cases.{tails, byte_matches, matches}
 
 -- ---- what passes the test matches
 
@@ -64,7 +63,8 @@ passing_tail : (test : Text → Bool) (skipped rest : Text) → test rest ≡ tr
 passing_tail test [] [] e = or_left (test []) false e
 passing_tail test [] (b ∷ rest) e = or_left (test (b ∷ rest)) (list_any test (tails rest)) e
 passing_tail test (b ∷ skipped) rest e =
-    or_right (test (b ∷ (skipped ++ rest))) (list_any test (tails (skipped ++ rest))) (passing_tail test skipped rest e)
+    or_right (test (b ∷ (skipped ++ rest))) (list_any test (tails (skipped ++ rest)))
+    (passing_tail test skipped rest e)
 
 byte_from : (item : Item) (others : List Item) (b : ℕ) (rest : Text) → allows item b ≡ true
     → matches others rest ≡ true → matches (item ∷ others) (b ∷ rest) ≡ true

@@ -1,10 +1,9 @@
 -- A whole run keeps the three laws where its body does.
-use Rattle.std.proofs.Common.{◌≡◌, ◌≤◌, ◌+◌, ◌⊎◌, inl, inr, ℕ, IsTrue, List, refl, sym, ap, subst, ◌∙◌, arith}
-use Rattle.script_names.specs.declared.mark.Mark.{Mark}
+use Rattle.std.proofs.Common.{◌≡◌, ◌⊎◌, inl, inr, ℕ, IsTrue, refl, sym, ap, subst, ◌∙◌, arith}
 use Rattle.shell_rules.specs.State as st
 use Rattle.shell_rules.specs.State.{State, Run, Go, Left, Action}
-use Rattle.shell_rules.specs.Whole.{Ended, ended_by, begun, place_in}
-use Rattle.shell_rules.specs.Laws.{state_of, Extends, run_with_more, IsBound, Keeps, IsLawful}
+use Rattle.shell_rules.specs.Whole.{ended_by, begun, place_in}
+use Rattle.shell_rules.specs.Laws.{state_of, Extends, run_with_more, IsBound, IsLawful}
 use Rattle.shell_rules.specs.Laws.{ended_with_more, is_bound_end, WholeKeeps}
 
 ended_trace : (q : Run (Unit {0})) → (ended_by q).trace ≡ (state_of q).trace

@@ -7,7 +7,7 @@ use Rattle.shell_words.specs.declared.pattern.Item.{Item}
 use Rattle.shell_words.specs.declared.pattern.Item.TheVariants.{Byte, Any, Star, Set}
 use Rattle.shell_words.specs.Pieces.{PieceParts}
 use Rattle.shell_words.specs.Patterns.{pattern_letters, items, allows, is_left_out}
-use Rattle.shell_rules.specs.State.{Text, State, Run, Go, then_do, Place, at_command, stopped, Doing, Action}
+use Rattle.shell_rules.specs.State.{Text, Go, then_do, Place, at_command, stopped, Doing, Action}
 use Rattle.shell_rules.specs.State.{with_status}
 use Rattle.shell_rules.specs.Expansion.{do_pieces, do_short}
 
@@ -47,8 +47,8 @@ abbrev pub some_pattern : Text → List (List (Doing PieceParts)) → Doing Bool
 some_pattern subject [] p s = Go false s
 some_pattern subject (pattern ∷ patterns) p s =
     then_do (do_pieces pattern p s) (λ parts s.
-      then_do (pattern_answer subject (pattern_letters parts) p s) (λ fits s.
-        if fits then Go true s else some_pattern subject patterns p s))
+    then_do (pattern_answer subject (pattern_letters parts) p s) (λ fits s.
+    if fits then Go true s else some_pattern subject patterns p s))
 
 -- the body of the first arm with a pattern that matches; where none does, success
 abbrev pub first_arm : Text → List (List (List (Doing PieceParts)) × Action) → Action

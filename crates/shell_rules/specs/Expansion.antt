@@ -1,6 +1,6 @@
 -- Strings and fields: the expansion of words (POSIX.1-2017, XCU 2.6 Word Expansions). Where an expansion is not
 -- specified, the run stops at the command whose words are expanded.
-use Rattle.std.specs.Prelude.{ℕ, ◌-◌, Bool, true, false, List, [], ◌∷◌, ◌++◌, length, nat_eq, slice_get, option_map}
+use Rattle.std.specs.Prelude.{ℕ, ◌-◌, true, false, List, [], ◌∷◌, ◌++◌, length, nat_eq, slice_get}
 use Rattle.std.specs.Prelude.{Option, Some, None, Result, Ok, Err, if◌then◌else◌}
 use Rattle.std.specs.Fmt.{decimal}
 use Rattle.std.specs.FinMap as map
@@ -12,7 +12,7 @@ use Rattle.shell_words.specs.Pieces.{PieceParts}
 use Rattle.shell_words.specs.Words.{word}
 use Rattle.shell_words.specs.Fields.{fields_of, short}
 use Rattle.shell_rules.specs.OwnNames.{is_shells_own}
-use Rattle.shell_rules.specs.State.{Text, State, Run, Go, then_do, closed_off, by_exit, Place, in_substitution}
+use Rattle.shell_rules.specs.State.{Text, State, Go, then_do, closed_off, by_exit, in_substitution}
 use Rattle.shell_rules.specs.State.{stopped, Doing, Action}
 
 -- ---- what an expansion stops for
