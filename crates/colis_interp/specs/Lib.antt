@@ -3,4 +3,3 @@ pub mod Halts
 pub mod Runs
 pub mod Operands
 pub mod Ends
-pub mod Performed

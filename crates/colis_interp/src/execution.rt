@@ -347,11 +347,11 @@ fn run_sub(
         let ran = co_stmt body.now (funs_of defs.now []) (place_of place.entry) s in
         Runs (closed_off by_exit no_value (rule.after_subshell s) ran) result shell.new }
 {
-    let vars = shell.conc.vars.copy(alloc)?;
+    let outer = shell.conc.vars.copy(alloc)?;
     let args = shell.conc.args.copy(alloc)?;
     let strict = shell.conc.strict;
     let ran = run_stmt(alloc, body, defs, place, shell);
-    shell.conc.vars = vars;
+    shell.conc.vars = outer;
     shell.conc.args = args;
     shell.conc.strict = strict;
     ended_by_exit(ran)
@@ -447,9 +447,9 @@ fn run_body(
     match find(defs, name) {
         None => Err(place.stop(Reason::Call)),
         Some(i) => {
-            let args = mem::replace(&mut shell.conc.args, fields);
+            let found = mem::replace(&mut shell.conc.args, fields);
             let ran = run_stmt(alloc, &defs[i].body, &defs[..i], place, shell);
-            shell.conc.args = args;
+            shell.conc.args = found;
             ended_by_return(ran)
         }
     }

@@ -1,6 +1,6 @@
 ghost use Rattle.std.specs.Prelude.{◌≡◌, ◌≤◌, ◌<◌, length, IfOk};
 ghost use Rattle.utility_calls.specs.Calls.{call};
-ghost use Rattle.colis_interp.specs.Performed.{HasPerformedActs};
+ghost use Rattle.utility_calls.specs.Performed.{HasPerformedActs};
 ghost use Rattle.shell_rules.specs.Calls.{do_planned, do_call_of, negated_if};
 ghost use Rattle.colis_interp.specs.Places.{place_of};
 ghost use Rattle.colis_interp.specs.Runs.{Runs, state_of};
@@ -12,6 +12,7 @@ use crate::shell::{Shell, print};
 use script_names::{Bytes, List, Memory};
 use std::alloc::Global;
 use utility_calls::calls::{Planned, plan};
+use utility_calls::theorems::planned_acts_are_performed;
 
 // The answer of a question, or its opposite.
 fn negated_if(negate: bool, yes: bool) -> bool
@@ -56,6 +57,7 @@ fn planned(alloc: Global, fields: &List<Bytes>) -> Result<Planned, Memory>
     ensures call { IfOk result (λ planned. planned ≡ call fields.now) }
     ensures performed { IfOk result (λ planned. HasPerformedActs planned) }
 {
+    planned_acts_are_performed();
     plan(alloc, fields)
 }
 
