@@ -30,7 +30,7 @@ pub decided : (letters : List Letter) (subject : List ℕ) (answer : Bool) (p : 
 decided letters subject answer p s h =
     ap (λ b. if b then st.stopped reason.Pattern p (state_of s) else st.Go (matches (items letters) subject) (state_of s)) h.0
     ∙ ap (λ b. st.Go b (state_of s)) (same_bool (matches (items letters) subject) answer
-        (λ e. h.1.1 (passes_matches (items letters) subject e)) (λ e. matches_passes (items letters) subject (h.1.0 e)))
+    (λ e. h.1.1 (passes_matches (items letters) subject e)) (λ e. matches_passes (items letters) subject (h.1.0 e)))
 
 -- a command with fields
 pub called : (fields : List (List ℕ)) (planned : Planned) (p : st.Place) (s : st.State) (r : Result (Unit {0}) Halt) (t : Shell) → 0 < length fields → planned ≡ call fields

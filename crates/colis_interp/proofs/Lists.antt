@@ -87,7 +87,7 @@ module _ (f : Funs) (p : Place) where
       → 0 < length (drop (i + 1) links) → link.and ≡ s.conc.status → Runs (co_stmt link.stmt f (except p) s) (Err h) t → Runs (do_links (with f (map co_link (drop i links))) p s) (Err h) t
   links_halt links i link d s h t lt is more e r =
       subst (λ q. Runs q (Err h) t) (sym (ap (λ l. do_links (with f (map co_link l)) p s) (cut links i link d lt is) ∙ next_link link (drop (i + 1) links) s more e))
-        (halts (co_stmt link.stmt f (except p) s) (λ _ s. do_links (with f (map co_link (drop (i + 1) links))) p s) h t r)
+      (halts (co_stmt link.stmt f (except p) s) (λ _ s. do_links (with f (map co_link (drop (i + 1) links))) p s) h t r)
 
   pub links_on : (links : List ChainPart) (i : ℕ) (link d : ChainPart) (s t : State) → i < length links → link ≡ get_or links i d
       → 0 < length (drop (i + 1) links) → link.and ≡ s.conc.status → co_stmt link.stmt f (except p) s ≡ st.Go tt t
@@ -120,7 +120,7 @@ module _ (f : Funs) (p : Place) where
       → co_stmt same f (except p) s ≡ st.Go tt t → Runs (do_links (with f (map co_link links)) p t) r u → Runs (co_stmt stmt f p s) r u
   chain_on stmt first same rest links s t r u e g k lt a b =
       subst (λ q. Runs q r u) (sym (chain_is stmt first same rest s e g lt))
-        (goes_on (co_stmt same f (except p) s) (λ _ s. do_links (with f (map co_link rest)) p s) tt t r u a (subst (λ l. Runs (do_links (with f (map co_link l)) p t) r u) k b))
+      (goes_on (co_stmt same f (except p) s) (λ _ s. do_links (with f (map co_link rest)) p s) tt t r u a (subst (λ l. Runs (do_links (with f (map co_link l)) p t) r u) k b))
 
   -- ---- `case`
 
@@ -140,5 +140,5 @@ module _ (f : Funs) (p : Place) where
   patterns_halt subject patterns i pattern d s pieces t h lt is e r =
       let later : Bool → State → Run Bool = λ met s. if met then st.Go true s else some_pattern subject (map (with f) (map (λ pieces. map co_piece pieces) (drop (i + 1) patterns))) p s in
       subst (λ l. Runs (some_pattern subject (map (with f) (map (λ pieces. map co_piece pieces) l)) p s) (Err h) t) (sym (cut patterns i pattern d lt is))
-        (goes_on (do_pieces (with f (map co_piece pattern)) p s) (λ parts s. then_do (pattern_answer subject (pattern_letters parts) p s) later) pieces (state_of t) (Err h) t e
-          (halts (pattern_answer subject (pattern_letters pieces) p (state_of t)) later h t r))
+      (goes_on (do_pieces (with f (map co_piece pattern)) p s) (λ parts s. then_do (pattern_answer subject (pattern_letters parts) p s) later) pieces (state_of t) (Err h) t e
+      (halts (pattern_answer subject (pattern_letters pieces) p (state_of t)) later h t r))

@@ -39,10 +39,11 @@ found_before ds end d x pos le = let e : end ≡ suc (end - 1) = omega arith in 
 pub found_here : (ds : List Def) (end : ℕ) (d e : Def) (x : Text) → 0 < end → end ≤ length ds → (get_or ds (end - 1) e).name ≡ x → found x (funs_of (take end ds) []) ≡ Some (co_stmt (get_or ds (end - 1) d).body (funs_of (take (end - 1) ds) []))
 found_here ds end d e x pos le same =
     found_before ds end d x pos le ∙ ap (λ b. if b then Some (co_stmt (get_or ds (end - 1) d).body (funs_of (take (end - 1) ds) [])) else found x (funs_of (take (end - 1) ds) []))
-      ((bytes_eq-Decides (get_or ds (end - 1) d).name x).1 (ap (λ y. y.name) (same_at ds (end - 1) d e (omega arith)) ∙ same))
+    ((bytes_eq-Decides (get_or ds (end - 1) d).name x).1 (ap (λ y. y.name) (same_at ds (end - 1) d e (omega arith)) ∙ same))
 
 pub found_lower : (ds : List Def) (end : ℕ) (e : Def) (x : Text) → 0 < end → end ≤ length ds → ((get_or ds (end - 1) e).name ≡ x → ⊥) → found x (funs_of (take end ds) []) ≡ found x (funs_of (take (end - 1) ds) [])
 found_lower ds end e x pos le other =
     found_before ds end e x pos le ∙ elim (bytes_eq (get_or ds (end - 1) e).name x) as (λ b. bytes_eq (get_or ds (end - 1) e).name x ≡ b → (if b then Some (co_stmt (get_or ds (end - 1) e).body (funs_of (take (end - 1) ds) [])) else found x (funs_of (take (end - 1) ds) [])) ≡ found x (funs_of (take (end - 1) ds) [])) [
-      true ↦ λ h. absurd (other ((bytes_eq-Decides (get_or ds (end - 1) e).name x).0 h))
-    | false ↦ λ h. refl ] refl
+      | true ↦ λ h. absurd (other ((bytes_eq-Decides (get_or ds (end - 1) e).name x).0 h))
+      | false ↦ λ h. refl
+    ] refl

@@ -28,7 +28,12 @@ pub(crate) fn do_act(alloc: Global, a: &Act, place: Place, shell: &mut Shell) ->
 }
 
 /// Does acts up to the first failure: whether none fails.
-pub(crate) fn do_acts(alloc: Global, acts: &[Act], place: Place, shell: &mut Shell) -> Result<bool, Halt>
+pub(crate) fn do_acts(
+    alloc: Global,
+    acts: &[Act],
+    place: Place,
+    shell: &mut Shell,
+) -> Result<bool, Halt>
     requires { All (λ a. IsPerformed a) acts.now }
     ensures turns { shell.new.conc.turns ≤ shell.old.conc.turns }
     ensures runs { Runs (do_acts acts.now (place_of place.entry) (state_of shell.old)) result shell.new }

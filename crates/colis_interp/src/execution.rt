@@ -11,7 +11,9 @@ ghost use Rattle.colis_meaning.specs.Meaning.{co_case_arm, funs_of};
 ghost use Rattle.colis_interp.specs.Places.{place_of};
 ghost use Rattle.colis_interp.specs.Runs.{Runs, state_of};
 
-use crate::halt::{Behind, Halt, behind_body, behind_condition, ended_by_exit, ended_by_return, halt_of};
+use crate::halt::{
+    Behind, Halt, behind_body, behind_condition, ended_by_exit, ended_by_return, halt_of,
+};
 use crate::leaving::leave_with;
 use crate::names::{export_each, unset_each};
 use crate::place::Place;
@@ -42,12 +44,8 @@ pub(crate) fn run_stmt(
             shell.conc.status = true;
             Ok(())
         }
-        Stmt::Set { at, sets } => {
-            run_set(alloc, sets.as_slice(), *at, defs, place, shell)
-        }
-        Stmt::Call { at, fields } => {
-            run_call(alloc, fields.as_slice(), *at, defs, place, shell)
-        }
+        Stmt::Set { at, sets } => { run_set(alloc, sets.as_slice(), *at, defs, place, shell) }
+        Stmt::Call { at, fields } => { run_call(alloc, fields.as_slice(), *at, defs, place, shell) }
         Stmt::Fun { at, name, fields } => {
             run_function(alloc, fields.as_slice(), name, *at, defs, place, shell)
         }
@@ -56,21 +54,52 @@ pub(crate) fn run_stmt(
             if rest.len() == 0 {
                 return run_stmt(alloc, first.get(), defs, place, shell);
             }
-            run_stmt(alloc, first.get(), defs, Place { excepted: true, ..place }, shell)?;
+            run_stmt(
+                alloc,
+                first.get(),
+                defs,
+                Place {
+                    excepted: true,
+                    ..place
+                },
+                shell,
+            )?;
             run_links(alloc, rest.as_slice(), defs, place, shell)
         }
         Stmt::Not(body) => {
-            run_stmt(alloc, body.get(), defs, Place { excepted: true, ..place }, shell)?;
+            run_stmt(
+                alloc,
+                body.get(),
+                defs,
+                Place {
+                    excepted: true,
+                    ..place
+                },
+                shell,
+            )?;
             shell.conc.status = !shell.conc.status;
             Ok(())
         }
         Stmt::If { arms, last } => {
             run_arms(alloc, arms.as_slice(), last.get(), defs, place, shell)
         }
-        Stmt::For { at, name, fields, body } => {
+        Stmt::For {
+            at,
+            name,
+            fields,
+            body,
+        } => {
             let here = Place { at: *at, ..place };
             let fields = run_fields(alloc, fields.as_slice(), defs, here, shell)?;
-            run_for(alloc, body.get(), name, fields.as_slice(), defs, here, shell)
+            run_for(
+                alloc,
+                body.get(),
+                name,
+                fields.as_slice(),
+                defs,
+                here,
+                shell,
+            )
         }
         Stmt::While { at, cond, body } => {
             run_while(alloc, cond.get(), body.get(), *at, defs, place, shell)
@@ -146,8 +175,7 @@ fn run_all(
     shell: &mut Shell,
 ) -> Result<(), Halt>
     ensures turns { shell.new.conc.turns ≤ shell.old.conc.turns }
-    ensures runs {
-        let f = funs_of defs.now [] in
+    ensures runs { let f = funs_of defs.now [] in
         Runs (rule.do_all (with f (map co_stmt stmts.now)) (place_of place.entry) (state_of shell.old)) result shell.new }
 {
     if stmts.is_empty() {
@@ -170,8 +198,7 @@ fn run_links(
     shell: &mut Shell,
 ) -> Result<(), Halt>
     ensures turns { shell.new.conc.turns ≤ shell.old.conc.turns }
-    ensures runs {
-        let f = funs_of defs.now [] in
+    ensures runs { let f = funs_of defs.now [] in
         Runs (rule.do_links (with f (map co_link links.now)) (place_of place.entry) (state_of shell.old)) result shell.new }
 {
     let mut left = links.len();
@@ -181,7 +208,16 @@ fn run_links(
             if left == 0 {
                 return run_stmt(alloc, &link.stmt, defs, place, shell);
             }
-            run_stmt(alloc, &link.stmt, defs, Place { excepted: true, ..place }, shell)?;
+            run_stmt(
+                alloc,
+                &link.stmt,
+                defs,
+                Place {
+                    excepted: true,
+                    ..place
+                },
+                shell,
+            )?;
         }
     }
     Ok(())
@@ -198,13 +234,21 @@ fn run_arms(
     shell: &mut Shell,
 ) -> Result<(), Halt>
     ensures turns { shell.new.conc.turns ≤ shell.old.conc.turns }
-    ensures runs {
-        let f = funs_of defs.now [] in
+    ensures runs { let f = funs_of defs.now [] in
         Runs (rule.do_if (with f (map co_arm arms.now)) (co_stmt last.now f) (place_of place.entry) (state_of shell.old))
-          result shell.new }
+        result shell.new }
 {
     for arm in arms {
-        run_stmt(alloc, &arm.cond, defs, Place { excepted: true, ..place }, shell)?;
+        run_stmt(
+            alloc,
+            &arm.cond,
+            defs,
+            Place {
+                excepted: true,
+                ..place
+            },
+            shell,
+        )?;
         if shell.conc.status {
             return run_stmt(alloc, &arm.body, defs, place, shell);
         }
@@ -224,8 +268,7 @@ fn run_for(
     shell: &mut Shell,
 ) -> Result<(), Halt>
     ensures turns { shell.new.conc.turns ≤ shell.old.conc.turns }
-    ensures runs {
-        let b = co_stmt body.now (funs_of defs.now []) in
+    ensures runs { let b = co_stmt body.now (funs_of defs.now []) in
         let begun = success_if_none fields.now (state_of shell.old) in
         Runs (loops.for_each name.now b fields.now (place_of place.entry) begun) result shell.new }
 {
@@ -257,15 +300,23 @@ fn run_while(
     shell: &mut Shell,
 ) -> Result<(), Halt>
     ensures turns { shell.new.conc.turns ≤ shell.old.conc.turns }
-    ensures runs {
-        let f = funs_of defs.now [] in
+    ensures runs { let f = funs_of defs.now [] in
         Runs (loops.do_while at (co_stmt cond.now f) (co_stmt body.now f) (place_of place.entry) (state_of shell.old))
-          result shell.new }
+        result shell.new }
 {
     let here = Place { at, ..place };
     let mut last = true;
     'rounds: loop {
-        let met = run_stmt(alloc, cond, defs, Place { excepted: true, ..here }, shell);
+        let met = run_stmt(
+            alloc,
+            cond,
+            defs,
+            Place {
+                excepted: true,
+                ..here
+            },
+            shell,
+        );
         match behind_condition(met, shell.conc.status)? {
             Behind::Ends => {
                 shell.conc.status = last;
@@ -295,8 +346,7 @@ fn run_case(
     shell: &mut Shell,
 ) -> Result<(), Halt>
     ensures turns { shell.new.conc.turns ≤ shell.old.conc.turns }
-    ensures runs {
-        let arms = with (funs_of defs.now []) (map co_case_arm arms.now) in
+    ensures runs { let arms = with (funs_of defs.now []) (map co_case_arm arms.now) in
         Runs (cases.first_arm subject.now arms (place_of place.entry) (state_of shell.old)) result shell.new }
 {
     for arm in arms {
@@ -319,8 +369,7 @@ fn run_patterns(
     shell: &mut Shell,
 ) -> Result<bool, Halt>
     ensures turns { shell.new.conc.turns ≤ shell.old.conc.turns }
-    ensures runs {
-        let patterns = map (with (funs_of defs.now [])) (map (λ pieces. map co_piece pieces) patterns.now) in
+    ensures runs { let patterns = map (with (funs_of defs.now [])) (map (λ pieces. map co_piece pieces) patterns.now) in
         Runs (cases.some_pattern subject.now patterns (place_of place.entry) (state_of shell.old)) result shell.new }
 {
     for pattern in patterns {
@@ -342,8 +391,7 @@ fn run_sub(
     shell: &mut Shell,
 ) -> Result<(), Halt>
     ensures turns { shell.new.conc.turns ≤ shell.old.conc.turns }
-    ensures runs {
-        let s = state_of shell.old in
+    ensures runs { let s = state_of shell.old in
         let ran = co_stmt body.now (funs_of defs.now []) (place_of place.entry) s in
         Runs (closed_off by_exit no_value (rule.after_subshell s) ran) result shell.new }
 {
@@ -368,8 +416,7 @@ fn run_set(
     shell: &mut Shell,
 ) -> Result<(), Halt>
     ensures turns { shell.new.conc.turns ≤ shell.old.conc.turns }
-    ensures runs {
-        let f = funs_of defs.now [] in
+    ensures runs { let f = funs_of defs.now [] in
         Runs (calls.do_set at (with f (map co_set sets.now)) (place_of place.entry) (state_of shell.old)) result shell.new }
 {
     let here = Place { at, ..place };
@@ -393,10 +440,9 @@ fn run_call(
     shell: &mut Shell,
 ) -> Result<(), Halt>
     ensures turns { shell.new.conc.turns ≤ shell.old.conc.turns }
-    ensures runs {
-        let f = funs_of defs.now [] in
+    ensures runs { let f = funs_of defs.now [] in
         Runs (calls.do_call at (with f (map co_fields words.now)) (place_of place.entry) (state_of shell.old))
-          result shell.new }
+        result shell.new }
 {
     let here = Place { at, ..place };
     shell.substituted = true;
@@ -417,11 +463,10 @@ fn run_function(
     shell: &mut Shell,
 ) -> Result<(), Halt>
     ensures turns { shell.new.conc.turns ≤ shell.old.conc.turns }
-    ensures runs {
-        let f = funs_of defs.now [] in
+    ensures runs { let f = funs_of defs.now [] in
         let words = with f (map co_fields words.now) in
         Runs (calls.do_function at (calls.found name.now f) words (place_of place.entry) (state_of shell.old))
-          result shell.new }
+        result shell.new }
 {
     let here = Place { at, ..place };
     let fields = run_fields(alloc, words, defs, here, shell)?;
@@ -440,8 +485,7 @@ fn run_body(
     shell: &mut Shell,
 ) -> Result<(), Halt>
     ensures turns { shell.new.conc.turns ≤ shell.old.conc.turns }
-    ensures runs {
-        let body = calls.found name.now (funs_of defs.now []) in
+    ensures runs { let body = calls.found name.now (funs_of defs.now []) in
         Runs (calls.do_body body fields (place_of place.entry) (state_of shell.old)) result shell.new }
 {
     match find(defs, name) {
@@ -483,8 +527,7 @@ fn run_leave(
     shell: &mut Shell,
 ) -> Result<(), Halt>
     ensures turns { shell.new.conc.turns ≤ shell.old.conc.turns }
-    ensures runs {
-        let words = with (funs_of defs.now []) (map co_fields words.now) in
+    ensures runs { let words = with (funs_of defs.now []) (map co_fields words.now) in
         Runs (calls.do_leave how words (place_of place.entry) (state_of shell.old)) result shell.new }
 {
     let fields = run_fields(alloc, words, defs, place, shell)?;
@@ -502,8 +545,7 @@ fn run_export(
     shell: &mut Shell,
 ) -> Result<(), Halt>
     ensures turns { shell.new.conc.turns ≤ shell.old.conc.turns }
-    ensures runs {
-        let words = with (funs_of defs.now []) (map co_fields words.now) in
+    ensures runs { let words = with (funs_of defs.now []) (map co_fields words.now) in
         Runs (calls.do_export at words (place_of place.entry) (state_of shell.old)) result shell.new }
 {
     let here = Place { at, ..place };
@@ -524,8 +566,7 @@ fn run_unset(
     shell: &mut Shell,
 ) -> Result<(), Halt>
     ensures turns { shell.new.conc.turns ≤ shell.old.conc.turns }
-    ensures runs {
-        let words = with (funs_of defs.now []) (map co_fields words.now) in
+    ensures runs { let words = with (funs_of defs.now []) (map co_fields words.now) in
         Runs (calls.do_unset at words (place_of place.entry) (state_of shell.old)) result shell.new }
 {
     let here = Place { at, ..place };
@@ -545,8 +586,7 @@ fn run_fields(
     shell: &mut Shell,
 ) -> Result<List<Bytes>, Halt>
     ensures turns { shell.new.conc.turns ≤ shell.old.conc.turns }
-    ensures runs {
-        let words = with (funs_of defs.now []) (map co_fields words.now) in
+    ensures runs { let words = with (funs_of defs.now []) (map co_fields words.now) in
         Runs (word.do_fields words (place_of place.entry) (state_of shell.old)) result shell.new }
 {
     let mut fields = List::new(alloc);
@@ -567,8 +607,7 @@ fn run_word(
     shell: &mut Shell,
 ) -> Result<List<Bytes>, Halt>
     ensures turns { shell.new.conc.turns ≤ shell.old.conc.turns }
-    ensures runs {
-        Runs (co_fields word.now (funs_of defs.now []) (place_of place.entry) (state_of shell.old)) result shell.new }
+    ensures runs { Runs (co_fields word.now (funs_of defs.now []) (place_of place.entry) (state_of shell.old)) result shell.new }
 {
     match word {
         Fields::Word(pieces) => {
@@ -592,8 +631,7 @@ fn run_pieces(
     shell: &mut Shell,
 ) -> Result<List<Piece>, Halt>
     ensures turns { shell.new.conc.turns ≤ shell.old.conc.turns }
-    ensures runs {
-        let pieces = with (funs_of defs.now []) (map co_piece pieces.now) in
+    ensures runs { let pieces = with (funs_of defs.now []) (map co_piece pieces.now) in
         Runs (word.do_pieces pieces (place_of place.entry) (state_of shell.old)) result shell.new }
 {
     let mut parts = List::new(alloc);
@@ -614,8 +652,7 @@ fn run_piece(
     shell: &mut Shell,
 ) -> Result<Piece, Halt>
     ensures turns { shell.new.conc.turns ≤ shell.old.conc.turns }
-    ensures runs {
-        Runs (co_piece piece.now (funs_of defs.now []) (place_of place.entry) (state_of shell.old)) result shell.new }
+    ensures runs { Runs (co_piece piece.now (funs_of defs.now []) (place_of place.entry) (state_of shell.old)) result shell.new }
 {
     match piece {
         StrPiece::Plain(string) => {
@@ -643,8 +680,7 @@ fn run_short(
     shell: &mut Shell,
 ) -> Result<Bytes, Halt>
     ensures turns { shell.new.conc.turns ≤ shell.old.conc.turns }
-    ensures runs {
-        let string = co_str string.now (funs_of defs.now []) in
+    ensures runs { let string = co_str string.now (funs_of defs.now []) in
         Runs (word.do_short string (place_of place.entry) (state_of shell.old)) result shell.new }
 {
     let text = run_str(alloc, string, defs, place, shell)?;
@@ -661,8 +697,7 @@ fn run_str(
     shell: &mut Shell,
 ) -> Result<Bytes, Halt>
     ensures turns { shell.new.conc.turns ≤ shell.old.conc.turns }
-    ensures runs {
-        Runs (co_str string.now (funs_of defs.now []) (place_of place.entry) (state_of shell.old)) result shell.new }
+    ensures runs { Runs (co_str string.now (funs_of defs.now []) (place_of place.entry) (state_of shell.old)) result shell.new }
 {
     match string {
         Str::Lit(bytes) => Ok(bytes.copy(alloc)?),
@@ -691,8 +726,7 @@ fn run_join(
     shell: &mut Shell,
 ) -> Result<Bytes, Halt>
     ensures turns { shell.new.conc.turns ≤ shell.old.conc.turns }
-    ensures runs {
-        let parts = with (funs_of defs.now []) (map co_str parts.now) in
+    ensures runs { let parts = with (funs_of defs.now []) (map co_str parts.now) in
         Runs (word.do_join parts (place_of place.entry) (state_of shell.old)) result shell.new }
 {
     let mut text = Bytes::new(alloc);
@@ -713,8 +747,7 @@ fn run_output(
     shell: &mut Shell,
 ) -> Result<Bytes, Halt>
     ensures turns { shell.new.conc.turns ≤ shell.old.conc.turns }
-    ensures runs {
-        let body = co_stmt body.now (funs_of defs.now []) in
+    ensures runs { let body = co_stmt body.now (funs_of defs.now []) in
         Runs (word.do_output body (place_of place.entry) (state_of shell.old)) result shell.new }
 {
     let vars = shell.conc.vars.copy(alloc)?;
@@ -722,7 +755,11 @@ fn run_output(
     let strict = shell.conc.strict;
     let status = shell.conc.status;
     let captured = mem::replace(&mut shell.conc.captured, Some(Bytes::new(alloc)));
-    let inside = Place { excepted: false, inner: true, ..place };
+    let inside = Place {
+        excepted: false,
+        inner: true,
+        ..place
+    };
     let ran = run_stmt(alloc, body, defs, inside, shell);
     shell.substituted = shell.conc.status;
     let written = mem::replace(&mut shell.conc.captured, captured);

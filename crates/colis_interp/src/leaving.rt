@@ -35,7 +35,8 @@ fn status_number(text: &[u8]) -> Option<u32>
         }
         [a, b, c] => {
             if is_digit(*a) && is_digit(*b) && is_digit(*c) {
-                let number = (u32::from(*a - 48) * 10 + u32::from(*b - 48)) * 10 + u32::from(*c - 48);
+                let number = (u32::from(*a - 48) * 10 + u32::from(*b - 48)) * 10
+                    + u32::from(*c - 48);
                 if number <= 255 {
                     return Some(number);
                 }
@@ -47,7 +48,12 @@ fn status_number(text: &[u8]) -> Option<u32>
 }
 
 /// Leaves what stands round the command, with the status that its operand gives, or with the one that holds.
-pub(crate) fn leave_with(how: Leave, fields: &[Bytes], place: Place, shell: &mut Shell) -> Result<(), Halt>
+pub(crate) fn leave_with(
+    how: Leave,
+    fields: &[Bytes],
+    place: Place,
+    shell: &mut Shell,
+) -> Result<(), Halt>
     ensures turns { shell.new.conc.turns ≤ shell.old.conc.turns }
     ensures runs { Runs (leave_with how fields.now (place_of place.entry) (state_of shell.old)) result shell.new }
 {

@@ -21,7 +21,12 @@ use std::alloc::Global;
 const STRING_LIMIT: usize = 65536;
 
 /// The value of a variable.
-pub(crate) fn variable(alloc: Global, name: &[u8], place: Place, shell: &Shell) -> Result<Bytes, Halt>
+pub(crate) fn variable(
+    alloc: Global,
+    name: &[u8],
+    place: Place,
+    shell: &Shell,
+) -> Result<Bytes, Halt>
     ensures { Runs (do_variable name.now (place_of place.entry) (state_of shell.now)) result shell.now }
 {
     if is_shells_own(name) {
@@ -34,7 +39,12 @@ pub(crate) fn variable(alloc: Global, name: &[u8], place: Place, shell: &Shell) 
 }
 
 /// The argument with this number, counted from 1.
-pub(crate) fn argument(alloc: Global, number: u8, place: Place, shell: &Shell) -> Result<Bytes, Halt>
+pub(crate) fn argument(
+    alloc: Global,
+    number: u8,
+    place: Place,
+    shell: &Shell,
+) -> Result<Bytes, Halt>
     ensures { Runs (do_argument number (place_of place.entry) (state_of shell.now)) result shell.now }
 {
     let at = if number == 0 { 0 } else { number - 1 };
@@ -94,7 +104,11 @@ pub(crate) fn trimmed(alloc: Global, captured: Option<Bytes>) -> Bytes
 }
 
 /// Adds fields to others.
-pub(crate) fn append(alloc: Global, fields: &mut List<Bytes>, more: &List<Bytes>) -> Result<(), Memory>
+pub(crate) fn append(
+    alloc: Global,
+    fields: &mut List<Bytes>,
+    more: &List<Bytes>,
+) -> Result<(), Memory>
     ensures { OnOk result (fields.new ≡ fields.old ++ more.now) }
 {
     for field in more.as_slice() {

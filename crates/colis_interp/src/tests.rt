@@ -111,7 +111,11 @@ fn subshell(alloc: Global) -> Result<Stmt, Memory> {
         at: 17,
         body: Box::new(alloc, inner)?,
     };
-    let tests = seq(alloc, is_empty(alloc, 38)?, call(alloc, 49, b"[ -f /srv/a ]")?)?;
+    let tests = seq(
+        alloc,
+        is_empty(alloc, 38)?,
+        call(alloc, 49, b"[ -f /srv/a ]")?,
+    )?;
     seq(alloc, Stmt::Strict, seq(alloc, sub, tests)?)
 }
 

@@ -8,4 +8,3 @@ pub mod steps;
 mod walks;
 
 pub use acts::act;
-

@@ -132,7 +132,7 @@ ensured_performed names zero h = All-nil IsPerformed
 ensured_performed names (suc n) h =
     let t = take_names names n h in
     All-append IsPerformed (ensured names n) (EnsureDir (record { names = take (suc n) names; slash = false }) ∷ [])
-      (ensured_performed names n h) (alone (EnsureDir (record { names = take (suc n) names; slash = false })) ((λ _. (t, t)), tt))
+    (ensured_performed names n h) (alone (EnsureDir (record { names = take (suc n) names; slash = false })) ((λ _. (t, t)), tt))
 
 each_performed : (e : Each) (ended : Bool) (word : List ℕ) → each_reason e ended word ≡ None → All IsPerformed (each_acts e (spelled word))
 each_performed each.MakeDir ended word n = let h = operand_names ended word n in alone _ ((λ _. (h, h)), tt)
@@ -140,7 +140,7 @@ each_performed each.EnsureDirs ended word n =
     let h = operand_names ended word n in
     let path = spelled word in
     All-append IsPerformed (ensured path.names (length path.names - 1)) (EnsureDir path ∷ [])
-      (ensured_performed path.names (length path.names - 1) h) (alone (EnsureDir path) ((λ _. (h, h)), tt))
+    (ensured_performed path.names (length path.names - 1) h) (alone (EnsureDir path) ((λ _. (h, h)), tt))
 each_performed each.RemoveDir ended word n = let h = operand_names ended word n in alone _ ((λ _. (h, h)), tt)
 each_performed (each.Remove force deep) ended word n = let h = operand_names ended word n in alone _ ((λ _. (h, h)), tt)
 each_performed each.Touch ended word n = let h = file_names ended word n in alone _ ((λ _. (h, h)), tt)
@@ -154,12 +154,12 @@ all_performed e ended (word ∷ words) n =
 each_fine : (e : Each) (words : List (List ℕ)) → Fine (each_behind e words)
 each_fine e words =
     unless_fine _ (Change (all_acts e (unended words))) (λ n.
-      record { fact = all_performed e (is_ended words) (unended words) (first_none (some_reason (unended words)) (first_reason e (is_ended words) (unended words)) n).1 })
+    record { fact = all_performed e (is_ended words) (unended words) (first_none (some_reason (unended words)) (first_reason e (is_ended words) (unended words)) n).1 })
 
 act_fine : (why : Option Reason) (act : Act) → (why ≡ None → IsPerformed act) → Fine (act_call why act)
 act_fine why act h =
     unless_fine why (Change ((act ∷ []) ∷ [])) (λ n.
-      record { fact = All-cons (λ acts. All IsPerformed acts) (act ∷ []) [] (alone act (h n)) (All-nil (λ acts. All IsPerformed acts)) })
+    record { fact = All-cons (λ acts. All IsPerformed acts) (act ∷ []) [] (alone act (h n)) (All-nil (λ acts. All IsPerformed acts)) })
 
 -- ---- `ln` and `mv`
 

@@ -19,9 +19,10 @@ pub run_body-run_stmt-ran-requires : goal.run_body-run_stmt-ran-requires
 run_body-run_stmt-ran-requires t c = search (rules, weight_take c.args.defs.now c.in-Some.i c.index-defs-i.result c.in-Some.ensures.within)
 
 pub run_case-loop-arm-preserved : goal.run_case-loop-arm-preserved
-run_case-loop-arm-preserved t c =
-    (omega (arith, c.run_patterns.ensures.turns, c.loop-arm.invariant.0),
-     c.loop-arm.invariant.1 ∙ arms_on (funs_of c.args.defs.now []) (place_of c.args.place) c.args.subject.now c.args.arms.now c.loop-arm.arm-index c.arm-item.result c.arm-item.result c.as_slice.result.now (state_of c.loop-arm.shell) (state_of c.run_patterns.new.shell) c.in_ok-run_patterns.field-0 c.loop-arm-test.true c.arm-item.is c.as_slice.ensures c.in_ok-run_patterns.ensures.runs c.if-branch.false)
+run_case-loop-arm-preserved t c = (
+  omega (arith, c.run_patterns.ensures.turns, c.loop-arm.invariant.0),
+  c.loop-arm.invariant.1 ∙ arms_on (funs_of c.args.defs.now []) (place_of c.args.place) c.args.subject.now c.args.arms.now c.loop-arm.arm-index c.arm-item.result c.arm-item.result c.as_slice.result.now (state_of c.loop-arm.shell) (state_of c.run_patterns.new.shell) c.in_ok-run_patterns.field-0 c.loop-arm-test.true c.arm-item.is c.as_slice.ensures c.in_ok-run_patterns.ensures.runs c.if-branch.false,
+)
 
 pub run_links-returns-in_err-run_stmt-clause-runs : goal.run_links-returns-in_err-run_stmt-clause-runs
 run_links-returns-in_err-run_stmt-clause-runs t c =
@@ -33,17 +34,19 @@ run_links-returns-in_err-run_stmt-clause-runs t c =
 pub run_links-loop-link-preserved : goal.run_links-loop-link-preserved
 run_links-loop-link-preserved t c =
     elim c.if-link-shell.branch [
-      run_links-then-link-shell+else-left-eq0+in_ok-run_stmt w ↦
-        let more : 0 < length (drop (c.loop-link.link-index + 1) c.args.links.now) = omega (arith, length-drop (c.loop-link.link-index + 1) c.args.links.now, w.if-left-eq0.false, c.loop-link.invariant.1) in
-        rw w.shell-is
-          (omega (arith, w.run_stmt-then-link-shell.ensures.turns, c.loop-link.invariant.0),
-           omega (arith, c.loop-link.invariant.1, c.loop-link-test.true),
-           c.loop-link.invariant.2 ∙ links_on (funs_of c.args.defs.now []) (place_of c.args.place) c.args.links.now c.loop-link.link-index c.link-item.result c.link-item.result (state_of c.loop-link.shell) (state_of w.run_stmt-then-link-shell.new.shell) c.loop-link-test.true c.link-item.is more (same_of c.link-item.result.and c.loop-link.shell.conc.status w.if-link-shell.true) w.in_ok-run_stmt.ensures.runs)
-    | run_links-else-link-shell w ↦
-        rw w.shell-is
-          (omega (arith, c.loop-link.invariant.0),
-           omega (arith, c.loop-link.invariant.1, c.loop-link-test.true),
-           c.loop-link.invariant.2 ∙ links_passed (funs_of c.args.defs.now []) (place_of c.args.place) c.args.links.now c.loop-link.link-index c.link-item.result c.link-item.result (state_of c.loop-link.shell) c.loop-link-test.true c.link-item.is (other_of c.link-item.result.and c.loop-link.shell.conc.status w.if-link-shell.false))
+      | run_links-then-link-shell+else-left-eq0+in_ok-run_stmt w ↦
+          let more : 0 < length (drop (c.loop-link.link-index + 1) c.args.links.now) = omega (arith, length-drop (c.loop-link.link-index + 1) c.args.links.now, w.if-left-eq0.false, c.loop-link.invariant.1) in
+          rw w.shell-is (
+            omega (arith, w.run_stmt-then-link-shell.ensures.turns, c.loop-link.invariant.0),
+            omega (arith, c.loop-link.invariant.1, c.loop-link-test.true),
+            c.loop-link.invariant.2 ∙ links_on (funs_of c.args.defs.now []) (place_of c.args.place) c.args.links.now c.loop-link.link-index c.link-item.result c.link-item.result (state_of c.loop-link.shell) (state_of w.run_stmt-then-link-shell.new.shell) c.loop-link-test.true c.link-item.is more (same_of c.link-item.result.and c.loop-link.shell.conc.status w.if-link-shell.true) w.in_ok-run_stmt.ensures.runs,
+          )
+      | run_links-else-link-shell w ↦
+          rw w.shell-is (
+            omega (arith, c.loop-link.invariant.0),
+            omega (arith, c.loop-link.invariant.1, c.loop-link-test.true),
+            c.loop-link.invariant.2 ∙ links_passed (funs_of c.args.defs.now []) (place_of c.args.place) c.args.links.now c.loop-link.link-index c.link-item.result c.link-item.result (state_of c.loop-link.shell) c.loop-link-test.true c.link-item.is (other_of c.link-item.result.and c.loop-link.shell.conc.status w.if-link-shell.false),
+          )
     ]
 
 pub run_patterns-returns-in_err-pattern_answer-clause-runs : goal.run_patterns-returns-in_err-pattern_answer-clause-runs
@@ -68,28 +71,29 @@ run_while-returns-in_err-behind_condition-clause-runs t c =
     let f = funs_of c.args.defs.now [] in
     let r = err_from_is_err_and c.from_residual.result c.from_residual.ensures.1 in
     rw (r.1, r.2) (subst (λ (q : st.Run (Unit {0})). Runs q (Err c.in_err-behind_condition.field-0.0) c.run_stmt-met.new.shell) (sym c.rounds.invariant.1.2)
-      (round_left (co_stmt c.args.cond.now f) (co_stmt c.args.body.now f) (st.at_command c.args.at (place_of c.args.place)) c.rounds.invariant.1.0 c.rounds.last (state_of c.rounds.shell) c.run_stmt-met.result c.run_stmt-met.new.shell c.in_err-behind_condition.field-0.0 (sym c.in_err-behind_condition.ensures) c.run_stmt-met.ensures.runs))
+    (round_left (co_stmt c.args.cond.now f) (co_stmt c.args.body.now f) (st.at_command c.args.at (place_of c.args.place)) c.rounds.invariant.1.0 c.rounds.last (state_of c.rounds.shell) c.run_stmt-met.result c.run_stmt-met.new.shell c.in_err-behind_condition.field-0.0 (sym c.in_err-behind_condition.ensures) c.run_stmt-met.ensures.runs))
 
 pub run_while-returns-in-Ends-clause-runs : goal.run_while-returns-in-Ends-clause-runs
 run_while-returns-in-Ends-clause-runs t c =
     let f = funs_of c.args.defs.now [] in
     c.rounds.invariant.1.2 ∙ round_ends (co_stmt c.args.cond.now f) (co_stmt c.args.body.now f) (st.at_command c.args.at (place_of c.args.place)) c.rounds.invariant.1.0 c.rounds.last (state_of c.rounds.shell) c.run_stmt-met.result c.run_stmt-met.new.shell
-      (answer_is (behind_condition c.run_stmt-met.result c.run_stmt-met.new.shell.conc.status) c.in_ok-behind_condition.field-0 Ends c.in_ok-behind_condition.ensures c.in-Ends.is) c.run_stmt-met.ensures.runs
+    (answer_is (behind_condition c.run_stmt-met.result c.run_stmt-met.new.shell.conc.status) c.in_ok-behind_condition.field-0 Ends c.in_ok-behind_condition.ensures c.in-Ends.is) c.run_stmt-met.ensures.runs
 
 pub run_while-returns-in_err-behind_body-in-Holds-clause-runs : goal.run_while-returns-in_err-behind_body-in-Holds-clause-runs
 run_while-returns-in_err-behind_body-in-Holds-clause-runs t c =
     let f = funs_of c.args.defs.now [] in
     let r = err_from_is_err_and c.from_residual-in_err-behind_body-in-Holds.result c.from_residual-in_err-behind_body-in-Holds.ensures.1 in
     rw (r.1, r.2) (subst (λ (q : st.Run (Unit {0})). Runs q (Err c.in_err-behind_body-in-Holds.field-0.0) c.run_stmt-ran.new.shell) (sym c.rounds.invariant.1.2)
-      (round_body_left (co_stmt c.args.cond.now f) (co_stmt c.args.body.now f) (st.at_command c.args.at (place_of c.args.place)) c.rounds.invariant.1.0 c.rounds.last (state_of c.rounds.shell) c.run_stmt-met.result c.run_stmt-met.new.shell (state_of c.take_turn-in-Holds.new.shell) c.run_stmt-ran.result c.run_stmt-ran.new.shell c.in_err-behind_body-in-Holds.field-0.0
-        (answer_is (behind_condition c.run_stmt-met.result c.run_stmt-met.new.shell.conc.status) c.in_ok-behind_condition.field-0 Holds c.in_ok-behind_condition.ensures c.in-Holds.is) c.run_stmt-met.ensures.runs c.in_ok-take_turn-in-Holds.ensures.runs (sym c.in_err-behind_body-in-Holds.ensures) c.run_stmt-ran.ensures.runs))
+    (round_body_left (co_stmt c.args.cond.now f) (co_stmt c.args.body.now f) (st.at_command c.args.at (place_of c.args.place)) c.rounds.invariant.1.0 c.rounds.last (state_of c.rounds.shell) c.run_stmt-met.result c.run_stmt-met.new.shell (state_of c.take_turn-in-Holds.new.shell) c.run_stmt-ran.result c.run_stmt-ran.new.shell c.in_err-behind_body-in-Holds.field-0.0
+    (answer_is (behind_condition c.run_stmt-met.result c.run_stmt-met.new.shell.conc.status) c.in_ok-behind_condition.field-0 Holds c.in_ok-behind_condition.ensures c.in-Holds.is) c.run_stmt-met.ensures.runs c.in_ok-take_turn-in-Holds.ensures.runs (sym c.in_err-behind_body-in-Holds.ensures) c.run_stmt-ran.ensures.runs))
 
 pub run_while-rounds-preserved : goal.run_while-rounds-preserved
 run_while-rounds-preserved t c =
     let f = funs_of c.args.defs.now [] in
     let some : 0 < c.rounds.invariant.1.0 = omega (arith, c.in_ok-take_turn-in-Holds.ensures.taken, c.run_stmt-met.ensures.turns, c.rounds.invariant.1.1) in
     let next = round_next (co_stmt c.args.cond.now f) (co_stmt c.args.body.now f) (st.at_command c.args.at (place_of c.args.place)) c.rounds.invariant.1.0 c.rounds.last (state_of c.rounds.shell) c.run_stmt-met.result c.run_stmt-met.new.shell (state_of c.take_turn-in-Holds.new.shell) c.run_stmt-ran.result c.run_stmt-ran.new.shell some
-        (answer_is (behind_condition c.run_stmt-met.result c.run_stmt-met.new.shell.conc.status) c.in_ok-behind_condition.field-0 Holds c.in_ok-behind_condition.ensures c.in-Holds.is) c.run_stmt-met.ensures.runs c.in_ok-take_turn-in-Holds.ensures.runs
-        (answer_is (behind_body c.run_stmt-ran.result) c.in_ok-behind_body-in-Holds.field-0 true c.in_ok-behind_body-in-Holds.ensures c.if-not-branch.false) c.run_stmt-ran.ensures.runs in
-    (omega (arith, c.run_stmt-ran.ensures.turns, c.in_ok-take_turn-in-Holds.ensures.taken, c.run_stmt-met.ensures.turns, c.rounds.invariant.0),
-     (next.0, omega (arith, next.1, c.run_stmt-ran.ensures.turns, c.in_ok-take_turn-in-Holds.ensures.taken, c.run_stmt-met.ensures.turns, c.rounds.invariant.1.1), c.rounds.invariant.1.2 ∙ next.2))
+    (answer_is (behind_condition c.run_stmt-met.result c.run_stmt-met.new.shell.conc.status) c.in_ok-behind_condition.field-0 Holds c.in_ok-behind_condition.ensures c.in-Holds.is) c.run_stmt-met.ensures.runs c.in_ok-take_turn-in-Holds.ensures.runs
+    (answer_is (behind_body c.run_stmt-ran.result) c.in_ok-behind_body-in-Holds.field-0 true c.in_ok-behind_body-in-Holds.ensures c.if-not-branch.false) c.run_stmt-ran.ensures.runs in (
+      omega (arith, c.run_stmt-ran.ensures.turns, c.in_ok-take_turn-in-Holds.ensures.taken, c.run_stmt-met.ensures.turns, c.rounds.invariant.0),
+      (next.0, omega (arith, next.1, c.run_stmt-ran.ensures.turns, c.in_ok-take_turn-in-Holds.ensures.taken, c.run_stmt-met.ensures.turns, c.rounds.invariant.1.1), c.rounds.invariant.1.2 ∙ next.2),
+    )

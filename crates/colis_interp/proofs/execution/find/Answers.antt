@@ -7,6 +7,7 @@ returns-then-equal-clause-some c =
     λ d. c.loop-end.invariant.1 ∙ found_here c.args.defs.now c.loop-end.end d c.index-defs-end.result c.args.name.now c.loop-end-test.true c.loop-end.invariant.0 (c.if-equal.ensures.0 refl)
 
 pub loop-end-preserved : goal.loop-end-preserved
-loop-end-preserved c =
-    (omega (arith, c.loop-end.invariant.0),
-     c.loop-end.invariant.1 ∙ found_lower c.args.defs.now c.loop-end.end c.index-defs-end.result c.args.name.now c.loop-end-test.true c.loop-end.invariant.0 (λ e. let h : false ≡ true = c.if-equal.ensures.1 e in absurd (cc)))
+loop-end-preserved c = (
+  omega (arith, c.loop-end.invariant.0),
+  c.loop-end.invariant.1 ∙ found_lower c.args.defs.now c.loop-end.end c.index-defs-end.result c.args.name.now c.loop-end-test.true c.loop-end.invariant.0 (λ e. let h : false ≡ true = c.if-equal.ensures.1 e in absurd (cc)),
+)
