@@ -50,30 +50,30 @@ pub record Read : Type 0 where
 -- ---- words
 
 -- a number below 2 ^ 32
-abbrev pub number_in : List ℕ → ℕ
+unfoldable pub number_in : List ℕ → ℕ
 number_in word = unwrap_or (number_of (2 ^ 32 - 1) word) 0
 
 -- the number of an argument
-abbrev pub argument_in : List ℕ → ℕ
+unfoldable pub argument_in : List ℕ → ℕ
 argument_in word = unwrap_or (number_of 255 word) 0
 
 -- bytes, by their spelling
-abbrev pub bytes_in : List ℕ → List ℕ
+unfoldable pub bytes_in : List ℕ → List ℕ
 bytes_in word = unwrap_or (shown_of word) []
 
 -- a reason, by its name
-abbrev pub reason_in : List ℕ → Reason
+unfoldable pub reason_in : List ℕ → Reason
 reason_in word = unwrap_or (reason_of word) reason.Call
 
 -- a string of bytes: a byte, which is to be `=`, and their spelling
-abbrev pub literal_in : List ℕ → Str
+unfoldable pub literal_in : List ℕ → Str
 literal_in [] = sv.Count
 literal_in (byte ∷ word) = sv.Lit (bytes_in word)
 
 -- ---- lists
 
 -- what a member that lacks is read as
-abbrev pub nothing : Read
+unfoldable pub nothing : Read
 nothing = record {
   word = [];
   string = sv.Count;
@@ -108,7 +108,7 @@ abbrev pub last : List Read → Read
 last rs = member rs (length rs - 1)
 
 -- a string, by the word that its list begins with and what stands behind it
-abbrev pub string_headed : List ℕ → List Read → Str
+unfoldable pub string_headed : List ℕ → List Read → Str
 string_headed head rs =
     if bytes_eq head (codes "var") then sv.Var (bytes_in (member rs 0).word)
     else (if bytes_eq head (codes "arg") then sv.Arg (argument_in (member rs 0).word)
@@ -122,56 +122,72 @@ abbrev pub string_from : List ℕ → List Read → Str
 string_from word rs = if length word == 0 then string_headed (member rs 0).word (behind rs) else literal_in word
 
 -- a piece of a word, in the same way
-abbrev pub piece_headed : List ℕ → List Read → StrPiece
+unfoldable pub piece_headed : List ℕ → List Read → StrPiece
 piece_headed head rs =
     if bytes_eq head (codes "p") then pv.Plain (member rs 0).string
     else (if bytes_eq head (codes "q") then pv.Quoted (member rs 0).string
     else pv.Split (member rs 0).string)
 
 -- what gives fields
-abbrev pub field_headed : List ℕ → List Read → Fields
+unfoldable pub field_headed : List ℕ → List Read → Fields
 field_headed head rs = if bytes_eq head (codes "word") then fv.Word (map (λ r. r.piece) rs) else fv.Args
 
--- a statement that has an offset, by the word that it begins with, the offset, and what stands behind that
-abbrev pub sited_headed : List ℕ → ℕ → List Read → Stmt
-sited_headed head at rs =
-    if bytes_eq head (codes "set") then v.Set at (map (λ r. r.set) rs)
-    else (if bytes_eq head (codes "call") then v.Call at (map (λ r. r.field) rs)
-    else (if bytes_eq head (codes "fun") then v.Fun at (bytes_in (member rs 0).word) (map (λ r. r.field) (behind rs))
-    else (if bytes_eq head (codes "for")
-    then v.For at (bytes_in (member rs 0).word) (member rs 1).fields (member rs 2).stmt
-    else (if bytes_eq head (codes "while") then v.While at (member rs 0).stmt (member rs 1).stmt
-    else (if bytes_eq head (codes "case")
-    then v.Case at (member rs 0).string (map (λ r. r.pat_arm) (behind rs))
-    else (if bytes_eq head (codes "sub") then v.Sub at (member rs 0).stmt
-    else (if bytes_eq head (codes "err") then v.Err at (member rs 0).stmt
+-- what calls a utility, or ends a shell or a function, or changes variables, from its word, its offset and what stands
+-- behind that
+unfoldable pub fields_headed : List ℕ → ℕ → List Read → Stmt
+fields_headed head at rs =
+    if bytes_eq head (codes "call") then v.Call at (map (λ r. r.field) rs)
     else (if bytes_eq head (codes "exit") then v.Exit at (map (λ r. r.field) rs)
     else (if bytes_eq head (codes "return") then v.Return at (map (λ r. r.field) rs)
     else (if bytes_eq head (codes "export") then v.Export at (map (λ r. r.field) rs)
     else (if bytes_eq head (codes "unset") then v.Unset at (map (λ r. r.field) rs)
-    else (if bytes_eq head (codes "stop") then v.Stop at (reason_in (member rs 0).word)
-    else v.Skip))))))))))))
+    else v.Skip))))
 
--- the same, from the word that it begins with and what stands behind it
+-- the statements with an offset that have no list, and those above
+unfoldable pub simple_headed : List ℕ → ℕ → List Read → Stmt
+simple_headed head at rs =
+    if bytes_eq head (codes "while") then v.While at (member rs 0).stmt (member rs 1).stmt
+    else (if bytes_eq head (codes "sub") then v.Sub at (member rs 0).stmt
+    else (if bytes_eq head (codes "err") then v.Err at (member rs 0).stmt
+    else (if bytes_eq head (codes "stop") then v.Stop at (reason_in (member rs 0).word)
+    else fields_headed head at rs)))
+
+-- a statement with an offset
+unfoldable pub sited_headed : List ℕ → ℕ → List Read → Stmt
+sited_headed head at rs =
+    if bytes_eq head (codes "set") then v.Set at (map (λ r. r.set) rs)
+    else (if bytes_eq head (codes "fun") then v.Fun at (bytes_in (member rs 0).word) (map (λ r. r.field) (behind rs))
+    else (if bytes_eq head (codes "for")
+    then v.For at (bytes_in (member rs 0).word) (member rs 1).fields (member rs 2).stmt
+    else (if bytes_eq head (codes "case")
+    then v.Case at (member rs 0).string (map (λ r. r.pat_arm) (behind rs))
+    else simple_headed head at rs)))
+
+-- the same, from its word and what stands behind it
 abbrev pub sited_from : List ℕ → List Read → Stmt
 sited_from head rs = sited_headed head (number_in (member rs 0).word) (behind rs)
 
+-- a statement of one word, or one with an offset
+unfoldable pub word_headed : List ℕ → List Read → Stmt
+word_headed head rs =
+    if bytes_eq head (codes "strict") then v.Strict
+    else (if bytes_eq head (codes "lax") then v.Lax
+    else (if bytes_eq head (codes "break") then v.Break
+    else (if bytes_eq head (codes "continue") then v.Continue
+    else sited_from head rs)))
+
 -- a statement, by the word that its list begins with and what stands behind it
-abbrev pub stmt_headed : List ℕ → List Read → Stmt
+unfoldable pub stmt_headed : List ℕ → List Read → Stmt
 stmt_headed head rs =
     if bytes_eq head (codes "seq") then v.Seq (map (λ r. r.stmt) rs)
     else (if bytes_eq head (codes "chain") then v.Chain (member rs 0).stmt (map (λ r. r.part) (behind rs))
     else (if bytes_eq head (codes "not") then v.Not (member rs 0).stmt
     else (if bytes_eq head (codes "if") then v.If (map (λ r. r.arm) (but_last rs)) (last rs).stmt
     else (if bytes_eq head (codes "quiet") then v.Quiet (member rs 0).stmt
-    else (if bytes_eq head (codes "strict") then v.Strict
-    else (if bytes_eq head (codes "lax") then v.Lax
-    else (if bytes_eq head (codes "break") then v.Break
-    else (if bytes_eq head (codes "continue") then v.Continue
-    else sited_from head rs))))))))
+    else word_headed head rs))))
 
 -- a part of a text, from its word and its members
-abbrev pub node_read : List ℕ → List Read → Read
+unfoldable pub node_read : List ℕ → List Read → Read
 node_read word rs = record {
   word = word;
   string = string_from word rs;
@@ -197,7 +213,7 @@ abbrev pub nest_layer : o.Nest-F Read → Read
 nest_layer (o.Node word rs) = node_read word rs
 
 -- what a part of a text is read as
-abbrev pub read : Nest → Read
+unfoldable pub read : Nest → Read
 read = fold-Nest Read nest_layer
 
 -- parts of a text

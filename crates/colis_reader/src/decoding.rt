@@ -1,13 +1,14 @@
 ghost use Rattle.std.specs.Prelude.{◌≡◌, IfOk, map};
 ghost use Rattle.colis_reader.specs.Readings.{read, reads, member, behind, but_last, string_headed, literal_in};
-ghost use Rattle.colis_reader.specs.Readings.{last, bytes_in, piece_headed, field_headed, stmt_headed, sited_from, sited_headed};
+ghost use Rattle.colis_reader.specs.Readings.{last, bytes_in, piece_headed, field_headed, stmt_headed, word_headed};
+ghost use Rattle.colis_reader.specs.Readings.{sited_from, sited_headed, simple_headed, fields_headed};
 
 ghost use Rattle.colis_syntax.specs.declared.syntax.Stmt.TheVariants.{Set, Call, Fun, Seq, Chain, Not, If, For, While};
 ghost use Rattle.colis_syntax.specs.declared.syntax.Stmt.TheVariants.{Case, Sub, Quiet, Err as ErrJoined, Exit, Return};
 ghost use Rattle.colis_syntax.specs.declared.syntax.Stmt.TheVariants.{Export, Unset};
 ghost use Rattle.colis_syntax.specs.declared.syntax.Str.TheVariants.{Var, Or, Output, Join};
 
-use crate::members::{argument_at, bytes_at, number_at, reason_at, spelled, word_at, word_of};
+use crate::members::{argument_at, bytes_at, number_at, reason_at, spelled, word_at};
 use crate::nest::Nest;
 use colis_syntax::{ChainPart, Fields, PatArm, SetTo, Stmt, StmtArm, Str, StrPiece};
 use script_names::{Boxed as Box, List, Memory};
@@ -15,7 +16,7 @@ use std::alloc::Global;
 
 /// The statement that the member at a place is read as; `(skip)` where there is none.
 #[cycle(decoding)]
-#[tactic(auto, using(crate::proofs::MemberReads::member_here, crate::proofs::MemberReads::member_past))]
+#[tactic(auto, using(crate::proofs::MemberReads::of_members), unfolding(crate::specs::Readings::nothing))]
 pub(crate) fn stmt_at(alloc: Global, nests: &[Nest], at: usize) -> Result<Stmt, Memory>
     ensures { IfOk result (λ stmt. stmt ≡ (member (reads nests.now) at).stmt) }
 {
@@ -26,6 +27,7 @@ pub(crate) fn stmt_at(alloc: Global, nests: &[Nest], at: usize) -> Result<Stmt, 
 }
 
 #[cycle(decoding)]
+#[tactic(auto, unfolding(crate::specs::Readings::read, crate::specs::Readings::node_read))]
 fn read_stmt(alloc: Global, nest: &Nest) -> Result<Stmt, Memory>
     ensures { IfOk result (λ stmt. stmt ≡ (read nest.now).stmt) }
 {
@@ -39,14 +41,16 @@ fn stmt_from(alloc: Global, nests: &[Nest]) -> Result<Stmt, Memory>
     ensures { let rs = reads nests.now in
         IfOk result (λ stmt. stmt ≡ stmt_headed (member rs 0).word (behind rs)) }
 {
+    let head = word_at(nests, 0);
     match nests {
-        [] => Ok(Stmt::Skip),
-        [head, rest @ ..] => stmt_headed(alloc, word_of(head), rest),
+        [] => stmt_headed(alloc, head, nests),
+        [_, rest @ ..] => stmt_headed(alloc, head, rest),
     }
 }
 
 // A statement, by the word that it begins with and what stands behind it.
 #[cycle(decoding)]
+#[tactic(auto, unfolding(crate::specs::Readings::stmt_headed))]
 fn stmt_headed(alloc: Global, head: &[u8], rest: &[Nest]) -> Result<Stmt, Memory>
     ensures { IfOk result (λ stmt. stmt ≡ stmt_headed head.now (reads rest.now)) }
 {
@@ -56,12 +60,29 @@ fn stmt_headed(alloc: Global, head: &[u8], rest: &[Nest]) -> Result<Stmt, Memory
         b"not" => read_not(alloc, rest),
         b"if" => read_if(alloc, rest),
         b"quiet" => read_quiet(alloc, rest),
-        b"strict" => Ok(Stmt::Strict),
-        b"lax" => Ok(Stmt::Lax),
-        b"break" => Ok(Stmt::Break),
-        b"continue" => Ok(Stmt::Continue),
-        _ => sited_from(alloc, head, rest),
+        _ => word_headed(alloc, head, rest),
     }
+}
+
+// A statement of one word, or one that has an offset.
+#[cycle(decoding)]
+#[tactic(auto, unfolding(crate::specs::Readings::word_headed))]
+fn word_headed(alloc: Global, head: &[u8], rest: &[Nest]) -> Result<Stmt, Memory>
+    ensures { IfOk result (λ stmt. stmt ≡ word_headed head.now (reads rest.now)) }
+{
+    if head == b"strict".as_slice() {
+        return Ok(Stmt::Strict);
+    }
+    if head == b"lax".as_slice() {
+        return Ok(Stmt::Lax);
+    }
+    if head == b"break".as_slice() {
+        return Ok(Stmt::Break);
+    }
+    if head == b"continue".as_slice() {
+        return Ok(Stmt::Continue);
+    }
+    sited_from(alloc, head, rest)
 }
 
 #[cycle(decoding)]
@@ -125,28 +146,57 @@ fn sited_from(alloc: Global, head: &[u8], rest: &[Nest]) -> Result<Stmt, Memory>
 }
 
 #[cycle(decoding)]
+#[tactic(auto, unfolding(crate::specs::Readings::sited_headed))]
 fn sited_headed(alloc: Global, head: &[u8], at: u32, rest: &[Nest]) -> Result<Stmt, Memory>
     ensures { IfOk result (λ stmt. stmt ≡ sited_headed head.now at (reads rest.now)) }
 {
     match head {
         b"set" => read_set_all(alloc, at, rest),
-        b"call" => read_call(alloc, at, rest),
         b"fun" => read_fun(alloc, at, rest),
         b"for" => read_for(alloc, at, rest),
-        b"while" => read_while(alloc, at, rest),
         b"case" => read_case(alloc, at, rest),
+        _ => simple_headed(alloc, head, at, rest),
+    }
+}
+
+#[cycle(decoding)]
+#[tactic(auto, unfolding(crate::specs::Readings::simple_headed))]
+fn simple_headed(alloc: Global, head: &[u8], at: u32, rest: &[Nest]) -> Result<Stmt, Memory>
+    ensures { IfOk result (λ stmt. stmt ≡ simple_headed head.now at (reads rest.now)) }
+{
+    match head {
+        b"while" => read_while(alloc, at, rest),
         b"sub" => read_sub(alloc, at, rest),
         b"err" => read_err(alloc, at, rest),
-        b"exit" => read_exit(alloc, at, rest),
-        b"return" => read_return(alloc, at, rest),
-        b"export" => read_export(alloc, at, rest),
-        b"unset" => read_unset(alloc, at, rest),
         b"stop" => Ok(Stmt::Stop {
             at,
             reason: reason_at(rest, 0),
         }),
-        _ => Ok(Stmt::Skip),
+        _ => fields_headed(alloc, head, at, rest),
     }
+}
+
+#[cycle(decoding)]
+#[tactic(auto, unfolding(crate::specs::Readings::fields_headed))]
+fn fields_headed(alloc: Global, head: &[u8], at: u32, rest: &[Nest]) -> Result<Stmt, Memory>
+    ensures { IfOk result (λ stmt. stmt ≡ fields_headed head.now at (reads rest.now)) }
+{
+    if head == b"call".as_slice() {
+        return read_call(alloc, at, rest);
+    }
+    if head == b"exit".as_slice() {
+        return read_exit(alloc, at, rest);
+    }
+    if head == b"return".as_slice() {
+        return read_return(alloc, at, rest);
+    }
+    if head == b"export".as_slice() {
+        return read_export(alloc, at, rest);
+    }
+    if head == b"unset".as_slice() {
+        return read_unset(alloc, at, rest);
+    }
+    Ok(Stmt::Skip)
 }
 
 #[cycle(decoding)]
@@ -266,7 +316,7 @@ fn read_unset(alloc: Global, at: u32, rest: &[Nest]) -> Result<Stmt, Memory>
 
 // The string that the member at a place is read as.
 #[cycle(decoding)]
-#[tactic(auto, using(crate::proofs::MemberReads::member_here, crate::proofs::MemberReads::member_past))]
+#[tactic(auto, using(crate::proofs::MemberReads::of_members), unfolding(crate::specs::Readings::nothing))]
 fn string_at(alloc: Global, nests: &[Nest], at: usize) -> Result<Str, Memory>
     ensures { IfOk result (λ string. string ≡ (member (reads nests.now) at).string) }
 {
@@ -277,6 +327,7 @@ fn string_at(alloc: Global, nests: &[Nest], at: usize) -> Result<Str, Memory>
 }
 
 #[cycle(decoding)]
+#[tactic(auto, unfolding(crate::specs::Readings::read, crate::specs::Readings::node_read))]
 fn read_string(alloc: Global, nest: &Nest) -> Result<Str, Memory>
     ensures { IfOk result (λ string. string ≡ (read nest.now).string) }
 {
@@ -290,6 +341,7 @@ fn read_string(alloc: Global, nest: &Nest) -> Result<Str, Memory>
     }
 }
 
+#[tactic(auto, unfolding(crate::specs::Readings::literal_in))]
 fn literal(alloc: Global, word: &[u8]) -> Result<Str, Memory>
     ensures { IfOk result (λ string. string ≡ literal_in word.now) }
 {
@@ -307,13 +359,15 @@ fn string_from(alloc: Global, nests: &[Nest]) -> Result<Str, Memory>
     ensures { let rs = reads nests.now in
         IfOk result (λ string. string ≡ string_headed (member rs 0).word (behind rs)) }
 {
+    let head = word_at(nests, 0);
     match nests {
-        [] => Ok(Str::Count),
-        [head, rest @ ..] => string_headed(alloc, word_of(head), rest),
+        [] => string_headed(alloc, head, nests),
+        [_, rest @ ..] => string_headed(alloc, head, rest),
     }
 }
 
 #[cycle(decoding)]
+#[tactic(auto, unfolding(crate::specs::Readings::string_headed))]
 fn string_headed(alloc: Global, head: &[u8], rest: &[Nest]) -> Result<Str, Memory>
     ensures { IfOk result (λ string. string ≡ string_headed head.now (reads rest.now)) }
 {
@@ -363,6 +417,7 @@ fn read_join(alloc: Global, rest: &[Nest]) -> Result<Str, Memory>
 }
 
 #[cycle(decoding)]
+#[tactic(auto, unfolding(crate::specs::Readings::read, crate::specs::Readings::node_read))]
 fn read_piece(alloc: Global, nest: &Nest) -> Result<StrPiece, Memory>
     ensures { IfOk result (λ piece. piece ≡ (read nest.now).piece) }
 {
@@ -376,13 +431,15 @@ fn piece_from(alloc: Global, nests: &[Nest]) -> Result<StrPiece, Memory>
     ensures { let rs = reads nests.now in
         IfOk result (λ piece. piece ≡ piece_headed (member rs 0).word (behind rs)) }
 {
+    let head = word_at(nests, 0);
     match nests {
-        [] => Ok(StrPiece::Split(Str::Count)),
-        [head, rest @ ..] => piece_headed(alloc, word_of(head), rest),
+        [] => piece_headed(alloc, head, nests),
+        [_, rest @ ..] => piece_headed(alloc, head, rest),
     }
 }
 
 #[cycle(decoding)]
+#[tactic(auto, unfolding(crate::specs::Readings::piece_headed))]
 fn piece_headed(alloc: Global, head: &[u8], rest: &[Nest]) -> Result<StrPiece, Memory>
     ensures { IfOk result (λ piece. piece ≡ piece_headed head.now (reads rest.now)) }
 {
@@ -396,6 +453,7 @@ fn piece_headed(alloc: Global, head: &[u8], rest: &[Nest]) -> Result<StrPiece, M
 
 // The pieces of a pattern.
 #[cycle(decoding)]
+#[tactic(auto, unfolding(crate::specs::Readings::read, crate::specs::Readings::node_read))]
 fn read_pattern(alloc: Global, nest: &Nest) -> Result<List<StrPiece>, Memory>
     ensures { IfOk result (λ pieces. pieces ≡ (read nest.now).pieces) }
 {
@@ -405,6 +463,7 @@ fn read_pattern(alloc: Global, nest: &Nest) -> Result<List<StrPiece>, Memory>
 }
 
 #[cycle(decoding)]
+#[tactic(auto, unfolding(crate::specs::Readings::read, crate::specs::Readings::node_read))]
 fn read_field(alloc: Global, nest: &Nest) -> Result<Fields, Memory>
     ensures { IfOk result (λ field. field ≡ (read nest.now).field) }
 {
@@ -418,13 +477,15 @@ fn field_from(alloc: Global, nests: &[Nest]) -> Result<Fields, Memory>
     ensures { let rs = reads nests.now in
         IfOk result (λ field. field ≡ field_headed (member rs 0).word (behind rs)) }
 {
+    let head = word_at(nests, 0);
     match nests {
-        [] => Ok(Fields::Args),
-        [head, rest @ ..] => field_headed(alloc, word_of(head), rest),
+        [] => field_headed(alloc, head, nests),
+        [_, rest @ ..] => field_headed(alloc, head, rest),
     }
 }
 
 #[cycle(decoding)]
+#[tactic(auto, unfolding(crate::specs::Readings::field_headed))]
 fn field_headed(alloc: Global, head: &[u8], rest: &[Nest]) -> Result<Fields, Memory>
     ensures { IfOk result (λ field. field ≡ field_headed head.now (reads rest.now)) }
 {
@@ -438,6 +499,7 @@ fn field_headed(alloc: Global, head: &[u8], rest: &[Nest]) -> Result<Fields, Mem
 }
 
 #[cycle(decoding)]
+#[tactic(auto, unfolding(crate::specs::Readings::read, crate::specs::Readings::node_read))]
 fn read_set(alloc: Global, nest: &Nest) -> Result<SetTo, Memory>
     ensures { IfOk result (λ set. set ≡ (read nest.now).set) }
 {
@@ -451,6 +513,7 @@ fn read_set(alloc: Global, nest: &Nest) -> Result<SetTo, Memory>
 }
 
 #[cycle(decoding)]
+#[tactic(auto, unfolding(crate::specs::Readings::read, crate::specs::Readings::node_read))]
 fn read_part(alloc: Global, nest: &Nest) -> Result<ChainPart, Memory>
     ensures { IfOk result (λ part. part ≡ (read nest.now).part) }
 {
@@ -464,6 +527,7 @@ fn read_part(alloc: Global, nest: &Nest) -> Result<ChainPart, Memory>
 }
 
 #[cycle(decoding)]
+#[tactic(auto, unfolding(crate::specs::Readings::read, crate::specs::Readings::node_read))]
 fn read_arm(alloc: Global, nest: &Nest) -> Result<StmtArm, Memory>
     ensures { IfOk result (λ arm. arm ≡ (read nest.now).arm) }
 {
@@ -477,6 +541,7 @@ fn read_arm(alloc: Global, nest: &Nest) -> Result<StmtArm, Memory>
 }
 
 #[cycle(decoding)]
+#[tactic(auto, unfolding(crate::specs::Readings::read, crate::specs::Readings::node_read))]
 fn read_pat_arm(alloc: Global, nest: &Nest) -> Result<PatArm, Memory>
     ensures { IfOk result (λ arm. arm ≡ (read nest.now).pat_arm) }
 {
@@ -491,7 +556,7 @@ fn read_pat_arm(alloc: Global, nest: &Nest) -> Result<PatArm, Memory>
 
 // The patterns that the member at a place is read as.
 #[cycle(decoding)]
-#[tactic(auto, using(crate::proofs::MemberReads::member_here, crate::proofs::MemberReads::member_past))]
+#[tactic(auto, using(crate::proofs::MemberReads::of_members), unfolding(crate::specs::Readings::nothing))]
 fn patterns_at(alloc: Global, nests: &[Nest], at: usize) -> Result<List<List<StrPiece>>, Memory>
     ensures { IfOk result (λ patterns. patterns ≡ (member (reads nests.now) at).patterns) }
 {
@@ -502,6 +567,7 @@ fn patterns_at(alloc: Global, nests: &[Nest], at: usize) -> Result<List<List<Str
 }
 
 #[cycle(decoding)]
+#[tactic(auto, unfolding(crate::specs::Readings::read, crate::specs::Readings::node_read))]
 fn patterns_of(alloc: Global, nest: &Nest) -> Result<List<List<StrPiece>>, Memory>
     ensures { IfOk result (λ patterns. patterns ≡ (read nest.now).patterns) }
 {
@@ -512,7 +578,7 @@ fn patterns_of(alloc: Global, nest: &Nest) -> Result<List<List<StrPiece>>, Memor
 
 // The list of fields that the member at a place is read as.
 #[cycle(decoding)]
-#[tactic(auto, using(crate::proofs::MemberReads::member_here, crate::proofs::MemberReads::member_past))]
+#[tactic(auto, using(crate::proofs::MemberReads::of_members), unfolding(crate::specs::Readings::nothing))]
 fn fields_at(alloc: Global, nests: &[Nest], at: usize) -> Result<List<Fields>, Memory>
     ensures { IfOk result (λ fields. fields ≡ (member (reads nests.now) at).fields) }
 {
@@ -523,6 +589,7 @@ fn fields_at(alloc: Global, nests: &[Nest], at: usize) -> Result<List<Fields>, M
 }
 
 #[cycle(decoding)]
+#[tactic(auto, unfolding(crate::specs::Readings::read, crate::specs::Readings::node_read))]
 fn fields_of(alloc: Global, nest: &Nest) -> Result<List<Fields>, Memory>
     ensures { IfOk result (λ fields. fields ≡ (read nest.now).fields) }
 {
@@ -606,18 +673,6 @@ fn read_parts(alloc: Global, nests: &[Nest]) -> Result<List<ChainPart>, Memory>
 }
 
 #[cycle(decoding)]
-fn read_arms(alloc: Global, nests: &[Nest]) -> Result<List<StmtArm>, Memory>
-    ensures { IfOk result (λ found. found ≡ map (λ r. r.arm) (reads nests.now)) }
-{
-    let mut found = List::new(alloc);
-    for nest in nests {
-        let arm = read_arm(alloc, nest)?;
-        found.add(arm)?;
-    }
-    Ok(found)
-}
-
-#[cycle(decoding)]
 fn read_pat_arms(alloc: Global, nests: &[Nest]) -> Result<List<PatArm>, Memory>
     ensures { IfOk result (λ found. found ≡ map (λ r. r.pat_arm) (reads nests.now)) }
 {
@@ -672,13 +727,16 @@ fn parts_behind(alloc: Global, nests: &[Nest]) -> Result<List<ChainPart>, Memory
 }
 
 #[cycle(decoding)]
+#[tactic(auto, using(crate::proofs::MemberReads::but_last_reads))]
 fn arms_before(alloc: Global, nests: &[Nest]) -> Result<List<StmtArm>, Memory>
     ensures { IfOk result (λ found. found ≡ map (λ r. r.arm) (but_last (reads nests.now))) }
 {
-    match nests {
-        [] => Ok(List::new(alloc)),
-        [arms @ .., _] => read_arms(alloc, arms),
+    let mut found = List::new(alloc);
+    for i in 0usize..nests.len().saturating_sub(1) {
+        let arm = read_arm(alloc, &nests[i])?;
+        found.add(arm)?;
     }
+    Ok(found)
 }
 
 #[cycle(decoding)]

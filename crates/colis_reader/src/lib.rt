@@ -10,6 +10,8 @@ mod nest;
 mod nesting;
 mod parts;
 mod program;
+#[cfg(test)]
+mod tests;
 pub mod theorems;
 
 pub use fault::ProgramFault;

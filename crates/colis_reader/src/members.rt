@@ -7,6 +7,7 @@ use shown_texts::{read_number, read_reason, read_shown};
 use std::alloc::Global;
 
 /// The word of a part.
+#[tactic(auto, unfolding(crate::specs::Readings::read, crate::specs::Readings::node_read))]
 pub(crate) fn word_of(nest: &Nest) -> &[u8]
     ensures { result.now ≡ (read nest.now).word }
 {
@@ -16,7 +17,7 @@ pub(crate) fn word_of(nest: &Nest) -> &[u8]
 }
 
 /// The word of the member at a place; no bytes where there is none.
-#[tactic(auto, using(crate::proofs::MemberReads::member_here, crate::proofs::MemberReads::member_past))]
+#[tactic(auto, using(crate::proofs::MemberReads::of_members), unfolding(crate::specs::Readings::nothing))]
 pub(crate) fn word_at(nests: &[Nest], at: usize) -> &[u8]
     ensures { result.now ≡ (member (reads nests.now) at).word }
 {
@@ -27,6 +28,7 @@ pub(crate) fn word_at(nests: &[Nest], at: usize) -> &[u8]
 }
 
 /// The number below 2 ^ 32 that the member at a place is, or 0.
+#[tactic(auto, unfolding(crate::specs::Readings::number_in))]
 pub(crate) fn number_at(nests: &[Nest], at: usize) -> u32
     ensures { result ≡ number_in (member (reads nests.now) at).word }
 {
@@ -34,6 +36,7 @@ pub(crate) fn number_at(nests: &[Nest], at: usize) -> u32
 }
 
 /// The number of an argument that the member at a place is, or 0.
+#[tactic(auto, unfolding(crate::specs::Readings::argument_in))]
 pub(crate) fn argument_at(nests: &[Nest], at: usize) -> u8
     ensures { result ≡ argument_in (member (reads nests.now) at).word }
 {
@@ -41,6 +44,7 @@ pub(crate) fn argument_at(nests: &[Nest], at: usize) -> u8
 }
 
 /// The reason that the member at a place names, or `call`.
+#[tactic(auto, unfolding(crate::specs::Readings::reason_in))]
 pub(crate) fn reason_at(nests: &[Nest], at: usize) -> Reason
     ensures { result ≡ reason_in (member (reads nests.now) at).word }
 {
@@ -55,6 +59,7 @@ pub(crate) fn bytes_at(alloc: Global, nests: &[Nest], at: usize) -> Result<Bytes
 }
 
 /// The bytes that a word spells, or none.
+#[tactic(auto, unfolding(crate::specs::Readings::bytes_in))]
 pub(crate) fn spelled(alloc: Global, word: &[u8]) -> Result<Bytes, Memory>
     ensures { IfOk result (λ bytes. bytes ≡ bytes_in word.now) }
 {

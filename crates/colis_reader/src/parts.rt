@@ -9,7 +9,7 @@ use script_names::{List, Memory};
 use std::alloc::Global;
 
 /// The strict flag of the program that the first of these is read as.
-#[tactic(auto, using(crate::proofs::MemberReads::member_here, crate::proofs::MemberReads::member_past))]
+#[tactic(auto, using(crate::proofs::MemberReads::of_members), unfolding(crate::specs::Readings::nothing))]
 pub(crate) fn strict_in(nests: &[Nest]) -> bool
     ensures { result ≡ (member (reads nests.now) 0).program.strict }
 {
@@ -20,7 +20,7 @@ pub(crate) fn strict_in(nests: &[Nest]) -> bool
 }
 
 /// Its functions.
-#[tactic(auto, using(crate::proofs::MemberReads::member_here, crate::proofs::MemberReads::member_past))]
+#[tactic(auto, using(crate::proofs::MemberReads::of_members), unfolding(crate::specs::Readings::nothing))]
 pub(crate) fn defs_in(alloc: Global, nests: &[Nest]) -> Result<List<Def>, Memory>
     ensures { IfOk result (λ defs. defs ≡ (member (reads nests.now) 0).program.defs) }
 {
@@ -31,7 +31,7 @@ pub(crate) fn defs_in(alloc: Global, nests: &[Nest]) -> Result<List<Def>, Memory
 }
 
 /// Its body.
-#[tactic(auto, using(crate::proofs::MemberReads::member_here, crate::proofs::MemberReads::member_past))]
+#[tactic(auto, using(crate::proofs::MemberReads::of_members), unfolding(crate::specs::Readings::nothing))]
 pub(crate) fn body_in(alloc: Global, nests: &[Nest]) -> Result<Stmt, Memory>
     ensures { IfOk result (λ body. body ≡ (member (reads nests.now) 0).program.body) }
 {
@@ -41,6 +41,7 @@ pub(crate) fn body_in(alloc: Global, nests: &[Nest]) -> Result<Stmt, Memory>
     Ok(Stmt::Skip)
 }
 
+#[tactic(auto, unfolding(crate::specs::Readings::read, crate::specs::Readings::node_read))]
 fn strict_of(nest: &Nest) -> bool
     ensures { result ≡ (read nest.now).program.strict }
 {
@@ -49,6 +50,7 @@ fn strict_of(nest: &Nest) -> bool
     }
 }
 
+#[tactic(auto, unfolding(crate::specs::Readings::read, crate::specs::Readings::node_read))]
 fn defs_of(alloc: Global, nest: &Nest) -> Result<List<Def>, Memory>
     ensures { IfOk result (λ defs. defs ≡ (read nest.now).program.defs) }
 {
@@ -59,6 +61,7 @@ fn defs_of(alloc: Global, nest: &Nest) -> Result<List<Def>, Memory>
     }
 }
 
+#[tactic(auto, unfolding(crate::specs::Readings::read, crate::specs::Readings::node_read))]
 fn body_of(alloc: Global, nest: &Nest) -> Result<Stmt, Memory>
     ensures { IfOk result (λ body. body ≡ (read nest.now).program.body) }
 {
@@ -81,13 +84,11 @@ fn behind(nests: &[Nest]) -> &[Nest]
 }
 
 // The parts before the last.
+#[tactic(auto, using(crate::proofs::MemberReads::but_last_reads))]
 fn before_last(nests: &[Nest]) -> &[Nest]
     ensures { reads result.now ≡ but_last (reads nests.now) }
 {
-    match nests {
-        [] => nests,
-        [before @ .., _] => before,
-    }
+    &nests[..nests.len().saturating_sub(1)]
 }
 
 fn read_defs(alloc: Global, nests: &[Nest]) -> Result<List<Def>, Memory>
@@ -101,6 +102,7 @@ fn read_defs(alloc: Global, nests: &[Nest]) -> Result<List<Def>, Memory>
     Ok(defs)
 }
 
+#[tactic(auto, unfolding(crate::specs::Readings::read, crate::specs::Readings::node_read))]
 fn read_def(alloc: Global, nest: &Nest) -> Result<Def, Memory>
     ensures { IfOk result (λ def. def ≡ (read nest.now).def) }
 {
