@@ -4,8 +4,8 @@ ghost use Rattle.colis_reader.specs.Readings.{last, bytes_in, piece_headed, fiel
 ghost use Rattle.colis_reader.specs.Readings.{sited_from, sited_headed, simple_headed, fields_headed};
 
 ghost use Rattle.colis_syntax.specs.declared.syntax.Stmt.TheVariants.{Set, Call, Fun, Seq, Chain, Not, If, For, While};
-ghost use Rattle.colis_syntax.specs.declared.syntax.Stmt.TheVariants.{Case, Sub, Quiet, Err as ErrJoined, Exit, Return};
-ghost use Rattle.colis_syntax.specs.declared.syntax.Stmt.TheVariants.{Export, Unset};
+ghost use Rattle.colis_syntax.specs.declared.syntax.Stmt.TheVariants.{Case, Sub, Quiet, Err as ErrJoined, Exit};
+ghost use Rattle.colis_syntax.specs.declared.syntax.Stmt.TheVariants.{Return, Export, Unset};
 ghost use Rattle.colis_syntax.specs.declared.syntax.Str.TheVariants.{Var, Or, Output, Join};
 
 use crate::members::{argument_at, bytes_at, number_at, reason_at, spelled, word_at};

@@ -21,7 +21,8 @@ pub fn read_program(alloc: Global, text: &[u8]) -> Result<Program, ProgramFault>
         Some(program) => program,
         None => return Err(ProgramFault::Bad),
     };
-    if has_text(alloc, &program, text)? {
+    let same = has_text(alloc, &program, text)?;
+    if same {
         return Ok(program);
     }
     Err(ProgramFault::Bad)
