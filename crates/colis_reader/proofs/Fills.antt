@@ -91,14 +91,14 @@ within a t ns ms f g top up =
     let b = a ++ codes " (" in
     let begun : run (fresh top up) b ≡ fresh [] ((up ++ top ∷ []) ++ ns ∷ []) = run_on (fresh top up) a (codes " (") ∙ ap (λ q. opened (ended q)) (f top up) in
     let inside : ended (run (fresh top up) (b ++ t)) ≡ fresh ms ((up ++ top ∷ []) ++ ns ∷ []) =
-        ap ended (run_on (fresh top up) b t) ∙ ap (λ q. ended (run q t)) begun ∙ g [] ((up ++ top ∷ []) ++ ns ∷ []) in
+    ap ended (run_on (fresh top up) b t) ∙ ap (λ q. ended (run q t)) begun ∙ g [] ((up ++ top ∷ []) ++ ns ∷ []) in
     run_on (fresh top up) (b ++ t) (codes ") ") ∙ ap (λ q. ended (closed q)) inside ∙ ap ended (closed_at ms ns (up ++ top ∷ []))
 
 -- a list at the beginning of a list, and the space behind it
 pub within_first : (t : List ℕ) (ms : List Nest) → Fills t ms → Begins ((codes "((" ++ t) ++ codes ") ") (Node [] ms ∷ [])
 within_first t ms g top up =
     let inside : ended (run (fresh top up) (codes "((" ++ t)) ≡ fresh ms ((up ++ top ∷ []) ++ [] ∷ []) =
-        ap ended (run_on (fresh top up) (codes "((") t) ∙ g [] ((up ++ top ∷ []) ++ [] ∷ []) in
+    ap ended (run_on (fresh top up) (codes "((") t) ∙ g [] ((up ++ top ∷ []) ++ [] ∷ []) in
     run_on (fresh top up) (codes "((" ++ t) (codes ") ") ∙ ap (λ q. ended (closed q)) inside ∙ ap ended (closed_at ms [] (up ++ top ∷ []))
 
 -- ---- words

@@ -69,23 +69,31 @@ str_case : (y : o.Str-F SFields SStmt SStr SStrPiece SChainPart SPatArm SSetTo S
     → (n : Nest) × Fills (t.str_layer (str_words (str_base y))) (n ∷ []) × ((read n).string ≡ roll-Str (str_base y))
 str_case (o.Lit bytes) h = (leaf (61 ∷ show bytes), shape.lit_fills bytes h, literal_is bytes h ∙ sym (sv.rolls-Lit bytes))
 str_case (o.Var name) h = (named (codes "var") (leaf (show name) ∷ []), shape.var_fills name h, var_is (leaf (show name) ∷ []) ∙ ap sv.Var (name_back name h) ∙ sym (sv.rolls-Var name))
-str_case (o.Arg number) h =
-    (named (codes "arg") (leaf (decimal number) ∷ []), shape.arg_fills number h,
-    arg_is (leaf (decimal number) ∷ []) ∙ ap (λ l. sv.Arg (argument_in l)) (word_node (decimal number) []) ∙ ap sv.Arg (argument_back number h) ∙ sym (sv.rolls-Arg number))
+str_case (o.Arg number) h = (
+  named (codes "arg") (leaf (decimal number) ∷ []),
+  shape.arg_fills number h,
+  arg_is (leaf (decimal number) ∷ []) ∙ ap (λ l. sv.Arg (argument_in l)) (word_node (decimal number) []) ∙ ap sv.Arg (argument_back number h) ∙ sym (sv.rolls-Arg number),
+)
 str_case o.Count h = (named (codes "count") [], shape.alone_fills (codes "(count") (codes "count") (λ top up. refl), count_is [] ∙ sym sv.rolls-Count)
 str_case (o.Or first other) h =
     let k = and_parts (str_held first.0) (are_bytes other) h in
-    let a = first.1 k.0 in
-    (named (codes "or") (a.0 ∷ leaf (show other) ∷ []), shape.or_fills (str_text first.0) other a.0 a.1 k.1,
-    or_is (a.0 ∷ leaf (show other) ∷ []) ∙ ap (λ x. sv.Or x (bytes_in (read (leaf (show other))).word)) a.2 ∙ ap (sv.Or first.0) (name_back other k.1) ∙ sym (sv.rolls-Or first.0 other))
+    let a = first.1 k.0 in (
+      named (codes "or") (a.0 ∷ leaf (show other) ∷ []),
+      shape.or_fills (str_text first.0) other a.0 a.1 k.1,
+      or_is (a.0 ∷ leaf (show other) ∷ []) ∙ ap (λ x. sv.Or x (bytes_in (read (leaf (show other))).word)) a.2 ∙ ap (sv.Or first.0) (name_back other k.1) ∙ sym (sv.rolls-Or first.0 other),
+    )
 str_case (o.Output body) h =
-    let a = body.1 h in
-    (named (codes "output") (a.0 ∷ []), shape.one_text_fills (codes "(output") (codes "output") (stmt_text body.0) a.0 (λ top up. refl) a.1,
-    output_is (a.0 ∷ []) ∙ ap sv.Output a.2 ∙ sym (sv.rolls-Output body.0))
+    let a = body.1 h in (
+      named (codes "output") (a.0 ∷ []),
+      shape.one_text_fills (codes "(output") (codes "output") (stmt_text body.0) a.0 (λ top up. refl) a.1,
+      output_is (a.0 ∷ []) ∙ ap sv.Output a.2 ∙ sym (sv.rolls-Output body.0),
+    )
 str_case (o.Join parts) h =
-    let m = strs_added parts h in
-    (named (codes "join") m.0, shape.group_fills (codes "(join") (codes "join") (each_spaced (map str_text (strs_of parts))) m.0 (λ top up. refl) m.1,
-    join_is m.0 ∙ ap sv.Join m.2 ∙ sym (sv.rolls-Join (strs_of parts)))
+    let m = strs_added parts h in (
+      named (codes "join") m.0,
+      shape.group_fills (codes "(join") (codes "join") (each_spaced (map str_text (strs_of parts))) m.0 (λ top up. refl) m.1,
+      join_is m.0 ∙ ap sv.Join m.2 ∙ sym (sv.rolls-Join (strs_of parts)),
+    )
 
 -- ---- pieces and fields
 
@@ -104,9 +112,11 @@ piece_case (o.Split string) h =
 field_case : (y : o.Fields-F SFields SStmt SStr SStrPiece SChainPart SPatArm SSetTo SStmtArm) → h.fields_layer (field_tests (field_base y)) ≡ true
     → (n : Nest) × Fills (t.fields_layer (field_words (field_base y))) (n ∷ []) × ((read n).field ≡ roll-Fields (field_base y))
 field_case (o.Word pieces) h =
-    let m = pieces_added pieces h in
-    (named (codes "word") m.0, shape.group_fills (codes "(word") (codes "word") (each_spaced (map piece_text (pieces_of pieces))) m.0 (λ top up. refl) m.1,
-    word_is m.0 ∙ ap fv.Word m.2 ∙ sym (fv.rolls-Word (pieces_of pieces)))
+    let m = pieces_added pieces h in (
+      named (codes "word") m.0,
+      shape.group_fills (codes "(word") (codes "word") (each_spaced (map piece_text (pieces_of pieces))) m.0 (λ top up. refl) m.1,
+      word_is m.0 ∙ ap fv.Word m.2 ∙ sym (fv.rolls-Word (pieces_of pieces)),
+    )
 field_case o.Args h = (named (codes "args") [], shape.alone_fills (codes "(args") (codes "args") (λ top up. refl), args_is [] ∙ sym fv.rolls-Args)
 
 -- ---- statements
@@ -120,83 +130,109 @@ stmt_case o.Break h = (named (codes "break") [], shape.alone_fills (codes "(brea
 stmt_case o.Continue h = (named (codes "continue") [], shape.alone_fills (codes "(continue") (codes "continue") (λ top up. refl), continue_is [] ∙ sym v.rolls-Continue)
 stmt_case (o.Set at sets) h =
     let k = and_parts (fits at) (all_hold (map set_held (sets_of sets))) h in
-    let m = sets_added sets k.1 in
-    (named (codes "set") (leaf (decimal at) ∷ m.0), shape.at_group_fills (codes "(set") (codes "set") at (each_spaced (map set_text (sets_of sets))) m.0 (λ top up. refl) k.0 m.1,
-    set_is at m.0 k.0 ∙ ap (v.Set at) m.2 ∙ sym (v.rolls-Set at (sets_of sets)))
+    let m = sets_added sets k.1 in (
+      named (codes "set") (leaf (decimal at) ∷ m.0),
+      shape.at_group_fills (codes "(set") (codes "set") at (each_spaced (map set_text (sets_of sets))) m.0 (λ top up. refl) k.0 m.1,
+      set_is at m.0 k.0 ∙ ap (v.Set at) m.2 ∙ sym (v.rolls-Set at (sets_of sets)),
+    )
 stmt_case (o.Call at fields) h =
     let k = and_parts (fits at) (all_hold (map field_held (fields_of fields))) h in
-    let m = fields_added fields k.1 in
-    (named (codes "call") (leaf (decimal at) ∷ m.0), shape.at_group_fills (codes "(call") (codes "call") at (each_spaced (map field_text (fields_of fields))) m.0 (λ top up. refl) k.0 m.1,
-    call_is at m.0 k.0 ∙ ap (v.Call at) m.2 ∙ sym (v.rolls-Call at (fields_of fields)))
+    let m = fields_added fields k.1 in (
+      named (codes "call") (leaf (decimal at) ∷ m.0),
+      shape.at_group_fills (codes "(call") (codes "call") at (each_spaced (map field_text (fields_of fields))) m.0 (λ top up. refl) k.0 m.1,
+      call_is at m.0 k.0 ∙ ap (v.Call at) m.2 ∙ sym (v.rolls-Call at (fields_of fields)),
+    )
 stmt_case (o.Exit at fields) h =
     let k = and_parts (fits at) (all_hold (map field_held (fields_of fields))) h in
-    let m = fields_added fields k.1 in
-    (named (codes "exit") (leaf (decimal at) ∷ m.0), shape.at_group_fills (codes "(exit") (codes "exit") at (each_spaced (map field_text (fields_of fields))) m.0 (λ top up. refl) k.0 m.1,
-    exit_is at m.0 k.0 ∙ ap (v.Exit at) m.2 ∙ sym (v.rolls-Exit at (fields_of fields)))
+    let m = fields_added fields k.1 in (
+      named (codes "exit") (leaf (decimal at) ∷ m.0),
+      shape.at_group_fills (codes "(exit") (codes "exit") at (each_spaced (map field_text (fields_of fields))) m.0 (λ top up. refl) k.0 m.1,
+      exit_is at m.0 k.0 ∙ ap (v.Exit at) m.2 ∙ sym (v.rolls-Exit at (fields_of fields)),
+    )
 stmt_case (o.Return at fields) h =
     let k = and_parts (fits at) (all_hold (map field_held (fields_of fields))) h in
-    let m = fields_added fields k.1 in
-    (named (codes "return") (leaf (decimal at) ∷ m.0), shape.at_group_fills (codes "(return") (codes "return") at (each_spaced (map field_text (fields_of fields))) m.0 (λ top up. refl) k.0 m.1,
-    return_is at m.0 k.0 ∙ ap (v.Return at) m.2 ∙ sym (v.rolls-Return at (fields_of fields)))
+    let m = fields_added fields k.1 in (
+      named (codes "return") (leaf (decimal at) ∷ m.0),
+      shape.at_group_fills (codes "(return") (codes "return") at (each_spaced (map field_text (fields_of fields))) m.0 (λ top up. refl) k.0 m.1,
+      return_is at m.0 k.0 ∙ ap (v.Return at) m.2 ∙ sym (v.rolls-Return at (fields_of fields)),
+    )
 stmt_case (o.Export at fields) h =
     let k = and_parts (fits at) (all_hold (map field_held (fields_of fields))) h in
-    let m = fields_added fields k.1 in
-    (named (codes "export") (leaf (decimal at) ∷ m.0), shape.at_group_fills (codes "(export") (codes "export") at (each_spaced (map field_text (fields_of fields))) m.0 (λ top up. refl) k.0 m.1,
-    export_is at m.0 k.0 ∙ ap (v.Export at) m.2 ∙ sym (v.rolls-Export at (fields_of fields)))
+    let m = fields_added fields k.1 in (
+      named (codes "export") (leaf (decimal at) ∷ m.0),
+      shape.at_group_fills (codes "(export") (codes "export") at (each_spaced (map field_text (fields_of fields))) m.0 (λ top up. refl) k.0 m.1,
+      export_is at m.0 k.0 ∙ ap (v.Export at) m.2 ∙ sym (v.rolls-Export at (fields_of fields)),
+    )
 stmt_case (o.Unset at fields) h =
     let k = and_parts (fits at) (all_hold (map field_held (fields_of fields))) h in
-    let m = fields_added fields k.1 in
-    (named (codes "unset") (leaf (decimal at) ∷ m.0), shape.at_group_fills (codes "(unset") (codes "unset") at (each_spaced (map field_text (fields_of fields))) m.0 (λ top up. refl) k.0 m.1,
-    unset_is at m.0 k.0 ∙ ap (v.Unset at) m.2 ∙ sym (v.rolls-Unset at (fields_of fields)))
+    let m = fields_added fields k.1 in (
+      named (codes "unset") (leaf (decimal at) ∷ m.0),
+      shape.at_group_fills (codes "(unset") (codes "unset") at (each_spaced (map field_text (fields_of fields))) m.0 (λ top up. refl) k.0 m.1,
+      unset_is at m.0 k.0 ∙ ap (v.Unset at) m.2 ∙ sym (v.rolls-Unset at (fields_of fields)),
+    )
 stmt_case (o.Fun at name fields) h =
     let k = and_parts (fits at) (are_bytes name && all_hold (map field_held (fields_of fields))) h in
     let j = and_parts (are_bytes name) (all_hold (map field_held (fields_of fields))) k.1 in
-    let m = fields_added fields j.1 in
-    (named (codes "fun") (leaf (decimal at) ∷ leaf (show name) ∷ m.0), shape.fun_fills at name (each_spaced (map field_text (fields_of fields))) m.0 k.0 j.0 m.1,
-    fun_is at (leaf (show name) ∷ m.0) k.0 ∙ ap (λ l. v.Fun at l (map (λ r. r.field) (reads m.0))) (name_back name j.0) ∙ ap (v.Fun at name) m.2 ∙ sym (v.rolls-Fun at name (fields_of fields)))
+    let m = fields_added fields j.1 in (
+      named (codes "fun") (leaf (decimal at) ∷ leaf (show name) ∷ m.0),
+      shape.fun_fills at name (each_spaced (map field_text (fields_of fields))) m.0 k.0 j.0 m.1,
+      fun_is at (leaf (show name) ∷ m.0) k.0 ∙ ap (λ l. v.Fun at l (map (λ r. r.field) (reads m.0))) (name_back name j.0) ∙ ap (v.Fun at name) m.2 ∙ sym (v.rolls-Fun at name (fields_of fields)),
+    )
 stmt_case (o.Seq parts) h =
-    let m = stmts_added parts h in
-    (named (codes "seq") m.0, shape.group_fills (codes "(seq") (codes "seq") (each_spaced (map stmt_text (stmts_of parts))) m.0 (λ top up. refl) m.1,
-    seq_is m.0 ∙ ap v.Seq m.2 ∙ sym (v.rolls-Seq (stmts_of parts)))
+    let m = stmts_added parts h in (
+      named (codes "seq") m.0,
+      shape.group_fills (codes "(seq") (codes "seq") (each_spaced (map stmt_text (stmts_of parts))) m.0 (λ top up. refl) m.1,
+      seq_is m.0 ∙ ap v.Seq m.2 ∙ sym (v.rolls-Seq (stmts_of parts)),
+    )
 stmt_case (o.Chain first rest) h =
     let k = and_parts (stmt_held first.0) (all_hold (map part_held (parts_of rest))) h in
     let a = first.1 k.0 in
-    let m = parts_added rest k.1 in
-    (named (codes "chain") (a.0 ∷ m.0), shape.chain_fills (stmt_text first.0) (each_spaced (map part_text (parts_of rest))) a.0 m.0 a.1 m.1,
-    chain_is (a.0 ∷ m.0) ∙ ap (λ x. v.Chain x (map (λ r. r.part) (reads m.0))) a.2 ∙ ap (v.Chain first.0) m.2 ∙ sym (v.rolls-Chain first.0 (parts_of rest)))
+    let m = parts_added rest k.1 in (
+      named (codes "chain") (a.0 ∷ m.0),
+      shape.chain_fills (stmt_text first.0) (each_spaced (map part_text (parts_of rest))) a.0 m.0 a.1 m.1,
+      chain_is (a.0 ∷ m.0) ∙ ap (λ x. v.Chain x (map (λ r. r.part) (reads m.0))) a.2 ∙ ap (v.Chain first.0) m.2 ∙ sym (v.rolls-Chain first.0 (parts_of rest)),
+    )
 stmt_case (o.If arms other) h =
     let k = and_parts (all_hold (map arm_held (arms_of arms))) (stmt_held other.0) h in
     let m = arms_added arms k.0 in
-    let a = other.1 k.1 in
-    (named (codes "if") (m.0 ++ a.0 ∷ []), shape.if_fills (each_spaced (map arm_text (arms_of arms))) (stmt_text other.0) m.0 a.0 m.1 a.1,
-    if_is (m.0 ++ a.0 ∷ []) ∙ ap (λ rs. v.If (map (λ r. r.arm) rs) (last (reads (m.0 ++ a.0 ∷ []))).stmt) (but_last_read m.0 a.0)
-    ∙ ap (λ r. v.If (map (λ r. r.arm) (reads m.0)) r.stmt) (last_read m.0 a.0) ∙ ap (λ x. v.If (map (λ r. r.arm) (reads m.0)) x) a.2
-    ∙ ap (λ l. v.If l other.0) m.2 ∙ sym (v.rolls-If (arms_of arms) other.0))
+    let a = other.1 k.1 in (
+      named (codes "if") (m.0 ++ a.0 ∷ []),
+      shape.if_fills (each_spaced (map arm_text (arms_of arms))) (stmt_text other.0) m.0 a.0 m.1 a.1,
+      if_is (m.0 ++ a.0 ∷ []) ∙ ap (λ rs. v.If (map (λ r. r.arm) rs) (last (reads (m.0 ++ a.0 ∷ []))).stmt) (but_last_read m.0 a.0)
+          ∙ ap (λ r. v.If (map (λ r. r.arm) (reads m.0)) r.stmt) (last_read m.0 a.0) ∙ ap (λ x. v.If (map (λ r. r.arm) (reads m.0)) x) a.2
+          ∙ ap (λ l. v.If l other.0) m.2 ∙ sym (v.rolls-If (arms_of arms) other.0),
+    )
 stmt_case (o.For at name fields body) h =
     let k = and_parts (fits at) (are_bytes name && (all_hold (map field_held (fields_of fields)) && stmt_held body.0)) h in
     let j = and_parts (are_bytes name) (all_hold (map field_held (fields_of fields)) && stmt_held body.0) k.1 in
     let i = and_parts (all_hold (map field_held (fields_of fields))) (stmt_held body.0) j.1 in
     let m = all_filled Fields field_text field_held (λ r. r.field) fields i.0 in
     let a = body.1 i.1 in
-    let ns = leaf (show name) ∷ Node [] m.0 ∷ a.0 ∷ [] in
-    (named (codes "for") (leaf (decimal at) ∷ ns), shape.for_fills at name (between (λ t. t) (map field_text (fields_of fields))) (stmt_text body.0) m.0 a.0 k.0 j.0 m.1 a.1,
-    for_is at ns k.0 ∙ ap (λ l. v.For at l (read (Node [] m.0)).fields (read a.0).stmt) (name_back name j.0)
-    ∙ ap (λ l. v.For at name l (read a.0).stmt) (fields_node [] m.0 ∙ m.2) ∙ ap (v.For at name (fields_of fields)) a.2
-    ∙ sym (v.rolls-For at name (fields_of fields) body.0))
+    let ns = leaf (show name) ∷ Node [] m.0 ∷ a.0 ∷ [] in (
+      named (codes "for") (leaf (decimal at) ∷ ns),
+      shape.for_fills at name (between (λ t. t) (map field_text (fields_of fields))) (stmt_text body.0) m.0 a.0 k.0 j.0 m.1 a.1,
+      for_is at ns k.0 ∙ ap (λ l. v.For at l (read (Node [] m.0)).fields (read a.0).stmt) (name_back name j.0)
+          ∙ ap (λ l. v.For at name l (read a.0).stmt) (fields_node [] m.0 ∙ m.2) ∙ ap (v.For at name (fields_of fields)) a.2
+          ∙ sym (v.rolls-For at name (fields_of fields) body.0),
+    )
 stmt_case (o.While at cond body) h =
     let k = and_parts (fits at) (stmt_held cond.0 && stmt_held body.0) h in
     let j = and_parts (stmt_held cond.0) (stmt_held body.0) k.1 in
     let a = cond.1 j.0 in
-    let b = body.1 j.1 in
-    (named (codes "while") (leaf (decimal at) ∷ a.0 ∷ b.0 ∷ []), shape.while_fills at (stmt_text cond.0) (stmt_text body.0) a.0 b.0 k.0 a.1 b.1,
-    while_is at (a.0 ∷ b.0 ∷ []) k.0 ∙ ap (λ x. v.While at x (read b.0).stmt) a.2 ∙ ap (v.While at cond.0) b.2 ∙ sym (v.rolls-While at cond.0 body.0))
+    let b = body.1 j.1 in (
+      named (codes "while") (leaf (decimal at) ∷ a.0 ∷ b.0 ∷ []),
+      shape.while_fills at (stmt_text cond.0) (stmt_text body.0) a.0 b.0 k.0 a.1 b.1,
+      while_is at (a.0 ∷ b.0 ∷ []) k.0 ∙ ap (λ x. v.While at x (read b.0).stmt) a.2 ∙ ap (v.While at cond.0) b.2 ∙ sym (v.rolls-While at cond.0 body.0),
+    )
 stmt_case (o.Case at subject arms) h =
     let k = and_parts (fits at) (str_held subject.0 && all_hold (map pat_arm_held (pat_arms_of arms))) h in
     let j = and_parts (str_held subject.0) (all_hold (map pat_arm_held (pat_arms_of arms))) k.1 in
     let a = subject.1 j.0 in
-    let m = pat_arms_added arms j.1 in
-    (named (codes "case") (leaf (decimal at) ∷ a.0 ∷ m.0), shape.case_fills at (str_text subject.0) (each_spaced (map pat_arm_text (pat_arms_of arms))) a.0 m.0 k.0 a.1 m.1,
-    case_is at (a.0 ∷ m.0) k.0 ∙ ap (λ x. v.Case at x (map (λ r. r.pat_arm) (reads m.0))) a.2 ∙ ap (v.Case at subject.0) m.2 ∙ sym (v.rolls-Case at subject.0 (pat_arms_of arms)))
+    let m = pat_arms_added arms j.1 in (
+      named (codes "case") (leaf (decimal at) ∷ a.0 ∷ m.0),
+      shape.case_fills at (str_text subject.0) (each_spaced (map pat_arm_text (pat_arms_of arms))) a.0 m.0 k.0 a.1 m.1,
+      case_is at (a.0 ∷ m.0) k.0 ∙ ap (λ x. v.Case at x (map (λ r. r.pat_arm) (reads m.0))) a.2 ∙ ap (v.Case at subject.0) m.2 ∙ sym (v.rolls-Case at subject.0 (pat_arms_of arms)),
+    )
 stmt_case (o.Not body) h =
     let a = body.1 h in
     (named (codes "not") (a.0 ∷ []), shape.one_text_fills (codes "(not") (codes "not") (stmt_text body.0) a.0 (λ top up. refl) a.1, not_is (a.0 ∷ []) ∙ ap v.Not a.2 ∙ sym (v.rolls-Not body.0))
@@ -205,17 +241,23 @@ stmt_case (o.Quiet body) h =
     (named (codes "quiet") (a.0 ∷ []), shape.one_text_fills (codes "(quiet") (codes "quiet") (stmt_text body.0) a.0 (λ top up. refl) a.1, quiet_is (a.0 ∷ []) ∙ ap v.Quiet a.2 ∙ sym (v.rolls-Quiet body.0))
 stmt_case (o.Sub at body) h =
     let k = and_parts (fits at) (stmt_held body.0) h in
-    let a = body.1 k.1 in
-    (named (codes "sub") (leaf (decimal at) ∷ a.0 ∷ []), shape.at_text_fills (codes "(sub") (codes "sub") at (stmt_text body.0) a.0 (λ top up. refl) k.0 a.1,
-    sub_is at (a.0 ∷ []) k.0 ∙ ap (v.Sub at) a.2 ∙ sym (v.rolls-Sub at body.0))
+    let a = body.1 k.1 in (
+      named (codes "sub") (leaf (decimal at) ∷ a.0 ∷ []),
+      shape.at_text_fills (codes "(sub") (codes "sub") at (stmt_text body.0) a.0 (λ top up. refl) k.0 a.1,
+      sub_is at (a.0 ∷ []) k.0 ∙ ap (v.Sub at) a.2 ∙ sym (v.rolls-Sub at body.0),
+    )
 stmt_case (o.Err at body) h =
     let k = and_parts (fits at) (stmt_held body.0) h in
-    let a = body.1 k.1 in
-    (named (codes "err") (leaf (decimal at) ∷ a.0 ∷ []), shape.at_text_fills (codes "(err") (codes "err") at (stmt_text body.0) a.0 (λ top up. refl) k.0 a.1,
-    err_is at (a.0 ∷ []) k.0 ∙ ap (v.Err at) a.2 ∙ sym (v.rolls-Err at body.0))
-stmt_case (o.Stop at r) h =
-    (named (codes "stop") (leaf (decimal at) ∷ leaf (reason_name r) ∷ []), shape.stop_fills at r h,
-    stop_is at (leaf (reason_name r) ∷ []) h ∙ ap (λ l. v.Stop at (reason_in l)) (word_node (reason_name r) []) ∙ ap (v.Stop at) (reason_back r) ∙ sym (v.rolls-Stop at r))
+    let a = body.1 k.1 in (
+      named (codes "err") (leaf (decimal at) ∷ a.0 ∷ []),
+      shape.at_text_fills (codes "(err") (codes "err") at (stmt_text body.0) a.0 (λ top up. refl) k.0 a.1,
+      err_is at (a.0 ∷ []) k.0 ∙ ap (v.Err at) a.2 ∙ sym (v.rolls-Err at body.0),
+    )
+stmt_case (o.Stop at r) h = (
+  named (codes "stop") (leaf (decimal at) ∷ leaf (reason_name r) ∷ []),
+  shape.stop_fills at r h,
+  stop_is at (leaf (reason_name r) ∷ []) h ∙ ap (λ l. v.Stop at (reason_in l)) (word_node (reason_name r) []) ∙ ap (v.Stop at) (reason_back r) ∙ sym (v.rolls-Stop at r),
+)
 
 -- ---- what stands in lists
 
@@ -237,21 +279,27 @@ unfolding node_read
 set_case y h =
     let k = and_parts (are_bytes y.name) (str_held y.value.0) h in
     let a = y.value.1 k.1 in
-    let ns = leaf (show y.name) ∷ a.0 ∷ [] in
-    (Node [] ns, shape.set_fills y.name (str_text y.value.0) a.0 k.0 a.1,
-    set_node [] ns ∙ ap (λ l. a_set l (read a.0).string) (name_back y.name k.0) ∙ ap (a_set y.name) a.2 ∙ sym (rolls-SetTo' (set_base y)))
+    let ns = leaf (show y.name) ∷ a.0 ∷ [] in (
+      Node [] ns,
+      shape.set_fills y.name (str_text y.value.0) a.0 k.0 a.1,
+      set_node [] ns ∙ ap (λ l. a_set l (read a.0).string) (name_back y.name k.0) ∙ ap (a_set y.name) a.2 ∙ sym (rolls-SetTo' (set_base y)),
+    )
 
 part_known : (b : Bool) (s : SStmt) → stmt_held s.0 ≡ true
     → (n : Nest) × Fills (t.one_text (t.link_head b) (stmt_text s.0)) (n ∷ []) × ((read n).part ≡ a_part b s.0)
 unfolding node_read
 part_known true s h =
-    let a = s.1 h in
-    (named (codes "and") (a.0 ∷ []), shape.one_text_fills (codes "(and") (codes "and") (stmt_text s.0) a.0 (λ top up. refl) a.1,
-    part_node [] (leaf (codes "and") ∷ a.0 ∷ []) ∙ ap (λ l. a_part (bytes_eq l (codes "and")) (read a.0).stmt) (word_node (codes "and") []) ∙ ap (a_part true) a.2)
+    let a = s.1 h in (
+      named (codes "and") (a.0 ∷ []),
+      shape.one_text_fills (codes "(and") (codes "and") (stmt_text s.0) a.0 (λ top up. refl) a.1,
+      part_node [] (leaf (codes "and") ∷ a.0 ∷ []) ∙ ap (λ l. a_part (bytes_eq l (codes "and")) (read a.0).stmt) (word_node (codes "and") []) ∙ ap (a_part true) a.2,
+    )
 part_known false s h =
-    let a = s.1 h in
-    (named (codes "or") (a.0 ∷ []), shape.one_text_fills (codes "(or") (codes "or") (stmt_text s.0) a.0 (λ top up. refl) a.1,
-    part_node [] (leaf (codes "or") ∷ a.0 ∷ []) ∙ ap (λ l. a_part (bytes_eq l (codes "and")) (read a.0).stmt) (word_node (codes "or") []) ∙ ap (a_part false) a.2)
+    let a = s.1 h in (
+      named (codes "or") (a.0 ∷ []),
+      shape.one_text_fills (codes "(or") (codes "or") (stmt_text s.0) a.0 (λ top up. refl) a.1,
+      part_node [] (leaf (codes "or") ∷ a.0 ∷ []) ∙ ap (λ l. a_part (bytes_eq l (codes "and")) (read a.0).stmt) (word_node (codes "or") []) ∙ ap (a_part false) a.2,
+    )
 
 part_case : (y : o.ChainPart-F SFields SStmt SStr SStrPiece SChainPart SPatArm SSetTo SStmtArm) → h.part_layer (part_tests (part_base y)) ≡ true
     → (n : Nest) × Fills (t.part_layer (part_words (part_base y))) (n ∷ []) × ((read n).part ≡ roll-ChainPart (part_base y))
@@ -263,16 +311,20 @@ unfolding node_read
 arm_case y h =
     let k = and_parts (stmt_held y.cond.0) (stmt_held y.body.0) h in
     let a = y.cond.1 k.0 in
-    let b = y.body.1 k.1 in
-    (Node [] (a.0 ∷ b.0 ∷ []), shape.arm_fills (stmt_text y.cond.0) (stmt_text y.body.0) a.0 b.0 a.1 b.1,
-    arm_node [] (a.0 ∷ b.0 ∷ []) ∙ ap (λ x. an_arm x (read b.0).stmt) a.2 ∙ ap (an_arm y.cond.0) b.2 ∙ sym (rolls-StmtArm' (arm_base y)))
+    let b = y.body.1 k.1 in (
+      Node [] (a.0 ∷ b.0 ∷ []),
+      shape.arm_fills (stmt_text y.cond.0) (stmt_text y.body.0) a.0 b.0 a.1 b.1,
+      arm_node [] (a.0 ∷ b.0 ∷ []) ∙ ap (λ x. an_arm x (read b.0).stmt) a.2 ∙ ap (an_arm y.cond.0) b.2 ∙ sym (rolls-StmtArm' (arm_base y)),
+    )
 
 pattern_known : (ys : List SStrPiece) → all_hold (map piece_held (pieces_of ys)) ≡ true
     → (n : Nest) × Fills (pattern_text_of (map piece_text (pieces_of ys))) (n ∷ []) × ((read n).pieces ≡ pieces_of ys)
 pattern_known ys h =
-    let m = pieces_added ys h in
-    (named (codes "pat") m.0, shape.group_fills (codes "(pat") (codes "pat") (each_spaced (map piece_text (pieces_of ys))) m.0 (λ top up. refl) m.1,
-    pieces_node [] (leaf (codes "pat") ∷ m.0) ∙ m.2)
+    let m = pieces_added ys h in (
+      named (codes "pat") m.0,
+      shape.group_fills (codes "(pat") (codes "pat") (each_spaced (map piece_text (pieces_of ys))) m.0 (λ top up. refl) m.1,
+      pieces_node [] (leaf (codes "pat") ∷ m.0) ∙ m.2,
+    )
 
 abbrev patterns_of : List (List SStrPiece) → List (List StrPiece)
 patterns_of yss = map (λ ys. pieces_of ys) yss
@@ -285,9 +337,11 @@ patterns_added (ys ∷ yss) h =
     let k = and_parts (all_hold (map piece_held (pieces_of ys))) (all_hold (map all_hold (map (λ ys. map piece_held ys) (patterns_of yss)))) h in
     let one = pattern_known ys k.0 in
     let more = patterns_added yss k.1 in
-    let text = pattern_text_of (map piece_text (pieces_of ys)) in
-    (one.0 ∷ more.0, adds_both (32 ∷ text) (flat_map (λ ts. spaced (pattern_text_of ts)) (map (λ ys. map piece_text ys) (patterns_of yss))) (one.0 ∷ []) more.0 (adds_space text (one.0 ∷ []) one.1) more.1,
-    ap (λ x. x ∷ map (λ r. r.pieces) (reads more.0)) one.2 ∙ ap (λ l. pieces_of ys ∷ l) more.2)
+    let text = pattern_text_of (map piece_text (pieces_of ys)) in (
+      one.0 ∷ more.0,
+      adds_both (32 ∷ text) (flat_map (λ ts. spaced (pattern_text_of ts)) (map (λ ys. map piece_text ys) (patterns_of yss))) (one.0 ∷ []) more.0 (adds_space text (one.0 ∷ []) one.1) more.1,
+      ap (λ x. x ∷ map (λ r. r.pieces) (reads more.0)) one.2 ∙ ap (λ l. pieces_of ys ∷ l) more.2,
+    )
 
 patterns_filled : (yss : List (List SStrPiece)) → all_hold (map all_hold (map (λ ys. map piece_held ys) (patterns_of yss))) ≡ true
     → (ns : List Nest) × Fills (between pattern_text_of (map (λ ys. map piece_text ys) (patterns_of yss))) ns × (map (λ r. r.pieces) (reads ns) ≡ patterns_of yss)
@@ -296,9 +350,11 @@ patterns_filled (ys ∷ yss) h =
     let k = and_parts (all_hold (map piece_held (pieces_of ys))) (all_hold (map all_hold (map (λ ys. map piece_held ys) (patterns_of yss)))) h in
     let one = pattern_known ys k.0 in
     let more = patterns_added yss k.1 in
-    let text = pattern_text_of (map piece_text (pieces_of ys)) in
-    (one.0 ∷ more.0, fills_both text (flat_map (λ ts. spaced (pattern_text_of ts)) (map (λ ys. map piece_text ys) (patterns_of yss))) (one.0 ∷ []) more.0 one.1 more.1,
-    ap (λ x. x ∷ map (λ r. r.pieces) (reads more.0)) one.2 ∙ ap (λ l. pieces_of ys ∷ l) more.2)
+    let text = pattern_text_of (map piece_text (pieces_of ys)) in (
+      one.0 ∷ more.0,
+      fills_both text (flat_map (λ ts. spaced (pattern_text_of ts)) (map (λ ys. map piece_text ys) (patterns_of yss))) (one.0 ∷ []) more.0 one.1 more.1,
+      ap (λ x. x ∷ map (λ r. r.pieces) (reads more.0)) one.2 ∙ ap (λ l. pieces_of ys ∷ l) more.2,
+    )
 
 pat_arm_case : (y : o.PatArm-F SFields SStmt SStr SStrPiece SChainPart SPatArm SSetTo SStmtArm) → h.pat_arm_layer (pat_arm_tests (pat_arm_base y)) ≡ true
     → (n : Nest) × Fills (t.pat_arm_layer (pat_arm_words (pat_arm_base y))) (n ∷ []) × ((read n).pat_arm ≡ roll-PatArm (pat_arm_base y))
@@ -307,9 +363,11 @@ pat_arm_case y h =
     let k = and_parts (all_hold (map all_hold (map (λ ys. map piece_held ys) (patterns_of y.patterns)))) (stmt_held y.body.0) h in
     let m = patterns_filled y.patterns k.0 in
     let b = y.body.1 k.1 in
-    let ns = Node [] m.0 ∷ b.0 ∷ [] in
-    (Node [] ns, shape.pat_arm_fills (between pattern_text_of (map (λ ys. map piece_text ys) (patterns_of y.patterns))) (stmt_text y.body.0) m.0 b.0 m.1 b.1,
-    pat_arm_node [] ns ∙ ap (λ l. a_pat_arm l (read b.0).stmt) (patterns_node [] m.0 ∙ m.2) ∙ ap (a_pat_arm (patterns_of y.patterns)) b.2 ∙ sym (rolls-PatArm' (pat_arm_base y)))
+    let ns = Node [] m.0 ∷ b.0 ∷ [] in (
+      Node [] ns,
+      shape.pat_arm_fills (between pattern_text_of (map (λ ys. map piece_text ys) (patterns_of y.patterns))) (stmt_text y.body.0) m.0 b.0 m.1 b.1,
+      pat_arm_node [] ns ∙ ap (λ l. a_pat_arm l (read b.0).stmt) (patterns_node [] m.0 ∙ m.2) ∙ ap (a_pat_arm (patterns_of y.patterns)) b.2 ∙ sym (rolls-PatArm' (pat_arm_base y)),
+    )
 
 -- ---- the induction
 

@@ -389,9 +389,11 @@ module _ (X : Type 0) (text : X → Text) (held : X → Bool) (f : Read → X) w
   all_added (y ∷ ys) h =
       let k = and_parts (held y.0) (all_hold (map held (firsts ys))) h in
       let one = y.1 k.0 in
-      let more = all_added ys k.1 in
-      (one.0 ∷ more.0, adds_both (32 ∷ text y.0) (each_spaced (map text (firsts ys))) (one.0 ∷ []) more.0 (adds_space (text y.0) (one.0 ∷ []) one.1) more.1,
-      ap (λ x. x ∷ map f (reads more.0)) one.2 ∙ ap (λ l. y.0 ∷ l) more.2)
+      let more = all_added ys k.1 in (
+        one.0 ∷ more.0,
+        adds_both (32 ∷ text y.0) (each_spaced (map text (firsts ys))) (one.0 ∷ []) more.0 (adds_space (text y.0) (one.0 ∷ []) one.1) more.1,
+        ap (λ x. x ∷ map f (reads more.0)) one.2 ∙ ap (λ l. y.0 ∷ l) more.2,
+      )
 
   pub all_filled : (ys : List Sure) → all_hold (map held (firsts ys)) ≡ true
       → (ns : List Nest) × Fills (between (λ t. t) (map text (firsts ys))) ns × (map f (reads ns) ≡ firsts ys)
@@ -399,9 +401,11 @@ module _ (X : Type 0) (text : X → Text) (held : X → Bool) (f : Read → X) w
   all_filled (y ∷ ys) h =
       let k = and_parts (held y.0) (all_hold (map held (firsts ys))) h in
       let one = y.1 k.0 in
-      let more = all_added ys k.1 in
-      (one.0 ∷ more.0, fills_both (text y.0) (each_spaced (map text (firsts ys))) (one.0 ∷ []) more.0 one.1 more.1,
-      ap (λ x. x ∷ map f (reads more.0)) one.2 ∙ ap (λ l. y.0 ∷ l) more.2)
+      let more = all_added ys k.1 in (
+        one.0 ∷ more.0,
+        fills_both (text y.0) (each_spaced (map text (firsts ys))) (one.0 ∷ []) more.0 one.1 more.1,
+        ap (λ x. x ∷ map f (reads more.0)) one.2 ∙ ap (λ l. y.0 ∷ l) more.2,
+      )
 
 abbrev pub fields_of : List SFields → List Fields
 fields_of ys = map (λ y. y.0) ys
@@ -450,4 +454,3 @@ arms_of ys = map (λ y. y.0) ys
 
 abbrev pub arms_added : (ys : List SStmtArm) → all_hold (map arm_held (map (λ y. y.0) ys)) ≡ true → (ns : List Nest) × Adds (each_spaced (map arm_text (map (λ y. y.0) ys))) ns × (map (λ r. r.arm) (reads ns) ≡ map (λ y. y.0) ys)
 arms_added = all_added StmtArm arm_text arm_held (λ r. r.arm)
-

@@ -31,9 +31,11 @@ unfolding node_read
 def_known d h =
     let k = and_parts (are_bytes d.name) (stmt_held d.body) h in
     let a = stmt_known d.body k.1 in
-    let ns = leaf (codes "def") ∷ leaf (show d.name) ∷ a.0 ∷ [] in
-    (Node [] ns, def_fills d.name (stmt_text d.body) a.0 k.0 a.1,
-    def_node [] ns ∙ ap (λ l. a_def l (read a.0).stmt) (name_back d.name k.0) ∙ ap (a_def d.name) a.2)
+    let ns = leaf (codes "def") ∷ leaf (show d.name) ∷ a.0 ∷ [] in (
+      Node [] ns,
+      def_fills d.name (stmt_text d.body) a.0 k.0 a.1,
+      def_node [] ns ∙ ap (λ l. a_def l (read a.0).stmt) (name_back d.name k.0) ∙ ap (a_def d.name) a.2,
+    )
 
 abbrev defs_text : List Def → Text
 defs_text defs = flat_map (λ def. spaced (def_text def)) defs
@@ -44,9 +46,11 @@ defs_added [] h = ([], adds_none, refl)
 defs_added (d ∷ defs) h =
     let k = and_parts (def_held d) (list_all def_held defs) h in
     let one = def_known d k.0 in
-    let more = defs_added defs k.1 in
-    (one.0 ∷ more.0, adds_both (32 ∷ def_text d) (defs_text defs) (one.0 ∷ []) more.0 (adds_space (def_text d) (one.0 ∷ []) one.1) more.1,
-    ap (λ x. x ∷ map (λ r. r.def) (reads more.0)) one.2 ∙ ap (λ l. d ∷ l) more.2)
+    let more = defs_added defs k.1 in (
+      one.0 ∷ more.0,
+      adds_both (32 ∷ def_text d) (defs_text defs) (one.0 ∷ []) more.0 (adds_space (def_text d) (one.0 ∷ []) one.1) more.1,
+      ap (λ x. x ∷ map (λ r. r.def) (reads more.0)) one.2 ∙ ap (λ l. d ∷ l) more.2,
+    )
 
 -- the word for the strict flag
 strict_word : Bool → Text
@@ -73,8 +77,8 @@ unfolding program_text_of
 program_nests p ns n a f =
     let text = program_head p.strict ++ defs_text p.defs ++ codes " " ++ stmt_text p.body in
     let begun : Opens text (whole p.strict ns n) =
-        next (program_head p.strict ++ defs_text p.defs) (stmt_text p.body) (leaf (codes "program") ∷ leaf (strict_word p.strict) ∷ ns) (n ∷ [])
-        (added (program_head p.strict) (defs_text p.defs) (leaf (codes "program") ∷ leaf (strict_word p.strict) ∷ []) ns (head_opens p.strict) a) f in
+    next (program_head p.strict ++ defs_text p.defs) (stmt_text p.body) (leaf (codes "program") ∷ leaf (strict_word p.strict) ∷ ns) (n ∷ [])
+    (added (program_head p.strict) (defs_text p.defs) (leaf (codes "program") ∷ leaf (strict_word p.strict) ∷ []) ns (head_opens p.strict) a) f in
     ap (λ r. r.top) (run_on (fresh [] []) text (codes ")\n") ∙ ap (λ q. step (closed q) 10) (begun [] []) ∙ ap (λ q. step q 10) (closed_at (whole p.strict ns n) [] []))
 
 abbrev a_program : Bool → List Def → Stmt → ProgramParts

@@ -2,7 +2,6 @@ ghost use Rattle.std.specs.Prelude.{◌≡◌, IfOk, map};
 ghost use Rattle.colis_reader.specs.Readings.{read, reads, member, behind, but_last, string_headed, literal_in};
 ghost use Rattle.colis_reader.specs.Readings.{last, bytes_in, piece_headed, field_headed, stmt_headed, word_headed};
 ghost use Rattle.colis_reader.specs.Readings.{sited_from, sited_headed, simple_headed, fields_headed};
-
 ghost use Rattle.colis_syntax.specs.declared.syntax.Stmt.TheVariants.{Set, Call, Fun, Seq, Chain, Not, If, For, While};
 ghost use Rattle.colis_syntax.specs.declared.syntax.Stmt.TheVariants.{Case, Sub, Quiet, Err as ErrJoined, Exit};
 ghost use Rattle.colis_syntax.specs.declared.syntax.Stmt.TheVariants.{Return, Export, Unset};
