@@ -12,4 +12,3 @@ mod tokens;
 mod trees;
 
 pub use script::parse;
-

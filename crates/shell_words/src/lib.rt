@@ -19,4 +19,3 @@ pub use field::{fields, join};
 pub use pattern::matches;
 pub use piece::Piece;
 pub use trim::trim_newlines;
-
