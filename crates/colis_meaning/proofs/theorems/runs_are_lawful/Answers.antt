@@ -6,13 +6,13 @@ use Rattle.colis_meaning.proofs.theorems.runs_are_lawful.Goals as goal
 
 pub returns-clause-trace : goal.returns-clause-trace
 returns-clause-trace c = λ program step conc tree trace.
-    (whole_keeps (co_stmt program.body (funs_of program.defs [])) (program_lawful program.defs program.body)).trace step
-    (names_of program.defs) conc tree trace
+    (whole_keeps (co_stmt program.body (funs_of program.defs [])) (program_lawful program.defs program.body)).trace
+    step (names_of program.defs) conc tree trace
 
 pub returns-clause-turns : goal.returns-clause-turns
 returns-clause-turns c = λ program step conc tree trace.
-    (whole_keeps (co_stmt program.body (funs_of program.defs [])) (program_lawful program.defs program.body)).turns step
-    (names_of program.defs) conc tree trace
+    (whole_keeps (co_stmt program.body (funs_of program.defs [])) (program_lawful program.defs program.body)).turns
+    step (names_of program.defs) conc tree trace
 
 pub returns-clause-more : goal.returns-clause-more
 returns-clause-more c = λ n program step conc tree trace.
