@@ -1,0 +1,4 @@
+mod Each
+mod Passes
+mod InPlace
+mod WellFormed
