@@ -1,1 +1,11 @@
+pub mod Calls
+pub mod Cases
+pub mod Commands
+pub mod Expansion
+pub mod Laws
+pub mod Loops
+pub mod OwnNames
+pub mod RuleLaws
+pub mod State
 pub mod Strict
+pub mod Whole

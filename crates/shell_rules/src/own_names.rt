@@ -1,7 +1,7 @@
 ghost use Rattle.std.specs.Prelude.{◌≡◌};
 ghost use Rattle.std.specs.List.{list_any};
 ghost use Rattle.std.specs.Str.{bytes_eq};
-ghost use Rattle.colis_syntax.specs.OwnNames.{is_shells_own};
+ghost use Rattle.shell_rules.specs.OwnNames.{is_shells_own};
 
 // The names, but for those that begin with BASH.
 const OWN_NAMES: [&[u8]; 42] = [

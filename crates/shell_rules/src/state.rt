@@ -1,4 +1,4 @@
-use script_names::{Bytes, Copied, List, Mark, Memory, Reason, Site};
+use script_names::{Bytes, Copied, List, Mark, Memory};
 use shell_words::Env;
 use std::alloc::Global;
 
@@ -22,17 +22,6 @@ pub struct Conc {
 /// The acts that a run did, in order.
 pub type Trace = List<Mark>;
 
-/// How a run of a program ends.
-#[derive(Clone, Copy, Debug, PartialEq, Eq)]
-pub enum End {
-    /// With success, or with failure.
-    Status(bool),
-    /// Without a result, since what it met at the site has no specification here.
-    Stopped(Reason, Site),
-    /// With no turn left for the loop at the site.
-    Bound(Site),
-}
-
 impl Copied for Conc {
     fn copy(&self, alloc: Global) -> Result<Conc, Memory> {
         let vars = self.vars.copy(alloc)?;
@@ -46,11 +35,5 @@ impl Copied for Conc {
             captured,
             turns: self.turns,
         })
-    }
-}
-
-impl Copied for End {
-    fn copy(&self, _alloc: Global) -> Result<End, Memory> {
-        Ok(*self)
     }
 }

@@ -1,0 +1,5 @@
+pub mod Keeping
+pub mod LawfulRules
+pub mod PatternMatches
+pub mod Trimming
+pub mod WholeRuns
