@@ -1,4 +1,9 @@
 mod Each
+mod Statics
+mod Steps
 mod Passes
 mod InPlace
 mod WellFormed
+mod Nodes
+mod Same
+mod SameScript

@@ -1,8 +1,8 @@
 -- What a command without unsupported forms becomes may stand in a program.
-use Rattle.std.proofs.Common.{◌≡◌, ℕ, suc, Bool, true, false, not, ◌&&◌, ◌||◌, List, [], ◌∷◌, ◌++◌, map, length, Option, Some, None, refl, sym, ap, ◌∙◌, subst, if◌then◌else◌, codes, nat_le}
+use Rattle.std.proofs.Common.{◌≡◌, ℕ, suc, Bool, true, false, not, ◌&&◌, ◌||◌, List, [], ◌∷◌, ◌++◌, map, length, Option, Some, None, refl, sym, ap, ◌∙◌, subst, if◌then◌else◌, codes, nat_le, arith}
 use Rattle.std.specs.List.{list_all, list_any, flat_map}
 use Rattle.std.specs.Str.{bytes_eq}
-use Rattle.std.proofs.lemmas.Bool.{and_from, and_parts}
+use Rattle.std.proofs.lemmas.Bool.{and_from, and_parts, le-leb}
 use Rattle.shell_syntax.specs.declared.key.Key.{Key}
 use Rattle.shell_syntax.specs.declared.key.Key.TheVariants as key
 use Rattle.shell_syntax.specs.declared.redirect.Redirect.{Redirect}
@@ -60,10 +60,10 @@ not_when true f at e = absurd (cc e)
 not_when false f at e = refl
 
 pub has_one : {A : Type 0} (x : A) (xs : List A) → nat_le 1 (length (x ∷ xs)) ≡ true
-has_one x xs = leb_true 1 (length (x ∷ xs)) (omega arith)
+has_one x xs = le-leb 1 (length (x ∷ xs)) (omega arith)
 
 has_two : {A : Type 0} (x y : A) (xs : List A) → nat_le 2 (length (x ∷ y ∷ xs)) ≡ true
-has_two x y xs = leb_true 2 (length (x ∷ y ∷ xs)) (omega arith)
+has_two x y xs = le-leb 2 (length (x ∷ y ∷ xs)) (omega arith)
 
 -- ---- what may stand in a scope, construct by construct
 

@@ -5,6 +5,9 @@
 mod kinds;
 mod redirections;
 mod statements;
+pub mod theorems;
+#[cfg(test)]
+mod tests;
 mod translation;
 mod words;
 

@@ -1,11 +1,11 @@
-ghost use Rattle.std.specs.Prelude.{◌≡◌, ◌<◌, [], ◌∷◌, length, map, IfOk};
+ghost use Rattle.std.specs.Prelude.{◌≡◌, ◌<◌, [], ◌∷◌, ◌++◌, length, map, IfOk, OnOk};
 ghost use Rattle.std.specs.List.{flat_map};
 ghost use Rattle.shell_syntax.specs.declared.syntax.Command.TheVariants.{Simple, Chain, If, For, While, Case};
 ghost use Rattle.shell_syntax.specs.declared.syntax.CaseArm.{out-CaseArm};
 ghost use Rattle.shell_to_colis.specs.Translated.{translated, each, part_to, piece_to, joined_to, pieces_to};
 ghost use Rattle.shell_to_colis.specs.Translated.{word_to, field_to, fields_to, rest_of, list_to, assign_to, link_to};
 ghost use Rattle.shell_to_colis.specs.Translated.{if_arm_to, case_arm_to, otherwise_to, condition_to, body_to};
-ghost use Rattle.shell_to_colis.specs.Translated.{assigned_to, seq_to, chain_to, if_to};
+ghost use Rattle.shell_to_colis.specs.Translated.{assigned_to, simple_to, seq_to, chain_to, if_to};
 
 use crate::kinds::{Kind, kind_of};
 use crate::redirections::redirected;
@@ -136,7 +136,22 @@ fn simple(
 ) -> Result<Stmt, Memory>
     ensures { IfOk result (λ stmt. stmt ≡ translated (Simple at assigns.now words.now) defs.now) }
 {
-    match kind_of(alloc, words.as_slice(), defs)? {
+    let kind = kind_of(alloc, words.as_slice(), defs)?;
+    of_kind(alloc, at, kind, assigns, words, defs)
+}
+
+#[cycle(translating)]
+fn of_kind(
+    alloc: Global,
+    at: u32,
+    kind: Kind,
+    assigns: &List<Assign>,
+    words: &List<Word>,
+    defs: &[Def],
+) -> Result<Stmt, Memory>
+    ensures { IfOk result (λ stmt. stmt ≡ simple_to at kind (map assign_to assigns.now) (map word_to words.now) defs.now) }
+{
+    match kind {
         Kind::Assignments => Ok(assigned(at, sets_of(alloc, assigns.as_slice(), defs)?)),
         Kind::Strict => Ok(Stmt::Strict),
         Kind::Lax => Ok(Stmt::Lax),
@@ -333,12 +348,25 @@ fn case_arms(alloc: Global, arms: &[CaseArm], defs: &[Def]) -> Result<List<PatAr
 {
     let mut parts = List::new(alloc);
     for arm in arms {
-        if arm.patterns.len() > 0 {
-            let part = case_arm(alloc, arm, defs)?;
-            parts.add(part)?;
-        }
+        add_case_arm(alloc, &mut parts, arm, defs)?;
     }
     Ok(parts)
+}
+
+#[cycle(translating)]
+fn add_case_arm(
+    alloc: Global,
+    parts: &mut List<PatArm>,
+    arm: &CaseArm,
+    defs: &[Def],
+) -> Result<(), Memory>
+    ensures { OnOk result (parts.new ≡ parts.old ++ case_arm_to arm.now defs.now) }
+{
+    if arm.patterns.len() == 0 {
+        return Ok(());
+    }
+    let part = case_arm(alloc, arm, defs)?;
+    parts.add(part)
 }
 
 #[cycle(translating)]

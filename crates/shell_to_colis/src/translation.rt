@@ -1,4 +1,5 @@
 ghost use Rattle.std.specs.Prelude.{◌≡◌, [], ◌∷◌, IfOk, OnOk};
+ghost use Rattle.shell_to_colis.specs.Laws.{DoesTheSame};
 ghost use Rattle.shell_to_colis.specs.Members.{defined_by, members_of};
 ghost use Rattle.shell_to_colis.specs.Translated.{def_to, defs_behind, defs_to, body_statements, program_of, of_option};
 
@@ -85,9 +86,12 @@ fn one(alloc: Global, member: &Command) -> Result<(List<Def>, List<Stmt>), Memor
     Ok((defs, stmts))
 }
 
-/// The CoLiS program of an accepted script, which does what the script does.
+/// The CoLiS program of an accepted script. It does what the script does, and begins with the strict flag exactly where
+/// the script does.
 pub fn translate(alloc: Global, script: &Accepted) -> Result<Program, Memory>
-    ensures { IfOk result (λ program. program ≡ program_of script.now) }
+    ensures program { IfOk result (λ program. program ≡ program_of script.now) }
+    ensures flag { IfOk result (λ program. program.strict ≡ script.now.strict) }
+    ensures same { IfOk result (λ program. DoesTheSame script.now program) }
 {
     let script = script.script();
     let (defs, stmts) = parts(alloc, &script.body)?;

@@ -38,10 +38,10 @@ abbrev pub decreases-value : goal.decreases-value
 decreases-value l = 6 * goal.size-value l + 1
 
 abbrev pub decreases-command : goal.decreases-command
-decreases-command l = 6 * goal.size-command l + 1
+decreases-command l = 6 * goal.size-command l + 2
 
 abbrev pub decreases-boxed : goal.decreases-boxed
-decreases-boxed l = 6 * goal.size-boxed l + 2
+decreases-boxed l = 6 * goal.size-boxed l + 3
 
 abbrev pub decreases-pieces_of : goal.decreases-pieces_of
 decreases-pieces_of l = 6 * goal.size-pieces_of l + 1
@@ -89,19 +89,25 @@ abbrev pub decreases-commands_of : goal.decreases-commands_of
 decreases-commands_of l = 6 * goal.size-commands_of l + 3
 
 abbrev pub decreases-simple : goal.decreases-simple
-decreases-simple l = 6 * size-Command (Simple l.at l.assigns.now l.words.now)
+decreases-simple l = 6 * size-Command (Simple l.at l.assigns.now l.words.now) + 1
 
 abbrev pub decreases-chain : goal.decreases-chain
-decreases-chain l = 6 * size-Command (Chain l.first.now l.rest.now)
+decreases-chain l = 6 * size-Command (Chain l.first.now l.rest.now) + 1
 
 abbrev pub decreases-branches : goal.decreases-branches
-decreases-branches l = 6 * size-Command (If l.at l.arms.now l.otherwise.now)
+decreases-branches l = 6 * size-Command (If l.at l.arms.now l.otherwise.now) + 1
 
 abbrev pub decreases-each_field : goal.decreases-each_field
-decreases-each_field l = 6 * size-Command (For l.at l.name.now l.words.now l.body.now)
+decreases-each_field l = 6 * size-Command (For l.at l.name.now l.words.now l.body.now) + 1
 
 abbrev pub decreases-repeated : goal.decreases-repeated
-decreases-repeated l = 6 * size-Command (While l.at l.until l.cond.now l.body.now)
+decreases-repeated l = 6 * size-Command (While l.at l.until l.cond.now l.body.now) + 1
 
 abbrev pub decreases-cases : goal.decreases-cases
-decreases-cases l = 6 * size-Command (Case l.at l.subject.now l.arms.now)
+decreases-cases l = 6 * size-Command (Case l.at l.subject.now l.arms.now) + 1
+
+abbrev pub decreases-of_kind : goal.decreases-of_kind
+decreases-of_kind l = 6 * size-Command (Simple l.at l.assigns.now l.words.now)
+
+abbrev pub decreases-add_case_arm : goal.decreases-add_case_arm
+decreases-add_case_arm l = 6 * goal.size-add_case_arm l + 2
