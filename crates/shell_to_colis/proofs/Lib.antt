@@ -7,3 +7,4 @@ mod WellFormed
 mod Nodes
 mod Same
 mod SameScript
+mod Made

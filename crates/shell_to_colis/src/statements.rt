@@ -348,7 +348,7 @@ fn case_arms(alloc: Global, arms: &[CaseArm], defs: &[Def]) -> Result<List<PatAr
 {
     let mut parts = List::new(alloc);
     for arm in arms {
-        add_case_arm(alloc, &mut parts, arm, defs)?;
+        add_case_arm(alloc, arm, defs, &mut parts)?;
     }
     Ok(parts)
 }
@@ -356,9 +356,9 @@ fn case_arms(alloc: Global, arms: &[CaseArm], defs: &[Def]) -> Result<List<PatAr
 #[cycle(translating)]
 fn add_case_arm(
     alloc: Global,
-    parts: &mut List<PatArm>,
     arm: &CaseArm,
     defs: &[Def],
+    parts: &mut List<PatArm>,
 ) -> Result<(), Memory>
     ensures { OnOk result (parts.new ≡ parts.old ++ case_arm_to arm.now defs.now) }
 {

@@ -1,8 +1,8 @@
-use Rattle.std.proofs.Common.{◌≡◌, ℕ, List, map, refl, ◌++◌, ◌∷◌, [], ap, sym, ◌∙◌, rules}
+use Rattle.std.proofs.Common.{◌≡◌, IfOk, subst, List, map, refl, ◌++◌, ◌∷◌, [], ap, sym, ◌∙◌, rules}
 use Rattle.std.specs.List.{flat_map}
-use Rattle.shell_to_colis.specs.Translated.{PartTo, WordTo, translated, each, part_to, piece_to, pieces_to, word_to, field_to, fields_to, assign_to, link_to, if_arm_to, case_arm_to}
+use Rattle.shell_to_colis.specs.Translated.{PartTo, WordTo, translated, each, part_to, piece_to, pieces_to, word_to, field_to, fields_to, kind_of, static_word, assign_to, link_to, if_arm_to, case_arm_to}
 use Rattle.shell_to_colis.proofs.Each.{each_more}
-use Rattle.shell_to_colis.proofs.Statics.{translated_simple, no_arm}
+use Rattle.shell_to_colis.proofs.Statics.{translated_simple}
 use Rattle.shell_to_colis.proofs.statements.+translating.Goals as goal
 
 pub commands_of-loop-part-preserved : goal.commands_of-loop-part-preserved
@@ -60,4 +60,8 @@ case_arms-loop-arm-preserved t c =
     search (rules, e)
 
 pub simple-returns : goal.simple-returns
-simple-returns t c = let x : ℕ = c.in_ok-kind.ensures in ?
+simple-returns t c =
+    subst (λ q. IfOk c.of_kind.result (λ s. s ≡ q))
+    (translated_simple c.args.at c.args.assigns.now c.args.words.now c.args.defs.now c.in_ok-kind.kind
+      (c.in_ok-kind.ensures ∙ ap (λ ws. kind_of (map static_word ws) c.args.defs.now) c.as_slice.ensures))
+    c.of_kind.ensures
