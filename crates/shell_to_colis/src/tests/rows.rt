@@ -40,7 +40,7 @@ a "$@" -> lax (call 10 (word (p =a)) (args))
 a $(b) -> lax (call 10 (word (p =a)) (word (s (output (call 14 (word (p =b)))))))
 a "$(b)"c -> lax (call 10 (word (p =a)) (word (q (output (call 15 (word (p =b))))) (p =c)))
 a $() -> lax (call 10 (word (p =a)) (word (s (output (skip)))))
-a $(b $(c)) -> lax (call 10 (word (p =a)) (word (s (output (call 14 (word (p =b)) (word (s (output (call 18 (word (p =c))))))))))
+a $(b $(c)) -> lax (call 10 (word (p =a)) (word (s (output (call 14 (word (p =b)) (word (s (output (call 18 (word (p =c)))))))))))
 $x a -> lax (call 10 (word (s (var x))) (word (p =a)))
 "$x" exit -> lax (call 10 (word (q (var x))) (word (p =exit)))
 $(a) -> lax (call 10 (word (s (output (call 12 (word (p =a)))))))"##;
