@@ -13,7 +13,8 @@ use Rattle.colis_syntax.specs.declared.syntax.PatArm.{PatArm, roll-PatArm}
 use Rattle.colis_syntax.specs.declared.def.Def.{Def}
 use Rattle.colis_syntax.specs.declared.syntax.Fields.TheOpen as o
 use Rattle.colis_syntax.specs.declared.syntax.Fields.TheFolds.{fold-roll-Stmt, fold-roll-Str, fold-roll-StrPiece}
-use Rattle.colis_syntax.specs.declared.syntax.Fields.TheFolds.{fold-roll-Fields, fold-roll-SetTo, fold-roll-ChainPart}
+use Rattle.colis_syntax.specs.declared.syntax.Fields.TheFolds.{fold-roll-Fields, fold-roll-SetTo}
+use Rattle.colis_syntax.specs.declared.syntax.Fields.TheFolds.{fold-roll-ChainPart}
 use Rattle.colis_syntax.specs.declared.syntax.Fields.TheFolds.{fold-roll-StmtArm, fold-roll-PatArm, ind-Stmt}
 use Rattle.colis_syntax.specs.declared.syntax.Fields.TheFolds.{map-Fields, map-Stmt, map-Str, map-StrPiece}
 use Rattle.shell_rules.specs.State.{Doing, Action, Funs, Does, with}
@@ -23,7 +24,8 @@ use Rattle.shell_rules.specs.Laws.{LinksLawful, ArmsLawful, PatternsLawful, Case
 use Rattle.shell_rules.proofs.LawfulRules as r
 use Rattle.colis_meaning.specs.Meaning.{FieldsDo, StrDoes, PieceDoes, LinkDoes, CaseArmDoes, SetDoes, ArmDoes}
 use Rattle.colis_meaning.specs.Meaning.{co_stmt, co_str, co_piece, co_fields, co_set, co_link, co_arm, co_case_arm}
-use Rattle.colis_meaning.specs.Meaning.{stmt_layer, str_layer, piece_layer, fields_layer, set_layer, link_layer, arm_layer}
+use Rattle.colis_meaning.specs.Meaning.{stmt_layer, str_layer, piece_layer, fields_layer, set_layer, link_layer}
+use Rattle.colis_meaning.specs.Meaning.{arm_layer}
 use Rattle.colis_meaning.specs.Meaning.{case_arm_layer, funs_of}
 
 -- what a part of the syntax gives is lawful where the functions are
@@ -146,7 +148,8 @@ stmt_obeys (o.Export at fields) f hf = r.export_lawful at _ (each_obeys f hf co_
 stmt_obeys (o.Unset at fields) f hf = r.unset_lawful at _ (each_obeys f hf co_fields fields)
 stmt_obeys (o.Stop at reason) f hf = r.stop_lawful at reason
 
-stmt_from : (x : o.Stmt-F Fields Stmt Str StrPiece ChainPart PatArm SetTo StmtArm) → Obeys (co_layer x) → PS (roll-Stmt x)
+stmt_from : (x : o.Stmt-F Fields Stmt Str StrPiece ChainPart PatArm SetTo StmtArm) → Obeys (co_layer x)
+    → PS (roll-Stmt x)
 stmt_from x h f hf p n s =
     subst (λ (d : Does). Keeps n s (d f p s) (d f p (more_turns n s)))
     (sym (fold-roll-Stmt FieldsDo Does StrDoes PieceDoes LinkDoes CaseArmDoes SetDoes ArmDoes

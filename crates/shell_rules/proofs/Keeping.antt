@@ -136,7 +136,8 @@ FollowsTurn n m k l = (t : State) → t.conc.turns < m → Keeps n t (k t) (l (m
 
 turn_from_keeps : {B : Type 0} (n m : ℕ) (p : Place) (s : State) (k l : State → Run B) → s.conc.turns ≡ m
     → FollowsTurn n m k l
-    → Keeps n s (then_do (turn_from m p s) (λ _. k)) (then_do (turn_from (s.conc.turns + n) p (more_turns n s)) (λ _. l))
+    → Keeps n s (then_do (turn_from m p s) (λ _. k))
+    (then_do (turn_from (s.conc.turns + n) p (more_turns n s)) (λ _. l))
 turn_from_keeps n zero p s k l e h =
     record { trace = extends_same s.trace; turns = omega arith; same = inl refl }
 turn_from_keeps n (suc m) p s k l e h =
@@ -182,7 +183,8 @@ body_keeps {n = n} {s = s} q r next other a h =
 module _ (n m : ℕ) (last : Bool) (holds again holds' again' : State → Run (Unit {0}))
     (h : NextKeeps n m holds holds') (k : NextKeeps n m again again') where
   condition_each : (q : Run (Unit {0})) → (state_of q).conc.turns ≤ m
-      → Keeps n (state_of q) (after_condition q last holds again) (after_condition (run_with_more n q) last holds' again')
+      → Keeps n (state_of q) (after_condition q last holds again)
+      (after_condition (run_with_more n q) last holds' again')
   condition_each (Go v t) le =
       if_keeps t.conc.status (holds t) (Go tt (with_status last t)) (holds' (more_turns n t))
       (Go tt (with_status last (more_turns n t))) (h t le) (stays refl refl refl)

@@ -69,7 +69,8 @@ pub default_lawful : (string : Doing Text) (other : Text) → IsLawful string �
 default_lawful string other h p =
     then_lawful (string p) (λ text s. Go (w.unless_empty text other) s) (h p) (λ text n s. stays refl refl refl)
 
-join_lawful_behind : (strings : List (Doing Text)) → AllLawful strings → (before : Text) → IsLawful (w.join_behind before strings)
+join_lawful_behind : (strings : List (Doing Text)) → AllLawful strings → (before : Text)
+    → IsLawful (w.join_behind before strings)
 join_lawful_behind [] h before p = λ n s. stays refl refl refl
 join_lawful_behind (string ∷ strings) h before p =
     then_lawful (string p) (λ text s. w.join_behind (before ++ text) strings p s) (h.0 p)
@@ -272,7 +273,8 @@ NextRound n m next other =
 
 round_keeps : (n : ℕ) (condition body : Action) (p : Place) (next other : Bool → State → Run (Unit {0})) (last : Bool)
     (s : State) → IsLawful condition → IsLawful body → NextRound n s.conc.turns next other
-    → Keeps n s (l.while_round condition body p next last s) (l.while_round condition body p other last (more_turns n s))
+    → Keeps n s (l.while_round condition body p next last s)
+    (l.while_round condition body p other last (more_turns n s))
 round_keeps n condition body p next other last s hc hb h =
     let turn : State → Run (Unit {0}) = λ t. l.after_body (body p t) (λ u. next u.conc.status u) in
     let turn' : State → Run (Unit {0}) = λ t. l.after_body (body p t) (λ u. other u.conc.status u) in
@@ -304,7 +306,8 @@ rounds_keep n (suc a) (suc b) condition body p last s hc hb le le' =
 pub while_lawful : (at : ℕ) (condition body : Action) → IsLawful condition → IsLawful body
     → IsLawful (l.do_while at condition body)
 while_lawful at condition body hc hb p n s =
-    rounds_keep n s.conc.turns (s.conc.turns + n) condition body (at_command at p) true s hc hb (omega arith) (omega arith)
+    rounds_keep n s.conc.turns (s.conc.turns + n) condition body (at_command at p) true s hc hb (omega arith)
+    (omega arith)
 
 -- ---- `case`
 
@@ -320,7 +323,8 @@ pub patterns_lawful : (subject : Text) (patterns : List (List (Doing PieceParts)
 patterns_lawful subject [] h p = λ n s. stays refl refl refl
 patterns_lawful subject (pattern ∷ patterns) h p =
     let rest : Bool → State → Run Bool = λ fits s. if fits then Go true s else k.some_pattern subject patterns p s in
-    then_lawful (w.do_pieces pattern p) (λ parts s. then_do (k.pattern_answer subject (pattern_letters parts) p s) rest)
+    then_lawful (w.do_pieces pattern p)
+    (λ parts s. then_do (k.pattern_answer subject (pattern_letters parts) p s) rest)
     (pieces_lawful pattern h.0 p)
     (λ parts. then_lawful (k.pattern_answer subject (pattern_letters parts) p) rest
     (answer_lawful subject (pattern_letters parts) p)
@@ -413,7 +417,13 @@ body_lawful None fields h p n s = stays refl refl refl
 body_lawful (Some body) fields h p n s =
     closed_keeps st.by_return st.no_value (st.with_arguments s.conc.args) (st.with_arguments s.conc.args)
     (body p (st.with_arguments fields s)) (body p (st.with_arguments fields (more_turns n s)))
-    (record { trace = λ t. refl; turns = λ t. refl; more = λ t. refl; same_value = λ t. refl; bound = return_not_bound })
+    (record {
+      trace = λ t. refl;
+      turns = λ t. refl;
+      more = λ t. refl;
+      same_value = λ t. refl;
+      bound = return_not_bound;
+    })
     (from_same refl (omega arith) (h body refl p n (st.with_arguments fields s)))
 
 pub function_lawful : (at : ℕ) (body : Option Action) (words : List (Doing (List Text)))

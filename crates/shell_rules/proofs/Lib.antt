@@ -1,3 +1,4 @@
+pub mod ClosedScopes
 pub mod Keeping
 pub mod LawfulRules
 pub mod PatternMatches

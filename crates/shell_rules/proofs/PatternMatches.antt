@@ -63,7 +63,8 @@ passing_tail : (test : Text → Bool) (skipped rest : Text) → test rest ≡ tr
 passing_tail test [] [] e = or_left (test []) false e
 passing_tail test [] (b ∷ rest) e = or_left (test (b ∷ rest)) (list_any test (tails rest)) e
 passing_tail test (b ∷ skipped) rest e =
-    or_right (test (b ∷ (skipped ++ rest))) (list_any test (tails (skipped ++ rest))) (passing_tail test skipped rest e)
+    or_right (test (b ∷ (skipped ++ rest))) (list_any test (tails (skipped ++ rest)))
+    (passing_tail test skipped rest e)
 
 byte_from : (item : Item) (others : List Item) (b : ℕ) (rest : Text) → allows item b ≡ true
     → matches others rest ≡ true → matches (item ∷ others) (b ∷ rest) ≡ true

@@ -52,7 +52,7 @@ abbrev pub do_operands : Bool → List (List Act) → Doing Bool
 do_operands all [] p s = Go all s
 do_operands all (acts ∷ lists) p s = then_do (do_acts acts p s) (λ ok s. do_operands (all && ok) lists p s)
 
--- ---- utilities
+-- ---- utilities (XCU 2.9.1 Simple Commands)
 
 -- what is written is captured where there is a substitution round the command, and else nothing is kept of it
 abbrev pub printed : Text → State → State
@@ -88,14 +88,14 @@ special_names =
 abbrev pub no_substitution : State → State
 no_substitution s = record s { substituted = true }
 
--- a command that calls a utility
+-- A simple command: its words are expanded to fields, these come to a call, and a failure counts.
 abbrev pub do_call : ℕ → List (Doing (List Text)) → Action
 do_call at words p s =
     let q : Place = at_command at p in
     then_do (do_fields words q (no_substitution s)) (λ fields s.
     then_do (do_call_of fields q s) (λ _ s. checked q s))
 
--- ---- assignments
+-- ---- assignments (XCU 2.9.1 Simple Commands)
 
 -- assignments, one after another: each value is one string, and takes effect before the next one is expanded
 abbrev pub do_assignments : List (Text × Doing Text) → Action
@@ -109,7 +109,7 @@ do_set at sets p s =
     let q : Place = at_command at p in
     then_do (do_assignments sets q (no_substitution s)) (λ _ s. checked q (with_status s.substituted s))
 
--- ---- functions
+-- ---- functions (XCU 2.9.5 Function Definition Command)
 
 -- the function of a name: the latest that was defined
 abbrev pub found : Text → Funs → Option Action
@@ -129,7 +129,7 @@ do_function at body words p s =
     let q : Place = at_command at p in
     then_do (do_fields words q s) (λ fields s. then_do (do_body body fields q s) (λ _ s. checked q s))
 
--- ---- `exit` and `return`
+-- ---- `exit` and `return` (XCU 2.14 exit, return)
 
 abbrev pub is_digit : ℕ → Bool
 is_digit b = nat_le 48 b && nat_le b 57
@@ -163,7 +163,7 @@ do_exit at words p s = do_leave Exited words (at_command at p) s
 abbrev pub do_return : ℕ → List (Doing (List Text)) → Action
 do_return at words p s = do_leave Returned words (at_command at p) s
 
--- ---- `export` and `unset`
+-- ---- `export` and `unset` (XCU 2.14 export, unset)
 
 -- a byte of a name: a letter, a digit or `_`
 abbrev pub is_name_byte : ℕ → Bool

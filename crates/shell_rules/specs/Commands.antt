@@ -7,7 +7,7 @@ use Rattle.shell_rules.specs.State.{Text, State, Leave, Exited, Stopped, Go, Lef
 use Rattle.shell_rules.specs.State.{by_nothing, by_exit, no_value, Place, at_command, except, site_of, stopped}
 use Rattle.shell_rules.specs.State.{Action, with_status, with_strict, success_if_none}
 
--- nothing is done, with success
+-- nothing is done, with success (XCU 2.14 colon)
 abbrev pub do_skip : Action
 do_skip p s = Go tt (with_status true s)
 
@@ -34,7 +34,7 @@ abbrev pub checked : Action
 checked p s =
     if s.conc.strict && not s.conc.status && not p.excepted then Left (left_by_failure p) s else Go tt s
 
--- ---- lists (XCU 2.9.3 Lists)
+-- ---- lists and and-or lists (XCU 2.9.3 Lists)
 
 -- commands, one after another
 abbrev pub do_rest : List Action → Action
@@ -59,7 +59,7 @@ do_links ((and, command) ∷ link ∷ links) p s =
     then then_do (command (except p) s) (λ _ s. do_links (link ∷ links) p s)
     else do_links (link ∷ links) p s
 
--- an and-or list
+-- an and-or list: its members from left to right, each by the status of those before it
 abbrev pub do_chain : Action → List (Bool × Action) → Action
 do_chain first [] p s = first p s
 do_chain first (link ∷ links) p s = then_do (first (except p) s) (λ _ s. do_links (link ∷ links) p s)
@@ -85,7 +85,8 @@ abbrev pub after_subshell : State → State → State
 after_subshell outer s =
     record s { conc = record s.conc { vars = outer.conc.vars; args = outer.conc.args; strict = outer.conc.strict } }
 
--- a subshell, which `exit` ends; its failure counts as that of a simple command
+-- A subshell runs in a copy of the variables, the arguments, the strict flag and the status. `exit` ends it; what is
+-- excepted outside is excepted in it; and its failure counts as that of a simple command.
 abbrev pub do_subshell : ℕ → Action → Action
 do_subshell at body p s =
     then_do (closed_off by_exit no_value (after_subshell s) (body p s)) (λ _ s. checked (at_command at p) s)

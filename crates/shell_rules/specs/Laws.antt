@@ -109,8 +109,9 @@ is_bound_end (end.Status ok) = false
 is_bound_end (end.Stopped reason site) = false
 is_bound_end (end.Bound site) = true
 
--- The runs of a body in a step, over functions of these names: they only add to the trace, they have no more turns left
--- than they began with, and one that is not bound is the same run with more turns, but for the turns that are left.
+-- The runs of a body in a step, over functions of these names: they only add to the trace, they have no more turns
+-- left than they began with, and one that is not bound is the same run with more turns, but for the turns that are
+-- left.
 pub record WholeKeeps (body : Action) : Type 0 where
   pub trace : (step : ℕ) (functions : List Text) (conc : Conc) (tree : Value) (trace : List Mark)
       → Extends trace (whole_run body step functions conc tree trace).trace

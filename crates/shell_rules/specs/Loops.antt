@@ -6,7 +6,7 @@ use Rattle.shell_rules.specs.State.{Left, then_do, Place, at_command, except, si
 use Rattle.shell_rules.specs.State.{success_if_none}
 use Rattle.shell_rules.specs.Expansion.{do_fields}
 
--- `break` and `continue` succeed
+-- `break` ends the innermost loop and `continue` its turn; both succeed (XCU 2.14 break, continue)
 abbrev pub do_break : Action
 do_break p s = Left Broke (with_status true s)
 
@@ -35,7 +35,7 @@ after_body (Left Exited s) next = Left Exited s
 after_body (Left (Stopped reason site) s) next = Left (Stopped reason site) s
 after_body (Left (Bound site) s) next = Left (Bound site) s
 
--- ---- `for`
+-- ---- `for` (XCU 2.9.4.2 The for Loop)
 
 -- a variable gets a value
 abbrev pub assign : Text → Text → State → State
@@ -53,7 +53,7 @@ do_for at name words body p s =
     let q : Place = at_command at p in
     then_do (do_fields words q s) (λ fields s. for_each name body fields q (success_if_none fields s))
 
--- ---- `while`
+-- ---- `while` (XCU 2.9.4.5 The while Loop)
 
 -- Behind the condition: where it holds, the turn of the body; where it fails, or by `break`, the end of the loop with
 -- the status of the last body; by `continue` the condition again.

@@ -13,7 +13,8 @@ use Rattle.shell_rules.specs.Commands as command
 use Rattle.shell_rules.specs.Loops as loops
 use Rattle.shell_rules.specs.Cases as cases
 use Rattle.shell_rules.specs.Calls as call
-use Rattle.shell_rules.specs.Laws.{IsLawful, AllLawful, LinksLawful, ArmsLawful, CaseArmsLawful, SetsLawful, WholeKeeps}
+use Rattle.shell_rules.specs.Laws.{IsLawful, AllLawful, LinksLawful, ArmsLawful, CaseArmsLawful, SetsLawful}
+use Rattle.shell_rules.specs.Laws.{WholeKeeps}
 
 -- the expansions
 pub record ExpansionsKeep : Type 0 where
