@@ -44,7 +44,6 @@ use Rattle.shell_to_colis.specs.declared.words.Quoting.{Quoting}
 use Rattle.shell_to_colis.specs.declared.words.Quoting.TheVariants as quoting
 use Rattle.shell_to_colis.specs.Translated.{To, PartTo, WordTo, each, static, piece_of, piece_to, pieces_to, joined_to, is_all_alone, field_to, fields_to, rest_of, parameter_to, default_to, expansion, flag_kind, called_kind, named_kind, kind_of, assigned_to, simple_to, redirect_to, redirected_to, seq_to, chain_to, if_to, otherwise_to, list_to, condition_to, body_to, arm_of, translated, part_to, assign_to, case_arm_to, if_arm_to, link_to, word_to}
 use Rattle.shell_to_colis.specs.Translated as to
-
 use Rattle.script_names.specs.declared.reason.Reason.TheVariants as reason
 use Rattle.shell_to_colis.proofs.Passes.{no_front, no_back, not_when, stmt_at, str_at, set_at, part_at, arm_at, pat_arm_at, all_stmts, all_fields, all_strs, all_pieces, skip_passes, not_passes, seq_passes, chain_passes, if_passes, assigned_passes, redirected_passes, condition_passes, body_passes, values, pieces_pass, field_pass, joined_passes, parameter_passes, default_passes, kind_allowed, simple_passes, name_of, scope, Known, args_pass, has_one}
 
@@ -204,20 +203,20 @@ module _ (first : Text → Option ℕ) where
       let mine = no_front own (a ++ b) e in
       let rest = no_back own (a ++ b) e in
       let parts = peeled
-        (when (is_name (static_name ws) (codes "set") && not (form.is_one_flag (operands ws))) _ at)
-        (when (form.sets_ifs as') _ at)
-        (when (form.is_prefix first as' ws) _ at)
-        (when (is_name (static_name ws) (codes "export") && form.some_unquoted (operands ws)) _ at)
-        (when (is_named (static_name ws) (codes "break" ∷ codes "continue" ∷ []) && (are_any (operands ws) || not p.in_loop)) _ at)
-        (when (is_name (static_name ws) (codes "return") && not p.may_return) _ at)
-        (when (form.calls_later first p.defined_at (static_name ws)) _ at) mine in
+      (when (is_name (static_name ws) (codes "set") && not (form.is_one_flag (operands ws))) _ at)
+      (when (form.sets_ifs as') _ at)
+      (when (form.is_prefix first as' ws) _ at)
+      (when (is_name (static_name ws) (codes "export") && form.some_unquoted (operands ws)) _ at)
+      (when (is_named (static_name ws) (codes "break" ∷ codes "continue" ∷ []) && (are_any (operands ws) || not p.in_loop)) _ at)
+      (when (is_name (static_name ws) (codes "return") && not p.may_return) _ at)
+      (when (form.calls_later first p.defined_at (static_name ws)) _ at) mine in
       let is = static_name_is ws in
       ap (λ ts. stmt_passes (simple_to at (kind_of ts earlier) (map assign_to (map (λ y. y.0) assigns)) (map word_to (map (λ y. y.0) words)) earlier) (scope p defs)) (statics_same words)
       ∙ simple_passes (kind_of (texts_of ws) earlier) p earlier defs known at (map assign_to (map (λ y. y.0) assigns)) (map word_to (map (λ y. y.0) words))
-        (kind_allowed (texts_of ws) p earlier (are_any (operands ws))
-          (sym (ap (λ n. is_named n (codes "break" ∷ codes "continue" ∷ []) && (are_any (operands ws) || not p.in_loop)) is) ∙ not_when _ _ at parts.0)
-          (sym (ap (λ n. is_name n (codes "return") && not p.may_return) is) ∙ not_when _ _ at parts.1))
-        (assigns_pass p earlier defs known assigns (no_front a b rest)) (words_pass p earlier defs known words (no_back a b rest))
+      (kind_allowed (texts_of ws) p earlier (are_any (operands ws))
+      (sym (ap (λ n. is_named n (codes "break" ∷ codes "continue" ∷ []) && (are_any (operands ws) || not p.in_loop)) is) ∙ not_when _ _ at parts.0)
+      (sym (ap (λ n. is_name n (codes "return") && not p.may_return) is) ∙ not_when _ _ at parts.1))
+      (assigns_pass p earlier defs known assigns (no_front a b rest)) (words_pass p earlier defs known words (no_back a b rest))
   layer_passes (o.Redirected at y redirects) p earlier defs known e =
       redirected_passes (scope p defs) at redirects (translated y.0 earlier) (y.1 (within p) earlier defs known e)
   layer_passes (o.Pipe at ys) p earlier defs known e = stmt_at (c.Stop at reason.Pipe) (stmt.Stop at reason.Pipe) (scope p defs) (stmt.rolls-Stop at reason.Pipe)
@@ -252,13 +251,13 @@ module _ (first : Text → Option ℕ) where
       let q = condition_to until (translated x.0 earlier) in let r = body_to until (translated y.0 earlier) in
       stmt_at (c.While at q r) (stmt.While at q r) (scope p defs) (stmt.rolls-While at q r)
       ∙ and_from _ _ (condition_passes (scope (looped p) defs) until (translated x.0 earlier) (x.1 (looped p) earlier defs known (no_front a b e)))
-          (body_passes (scope (looped p) defs) until (translated y.0 earlier) (y.1 (looped p) earlier defs known (no_back a b e)))
+      (body_passes (scope (looped p) defs) until (translated y.0 earlier) (y.1 (looped p) earlier defs known (no_back a b e)))
   layer_passes (o.Case at w arms) p earlier defs known e =
       let a = in_pattern (word_says first w.0) p in let b = in_case_arms (map (case_arm_says first) (map (λ y. y.0) arms)) (within p) in
       let v = joined_to (word_to w.0) earlier in let qs = flat_map (λ arm. arm earlier) (map case_arm_to (map (λ y. y.0) arms)) in
       stmt_at (c.Case at v qs) (stmt.Case at v qs) (scope p defs) (stmt.rolls-Case at v qs)
       ∙ and_from _ _ (joined_passes (scope p defs) (word_to w.0) earlier (w.1.1 p earlier defs known (no_back (form.all_args (word_says first w.0)) (in_word (word_says first w.0) p) (no_front a b e))))
-          (case_arms_pass (within p) earlier defs known arms (no_back a b e))
+      (case_arms_pass (within p) earlier defs known arms (no_back a b e))
   layer_passes (o.Sub at y) p earlier defs known e =
       let q = translated y.0 earlier in
       stmt_at (c.Sub at q) (stmt.Sub at q) (scope p defs) (stmt.rolls-Sub at q) ∙ y.1 (apart p) earlier defs known e
@@ -268,14 +267,17 @@ module _ (first : Text → Option ℕ) where
 
   part_layer_passes : (y : o.Part-F ((x : Command) × P x) ((x : Part) × Pp x) ((x : Assign) × Pa x) ((x : CaseArm) × Pc x) ((x : IfArm) × Pi x) ((x : Link) × Pl x) ((x : Word) × Pw x))
       → PartPasses (to.part_layer (map-Part Command Part Assign CaseArm IfArm Link Word _ _ _ _ _ _ _ translated part_to assign_to case_arm_to if_arm_to link_to word_to (map-Part _ _ _ _ _ _ _ Command Part Assign CaseArm IfArm Link Word (λ y. y.0) (λ y. y.0) (λ y. y.0) (λ y. y.0) (λ y. y.0) (λ y. y.0) (λ y. y.0) y)))
-          (form.part_layer first (map-Part Command Part Assign CaseArm IfArm Link Word _ _ _ _ _ _ _ (forms_of first) (part_says first) (assign_says first) (case_arm_says first) (if_arm_says first) (link_says first) (word_says first) (map-Part _ _ _ _ _ _ _ Command Part Assign CaseArm IfArm Link Word (λ y. y.0) (λ y. y.0) (λ y. y.0) (λ y. y.0) (λ y. y.0) (λ y. y.0) (λ y. y.0) y)))
+      (form.part_layer first (map-Part Command Part Assign CaseArm IfArm Link Word _ _ _ _ _ _ _ (forms_of first) (part_says first) (assign_says first) (case_arm_says first) (if_arm_says first) (link_says first) (word_says first) (map-Part _ _ _ _ _ _ _ Command Part Assign CaseArm IfArm Link Word (λ y. y.0) (λ y. y.0) (λ y. y.0) (λ y. y.0) (λ y. y.0) (λ y. y.0) (λ y. y.0) y)))
   part_layer_passes (o.Plain bytes) = (refl, λ p earlier defs known e. str_at (c.Lit bytes) (string.Lit bytes) (scope p defs) (string.rolls-Lit bytes))
   part_layer_passes (o.Quoted bytes) = (refl, λ p earlier defs known e. str_at (c.Lit bytes) (string.Lit bytes) (scope p defs) (string.rolls-Lit bytes))
   part_layer_passes (o.Param key default quoted) = (refl, λ p earlier defs known e. default_passes (scope p defs) default (parameter_to key) (parameter_passes (scope p defs) key))
   part_layer_passes o.All = (refl, λ p earlier defs known e. str_at (c.Join []) (string.Join []) (scope p defs) (string.rolls-Join []))
-  part_layer_passes (o.Run at y quoted) = (refl, λ p earlier defs known e.
-      let q = translated y.0 earlier in
-      str_at (c.Output q) (string.Output q) (scope p defs) (string.rolls-Output q) ∙ y.1 (apart p) earlier defs known (no_front (forms_of first y.0 (apart p)) [] e))
+  part_layer_passes (o.Run at y quoted) = (
+    refl,
+    λ p earlier defs known e.
+        let q = translated y.0 earlier in
+        str_at (c.Output q) (string.Output q) (scope p defs) (string.rolls-Output q) ∙ y.1 (apart p) earlier defs known (no_front (forms_of first y.0 (apart p)) [] e),
+  )
 
   part_from : (x : o.Part-F Command Part Assign CaseArm IfArm Link Word) → PartPasses (to.part_layer (map-Part Command Part Assign CaseArm IfArm Link Word _ _ _ _ _ _ _ translated part_to assign_to case_arm_to if_arm_to link_to word_to x)) (form.part_layer first (map-Part Command Part Assign CaseArm IfArm Link Word _ _ _ _ _ _ _ (forms_of first) (part_says first) (assign_says first) (case_arm_says first) (if_arm_says first) (link_says first) (word_says first) x)) → Pp (roll-Part x)
   part_from x h = rw (fold-roll-Part (To Stmt) PartTo (To SetTo) (To (List PatArm)) (To StmtArm) (To ChainPart) WordTo to.command_layer to.part_layer to.assign_layer to.case_arm_layer to.if_arm_layer to.link_layer to.word_layer x, fold-roll-Part Forms (PartSays Forms) (AssignSays Forms) (List (WordSays Forms) × Forms) (Forms × Forms) Forms (WordSays Forms) (form.command_layer first) (form.part_layer first) (form.assign_layer first) (form.case_arm_layer first) (form.if_arm_layer first) (form.link_layer first) (form.word_layer first) x) h
@@ -292,9 +294,9 @@ module _ (first : Text → Option ℕ) where
       ∙ ap (λ ps. all_pass (scope p defs) (map pat_arm_passes (arm_of (map word_to ps) (translated x.body earlier) earlier))) (sym ew)
       ∙ ap (λ b. all_pass (scope p defs) (map pat_arm_passes (arm_of (map word_to (map (λ y. y.0) ws)) (translated b earlier) earlier))) (sym ey)
       ∙ case_arm_pass p earlier defs known ws y
-        (ap (λ b. in_patterns (map (word_says first) (map (λ y. y.0) ws)) p ++ forms_of first b p) ey
-        ∙ ap (λ ps. in_patterns (map (word_says first) ps) p ++ forms_of first x.body p) ew
-        ∙ sym (ap (λ (a : List (WordSays Forms) × Forms). in_case_arm a p) (fold-roll-CaseArm Forms (PartSays Forms) (AssignSays Forms) (List (WordSays Forms) × Forms) (Forms × Forms) Forms (WordSays Forms) (form.command_layer first) (form.part_layer first) (form.assign_layer first) (form.case_arm_layer first) (form.if_arm_layer first) (form.link_layer first) (form.word_layer first) x)) ∙ e)
+      (ap (λ b. in_patterns (map (word_says first) (map (λ y. y.0) ws)) p ++ forms_of first b p) ey
+      ∙ ap (λ ps. in_patterns (map (word_says first) ps) p ++ forms_of first x.body p) ew
+      ∙ sym (ap (λ (a : List (WordSays Forms) × Forms). in_case_arm a p) (fold-roll-CaseArm Forms (PartSays Forms) (AssignSays Forms) (List (WordSays Forms) × Forms) (Forms × Forms) Forms (WordSays Forms) (form.command_layer first) (form.part_layer first) (form.assign_layer first) (form.case_arm_layer first) (form.if_arm_layer first) (form.link_layer first) (form.word_layer first) x)) ∙ e)
 
   if_arm_from : (x : o.IfArm-F Command Part Assign CaseArm IfArm Link Word) → P x.cond → P x.body → Pi (roll-IfArm x)
   if_arm_from x h k p earlier defs known e =

@@ -232,7 +232,7 @@ module _ (earlier : List Def) (f g : Funs) (fits : Fits earlier f g) where
           (if_kind (bytes_eq name (codes "unset")) K _ _ _ _ (co_at (c.Unset at operands) (stmt.Unset at operands) g (stmt.rolls-Unset at operands) ∙ ap (calls.do_unset at) (words_same ys))
           (if_stmt (is_def name earlier) (kind.Function name) kind.Utility ts
           ∙ called_by (is_def name earlier) (calls.found name f) name (fields_to ts earlier) operands (shell.fields (map sh_word (map (λ y. y.0) (y ∷ ys))) f) ds
-            (fits name).0 (fits name).1 (words_same (y ∷ ys)) (words_same ys))))))))
+          (fits name).0 (fits name).1 (words_same (y ∷ ys)) (words_same ys))))))))
 
       command_same : (name : Option Text) → at_kind at assigns ts (kind_of (name ∷ map static (map word_to (map (λ y. y.0) ys))) earlier) ≡ shell.command_named at name (sh_word y.0) (map sh_word (map (λ y. y.0) ys)) f
       command_same None =
@@ -302,7 +302,7 @@ layer_same (o.Define at name y) earlier f g fits = skip_same g
 
 part_layer_same : (y : o.Part-F ((x : Command) × P x) ((x : Part) × Pp x) ((x : Assign) × Pa x) ((x : CaseArm) × Pc x) ((x : IfArm) × Pi x) ((x : Link) × Pl x) ((x : Word) × Pw x))
     → SamePart (to.part_layer (map-Part Command Part Assign CaseArm IfArm Link Word _ _ _ _ _ _ _ translated part_to assign_to case_arm_to if_arm_to link_to word_to (map-Part _ _ _ _ _ _ _ Command Part Assign CaseArm IfArm Link Word (λ y. y.0) (λ y. y.0) (λ y. y.0) (λ y. y.0) (λ y. y.0) (λ y. y.0) (λ y. y.0) y)))
-        (shell.part_layer (map-Part Command Part Assign CaseArm IfArm Link Word _ _ _ _ _ _ _ sh sh_part sh_assign sh_case_arm sh_if_arm sh_link sh_word (map-Part _ _ _ _ _ _ _ Command Part Assign CaseArm IfArm Link Word (λ y. y.0) (λ y. y.0) (λ y. y.0) (λ y. y.0) (λ y. y.0) (λ y. y.0) (λ y. y.0) y)))
+    (shell.part_layer (map-Part Command Part Assign CaseArm IfArm Link Word _ _ _ _ _ _ _ sh sh_part sh_assign sh_case_arm sh_if_arm sh_link sh_word (map-Part _ _ _ _ _ _ _ Command Part Assign CaseArm IfArm Link Word (λ y. y.0) (λ y. y.0) (λ y. y.0) (λ y. y.0) (λ y. y.0) (λ y. y.0) (λ y. y.0) y)))
 part_layer_same (o.Plain bytes) = record {
   bytes = refl;
   is_all = refl;

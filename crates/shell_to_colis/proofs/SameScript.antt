@@ -51,8 +51,9 @@ fits_own defs x = (sym (found_in defs [] x), λ e. refl)
 -- a definition of another name
 differs : (x name : Text) (defs : List Def) → is_def x defs ≡ true → is_def name defs ≡ false → bytes_eq name x ≡ false
 differs x name defs e h = elim (bytes_eq name x) as (λ b. bytes_eq name x ≡ b → b ≡ false) [
-    true ↦ λ k. absurd (cc (sym h ∙ ap (λ n. is_def n defs) ((bytes_eq-Decides name x).0 k) ∙ e))
-  | false ↦ λ k. refl ] refl
+  | true ↦ λ k. absurd (cc (sym h ∙ ap (λ n. is_def n defs) ((bytes_eq-Decides name x).0 k) ∙ e))
+  | false ↦ λ k. refl
+] refl
 
 def_kept : (b : Bool) (x name : Text) (d : Def) (defs : List Def) → name ≡ d.name → is_def name defs ≡ b → is_def x defs ≡ true
     → calls.found x (funs (defs ++ (if b then [] else d ∷ []))) ≡ calls.found x (funs defs)

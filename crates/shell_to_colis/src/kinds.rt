@@ -1,8 +1,8 @@
 ghost use Rattle.std.specs.Prelude.{◌≡◌, [], ◌∷◌, Some, map, IfOk};
 ghost use Rattle.std.specs.Str.{bytes_eq};
 ghost use Rattle.colis_syntax.specs.WellFormed.{is_def};
-ghost use Rattle.shell_to_colis.specs.Translated.{flag_kind, called_kind, variable_kind, leaving_kind, named_kind, kind_of};
-ghost use Rattle.shell_to_colis.specs.Translated.{static_word};
+ghost use Rattle.shell_to_colis.specs.Translated.{flag_kind, called_kind, variable_kind, leaving_kind};
+ghost use Rattle.shell_to_colis.specs.Translated.{named_kind, kind_of, static_word};
 
 use colis_syntax::Def;
 use script_names::{Bytes, Memory};
@@ -10,7 +10,8 @@ use shell_forms::static_text;
 use shell_syntax::Word;
 use std::alloc::Global;
 
-/// Which statement a simple command becomes (POSIX.1-2017, XCU 2.9.1 Simple Commands, 2.14 Special Built-In Utilities).
+/// Which statement a simple command becomes (POSIX.1-2017, XCU 2.9.1 Simple Commands, 2.14 Special Built-In
+/// Utilities).
 #[derive(Drop)]
 pub(crate) enum Kind {
     /// It has no word: assignments, or none.

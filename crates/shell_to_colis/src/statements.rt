@@ -96,7 +96,11 @@ pub(crate) fn command(alloc: Global, node: &Command, defs: &[Def]) -> Result<Stm
 {
     match node {
         Command::Simple { at, assigns, words } => simple(alloc, *at, assigns, words, defs),
-        Command::Redirected { at, body, redirects } => {
+        Command::Redirected {
+            at,
+            body,
+            redirects,
+        } => {
             let body = command(alloc, body.get(), defs)?;
             redirected(alloc, *at, redirects.as_slice(), body)
         }
@@ -107,9 +111,23 @@ pub(crate) fn command(alloc: Global, node: &Command, defs: &[Def]) -> Result<Stm
         Command::Not { body, .. } => Ok(Stmt::Not(boxed(alloc, body, defs)?)),
         Command::Chain { first, rest } => chain(alloc, first, rest, defs),
         Command::Seq(parts) => Ok(sequence(commands_of(alloc, parts.as_slice(), defs)?)),
-        Command::If { at, arms, otherwise } => branches(alloc, *at, arms, otherwise, defs),
-        Command::For { at, name, words, body } => each_field(alloc, *at, name, words, body, defs),
-        Command::While { at, until, cond, body } => repeated(alloc, *at, *until, cond, body, defs),
+        Command::If {
+            at,
+            arms,
+            otherwise,
+        } => branches(alloc, *at, arms, otherwise, defs),
+        Command::For {
+            at,
+            name,
+            words,
+            body,
+        } => each_field(alloc, *at, name, words, body, defs),
+        Command::While {
+            at,
+            until,
+            cond,
+            body,
+        } => repeated(alloc, *at, *until, cond, body, defs),
         Command::Case { at, subject, arms } => cases(alloc, *at, subject, arms, defs),
         Command::Sub { at, body } => Ok(Stmt::Sub {
             at: *at,
@@ -149,7 +167,8 @@ fn of_kind(
     words: &List<Word>,
     defs: &[Def],
 ) -> Result<Stmt, Memory>
-    ensures { IfOk result (λ stmt. stmt ≡ simple_to at kind (map assign_to assigns.now) (map word_to words.now) defs.now) }
+    ensures { let made = simple_to at kind (map assign_to assigns.now) (map word_to words.now) defs.now in
+        IfOk result (λ stmt. stmt ≡ made) }
 {
     match kind {
         Kind::Assignments => Ok(assigned(at, sets_of(alloc, assigns.as_slice(), defs)?)),
@@ -186,7 +205,12 @@ fn of_kind(
 }
 
 #[cycle(translating)]
-fn chain(alloc: Global, first: &Box<Command>, rest: &List<Link>, defs: &[Def]) -> Result<Stmt, Memory>
+fn chain(
+    alloc: Global,
+    first: &Box<Command>,
+    rest: &List<Link>,
+    defs: &[Def],
+) -> Result<Stmt, Memory>
     ensures { IfOk result (λ stmt. stmt ≡ translated (Chain first.now rest.now) defs.now) }
 {
     let first = boxed(alloc, first, defs)?;

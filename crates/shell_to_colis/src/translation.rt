@@ -1,7 +1,8 @@
 ghost use Rattle.std.specs.Prelude.{◌≡◌, [], ◌∷◌, IfOk, OnOk};
 ghost use Rattle.shell_to_colis.specs.Laws.{DoesTheSame};
 ghost use Rattle.shell_to_colis.specs.Members.{defined_by, members_of};
-ghost use Rattle.shell_to_colis.specs.Translated.{def_to, defs_behind, defs_to, body_statements, program_of, of_option};
+ghost use Rattle.shell_to_colis.specs.Translated.{def_to, defs_behind, defs_to, body_statements};
+ghost use Rattle.shell_to_colis.specs.Translated.{program_of, of_option};
 
 use crate::kinds::is_def;
 use crate::statements::{command, sequence};
@@ -28,7 +29,9 @@ fn define(alloc: Global, member: &Command, defs: &[Def]) -> Result<Option<Def>, 
         | Command::Redirected { .. }
         | Command::Pipe { .. }
         | Command::Not { .. } => Ok(None),
-        Command::Chain { .. } | Command::Seq(_) | Command::If { .. } | Command::For { .. } => Ok(None),
+        Command::Chain { .. } | Command::Seq(_) | Command::If { .. } | Command::For { .. } => Ok(
+            None,
+        ),
         Command::While { .. } | Command::Case { .. } | Command::Sub { .. } => Ok(None),
     }
 }
@@ -69,7 +72,10 @@ fn parts(alloc: Global, body: &Command) -> Result<(List<Def>, List<Stmt>), Memor
         | Command::Pipe { .. }
         | Command::Not { .. } => one(alloc, body),
         Command::Chain { .. } | Command::If { .. } | Command::For { .. } => one(alloc, body),
-        Command::While { .. } | Command::Case { .. } | Command::Sub { .. } | Command::Define { .. } => one(alloc, body),
+        Command::While { .. }
+        | Command::Case { .. }
+        | Command::Sub { .. }
+        | Command::Define { .. } => one(alloc, body),
     }
 }
 
@@ -86,8 +92,8 @@ fn one(alloc: Global, member: &Command) -> Result<(List<Def>, List<Stmt>), Memor
     Ok((defs, stmts))
 }
 
-/// The CoLiS program of an accepted script. It does what the script does, and begins with the strict flag exactly where
-/// the script does.
+/// The CoLiS program of an accepted script. It does what the script does, and begins with the strict flag exactly
+/// where the script does.
 pub fn translate(alloc: Global, script: &Accepted) -> Result<Program, Memory>
     ensures program { IfOk result (λ program. program ≡ program_of script.now) }
     ensures flag { IfOk result (λ program. program.strict ≡ script.now.strict) }

@@ -11,6 +11,7 @@ pub const TABLES: &[(&str, &str)] = &[
     ("#!/bin/sh\n", LOOPS),
     ("#!/bin/sh\n", SUBSHELLS),
     ("#!/bin/sh\n", BUILT_INS),
+    ("#!/bin/sh\n", TOGETHER),
     ("#!/bin/sh\n", FUNCTIONS),
     ("#!/bin/sh -e\n", STRICT),
 ];
@@ -40,7 +41,7 @@ a "$@" -> lax (call 10 (word (p =a)) (args))
 a $(b) -> lax (call 10 (word (p =a)) (word (s (output (call 14 (word (p =b)))))))
 a "$(b)"c -> lax (call 10 (word (p =a)) (word (q (output (call 15 (word (p =b))))) (p =c)))
 a $() -> lax (call 10 (word (p =a)) (word (s (output (skip)))))
-a $(b $(c)) -> lax (call 10 (word (p =a)) (word (s (output (call 14 (word (p =b)) (word (s (output (call 18 (word (p =c)))))))))))
+$(b $(exit)) -> lax (call 10 (word (s (output (call 12 (word (p =b)) (word (s (output (exit 16)))))))))
 $x a -> lax (call 10 (word (s (var x))) (word (p =a)))
 "$x" exit -> lax (call 10 (word (q (var x))) (word (p =exit)))
 $(a) -> lax (call 10 (word (s (output (call 12 (word (p =a)))))))"##;
@@ -78,7 +79,7 @@ a && b -> lax (chain (call 10 (word (p =a))) (and (call 15 (word (p =b)))))
 a || b -> lax (chain (call 10 (word (p =a))) (or (call 15 (word (p =b)))))
 a && b || c -> lax (chain (call 10 (word (p =a))) (and (call 15 (word (p =b)))) (or (call 20 (word (p =c)))))
 a || b && c -> lax (chain (call 10 (word (p =a))) (or (call 15 (word (p =b)))) (and (call 20 (word (p =c)))))
-{ a && b; } || c -> lax (chain (chain (call 12 (word (p =a))) (and (call 17 (word (p =b))))) (or (call 25 (word (p =c)))))
+{ exit && exit; } || exit -> lax (chain (chain (exit 12) (and (exit 20))) (or (exit 31)))
 a; b -> lax (seq (call 10 (word (p =a))) (call 13 (word (p =b))))
 a;b;c -> lax (seq (call 10 (word (p =a))) (call 12 (word (p =b))) (call 14 (word (p =c))))
 aNbN -> lax (seq (call 10 (word (p =a))) (call 12 (word (p =b))))
@@ -87,25 +88,28 @@ a; -> lax (call 10 (word (p =a)))
 { a; b; }; c -> lax (seq (seq (call 12 (word (p =a))) (call 15 (word (p =b)))) (call 21 (word (p =c))))"##;
 
 // if and case
-const BRANCHES: &str = r##"if a; then b; fi -> lax (if ((call 13 (word (p =a))) (call 21 (word (p =b)))) (skip))
+const BRANCHES: &str =
+    r##"if a; then b; fi -> lax (if ((call 13 (word (p =a))) (call 21 (word (p =b)))) (skip))
 if a; then b; else c; fi -> lax (if ((call 13 (word (p =a))) (call 21 (word (p =b)))) (call 29 (word (p =c))))
-if a; then b; elif c; then d; fi -> lax (if ((call 13 (word (p =a))) (call 21 (word (p =b)))) ((call 29 (word (p =c))) (call 37 (word (p =d)))) (skip))
-if a; then b; elif c; then d; else e; fi -> lax (if ((call 13 (word (p =a))) (call 21 (word (p =b)))) ((call 29 (word (p =c))) (call 37 (word (p =d)))) (call 45 (word (p =e))))
+if exit; then exit; elif exit; then exit; fi -> lax (if ((exit 13) (exit 24)) ((exit 35) (exit 46)) (skip))
+if exit;then exit;elif exit;then exit;else exit;fi -> lax (if ((exit 13) (exit 23)) ((exit 33) (exit 43)) (exit 53))
 case a in b) c;; esac -> lax (case 10 (join =a) (((pat (p =b))) (call 23 (word (p =c)))))
-case $1 in a|b) c;; *) d;; esac -> lax (case 10 (join (arg 1)) (((pat (p =a)) (pat (p =b))) (call 26 (word (p =c)))) (((pat (p =*))) (call 33 (word (p =d)))))
+case $1 in a|b) exit;; esac -> lax (case 10 (join (arg 1)) (((pat (p =a)) (pat (p =b))) (exit 26)))
+case x in a) ;; *) exit; esac -> lax (case 10 (join =x) (((pat (p =a))) (skip)) (((pat (p =*))) (exit 29)))
 case "$x" in "a"*) ;; esac -> lax (case 10 (join (var x)) (((pat (q =a) (p =*))) (skip)))
 case a in esac -> lax (case 10 (join =a))
 case a in $x) b; esac -> lax (case 10 (join =a) (((pat (s (var x)))) (call 24 (word (p =b)))))
-case $(a)b in '') c; esac -> lax (case 10 (join (output (call 17 (word (p =a)))) =b) (((pat (q =\e))) (call 28 (word (p =c)))))"##;
+case $(exit)b in '') exit; esac -> lax (case 10 (join (output (exit 17)) =b) (((pat (q =\e))) (exit 31)))"##;
 
 // loops
-const LOOPS: &str = r##"for x in a b; do c; done -> lax (for 10 x ((word (p =a)) (word (p =b))) (call 27 (word (p =c))))
+const LOOPS: &str =
+    r##"for x in a b; do c; done -> lax (for 10 x ((word (p =a)) (word (p =b))) (call 27 (word (p =c))))
 for x; do a; done -> lax (for 10 x ((args)) (call 20 (word (p =a))))
 for x in; do a; done -> lax (for 10 x () (call 23 (word (p =a))))
 for x in $y "$@"; do a; done -> lax (for 10 x ((word (s (var y))) (args)) (call 31 (word (p =a))))
 while a; do b; done -> lax (while 10 (call 16 (word (p =a))) (call 22 (word (p =b))))
 until a; do b; done -> lax (while 10 (not (call 16 (word (p =a)))) (seq (not (skip)) (call 22 (word (p =b)))))
-until a; do b; c; done -> lax (while 10 (not (call 16 (word (p =a)))) (seq (not (skip)) (seq (call 22 (word (p =b))) (call 25 (word (p =c))))))
+until exit; do exit; exit; done -> lax (while 10 (not (exit 16)) (seq (not (skip)) (seq (exit 25) (exit 31))))
 while a; do break; done -> lax (while 10 (call 16 (word (p =a))) (break))
 while a; do continue; done -> lax (while 10 (call 16 (word (p =a))) (continue))
 while break; do a; done -> lax (while 10 (break) (call 26 (word (p =a))))"##;
@@ -116,8 +120,7 @@ const SUBSHELLS: &str = r##"(a) -> lax (sub 10 (call 11 (word (p =a))))
 (a) 2>&1 -> lax (err 10 (sub 10 (call 11 (word (p =a)))))"##;
 
 // special built-ins
-const BUILT_INS: &str = r##"set -eNtest -d /etc || mkdir /etc -> lax (seq (strict) (chain (call 17 (word (p =test)) (word (p =-d)) (word (p =/etc))) (or (call 33 (word (p =mkdir)) (word (p =/etc))))))
-'set' "-e" -> lax (strict)
+const BUILT_INS: &str = r##"'set' "-e" -> lax (strict)
 set +e -> lax (lax)
 exit -> lax (exit 10)
 exit 1 -> lax (exit 10 (word (p =1)))
@@ -126,6 +129,11 @@ export x -> lax (export 10 (word (p =x)))
 export x=1 y="$z" -> lax (export 10 (word (p =x=1)) (word (p =y=) (q (var z))))
 unset x -> lax (unset 10 (word (p =x)))
 unset x $y -> lax (unset 10 (word (p =x)) (word (s (var y))))"##;
+
+// several of these
+const TOGETHER: &str = "set -eNtest -d /etc || mkdir /etc -> lax (seq (strict) \
+    (chain (call 17 (word (p =test)) (word (p =-d)) (word (p =/etc))) \
+    (or (call 33 (word (p =mkdir)) (word (p =/etc))))))";
 
 // functions
 const FUNCTIONS: &str = r##"f() { :; } -> lax (def f (call 16 (word (p =:)))) (skip)

@@ -63,5 +63,5 @@ pub simple-returns : goal.simple-returns
 simple-returns t c =
     subst (λ q. IfOk c.of_kind.result (λ s. s ≡ q))
     (translated_simple c.args.at c.args.assigns.now c.args.words.now c.args.defs.now c.in_ok-kind.kind
-      (c.in_ok-kind.ensures ∙ ap (λ ws. kind_of (map static_word ws) c.args.defs.now) c.as_slice.ensures))
+    (c.in_ok-kind.ensures ∙ ap (λ ws. kind_of (map static_word ws) c.args.defs.now) c.as_slice.ensures))
     c.of_kind.ensures
