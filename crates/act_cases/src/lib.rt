@@ -14,3 +14,5 @@ pub use making::cases;
 
 #[cfg(test)]
 mod tests;
+#[cfg(test)]
+mod taken_tests;

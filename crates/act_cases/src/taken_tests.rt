@@ -76,7 +76,6 @@ const MOVED: &[(&str, u8)] = &[
     ("mv /f /d", 79),
     ("mv /l /d", 80),
     ("mv /o /x", 81),
-    ("mv /d/e /d", 76),
 ];
 
 // Whether the case holds on a tree.
