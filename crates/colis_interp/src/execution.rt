@@ -176,7 +176,8 @@ fn run_all(
 ) -> Result<(), Halt>
     ensures turns { shell.new.conc.turns ≤ shell.old.conc.turns }
     ensures runs { let f = funs_of defs.now [] in
-        Runs (rule.do_all (with f (map co_stmt stmts.now)) (place_of place.entry) (state_of shell.old)) result shell.new }
+        let all = rule.do_all (with f (map co_stmt stmts.now)) in
+        Runs (all (place_of place.entry) (state_of shell.old)) result shell.new }
 {
     if stmts.is_empty() {
         shell.conc.status = true;
@@ -199,7 +200,8 @@ fn run_links(
 ) -> Result<(), Halt>
     ensures turns { shell.new.conc.turns ≤ shell.old.conc.turns }
     ensures runs { let f = funs_of defs.now [] in
-        Runs (rule.do_links (with f (map co_link links.now)) (place_of place.entry) (state_of shell.old)) result shell.new }
+        let further = rule.do_links (with f (map co_link links.now)) in
+        Runs (further (place_of place.entry) (state_of shell.old)) result shell.new }
 {
     let mut left = links.len();
     for link in links {
@@ -235,8 +237,8 @@ fn run_arms(
 ) -> Result<(), Halt>
     ensures turns { shell.new.conc.turns ≤ shell.old.conc.turns }
     ensures runs { let f = funs_of defs.now [] in
-        Runs (rule.do_if (with f (map co_arm arms.now)) (co_stmt last.now f) (place_of place.entry) (state_of shell.old))
-        result shell.new }
+        let chosen = rule.do_if (with f (map co_arm arms.now)) (co_stmt last.now f) in
+        Runs (chosen (place_of place.entry) (state_of shell.old)) result shell.new }
 {
     for arm in arms {
         run_stmt(
@@ -417,7 +419,8 @@ fn run_set(
 ) -> Result<(), Halt>
     ensures turns { shell.new.conc.turns ≤ shell.old.conc.turns }
     ensures runs { let f = funs_of defs.now [] in
-        Runs (calls.do_set at (with f (map co_set sets.now)) (place_of place.entry) (state_of shell.old)) result shell.new }
+        let set = calls.do_set at (with f (map co_set sets.now)) in
+        Runs (set (place_of place.entry) (state_of shell.old)) result shell.new }
 {
     let here = Place { at, ..place };
     shell.substituted = true;

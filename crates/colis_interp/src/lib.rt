@@ -1,6 +1,6 @@
 //! Runs CoLiS programs on one concrete tree, by their meaning (colis_meaning). It stands on colis_meaning,
-//! colis_syntax, shell_rules, concrete_utils and the crates below these. Begin with `interp`; `execution` has a function
-//! for each construct of the language, over the state in `shell`.
+//! colis_syntax, shell_rules, concrete_utils and the crates below these. Begin with `interp`; `execution` has a
+//! function for each construct of the language, over the state in `shell`.
 #![tactic(auto)]
 
 mod acts;
@@ -16,6 +16,3 @@ mod strings;
 mod utilities;
 
 pub use interp::run;
-
-#[cfg(test)]
-mod tests;

@@ -35,8 +35,8 @@ impl Root {
         tree
     }
 
-    /// Does an act: the row that it takes, and its answer; the tree becomes the one that the act leaves, and stays as it
-    /// was where memory is missing.
+    /// Does an act: the row that it takes, and its answer; the tree becomes the one that the act leaves, and stays as
+    /// it was where memory is missing.
     pub(crate) fn act(&mut self, alloc: Global, a: &Act) -> Result<(u8, Done), Memory>
         requires { IsPerformed a.now }
         ensures row { IfOk result (λ taken. taken.0 ≡ (row a.now self.old.tree).number) }

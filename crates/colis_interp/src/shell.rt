@@ -11,8 +11,8 @@ use crate::root::Root;
 use script_names::{Bytes, Memory, Reason};
 use shell_rules::{Conc, Leave, Trace};
 
-/// A shell in the course of a run: its own state, the tree, the acts that were done, and of the command whose words are
-/// expanded whether its last command substitution succeeded.
+/// A shell in the course of a run: its own state, the tree, the acts that were done, and of the command whose words
+/// are expanded whether its last command substitution succeeded.
 #[derive(Drop)]
 pub(crate) struct Shell {
     pub conc: Conc,

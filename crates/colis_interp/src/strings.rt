@@ -81,7 +81,8 @@ pub(crate) fn pattern_answer(
     place: Place,
 ) -> Result<bool, Halt>
     ensures { (s : ShellRecord)
-        → Runs (pattern_answer subject.now (pattern_letters pattern.now) (place_of place.entry) (state_of s)) result s }
+        → let answer = pattern_answer subject.now (pattern_letters pattern.now) in
+        Runs (answer (place_of place.entry) (state_of s)) result s }
 {
     match matches(alloc, pattern, subject) {
         Ok(yes) => Ok(yes),
