@@ -1,5 +1,5 @@
 -- A list of which each item becomes some items: one more of it.
-use Rattle.std.proofs.Common.{◌≡◌, ℕ, ◌+◌, ◌<◌, List, [], ◌∷◌, ◌++◌, length, take, get_or, refl, sym, ap, ◌∙◌, arith, add-one, append_assoc, append-nil}
+use Rattle.std.proofs.Common.{◌≡◌, ℕ, ◌+◌, ◌<◌, List, [], ◌∷◌, ◌++◌, length, take, get_or, sym, ap, ◌∙◌, add-one, append_assoc, append-nil}
 use Rattle.std.proofs.Math.Seq.{take-suc}
 
 module _ {A B : Type 0} (g : List A → List B) (h : A → List B) (nil : g [] ≡ []) (cons : (x : A) (xs : List A) → g (x ∷ xs) ≡ h x ++ g xs) where

@@ -1,12 +1,8 @@
 -- A command without unsupported forms becomes what may stand in a program: by induction on the command.
-use Rattle.std.proofs.Common.{◌≡◌, ℕ, suc, Bool, true, false, not, ◌&&◌, ◌||◌, List, [], ◌∷◌, ◌++◌, map, length, Option, Some, None, refl, sym, ap, ◌∙◌, subst, append_assoc, if◌then◌else◌, codes, nat_le}
-use Rattle.std.specs.List.{list_all, list_any, flat_map}
+use Rattle.std.proofs.Common.{◌≡◌, ℕ, true, not, ◌&&◌, ◌||◌, List, [], ◌∷◌, ◌++◌, map, Option, Some, None, refl, sym, ap, ◌∙◌, subst, append_assoc, codes}
+use Rattle.std.specs.List.{list_all, flat_map}
 use Rattle.std.specs.Str.{bytes_eq}
 use Rattle.std.proofs.lemmas.Bool.{and_from, and_parts}
-use Rattle.shell_syntax.specs.declared.key.Key.{Key}
-use Rattle.shell_syntax.specs.declared.key.Key.TheVariants as key
-use Rattle.shell_syntax.specs.declared.redirect.Redirect.{Redirect}
-use Rattle.shell_syntax.specs.declared.redirect.Redirect.TheVariants as redirect
 use Rattle.shell_syntax.specs.declared.syntax.Command.{Command, roll-Command}
 use Rattle.shell_syntax.specs.declared.syntax.Part.{Part, roll-Part}
 use Rattle.shell_syntax.specs.declared.syntax.Assign.{Assign, roll-Assign}
@@ -15,37 +11,28 @@ use Rattle.shell_syntax.specs.declared.syntax.IfArm.{IfArm, roll-IfArm}
 use Rattle.shell_syntax.specs.declared.syntax.Link.{Link, roll-Link}
 use Rattle.shell_syntax.specs.declared.syntax.Word.{Word, roll-Word}
 use Rattle.shell_syntax.specs.declared.syntax.Command.TheOpen as o
-use Rattle.shell_syntax.specs.declared.syntax.Command.TheFolds.{fold-roll-Command, fold-roll-Part, fold-roll-Assign, fold-roll-CaseArm, fold-roll-IfArm, fold-roll-Link, fold-roll-Word, ind-Command, map-Command, map-Part, map-CaseArm, map-Word}
+use Rattle.shell_syntax.specs.declared.syntax.Command.TheFolds.{fold-roll-Command, fold-roll-Part, fold-roll-Assign, fold-roll-CaseArm, fold-roll-IfArm, fold-roll-Link, fold-roll-Word, ind-Command, map-Command, map-Part}
 use Rattle.shell_forms.specs.Names.{Text}
 use Rattle.shell_forms.specs.Words.{PartSays, WordSays, AssignSays, both_bytes, command_of, commands_of}
 use Rattle.shell_forms.specs.Words as says
 use Rattle.shell_forms.specs.Forms as form
 use Rattle.shell_forms.specs.Forms.{Forms, Found, forms_of, part_says, assign_says, case_arm_says, if_arm_says, link_says, word_says, within, member, looped, apart, function_body, when, all_of, in_word, in_words, in_assigns, in_pattern, in_patterns, in_arm, in_arms, in_case_arm, in_case_arms, in_list, if_there, is_name, is_named, are_any, static_name, operands}
 use Rattle.shell_forms.specs.declared.place.Place.{Place}
-use Rattle.colis_syntax.specs.declared.syntax.Stmt.{Stmt, roll-Stmt}
+use Rattle.colis_syntax.specs.declared.syntax.Stmt.{Stmt}
 use Rattle.colis_syntax.specs.declared.syntax.Stmt.TheVariants as stmt
-use Rattle.colis_syntax.specs.declared.syntax.Str.{Str, roll-Str}
 use Rattle.colis_syntax.specs.declared.syntax.Str.TheVariants as string
-use Rattle.colis_syntax.specs.declared.syntax.StrPiece.{StrPiece, roll-StrPiece}
-use Rattle.colis_syntax.specs.declared.syntax.StrPiece.TheVariants as piece
-use Rattle.colis_syntax.specs.declared.syntax.Fields.{Fields, roll-Fields}
 use Rattle.colis_syntax.specs.declared.syntax.Fields.TheVariants as fields
 use Rattle.colis_syntax.specs.declared.syntax.Fields.TheOpen as c
-use Rattle.colis_syntax.specs.declared.syntax.Fields.TheFolds.{fold-roll-Fields, fold-roll-Stmt, fold-roll-Str, fold-roll-StrPiece, fold-roll-SetTo, fold-roll-ChainPart, fold-roll-StmtArm, fold-roll-PatArm, map-Stmt, map-Str, map-StrPiece, map-Fields}
-use Rattle.colis_syntax.specs.declared.syntax.SetTo.{SetTo, roll-SetTo}
-use Rattle.colis_syntax.specs.declared.syntax.ChainPart.{ChainPart, roll-ChainPart}
-use Rattle.colis_syntax.specs.declared.syntax.StmtArm.{StmtArm, roll-StmtArm}
-use Rattle.colis_syntax.specs.declared.syntax.PatArm.{PatArm, roll-PatArm}
+use Rattle.colis_syntax.specs.declared.syntax.SetTo.{SetTo}
+use Rattle.colis_syntax.specs.declared.syntax.ChainPart.{ChainPart}
+use Rattle.colis_syntax.specs.declared.syntax.StmtArm.{StmtArm}
+use Rattle.colis_syntax.specs.declared.syntax.PatArm.{PatArm}
 use Rattle.colis_syntax.specs.declared.def.Def.{Def}
-use Rattle.colis_syntax.specs.WellFormed.{Scope, Test, scope_of, all_pass, is_def, is_argument, stmt_passes, str_passes, piece_passes, field_passes, set_passes, part_passes, arm_passes, pat_arm_passes, fields_layer, stmt_layer, str_layer, piece_layer, part_layer, pat_arm_layer, set_layer, arm_layer}
-use Rattle.shell_to_colis.specs.declared.kinds.Kind.{Kind}
-use Rattle.shell_to_colis.specs.declared.kinds.Kind.TheVariants as kind
-use Rattle.shell_to_colis.specs.declared.words.Quoting.{Quoting}
-use Rattle.shell_to_colis.specs.declared.words.Quoting.TheVariants as quoting
+use Rattle.colis_syntax.specs.WellFormed.{Scope, all_pass, stmt_passes, str_passes, piece_passes, set_passes, part_passes, arm_passes, pat_arm_passes}
 use Rattle.shell_to_colis.specs.Translated.{To, PartTo, WordTo, each, static, piece_of, piece_to, pieces_to, joined_to, is_all_alone, field_to, fields_to, rest_of, parameter_to, default_to, expansion, flag_kind, called_kind, named_kind, kind_of, assigned_to, simple_to, redirect_to, redirected_to, seq_to, chain_to, if_to, otherwise_to, list_to, condition_to, body_to, arm_of, translated, part_to, assign_to, case_arm_to, if_arm_to, link_to, word_to}
 use Rattle.shell_to_colis.specs.Translated as to
 use Rattle.script_names.specs.declared.reason.Reason.TheVariants as reason
-use Rattle.shell_to_colis.proofs.Passes.{no_front, no_back, not_when, stmt_at, str_at, set_at, part_at, arm_at, pat_arm_at, all_stmts, all_fields, all_strs, all_pieces, skip_passes, not_passes, seq_passes, chain_passes, if_passes, assigned_passes, redirected_passes, condition_passes, body_passes, values, pieces_pass, field_pass, joined_passes, parameter_passes, default_passes, kind_allowed, simple_passes, name_of, scope, Known, args_pass, has_one}
+use Rattle.shell_to_colis.proofs.Passes.{no_front, no_back, not_when, stmt_at, str_at, set_at, part_at, arm_at, pat_arm_at, all_stmts, all_fields, all_strs, skip_passes, not_passes, seq_passes, chain_passes, if_passes, redirected_passes, condition_passes, body_passes, values, pieces_pass, field_pass, joined_passes, parameter_passes, default_passes, kind_allowed, simple_passes, name_of, scope, Known, args_pass, has_one}
 
 all_of_append : (xs ys : List Forms) (q : Place) → all_of (xs ++ ys) q ≡ all_of xs q ++ all_of ys q
 all_of_append [] ys q = refl

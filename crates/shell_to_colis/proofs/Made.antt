@@ -1,5 +1,5 @@
 -- The program that is made of a script's functions and statements.
-use Rattle.std.proofs.Common.{◌≡◌, ℕ, List, [], Option, Some, None, refl, sym, ap, ◌∙◌, subst}
+use Rattle.std.proofs.Common.{◌≡◌, List, [], Option, Some, None, sym, ap, ◌∙◌, subst}
 use Rattle.shell_syntax.specs.declared.script.Script.{Script}
 use Rattle.shell_forms.specs.First.{script_forms}
 use Rattle.colis_syntax.specs.declared.def.Def.{Def}

@@ -1,21 +1,9 @@
 -- What CoLiS does at each node, and that what is made there by the translation does what the shell's rule says.
-use Rattle.std.proofs.Common.{◌≡◌, ℕ, suc, Bool, true, false, not, ◌&&◌, List, [], ◌∷◌, ◌++◌, map, Option, Some, None, is_some, refl, sym, ap, ◌∙◌, subst, if◌then◌else◌, codes}
-use Rattle.std.specs.List.{flat_map}
-use Rattle.std.specs.Str.{bytes_eq}
-use Rattle.script_names.specs.declared.reason.Reason.TheVariants as reason
+use Rattle.std.proofs.Common.{◌≡◌, ℕ, Bool, true, false, List, [], ◌∷◌, map, Option, Some, None, refl, sym, ap, ◌∙◌, if◌then◌else◌}
 use Rattle.shell_syntax.specs.declared.key.Key.{Key}
 use Rattle.shell_syntax.specs.declared.key.Key.TheVariants as key
 use Rattle.shell_syntax.specs.declared.redirect.Redirect.{Redirect}
 use Rattle.shell_syntax.specs.declared.redirect.Redirect.TheVariants as redirect
-use Rattle.shell_syntax.specs.declared.syntax.Command.{Command, roll-Command}
-use Rattle.shell_syntax.specs.declared.syntax.Part.{Part, roll-Part}
-use Rattle.shell_syntax.specs.declared.syntax.Assign.{Assign, roll-Assign}
-use Rattle.shell_syntax.specs.declared.syntax.CaseArm.{CaseArm, roll-CaseArm}
-use Rattle.shell_syntax.specs.declared.syntax.IfArm.{IfArm, roll-IfArm}
-use Rattle.shell_syntax.specs.declared.syntax.Link.{Link, roll-Link}
-use Rattle.shell_syntax.specs.declared.syntax.Word.{Word, roll-Word}
-use Rattle.shell_syntax.specs.declared.syntax.Command.TheOpen as o
-use Rattle.shell_syntax.specs.declared.syntax.Command.TheFolds.{fold-roll-Command, fold-roll-Part, fold-roll-Assign, fold-roll-CaseArm, fold-roll-IfArm, fold-roll-Link, fold-roll-Word, ind-Command, map-Command, map-Part}
 use Rattle.shell_words.specs.Pieces.{PieceParts}
 use Rattle.colis_syntax.specs.declared.syntax.Stmt.{Stmt, roll-Stmt}
 use Rattle.colis_syntax.specs.declared.syntax.Stmt.TheVariants as stmt
@@ -31,22 +19,17 @@ use Rattle.colis_syntax.specs.declared.syntax.SetTo.{SetTo, roll-SetTo}
 use Rattle.colis_syntax.specs.declared.syntax.ChainPart.{ChainPart, roll-ChainPart}
 use Rattle.colis_syntax.specs.declared.syntax.StmtArm.{StmtArm, roll-StmtArm}
 use Rattle.colis_syntax.specs.declared.syntax.PatArm.{PatArm, roll-PatArm}
-use Rattle.colis_syntax.specs.declared.def.Def.{Def}
-use Rattle.colis_syntax.specs.WellFormed.{is_def, is_argument}
+use Rattle.colis_syntax.specs.WellFormed.{is_argument}
 use Rattle.colis_meaning.specs.Meaning.{StrDoes, PieceDoes, FieldsDo, SetDoes, ArmDoes, co_stmt, co_str, co_piece, co_fields, co_set, co_link, co_arm, co_case_arm}
 use Rattle.colis_meaning.specs.Meaning as co
-use Rattle.shell_rules.specs.State.{Text, State, Run, Go, Left, then_do, Doing, Action, Funs, Does, with, with_status, at_command}
+use Rattle.shell_rules.specs.State.{Text, Run, Go, Left, then_do, Doing, Action, Funs, Does, with, with_status, at_command}
 use Rattle.shell_rules.specs.Expansion as word
 use Rattle.shell_rules.specs.Commands as rule
 use Rattle.shell_rules.specs.Loops as loops
 use Rattle.shell_rules.specs.Cases as cases
-use Rattle.shell_rules.specs.Calls as calls
-use Rattle.shell_to_colis.specs.declared.kinds.Kind.{Kind}
-use Rattle.shell_to_colis.specs.declared.kinds.Kind.TheVariants as kind
 use Rattle.shell_to_colis.specs.declared.words.Quoting.{Quoting}
 use Rattle.shell_to_colis.specs.declared.words.Quoting.TheVariants as quoting
-use Rattle.shell_to_colis.specs.Translated.{To, PartTo, WordTo, each, static, piece_of, pieces_to, joined_to, is_all_alone, field_to, fields_to, rest_of, parameter_to, default_to, expansion, flag_kind, called_kind, named_kind, kind_of, assigned_to, simple_to, redirect_to, redirected_to, seq_to, chain_to, if_to, otherwise_to, list_to, condition_to, body_to, arm_of, translated, part_to, assign_to, case_arm_to, if_arm_to, link_to, word_to}
-use Rattle.shell_to_colis.specs.Translated as to
+use Rattle.shell_to_colis.specs.Translated.{piece_of, parameter_to, default_to, expansion, assigned_to, redirect_to, redirected_to, seq_to, chain_to, if_to, condition_to, body_to}
 use Rattle.shell_to_colis.specs.Shell.{PartDoes, WordDoes, AssignDoes, IfArmDoes, sh, sh_part, sh_assign, sh_case_arm, sh_if_arm, sh_link, sh_word}
 use Rattle.shell_to_colis.specs.Shell as shell
 

@@ -1,26 +1,14 @@
 -- What a command without unsupported forms becomes may stand in a program.
-use Rattle.std.proofs.Common.{◌≡◌, ℕ, suc, Bool, true, false, not, ◌&&◌, ◌||◌, List, [], ◌∷◌, ◌++◌, map, length, Option, Some, None, refl, sym, ap, ◌∙◌, subst, if◌then◌else◌, codes, nat_le, arith}
-use Rattle.std.specs.List.{list_all, list_any, flat_map}
+use Rattle.std.proofs.Common.{◌≡◌, ℕ, Bool, true, false, not, ◌&&◌, ◌||◌, List, [], ◌∷◌, ◌++◌, map, length, Option, Some, None, refl, sym, ap, ◌∙◌, if◌then◌else◌, codes, nat_le, arith}
+use Rattle.std.specs.List.{list_all}
 use Rattle.std.specs.Str.{bytes_eq}
 use Rattle.std.proofs.lemmas.Bool.{and_from, and_parts, le-leb}
 use Rattle.shell_syntax.specs.declared.key.Key.{Key}
 use Rattle.shell_syntax.specs.declared.key.Key.TheVariants as key
 use Rattle.shell_syntax.specs.declared.redirect.Redirect.{Redirect}
 use Rattle.shell_syntax.specs.declared.redirect.Redirect.TheVariants as redirect
-use Rattle.shell_syntax.specs.declared.syntax.Command.{Command, roll-Command}
-use Rattle.shell_syntax.specs.declared.syntax.Part.{Part, roll-Part}
-use Rattle.shell_syntax.specs.declared.syntax.Assign.{Assign, roll-Assign}
-use Rattle.shell_syntax.specs.declared.syntax.CaseArm.{CaseArm, roll-CaseArm}
-use Rattle.shell_syntax.specs.declared.syntax.IfArm.{IfArm, roll-IfArm}
-use Rattle.shell_syntax.specs.declared.syntax.Link.{Link, roll-Link}
-use Rattle.shell_syntax.specs.declared.syntax.Word.{Word, roll-Word}
-use Rattle.shell_syntax.specs.declared.syntax.Command.TheOpen as o
-use Rattle.shell_syntax.specs.declared.syntax.Command.TheFolds.{fold-roll-Command, fold-roll-Part, fold-roll-Assign, fold-roll-CaseArm, fold-roll-IfArm, fold-roll-Link, fold-roll-Word, ind-Command, map-Command, map-Part, map-CaseArm, map-Word}
 use Rattle.shell_forms.specs.Names.{Text}
-use Rattle.shell_forms.specs.Words.{PartSays, WordSays, AssignSays, both_bytes, command_of, commands_of}
-use Rattle.shell_forms.specs.Words as says
-use Rattle.shell_forms.specs.Forms as form
-use Rattle.shell_forms.specs.Forms.{Forms, Found, forms_of, part_says, assign_says, case_arm_says, if_arm_says, link_says, word_says, within, member, looped, apart, function_body, when, all_of, in_word, in_words, in_assigns, in_pattern, in_patterns, in_arm, in_arms, in_case_arm, in_case_arms, in_list, if_there, is_name, is_named, are_any, static_name, operands}
+use Rattle.shell_forms.specs.Forms.{when, is_name, is_named}
 use Rattle.shell_forms.specs.declared.place.Place.{Place}
 use Rattle.colis_syntax.specs.declared.syntax.Stmt.{Stmt, roll-Stmt}
 use Rattle.colis_syntax.specs.declared.syntax.Stmt.TheVariants as stmt
@@ -42,8 +30,7 @@ use Rattle.shell_to_colis.specs.declared.kinds.Kind.{Kind}
 use Rattle.shell_to_colis.specs.declared.kinds.Kind.TheVariants as kind
 use Rattle.shell_to_colis.specs.declared.words.Quoting.{Quoting}
 use Rattle.shell_to_colis.specs.declared.words.Quoting.TheVariants as quoting
-use Rattle.shell_to_colis.specs.Translated.{To, PartTo, WordTo, each, static, piece_of, piece_to, pieces_to, joined_to, is_all_alone, field_to, fields_to, rest_of, parameter_to, default_to, expansion, flag_kind, called_kind, named_kind, kind_of, assigned_to, simple_to, redirect_to, redirected_to, seq_to, chain_to, if_to, otherwise_to, list_to, condition_to, body_to, arm_of, translated, part_to, assign_to, case_arm_to, if_arm_to, link_to, word_to}
-use Rattle.shell_to_colis.specs.Translated as to
+use Rattle.shell_to_colis.specs.Translated.{To, PartTo, WordTo, each, piece_of, pieces_to, joined_to, is_all_alone, field_to, fields_to, rest_of, parameter_to, default_to, flag_kind, kind_of, assigned_to, simple_to, redirect_to, redirected_to, seq_to, chain_to, if_to, condition_to, body_to}
 
 -- ---- lists without items
 

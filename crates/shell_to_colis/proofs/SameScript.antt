@@ -1,5 +1,5 @@
 -- A translated script does what the script does.
-use Rattle.std.proofs.Common.{◌≡◌, ℕ, Bool, true, false, ◌||◌, List, [], ◌∷◌, ◌++◌, map, Option, Some, None, is_some, refl, sym, ap, ◌∙◌, subst, if◌then◌else◌, append-nil, append_assoc}
+use Rattle.std.proofs.Common.{◌≡◌, ℕ, Bool, true, false, ◌||◌, List, [], ◌∷◌, ◌++◌, map, Option, Some, None, is_some, refl, sym, ap, ◌∙◌, subst, if◌then◌else◌, append-nil}
 use Rattle.std.specs.List.{list_any}
 use Rattle.std.specs.Str.{bytes_eq}
 use Rattle.std.proofs.lemmas.Slice.Eq.{bytes_eq-Decides}
@@ -17,7 +17,7 @@ use Rattle.shell_rules.specs.Calls as calls
 use Rattle.shell_rules.specs.Whole.{whole_run}
 use Rattle.shell_to_colis.specs.Members.{defined_by, members_of}
 use Rattle.shell_to_colis.specs.Translated.{translated, def_to, defs_behind, defs_to, body_statements, seq_to, program_of}
-use Rattle.shell_to_colis.specs.Shell.{sh, one_more, funs_with, members_do, is_one_of, names_with, names_behind, sh_script}
+use Rattle.shell_to_colis.specs.Shell.{one_more, funs_with, members_do, is_one_of, names_with, names_behind, sh_script}
 use Rattle.shell_to_colis.proofs.Nodes.{cong2, cong_cons, seq_same}
 use Rattle.shell_to_colis.proofs.Same.{Fits, translated_same}
 

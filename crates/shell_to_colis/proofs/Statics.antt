@@ -1,5 +1,5 @@
 -- What the translation says of static words is what is read off their syntax.
-use Rattle.std.proofs.Common.{◌≡◌, ℕ, List, [], ◌∷◌, ◌++◌, length, map, Option, Some, None, refl, sym, ap, ◌∙◌, arith}
+use Rattle.std.proofs.Common.{◌≡◌, ℕ, List, [], ◌∷◌, length, map, refl, sym, ap, ◌∙◌, arith}
 use Rattle.shell_syntax.specs.declared.syntax.Command.{Command}
 use Rattle.shell_syntax.specs.declared.syntax.Command.TheVariants.{Simple, rolls-Simple}
 use Rattle.shell_syntax.specs.declared.syntax.Part.{Part, out-Part, roll-Part, roll-out-Part}
@@ -10,7 +10,6 @@ use Rattle.shell_syntax.specs.declared.syntax.Link.{Link}
 use Rattle.shell_syntax.specs.declared.syntax.Word.{Word}
 use Rattle.shell_syntax.specs.declared.syntax.Command.TheOpen as o
 use Rattle.shell_syntax.specs.declared.syntax.Command.TheFolds.{fold-roll-Command, fold-roll-Part, fold_out-Word, fold_out-CaseArm}
-use Rattle.shell_forms.specs.Names.{Text}
 use Rattle.shell_forms.specs.Words.{both_bytes}
 use Rattle.shell_forms.specs.Seen.{layer_bytes, bytes_of, static_of}
 use Rattle.colis_syntax.specs.declared.syntax.Stmt.{Stmt}

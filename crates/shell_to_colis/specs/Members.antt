@@ -1,6 +1,6 @@
 -- The members of a script's list, and the functions that they define (POSIX.1-2017, XCU 2.9.3 Lists, 2.9.5 Function
 -- Definition Command).
-use Rattle.std.specs.Prelude.{ℕ, List, [], ◌∷◌, Option, Some, None}
+use Rattle.std.specs.Prelude.{List, [], ◌∷◌, Option, Some, None}
 use Rattle.shell_syntax.specs.declared.syntax.Command.{Command, out-Command}
 use Rattle.shell_syntax.specs.declared.syntax.Part.{Part}
 use Rattle.shell_syntax.specs.declared.syntax.Assign.{Assign}

@@ -1,4 +1,4 @@
-use Rattle.std.proofs.Common.{◌≡◌, arith}
+use Rattle.std.proofs.Common.{arith}
 use Rattle.shell_syntax.specs.declared.redirect.Redirect.TheVariants.{OutNull}
 use Rattle.shell_to_colis.specs.Translated.{redirected_to}
 use Rattle.shell_to_colis.proofs.Steps.{redirected_step}

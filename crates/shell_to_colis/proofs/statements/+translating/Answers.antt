@@ -1,6 +1,6 @@
-use Rattle.std.proofs.Common.{◌≡◌, IfOk, subst, List, map, refl, ◌++◌, ◌∷◌, [], ap, sym, ◌∙◌, rules}
+use Rattle.std.proofs.Common.{◌≡◌, IfOk, subst, map, refl, ◌∷◌, [], ap, ◌∙◌, rules}
 use Rattle.std.specs.List.{flat_map}
-use Rattle.shell_to_colis.specs.Translated.{PartTo, WordTo, translated, each, part_to, piece_to, pieces_to, word_to, field_to, fields_to, kind_of, static_word, assign_to, link_to, if_arm_to, case_arm_to}
+use Rattle.shell_to_colis.specs.Translated.{PartTo, translated, each, part_to, piece_to, pieces_to, word_to, field_to, fields_to, kind_of, static_word, assign_to, link_to, if_arm_to, case_arm_to}
 use Rattle.shell_to_colis.proofs.Each.{each_more}
 use Rattle.shell_to_colis.proofs.Statics.{translated_simple}
 use Rattle.shell_to_colis.proofs.statements.+translating.Goals as goal

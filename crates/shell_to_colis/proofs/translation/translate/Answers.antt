@@ -1,4 +1,4 @@
-use Rattle.std.proofs.Common.{◌≡◌, ap, ◌∙◌}
+use Rattle.std.proofs.Common.{ap, ◌∙◌}
 use Rattle.shell_syntax.specs.declared.script.Script.{Script}
 use Rattle.shell_forms.specs.First.{script_forms}
 use Rattle.shell_to_colis.proofs.Made.{never, same}
