@@ -1,7 +1,7 @@
 -- What a nested text is read as, in each place where it may stand. The reading is loose: a word that is not known, a
 -- number that does not fit and a member that lacks are read as something, and further members are passed over. What is
 -- read so has another text, by which a reader finds it out.
-use Rattle.std.specs.Prelude.{ℕ, ◌-◌, ◌^◌, ◌==◌, Bool, false, List, [], ◌∷◌, map, take, length, codes, unwrap_or}
+use Rattle.std.specs.Prelude.{ℕ, ◌-◌, ◌^◌, ◌==◌, false, List, [], ◌∷◌, map, take, length, codes, unwrap_or}
 use Rattle.std.specs.Prelude.{slice_index_or, if◌then◌else◌}
 use Rattle.std.specs.Str.{bytes_eq}
 use Rattle.script_names.specs.declared.reason.Reason.{Reason}
