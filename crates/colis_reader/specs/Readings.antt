@@ -100,10 +100,11 @@ abbrev pub behind : List Read → List Read
 behind [] = []
 behind (r ∷ rs) = rs
 
--- the members before the last, and the last
+-- the members before the last
 abbrev pub but_last : List Read → List Read
 but_last rs = take (length rs - 1) rs
 
+-- the last member
 abbrev pub last : List Read → Read
 last rs = member rs (length rs - 1)
 
@@ -209,6 +210,7 @@ node_read word rs = record {
   };
 }
 
+-- a part, from its word and what its members are read as
 abbrev pub nest_layer : o.Nest-F Read → Read
 nest_layer (o.Node word rs) = node_read word rs
 
