@@ -1,7 +1,7 @@
 -- How the texts of constructs go through the reading of nested text: which parts they add.
-use Rattle.std.proofs.Common.{◌≡◌, ℕ, ◌+◌, ◌-◌, ◌<◌, ◌^◌, Bool, true, false, List, [], ◌∷◌, ◌++◌, length, take, get_or, codes, decimal, refl, sym, ap, ◌∙◌, append_assoc, append-nil, arith}
+use Rattle.std.proofs.Common.{◌≡◌, ℕ, ◌-◌, ◌<◌, ◌^◌, Bool, true, false, List, [], ◌∷◌, ◌++◌, length, take, get_or, codes, decimal, refl, sym, ap, ◌∙◌, append_assoc, append-nil, arith}
 use Rattle.std.specs.Prelude.{not, ◌&&◌, ◌==◌, if◌then◌else◌}
-use Rattle.std.specs.List.{list_all, flat_map}
+use Rattle.std.specs.List.{list_all}
 use Rattle.std.proofs.lemmas.Bool.{and_parts, and_from, ne_eqb}
 use Rattle.std.proofs.lemmas.Fmt.{decimal_nonempty}
 use Rattle.shown_texts.specs.Show.{is_shown, show, are_bytes}
@@ -12,7 +12,7 @@ use Rattle.shown_texts.proofs.Numerals.{decimal_digits}
 use Rattle.colis_reader.proofs.Lasts.{last_length, last_here, before_last}
 use Rattle.colis_reader.specs.declared.nest.Nest.{Nest}
 use Rattle.colis_reader.specs.declared.nest.Nest.TheVariants.{Node}
-use Rattle.colis_reader.specs.Nesting.{Reading, reading, with_word, ended, opened, around, closed, step, run}
+use Rattle.colis_reader.specs.Nesting.{Reading, reading, ended, opened, around, closed, step, run}
 
 -- no word is begun
 abbrev pub fresh : List Nest → List (List Nest) → Reading

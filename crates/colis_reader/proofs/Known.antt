@@ -1,16 +1,11 @@
 -- Every construct that can be held has a text that is one part, which is read as the construct: by induction over the syntax.
-use Rattle.std.proofs.Common.{◌≡◌, ℕ, ◌<◌, ◌^◌, Bool, true, nat_le, List, [], ◌∷◌, ◌++◌, map, codes, decimal, refl, sym, ap, ◌∙◌, subst, arith}
-use Rattle.std.specs.Prelude.{◌&&◌, ◌-◌, false, length, take}
+use Rattle.std.proofs.Common.{◌≡◌, Bool, true, List, [], ◌∷◌, ◌++◌, map, codes, decimal, refl, sym, ap, ◌∙◌, subst}
+use Rattle.std.specs.Prelude.{◌&&◌, false, take}
 use Rattle.std.specs.Str.{bytes_eq}
 use Rattle.std.specs.List.{flat_map}
-use Rattle.std.proofs.lemmas.Bool.{and_parts, ne_eqb}
-use Rattle.script_names.specs.declared.reason.Reason.{Reason}
-use Rattle.script_names.specs.declared.reason.Reason.TheVariants as reason
+use Rattle.std.proofs.lemmas.Bool.{and_parts}
 use Rattle.shown_texts.specs.Show.{show, are_bytes}
 use Rattle.shown_texts.specs.Marks.{reason_name}
-use Rattle.shown_texts.proofs.Spelled.{show_read}
-use Rattle.shown_texts.proofs.Numerals.{number_read}
-use Rattle.shown_texts.proofs.MarkTexts.{reason_read}
 use Rattle.colis_syntax.specs.declared.syntax.Fields.{Fields, roll-Fields}
 use Rattle.colis_syntax.specs.declared.syntax.Stmt.{Stmt, roll-Stmt}
 use Rattle.colis_syntax.specs.declared.syntax.Str.{Str, roll-Str}
@@ -24,24 +19,21 @@ use Rattle.colis_syntax.specs.declared.syntax.Str.TheVariants as sv
 use Rattle.colis_syntax.specs.declared.syntax.StrPiece.TheVariants as pv
 use Rattle.colis_syntax.specs.declared.syntax.Fields.TheVariants as fv
 use Rattle.colis_syntax.specs.declared.syntax.Fields.TheOpen as o
-use Rattle.colis_syntax.specs.declared.syntax.Fields.TheFolds.{fold-Fields, fold-Stmt, fold-Str, fold-StrPiece, fold-ChainPart, fold-PatArm, fold-SetTo, fold-StmtArm}
 use Rattle.colis_syntax.specs.declared.syntax.Fields.TheFolds.{fold-roll-Fields, fold-roll-Stmt, fold-roll-Str, fold-roll-StrPiece, fold-roll-ChainPart, fold-roll-PatArm, fold-roll-SetTo, fold-roll-StmtArm}
-use Rattle.colis_syntax.specs.declared.syntax.Fields.TheFolds.{map-Fields, map-Stmt, map-Str, map-StrPiece, map-ChainPart, map-PatArm, map-SetTo, map-StmtArm}
-use Rattle.colis_syntax.specs.declared.syntax.Fields.TheFolds.{ind-Fields, ind-Stmt, ind-Str, ind-StrPiece, ind-ChainPart, ind-PatArm, ind-SetTo, ind-StmtArm}
+use Rattle.colis_syntax.specs.declared.syntax.Fields.TheFolds.{ind-Stmt}
 use Rattle.colis_syntax.specs.ProgramText as t
 use Rattle.colis_syntax.specs.ProgramText.{Text, spaced, each_spaced, between, pattern_text_of, stmt_text, str_text, piece_text, field_text, set_text, part_text, arm_text, pat_arm_text}
 use Rattle.colis_reader.specs.declared.nest.Nest.{Nest}
 use Rattle.colis_reader.specs.declared.nest.Nest.TheVariants.{Node}
-use Rattle.colis_reader.specs.Readings.{Read, read, reads, member, behind, but_last, last, number_in, argument_in, bytes_in, reason_in, literal_in, string_headed, string_from, piece_headed, field_headed, sited_headed, simple_headed, fields_headed, sited_from, word_headed, stmt_headed, node_read, nothing}
+use Rattle.colis_reader.specs.Readings.{Read, read, reads, member, but_last, last, argument_in, bytes_in, reason_in, node_read, nothing}
 use Rattle.colis_reader.specs.Held as h
 use Rattle.colis_reader.specs.Held.{fits, all_hold, stmt_held}
-use Rattle.colis_reader.proofs.ReadNode.{word_node, string_node, piece_node, pieces_node, patterns_node, field_node, fields_node, stmt_node, set_node, part_node, arm_node, pat_arm_node}
+use Rattle.colis_reader.proofs.ReadNode.{word_node, pieces_node, patterns_node, fields_node, set_node, part_node, arm_node, pat_arm_node}
 use Rattle.colis_reader.proofs.Lasts.{last_length, last_here, before_last}
 use Rattle.colis_reader.proofs.Fills.{Fills, Adds, fills_none, adds_none, adds_space, adds_both, fills_both}
 use Rattle.colis_reader.proofs.Shapes as shape
 use Rattle.colis_reader.proofs.Shapes.{leaf, named}
-use Rattle.colis_reader.proofs.PartsKnown as k
-use Rattle.colis_reader.proofs.PartsKnown.{argument_back, bytes_back, reason_back, name_back, seq_is, chain_is, not_is, if_is, quiet_is, strict_is, lax_is, break_is, continue_is, skip_is, set_is, fun_is, for_is, while_is, case_is, sub_is, err_is, stop_is, call_is, exit_is, return_is, export_is, unset_is, var_is, arg_is, or_is, output_is, join_is, count_is, p_is, q_is, s_is, word_is, args_is, literal_is, all_filled}
+use Rattle.colis_reader.proofs.PartsKnown.{argument_back, reason_back, name_back, seq_is, chain_is, not_is, if_is, quiet_is, strict_is, lax_is, break_is, continue_is, skip_is, set_is, fun_is, for_is, while_is, case_is, sub_is, err_is, stop_is, call_is, exit_is, return_is, export_is, unset_is, var_is, arg_is, or_is, output_is, join_is, count_is, p_is, q_is, s_is, word_is, args_is, literal_is, all_filled}
 use Rattle.colis_reader.proofs.PartsKnown.{field_held, str_held, piece_held, part_held, pat_arm_held, set_held, arm_held, KFields, SFields, KStmt, SStmt, KStr, SStr, KStrPiece, SStrPiece, KChainPart, SChainPart, KPatArm, SPatArm, KSetTo, SSetTo, KStmtArm, SStmtArm, field_base, field_words, field_tests, stmt_base, stmt_words, stmt_tests, str_base, str_words, str_tests, piece_base, piece_words, piece_tests, part_base, part_words, part_tests, pat_arm_base, pat_arm_words, pat_arm_tests, set_base, set_words, set_tests, arm_base, arm_words, arm_tests, fields_of, fields_added, stmts_of, stmts_added, strs_of, strs_added, pieces_of, pieces_added, parts_of, parts_added, pat_arms_of, pat_arms_added, sets_of, sets_added, arms_of, arms_added}
 
 -- ---- the ends of a list

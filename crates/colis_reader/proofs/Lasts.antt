@@ -1,5 +1,5 @@
 -- The last item of a list, and what stands before it.
-use Rattle.std.proofs.Common.{◌≡◌, ℕ, ◌-◌, List, [], ◌∷◌, ◌++◌, length, take, get_or, refl, ap, length-append, arith}
+use Rattle.std.proofs.Common.{◌≡◌, ◌-◌, List, [], ◌∷◌, ◌++◌, length, take, get_or, refl, ap, length-append, arith}
 
 pub last_length : {X : Type 0} (xs : List X) (x : X) → length (xs ++ x ∷ []) - 1 ≡ length xs
 last_length xs x = omega (arith, length-append xs (x ∷ []))

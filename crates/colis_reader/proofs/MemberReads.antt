@@ -1,7 +1,7 @@
 -- The members of a list, read.
-use Rattle.std.proofs.Common.{◌≡◌, ℕ, zero, suc, ◌<◌, ◌≤◌, List, [], ◌∷◌, ◌-◌, length, get_or, take, map, refl, ap, ◌∙◌, arith}
+use Rattle.std.proofs.Common.{◌≡◌, ℕ, zero, suc, ◌<◌, ◌≤◌, List, [], ◌∷◌, ◌-◌, length, get_or, take, refl, ap, ◌∙◌, arith}
 use Rattle.colis_reader.specs.declared.nest.Nest.{Nest}
-use Rattle.colis_reader.specs.Readings.{Read, read, reads, member, nothing, but_last}
+use Rattle.colis_reader.specs.Readings.{read, reads, member, nothing, but_last}
 
 -- a member that is there
 pub member_here : (ns : List Nest) (at : ℕ) (d : Nest) → at < length ns → member (reads ns) at ≡ read (get_or ns at d)

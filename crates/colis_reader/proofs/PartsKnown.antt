@@ -1,7 +1,6 @@
 -- The text of each construct goes through the reading as one part, which is read as the construct.
-use Rattle.std.proofs.Common.{◌≡◌, ℕ, ◌-◌, ◌<◌, ◌^◌, Bool, true, nat_le, List, [], ◌∷◌, ◌++◌, map, codes, decimal, refl, sym, ap, ◌∙◌, subst, arith}
-use Rattle.std.specs.Prelude.{◌&&◌, unwrap_or, length, if◌then◌else◌}
-use Rattle.std.specs.List.{flat_map}
+use Rattle.std.proofs.Common.{◌≡◌, ℕ, ◌-◌, ◌^◌, Bool, true, nat_le, List, [], ◌∷◌, map, codes, decimal, refl, ap, ◌∙◌, arith}
+use Rattle.std.specs.Prelude.{unwrap_or, length, if◌then◌else◌}
 use Rattle.std.proofs.lemmas.Bool.{and_parts, ne_eqb}
 use Rattle.script_names.specs.declared.reason.Reason.{Reason}
 use Rattle.script_names.specs.declared.reason.Reason.TheVariants as reason
@@ -10,33 +9,28 @@ use Rattle.shown_texts.specs.Marks.{reason_name}
 use Rattle.shown_texts.proofs.Spelled.{show_read}
 use Rattle.shown_texts.proofs.Numerals.{number_read}
 use Rattle.shown_texts.proofs.MarkTexts.{reason_read}
-use Rattle.colis_syntax.specs.declared.syntax.Fields.{Fields, roll-Fields}
-use Rattle.colis_syntax.specs.declared.syntax.Stmt.{Stmt, roll-Stmt}
-use Rattle.colis_syntax.specs.declared.syntax.Str.{Str, roll-Str}
-use Rattle.colis_syntax.specs.declared.syntax.StrPiece.{StrPiece, roll-StrPiece}
-use Rattle.colis_syntax.specs.declared.syntax.ChainPart.{ChainPart, roll-ChainPart, rolls-ChainPart'}
-use Rattle.colis_syntax.specs.declared.syntax.PatArm.{PatArm, roll-PatArm, rolls-PatArm'}
-use Rattle.colis_syntax.specs.declared.syntax.SetTo.{SetTo, roll-SetTo, rolls-SetTo'}
-use Rattle.colis_syntax.specs.declared.syntax.StmtArm.{StmtArm, roll-StmtArm, rolls-StmtArm'}
+use Rattle.colis_syntax.specs.declared.syntax.Fields.{Fields}
+use Rattle.colis_syntax.specs.declared.syntax.Stmt.{Stmt}
+use Rattle.colis_syntax.specs.declared.syntax.Str.{Str}
+use Rattle.colis_syntax.specs.declared.syntax.StrPiece.{StrPiece}
+use Rattle.colis_syntax.specs.declared.syntax.ChainPart.{ChainPart}
+use Rattle.colis_syntax.specs.declared.syntax.PatArm.{PatArm}
+use Rattle.colis_syntax.specs.declared.syntax.SetTo.{SetTo}
+use Rattle.colis_syntax.specs.declared.syntax.StmtArm.{StmtArm}
 use Rattle.colis_syntax.specs.declared.syntax.Stmt.TheVariants as v
 use Rattle.colis_syntax.specs.declared.syntax.Str.TheVariants as sv
 use Rattle.colis_syntax.specs.declared.syntax.StrPiece.TheVariants as pv
 use Rattle.colis_syntax.specs.declared.syntax.Fields.TheVariants as fv
 use Rattle.colis_syntax.specs.declared.syntax.Fields.TheOpen as o
-use Rattle.colis_syntax.specs.declared.syntax.Fields.TheFolds.{fold-Fields, fold-Stmt, fold-Str, fold-StrPiece, fold-ChainPart, fold-PatArm, fold-SetTo, fold-StmtArm}
-use Rattle.colis_syntax.specs.declared.syntax.Fields.TheFolds.{fold-roll-Fields, fold-roll-Stmt, fold-roll-Str, fold-roll-StrPiece, fold-roll-ChainPart, fold-roll-PatArm, fold-roll-SetTo, fold-roll-StmtArm}
+use Rattle.colis_syntax.specs.declared.syntax.Fields.TheFolds.{fold-Fields, fold-Str, fold-StrPiece, fold-ChainPart, fold-PatArm, fold-SetTo, fold-StmtArm}
 use Rattle.colis_syntax.specs.declared.syntax.Fields.TheFolds.{map-Fields, map-Stmt, map-Str, map-StrPiece, map-ChainPart, map-PatArm, map-SetTo, map-StmtArm}
-use Rattle.colis_syntax.specs.declared.syntax.Fields.TheFolds.{ind-Fields, ind-Stmt, ind-Str, ind-StrPiece, ind-ChainPart, ind-PatArm, ind-SetTo, ind-StmtArm}
-use Rattle.colis_syntax.specs.ProgramText as t
-use Rattle.colis_syntax.specs.ProgramText.{Text, spaced, each_spaced, between, pattern_text_of, stmt_text, str_text, piece_text, field_text, set_text, part_text, arm_text, pat_arm_text}
+use Rattle.colis_syntax.specs.ProgramText.{Text, each_spaced, between, stmt_text, str_text, piece_text, field_text, set_text, part_text, arm_text, pat_arm_text}
 use Rattle.colis_reader.specs.declared.nest.Nest.{Nest}
-use Rattle.colis_reader.specs.declared.nest.Nest.TheVariants.{Node}
-use Rattle.colis_reader.specs.Readings.{Read, read, reads, member, behind, but_last, last, number_in, argument_in, bytes_in, reason_in, literal_in, string_headed, string_from, piece_headed, field_headed, sited_headed, simple_headed, fields_headed, sited_from, word_headed, stmt_headed, node_read}
+use Rattle.colis_reader.specs.Readings.{Read, read, reads, member, behind, but_last, last, number_in, argument_in, bytes_in, reason_in, literal_in, string_headed, piece_headed, field_headed, sited_headed, simple_headed, fields_headed, sited_from, word_headed, stmt_headed}
 use Rattle.colis_reader.specs.Held as h
 use Rattle.colis_reader.specs.Held.{fits, all_hold, stmt_held}
-use Rattle.colis_reader.proofs.ReadNode.{word_node, string_node, piece_node, pieces_node, patterns_node, field_node, fields_node, stmt_node, set_node, part_node, arm_node, pat_arm_node}
+use Rattle.colis_reader.proofs.ReadNode.{word_node, string_node, piece_node, field_node, stmt_node}
 use Rattle.colis_reader.proofs.Fills.{Fills, Adds, fills_none, adds_none, adds_space, adds_both, fills_both}
-use Rattle.colis_reader.proofs.Shapes as shape
 use Rattle.colis_reader.proofs.Shapes.{leaf, named}
 
 -- ---- words read back

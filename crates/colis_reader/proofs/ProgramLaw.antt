@@ -1,5 +1,5 @@
 -- The text of a program is read as the program; what a text that was refused, and one that was read, says of all programs.
-use Rattle.std.proofs.Common.{◌≡◌, ℕ, Bool, true, false, List, [], ◌∷◌, ◌++◌, Option, Some, None, Ok, Err, Result, IsTrue, map, codes, refl, sym, ap, ◌∙◌}
+use Rattle.std.proofs.Common.{◌≡◌, Bool, true, false, List, [], ◌∷◌, ◌++◌, Option, Some, None, Ok, Err, Result, map, codes, refl, sym, ap, ◌∙◌}
 use Rattle.std.specs.Prelude.{◌&&◌, if◌then◌else◌}
 use Rattle.std.specs.List.{flat_map, list_all}
 use Rattle.std.specs.Str.{bytes_eq}
@@ -13,13 +13,13 @@ use Rattle.colis_reader.specs.declared.nest.Nest.{Nest}
 use Rattle.colis_reader.specs.declared.nest.Nest.TheVariants.{Node}
 use Rattle.colis_reader.specs.declared.fault.ProgramFault.{ProgramFault}
 use Rattle.colis_reader.specs.declared.fault.ProgramFault.TheVariants.{Bad, Memory}
-use Rattle.colis_reader.specs.Nesting.{run, step, closed, nests_of}
+use Rattle.colis_reader.specs.Nesting.{step, closed, nests_of}
 use Rattle.colis_reader.specs.Readings.{read, reads, member, but_last, last, node_read, parts_of}
 use Rattle.colis_reader.specs.Held.{stmt_held, def_held, is_program}
 use Rattle.colis_reader.specs.ReadsProgram.{HasText, ReadsProgram, IsReadAs}
 use Rattle.colis_reader.proofs.ReadNode.{word_node, def_node, program_node}
 use Rattle.colis_reader.proofs.Fills.{Fills, Adds, Opens, fresh, run_on, closed_at, adds_none, adds_space, adds_both, added}
-use Rattle.colis_reader.proofs.Shapes.{leaf, named, next, def_fills}
+use Rattle.colis_reader.proofs.Shapes.{leaf, next, def_fills}
 use Rattle.colis_reader.proofs.PartsKnown.{name_back}
 use Rattle.colis_reader.proofs.Known.{stmt_known, but_last_read, last_read}
 

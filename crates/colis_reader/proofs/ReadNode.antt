@@ -1,12 +1,10 @@
 -- What a part is read as in each place, from its word and its members.
-use Rattle.std.proofs.Common.{◌≡◌, ℕ, List, [], map, length, codes, sym, ap, ◌∙◌}
-use Rattle.std.specs.Prelude.{◌==◌, if◌then◌else◌}
-use Rattle.std.specs.Str.{bytes_eq}
+use Rattle.std.proofs.Common.{◌≡◌, ℕ, List, map, sym, ap, ◌∙◌}
 use Rattle.colis_reader.specs.declared.nest.Nest.{Nest}
 use Rattle.colis_reader.specs.declared.nest.Nest.TheVariants as v
 use Rattle.colis_reader.specs.declared.nest.Nest.TheOpen as o
 use Rattle.colis_reader.specs.declared.nest.Nest.TheFolds.{fold-Nest, fold-roll-Nest}
-use Rattle.colis_reader.specs.Readings.{Read, read, reads, nest_layer, node_read, member, behind, but_last, last, string_headed, literal_in, string_from, piece_headed, field_headed, stmt_headed, bytes_in}
+use Rattle.colis_reader.specs.Readings.{Read, read, reads, nest_layer, node_read, member, behind, string_from, piece_headed, field_headed, stmt_headed}
 
 pub node_is : (word : List ℕ) (ns : List Nest) → read (v.Node word ns) ≡ node_read word (reads ns)
 unfolding read

@@ -1,5 +1,5 @@
 -- Which part of a nested text each construct's text is.
-use Rattle.std.proofs.Common.{◌≡◌, ℕ, ◌-◌, ◌<◌, ◌^◌, true, nat_le, List, [], ◌∷◌, ◌++◌, codes, decimal, refl, arith}
+use Rattle.std.proofs.Common.{◌≡◌, ℕ, ◌-◌, ◌^◌, true, nat_le, List, [], ◌∷◌, ◌++◌, codes, decimal, refl, arith}
 use Rattle.std.proofs.lemmas.Bool.{leb-true}
 use Rattle.script_names.specs.declared.reason.Reason.{Reason}
 use Rattle.script_names.specs.declared.reason.Reason.TheVariants as reason
@@ -9,7 +9,7 @@ use Rattle.colis_syntax.specs.ProgramText.{Text, group, at_group, one_text, at_t
 use Rattle.colis_reader.specs.declared.nest.Nest.{Nest}
 use Rattle.colis_reader.specs.declared.nest.Nest.TheVariants.{Node}
 use Rattle.colis_reader.specs.Held.{fits}
-use Rattle.colis_reader.proofs.Fills.{Fills, Adds, Opens, Begins, blank, filled, added, shut, within, within_first, word_fills, show_fills, literal_fills, number_fills}
+use Rattle.colis_reader.proofs.Fills.{Fills, Adds, Opens, Begins, blank, filled, added, shut, within, within_first, show_fills, literal_fills, number_fills}
 
 -- a word, and a list that begins with a word
 abbrev pub leaf : Text → Nest

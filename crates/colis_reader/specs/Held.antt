@@ -19,6 +19,7 @@ fits at = nat_le at (2 ^ 32 - 1)
 
 -- ---- a line for each construct, over what holds of its parts
 
+-- a string: its bytes are bytes, and the number of an argument fits its type
 abbrev pub str_layer : o.Str-F Bool Bool Bool Bool Bool Bool Bool Bool → Bool
 str_layer (o.Lit bytes) = are_bytes bytes
 str_layer (o.Var name) = are_bytes name
@@ -28,15 +29,18 @@ str_layer (o.Or first other) = first && are_bytes other
 str_layer (o.Output body) = body
 str_layer (o.Join parts) = all_hold parts
 
+-- a piece of a word
 abbrev pub piece_layer : o.StrPiece-F Bool Bool Bool Bool Bool Bool Bool Bool → Bool
 piece_layer (o.Plain string) = string
 piece_layer (o.Quoted string) = string
 piece_layer (o.Split string) = string
 
+-- what gives fields
 abbrev pub fields_layer : o.Fields-F Bool Bool Bool Bool Bool Bool Bool Bool → Bool
 fields_layer (o.Word pieces) = all_hold pieces
 fields_layer o.Args = true
 
+-- a statement: its offset fits, a name is of bytes, and its parts hold
 abbrev pub stmt_layer : o.Stmt-F Bool Bool Bool Bool Bool Bool Bool Bool → Bool
 stmt_layer o.Skip = true
 stmt_layer (o.Set at sets) = fits at && all_hold sets
@@ -62,15 +66,19 @@ stmt_layer (o.Export at fields) = fits at && all_hold fields
 stmt_layer (o.Unset at fields) = fits at && all_hold fields
 stmt_layer (o.Stop at reason) = fits at
 
+-- an assignment
 abbrev pub set_layer : o.SetTo-F Bool Bool Bool Bool Bool Bool Bool Bool → Bool
 set_layer set = are_bytes set.name && set.value
 
+-- a member of an and-or list
 abbrev pub part_layer : o.ChainPart-F Bool Bool Bool Bool Bool Bool Bool Bool → Bool
 part_layer part = part.stmt
 
+-- an arm of `if`
 abbrev pub arm_layer : o.StmtArm-F Bool Bool Bool Bool Bool Bool Bool Bool → Bool
 arm_layer arm = arm.cond && arm.body
 
+-- an arm of `case`
 abbrev pub pat_arm_layer : o.PatArm-F Bool Bool Bool Bool Bool Bool Bool Bool → Bool
 pat_arm_layer arm = all_hold (map all_hold arm.patterns) && arm.body
 

@@ -1,7 +1,7 @@
 -- What a nested text is read as, in each place where it may stand. The reading is loose: a word that is not known, a
 -- number that does not fit and a member that lacks are read as something, and further members are passed over. What is
 -- read so has another text, by which a reader finds it out.
-use Rattle.std.specs.Prelude.{ℕ, ◌-◌, ◌^◌, ◌==◌, Bool, false, List, [], ◌∷◌, map, take, length, codes, unwrap_or}
+use Rattle.std.specs.Prelude.{ℕ, ◌-◌, ◌^◌, ◌==◌, false, List, [], ◌∷◌, map, take, length, codes, unwrap_or}
 use Rattle.std.specs.Prelude.{slice_index_or, if◌then◌else◌}
 use Rattle.std.specs.Str.{bytes_eq}
 use Rattle.script_names.specs.declared.reason.Reason.{Reason}
@@ -100,10 +100,11 @@ abbrev pub behind : List Read → List Read
 behind [] = []
 behind (r ∷ rs) = rs
 
--- the members before the last, and the last
+-- the members before the last
 abbrev pub but_last : List Read → List Read
 but_last rs = take (length rs - 1) rs
 
+-- the last member
 abbrev pub last : List Read → Read
 last rs = member rs (length rs - 1)
 
@@ -209,6 +210,7 @@ node_read word rs = record {
   };
 }
 
+-- a part, from its word and what its members are read as
 abbrev pub nest_layer : o.Nest-F Read → Read
 nest_layer (o.Node word rs) = node_read word rs
 
