@@ -37,7 +37,8 @@ pub(crate) fn run_stmt(
     shell: &mut Shell,
 ) -> Result<(), Halt>
     ensures turns { shell.new.conc.turns ≤ shell.old.conc.turns }
-    ensures runs { Runs (co_stmt stmt.now (funs_of defs.now []) (place_of place.entry) (state_of shell.old)) result shell.new }
+    ensures runs { let does = co_stmt stmt.now (funs_of defs.now []) in
+        Runs (does (place_of place.entry) (state_of shell.old)) result shell.new }
 {
     match stmt {
         Stmt::Skip => {
@@ -371,8 +372,8 @@ fn run_patterns(
     shell: &mut Shell,
 ) -> Result<bool, Halt>
     ensures turns { shell.new.conc.turns ≤ shell.old.conc.turns }
-    ensures runs { let patterns = map (with (funs_of defs.now [])) (map (λ pieces. map co_piece pieces) patterns.now) in
-        Runs (cases.some_pattern subject.now patterns (place_of place.entry) (state_of shell.old)) result shell.new }
+    ensures runs { let all = map (with (funs_of defs.now [])) (map (λ pieces. map co_piece pieces) patterns.now) in
+        Runs (cases.some_pattern subject.now all (place_of place.entry) (state_of shell.old)) result shell.new }
 {
     for pattern in patterns {
         let pieces = run_pieces(alloc, pattern.as_slice(), defs, place, shell)?;
@@ -610,7 +611,8 @@ fn run_word(
     shell: &mut Shell,
 ) -> Result<List<Bytes>, Halt>
     ensures turns { shell.new.conc.turns ≤ shell.old.conc.turns }
-    ensures runs { Runs (co_fields word.now (funs_of defs.now []) (place_of place.entry) (state_of shell.old)) result shell.new }
+    ensures runs { let does = co_fields word.now (funs_of defs.now []) in
+        Runs (does (place_of place.entry) (state_of shell.old)) result shell.new }
 {
     match word {
         Fields::Word(pieces) => {
@@ -655,7 +657,8 @@ fn run_piece(
     shell: &mut Shell,
 ) -> Result<Piece, Halt>
     ensures turns { shell.new.conc.turns ≤ shell.old.conc.turns }
-    ensures runs { Runs (co_piece piece.now (funs_of defs.now []) (place_of place.entry) (state_of shell.old)) result shell.new }
+    ensures runs { let does = co_piece piece.now (funs_of defs.now []) in
+        Runs (does (place_of place.entry) (state_of shell.old)) result shell.new }
 {
     match piece {
         StrPiece::Plain(string) => {
@@ -700,7 +703,8 @@ fn run_str(
     shell: &mut Shell,
 ) -> Result<Bytes, Halt>
     ensures turns { shell.new.conc.turns ≤ shell.old.conc.turns }
-    ensures runs { Runs (co_str string.now (funs_of defs.now []) (place_of place.entry) (state_of shell.old)) result shell.new }
+    ensures runs { let does = co_str string.now (funs_of defs.now []) in
+        Runs (does (place_of place.entry) (state_of shell.old)) result shell.new }
 {
     match string {
         Str::Lit(bytes) => Ok(bytes.copy(alloc)?),

@@ -63,7 +63,8 @@ fn equals_at(field: &[u8]) -> usize
 // One operand of `export`: NAME or NAME=VALUE.
 fn export_one(alloc: Global, field: &[u8], place: Place, shell: &mut Shell) -> Result<(), Halt>
     ensures turns { shell.new.conc.turns ≤ shell.old.conc.turns }
-    ensures runs { Runs (export_one (cut_at_equals field.now) (place_of place.entry) (state_of shell.old)) result shell.new }
+    ensures runs { let exported = export_one (cut_at_equals field.now) in
+        Runs (exported (place_of place.entry) (state_of shell.old)) result shell.new }
 {
     let at = equals_at(field);
     if !is_changeable(&field[..at]) {
