@@ -10,6 +10,7 @@ pub mod Grown
 pub mod NewNames
 pub mod Alive
 pub mod Leads
+pub mod Links
 pub mod Settles
 pub mod InOrder
 pub mod Covering

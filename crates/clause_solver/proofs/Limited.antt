@@ -43,7 +43,7 @@ module _ (vars : List Variable) (x : ℕ) (k : Kinds) (inside : x < length vars)
   here_now = record (var_at vars x) { kinds = narrowed (var_at vars x) k }
 
   -- the definition and the other facts stay
-  limited_definition : (i : ℕ) → (var_at (limited vars x k) i).definition ≡ (var_at vars i).definition
+  pub limited_definition : (i : ℕ) → (var_at (limited vars x k) i).definition ≡ (var_at vars i).definition
   limited_definition i = elim (nat_cases i x) [
     | inl e ↦ rw (e, get_or-set_same) refl
     | inr n ↦ rw get_or-set_other refl

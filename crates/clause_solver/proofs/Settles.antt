@@ -17,12 +17,13 @@ use Rattle.clause_solver.specs.Appends.{IsAppended, LeadsTo}
 use Rattle.clause_solver.specs.View.{seen, IsSettled}
 use Rattle.clause_solver.proofs.OneMore.{seen_of, longer, append_order, append_best, append_only, append_always, append_extends, append_is}
 use Rattle.clause_solver.proofs.Leads.{absent_entry, child_entry}
+use Rattle.clause_solver.proofs.Links.{variable_linked}
 
 -- no child is the same entry
 abbrev pub IsSingle : List Variable → Definition → Type 0
 IsSingle vars d = (x : ℕ) (f : List ℕ) (i : ℕ) → d ≡ Child x f → ¬ (IsChild vars x f i)
 
-module _ (a b : Inside) (y : ℕ) (d : Definition) (inv : IsSettled a) (before : Earlier a.vars (length a.vars) d) (none : IsSingle a.vars d) (now : b.current ≡ a.current) (is : IsAppended a.vars a.best d b.vars b.best y) where
+module _ (a b : Inside) (y : ℕ) (d : Definition) (inv : IsSettled a) (before : Earlier a.vars (length a.vars) d) (none : IsSingle a.vars d) (now : b.current ≡ a.current) (is : IsAppended a.vars a.best a.kin d b.vars b.best b.kin y) where
   new_order : Ordered (a.vars ++ fresh d ∷ [])
   new_order = append_order a.vars inv.order d before none
 
@@ -38,7 +39,7 @@ module _ (a b : Inside) (y : ℕ) (d : Definition) (inv : IsSettled a) (before :
   pub appended_known : y < (seen b).count
   appended_known = rw (is.variable, is.at, longer a.vars inv.order d before) (omega arith)
 
-pub appended_settled : (a b : Inside) (y : ℕ) (d : Definition) (inv : IsSettled a) (before : Earlier a.vars (length a.vars) d) (none : IsSingle a.vars d) (now : b.current ≡ a.current) (live : b.alive ≡ a.alive) (is : IsAppended a.vars a.best d b.vars b.best y) → IsSettled b
+pub appended_settled : (a b : Inside) (y : ℕ) (d : Definition) (inv : IsSettled a) (before : Earlier a.vars (length a.vars) d) (none : IsSingle a.vars d) (now : b.current ≡ a.current) (live : b.alive ≡ a.alive) (is : IsAppended a.vars a.best a.kin d b.vars b.best b.kin y) → IsSettled b
 appended_settled a b y d inv before none now live is =
     let long = longer a.vars inv.order d before in
     let order = append_order a.vars inv.order d before none in
@@ -47,6 +48,7 @@ appended_settled a b y d inv before none now live is =
       order = rw is.variable order;
       same = rw (is.variable, is.kind, length-append, length-append) (ap (λ n. n + 1) inv.same);
       best = rw (is.variable, is.kind) (append_best a.vars inv.order d before a.best _ inv.same inv.best refl);
+      linked = rw (is.variable, is.links) (variable_linked a.vars a.kin inv.order inv.linked d before);
       small = rw (is.variable, long) (let r = is.room in omega arith);
       now_known = rw (is.variable, long, now) (let r = inv.now_known in omega arith);
       now_tree = rw (is.variable, now) (append_always a.vars inv.order d before a.current inv.now_known inv.now_tree);
@@ -69,14 +71,14 @@ child_single vars n f none x g i e h =
     let eg : f ≡ g = cc in
     none i (rw (ex, eg) h)
 
-pub absent_is_entry : (a b : Inside) (y x : ℕ) (f : List ℕ) → IsSettled a → x < length a.vars → b.current ≡ a.current → IsAppended a.vars a.best (Made made.Absent) b.vars b.best y → LeadsTo a.vars x f Nothing → HasEntry (seen b) x f y
+pub absent_is_entry : (a b : Inside) (y x : ℕ) (f : List ℕ) → IsSettled a → x < length a.vars → b.current ≡ a.current → IsAppended a.vars a.best a.kin (Made made.Absent) b.vars b.best b.kin y → LeadsTo a.vars x f Nothing → HasEntry (seen b) x f y
 absent_is_entry a b y x f inv inside now is leads =
     rw (is.variable, now, is.at) (absent_entry a.vars a.current x f inv.order inside (append_order a.vars inv.order (Made made.Absent) tt (made_single a.vars made.Absent)) leads)
 
 pub child_before : (vars : List Variable) (x n : ℕ) (f : List ℕ) → IsTrue (is_name f) → LeadsTo vars x f (At n) → Earlier vars (length vars) (Child n f)
 child_before vars x n f name leads = (leads.0, leads.1, name)
 
-pub child_is_entry : (a b : Inside) (y x n : ℕ) (f : List ℕ) → IsSettled a → x < length a.vars → IsTrue (is_name f) → ((i : ℕ) → ¬ (IsChild a.vars n f i)) → b.current ≡ a.current → IsAppended a.vars a.best (Child n f) b.vars b.best y → LeadsTo a.vars x f (At n) → HasEntry (seen b) x f y
+pub child_is_entry : (a b : Inside) (y x n : ℕ) (f : List ℕ) → IsSettled a → x < length a.vars → IsTrue (is_name f) → ((i : ℕ) → ¬ (IsChild a.vars n f i)) → b.current ≡ a.current → IsAppended a.vars a.best a.kin (Child n f) b.vars b.best b.kin y → LeadsTo a.vars x f (At n) → HasEntry (seen b) x f y
 child_is_entry a b y x n f inv inside name none now is leads =
     let before = child_before a.vars x n f name leads in
     rw (is.variable, now, is.at) (child_entry a.vars a.current x f inv.order inside n before (append_order a.vars inv.order (Child n f) before (child_single a.vars n f none)) leads)
@@ -84,7 +86,7 @@ child_is_entry a b y x n f inv inside name none now is leads =
 pub derived_before : (vars : List Variable) (x y : ℕ) (f : List ℕ) → x < length vars → y < length vars → IsTrue (is_name f) → Earlier vars (length vars) (Derived x f y)
 derived_before vars x y f known value name = (known, value, name)
 
-pub derived_is_put : (a b : Inside) (z x y : ℕ) (f : List ℕ) → IsSettled a → x < length a.vars → y < length a.vars → IsTrue (is_name f) → b.current ≡ a.current → IsAppended a.vars a.best (Derived x f y) b.vars b.best z → HasPut (seen b) x f y z
+pub derived_is_put : (a b : Inside) (z x y : ℕ) (f : List ℕ) → IsSettled a → x < length a.vars → y < length a.vars → IsTrue (is_name f) → b.current ≡ a.current → IsAppended a.vars a.best a.kin (Derived x f y) b.vars b.best b.kin z → HasPut (seen b) x f y z
 derived_is_put a b z x y f inv inside known name now is =
     let before = derived_before a.vars x y f inside known name in
     let single = derived_single a.vars x y f in
@@ -93,7 +95,7 @@ derived_is_put a b z x y f inv inside known name now is =
       is = appended_is a b z (Derived x f y) inv before single now is;
     }
 
-pub made_is_value : (a b : Inside) (y : ℕ) (m : MadeValue) → IsSettled a → b.current ≡ a.current → IsAppended a.vars a.best (Made m) b.vars b.best y → HasValue (seen b) y (made_value m)
+pub made_is_value : (a b : Inside) (y : ℕ) (m : MadeValue) → IsSettled a → b.current ≡ a.current → IsAppended a.vars a.best a.kin (Made m) b.vars b.best b.kin y → HasValue (seen b) y (made_value m)
 made_is_value a b y m inv now is = record {
   known = appended_known a b y (Made m) inv tt (made_single a.vars m) now is;
   is = appended_is a b y (Made m) inv tt (made_single a.vars m) now is;

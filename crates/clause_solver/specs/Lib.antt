@@ -5,6 +5,7 @@ pub mod Written
 pub mod ReplacedNames
 pub mod Fresh
 pub mod Appends
+pub mod Linked
 pub mod View
 pub mod Grown
 pub mod NewNames

@@ -3,7 +3,9 @@ ghost use Rattle.clause_solver.specs.Variables.{Ordered, IsChild};
 ghost use Rattle.clause_solver.specs.declared.variable.Definition.TheVariants.{Child};
 ghost use Rattle.clause_solver.specs.Appends.{IsAppended, LeadsTo, Within};
 
+use crate::children::with_variable;
 use crate::greatest::greatest_by;
+use crate::kin::Kin;
 use crate::places::definition_at;
 use crate::variable::{Definition, Variable};
 use feature_trees::{Kind, Kinds};
@@ -42,29 +44,6 @@ pub(crate) fn resolve(vars: &Shared<Variable>, x: u32, f: &Name) -> Found
     }
 }
 
-/// The variable of an entry of a place, where there is one.
-pub(crate) fn find(vars: &Shared<Variable>, of: u32, f: &Name) -> Option<u32>
-    requires { length vars.now ≤ 4294967295 }
-    ensures { MatchOption result ((i : ℕ) → ¬ (IsChild vars.now of f.now i)) (λ i. IsChild vars.now of f.now i) }
-{
-    for i in 0..vars.len() {
-        if is_child(definition_at(vars, i), of, f) {
-            return Some(i as u32);
-        }
-    }
-    None
-}
-
-// Whether a definition is the entry f of a place.
-fn is_child(definition: &Definition, of: u32, f: &Name) -> bool
-    ensures { IsTrue result ↔ (definition.now ≡ Child of f.now) }
-{
-    match definition {
-        Definition::Child(p, name) => *p == of && name.equal(f),
-        _ => false,
-    }
-}
-
 // So many variables can be numbered.
 const MOST_VARIABLES: usize = 4_294_967_295;
 
@@ -73,13 +52,15 @@ pub(crate) fn append(
     alloc: Global,
     vars: &mut Shared<Variable>,
     best: &mut Shared<Kind>,
+    kin: &mut Shared<Kin>,
     definition: Definition,
 ) -> Result<u32, Memory>
     requires same { length best.old ≡ length vars.old }
+    requires counted { length kin.old ≡ length vars.old }
     requires within { Within vars.old definition }
     requires small { length vars.old ≤ 4294967295 }
-    ensures ok { IfOk result (IsAppended vars.old best.old definition vars.new best.new) }
-    ensures kept { OnErr result ((vars.new ≡ vars.old) × (best.new ≡ best.old)) }
+    ensures ok { IfOk result (IsAppended vars.old best.old kin.old definition vars.new best.new kin.new) }
+    ensures kept { OnErr result ((vars.new ≡ vars.old) × (best.new ≡ best.old) × (kin.new ≡ kin.old)) }
 {
     let y = vars.len();
     if y >= MOST_VARIABLES {
@@ -88,6 +69,7 @@ pub(crate) fn append(
     let kind = greatest_by(vars, best, Kinds::all(), &definition);
     let mut kinds = fork_alone(best)?;
     push_alone(&mut kinds, kind)?;
+    let links = with_variable(kin, &definition)?;
     let definition = Common::new(alloc, definition)?;
     let variable = Variable {
         definition,
@@ -97,5 +79,6 @@ pub(crate) fn append(
     };
     push_alone(vars, variable)?;
     *best = kinds;
+    *kin = links;
     Ok(y as u32)
 }

@@ -4,7 +4,9 @@
 #![tactic(auto)]
 
 mod appended;
+mod children;
 mod greatest;
+mod kin;
 mod literals;
 mod new_name;
 mod places;

@@ -12,8 +12,10 @@ ghost use Rattle.clause_solver.specs.Variables.{fixed_in, limited, made_value, n
 ghost use Rattle.clause_solver.specs.Variables.{possible, possible_by, var_at};
 ghost use Rattle.feature_trees.specs.declared.value.Value.TheVariants as value;
 
-use crate::appended::{Found, append, find, resolve};
+use crate::appended::{Found, append, resolve};
+use crate::children::find;
 use crate::greatest::{kind_made, redecide};
+use crate::kin::Kin;
 use crate::literals::write_literals;
 use crate::new_name::new_name;
 use crate::places::var_at;
@@ -32,6 +34,7 @@ use tree_clauses::{Clause, Var};
 pub struct Store {
     vars: Shared<Variable>,
     best: Shared<Kind>,
+    kin: Shared<Kin>,
     current: u32,
     alive: bool,
     alloc: Global,
@@ -66,9 +69,16 @@ impl Store {
         push_alone(&mut vars, first)?;
         let mut best = Shared::new(alloc);
         push_alone(&mut best, Kind::Dir)?;
+        let mut kin = Shared::new(alloc);
+        let links = Kin {
+            youngest: None,
+            older: None,
+        };
+        push_alone(&mut kin, links)?;
         Ok(Store {
             vars,
             best,
+            kin,
             current: 0,
             alive: true,
             alloc,
@@ -82,9 +92,11 @@ impl Store {
     {
         let vars = fork_alone(&self.vars)?;
         let best = fork_alone(&self.best)?;
+        let kin = fork_alone(&self.kin)?;
         Ok(Store {
             vars,
             best,
+            kin,
             current: self.current,
             alive: self.alive,
             alloc: self.alloc,
@@ -137,7 +149,7 @@ impl Store {
             Found::Known(y) => Some(Var(y)),
             Found::Nothing => None,
             Found::At(n) => {
-                if let Some(y) = find(&self.vars, n, f) {
+                if let Some(y) = find(&self.vars, &self.kin, n, f) {
                     return Some(Var(y));
                 }
                 None
@@ -158,11 +170,17 @@ impl Store {
             Found::Known(y) => Ok(Var(y)),
             Found::Nothing => {
                 let made = Definition::Made(MadeValue::Absent);
-                let y = append(self.alloc, &mut self.vars, &mut self.best, made)?;
+                let y = append(
+                    self.alloc,
+                    &mut self.vars,
+                    &mut self.best,
+                    &mut self.kin,
+                    made,
+                )?;
                 Ok(Var(y))
             }
             Found::At(n) => {
-                if let Some(y) = find(&self.vars, n, f) {
+                if let Some(y) = find(&self.vars, &self.kin, n, f) {
                     return Ok(Var(y));
                 }
                 let name = f.copy(self.alloc)?;
@@ -170,6 +188,7 @@ impl Store {
                     self.alloc,
                     &mut self.vars,
                     &mut self.best,
+                    &mut self.kin,
                     Definition::Child(n, name),
                 )?;
                 Ok(Var(y))
@@ -190,7 +209,13 @@ impl Store {
         f.is_sound();
         let name = f.copy(self.alloc)?;
         let derived = Definition::Derived(x.0, name, y.0);
-        let z = append(self.alloc, &mut self.vars, &mut self.best, derived)?;
+        let z = append(
+            self.alloc,
+            &mut self.vars,
+            &mut self.best,
+            &mut self.kin,
+            derived,
+        )?;
         Ok(Var(z))
     }
 
@@ -225,6 +250,7 @@ impl Store {
             self.alloc,
             &mut self.vars,
             &mut self.best,
+            &mut self.kin,
             Definition::Made(value),
         )?;
         Ok(Var(y))

@@ -1,4 +1,5 @@
-ghost use Rattle.std.specs.Prelude.{◌≡◌, ◌<◌, ◌≤◌, IfOk};
+ghost use Rattle.std.specs.Prelude.{◌≡◌, ◌<◌, ◌≤◌, IfOk, IsTrue};
+ghost use Rattle.clause_solver.specs.Stands.{Alive};
 
 use crate::store::Store;
 use feature_trees::{Kind, Kinds, Value, print_tree};
@@ -26,10 +27,33 @@ fn expect_clause<R: Abort + AllocGlobal>(rt: &R, s: &Store, text: &str) -> Resul
     Ok(())
 }
 
+// Whether a limit leaves a pair; for want of memory the answer is no.
+fn is_left(s: &mut Store, x: Var, k: Kinds) -> bool
+    requires { x.0 < s.old.count }
+    ensures kept { (s.new.count ≡ s.old.count) × (s.new.current ≡ s.old.current) }
+    ensures alive { IsTrue result → Alive s.new }
+{
+    match s.limit(x, k) {
+        Ok(left) => left,
+        Err(_) => false,
+    }
+}
+
+// Whether a limit leaves no pair; for want of memory the answer is no.
+fn is_none_left(s: &mut Store, x: Var, k: Kinds) -> bool
+    requires { x.0 < s.old.count }
+    ensures kept { (s.new.count ≡ s.old.count) × (s.new.current ≡ s.old.current) }
+{
+    match s.limit(x, k) {
+        Ok(left) => !left,
+        Err(_) => false,
+    }
+}
+
 // The tree of a store that has a pair, by a limit that leaves all pairs.
 fn expect_tree<R: Abort + AllocGlobal>(rt: &R, s: &mut Store, text: &str) -> Result<(), Fail> {
     let now = s.now();
-    assert!(rt; s.limit(now, Kinds::all())?);
+    assert!(rt; is_left(s, now, Kinds::all()));
     let tree = s.start_tree(rt.alloc())?;
     assert!(rt; matches!(tree, Value::Dir(_)));
     let printed = print_tree(rt.alloc(), &tree)?;
@@ -43,17 +67,17 @@ fn limits(rt: HostRuntime) -> Result<(), Fail> {
     expect_clause(&rt, &s, "clause start v0 now v0\nkind v0 dir\n")?;
     expect_tree(&rt, &mut s, "")?;
     let etc = walk(&rt, &mut s, &[b"etc"])?;
-    assert!(rt; matches!(s.limit(etc, Kinds::of(Kind::Dir)), Ok(true)));
+    assert!(rt; is_left(&mut s, etc, Kinds::of(Kind::Dir)));
     let bin = walk(&rt, &mut s, &[b"usr", b"bin"])?;
-    assert!(rt; matches!(s.limit(bin, Kinds::of(Kind::Dir)), Ok(true)));
+    assert!(rt; is_left(&mut s, bin, Kinds::of(Kind::Dir)));
     let again = walk(&rt, &mut s, &[b"usr", b"bin"])?;
     assert_eq!(rt; (etc, bin, again), (Var(1), Var(3), Var(3)));
     expect_clause(&rt, &s, TWO_DIRECTORIES)?;
     expect_tree(&rt, &mut s, "d /etc\nd /usr\nd /usr/bin\n")?;
     let mut fork = s.fork()?;
     let now = s.now();
-    assert!(rt; matches!(s.limit(now, Kinds::of(Kind::Reg)), Ok(false)));
-    assert!(rt; matches!(s.limit(now, Kinds::all()), Ok(false)));
+    assert!(rt; is_none_left(&mut s, now, Kinds::of(Kind::Reg)));
+    assert!(rt; is_none_left(&mut s, now, Kinds::all()));
     expect_clause(&rt, &fork, TWO_DIRECTORIES)?;
     expect_tree(&rt, &mut fork, "d /etc\nd /usr\nd /usr/bin\n")
 }
@@ -81,7 +105,7 @@ fn shows_each_kind(rt: HostRuntime) -> Result<(), Fail> {
     let mut s = Store::start(rt.alloc())?;
     for (word, kinds) in rows {
         let x = walk(&rt, &mut s, &[b"etc", word])?;
-        assert!(rt; matches!(s.limit(x, kinds), Ok(true)));
+        assert!(rt; is_left(&mut s, x, kinds));
     }
     expect_tree(
         &rt,
@@ -96,7 +120,7 @@ fn takes_many(rt: HostRuntime) -> Result<(), Fail> {
     let name: &[u8] = b"a";
     let x = walk(&rt, &mut deep, &[name; 64])?;
     assert_eq!(rt; x, Var(64));
-    assert!(rt; deep.limit(x, Kinds::of(Kind::Dir))?);
+    assert!(rt; is_left(&mut deep, x, Kinds::of(Kind::Dir)));
     let tree = deep.start_tree(rt.alloc())?;
     assert!(rt; matches!(tree, Value::Dir(_)));
     // the line of the k-th name has 2 k + 3 bytes
@@ -110,10 +134,10 @@ fn takes_many(rt: HostRuntime) -> Result<(), Fail> {
             b'0' + (i % 10) as u8,
         ];
         let x = walk(&rt, &mut wide, &[&digits])?;
-        assert!(rt; matches!(wide.limit(x, Kinds::of(Kind::Reg)), Ok(true)));
+        assert!(rt; is_left(&mut wide, x, Kinds::of(Kind::Reg)));
     }
     let now = wide.now();
-    assert!(rt; wide.limit(now, Kinds::all())?);
+    assert!(rt; is_left(&mut wide, now, Kinds::all()));
     match wide.start_tree(rt.alloc())? {
         Value::Dir(entries) => assert_eq!(rt; entries.len(), 2000),
         _ => assert!(rt; false),
@@ -148,7 +172,7 @@ fn put_under<R: Abort + AllocGlobal>(rt: &R, s: &mut Store, word: &[u8], y: Var)
 fn derives(rt: HostRuntime) -> Result<(), Fail> {
     let mut s = Store::start(rt.alloc())?;
     let a = walk(&rt, &mut s, &[b"a"])?;
-    assert!(rt; matches!(s.limit(a, Kinds::of(Kind::Absent)), Ok(true)));
+    assert!(rt; is_left(&mut s, a, Kinds::of(Kind::Absent)));
     let dir = make(&mut s, true)?;
     put_under(&rt, &mut s, b"a", dir)?;
     expect_clause(&rt, &s, ONE_MADE)?;
@@ -156,19 +180,19 @@ fn derives(rt: HostRuntime) -> Result<(), Fail> {
     let below = walk(&rt, &mut s, &[b"a", b"b"])?;
     let c = walk(&rt, &mut s, &[b"c"])?;
     assert_eq!(rt; (below, c), (Var(4), Var(5)));
-    assert!(rt; matches!(s.limit(c, Kinds::of(Kind::Reg)), Ok(true)));
+    assert!(rt; is_left(&mut s, c, Kinds::of(Kind::Reg)));
     let gone = make(&mut s, false)?;
     put_under(&rt, &mut s, b"c", gone)?;
     expect_clause(&rt, &s, ONE_GONE)?;
     expect_tree(&rt, &mut s, "f /c\n")?;
     // a limit that the definition has already writes nothing
     let now = s.now();
-    assert!(rt; matches!(s.limit(now, Kinds::of(Kind::Dir)), Ok(true)));
+    assert!(rt; is_left(&mut s, now, Kinds::of(Kind::Dir)));
     expect_clause(&rt, &s, ONE_GONE)?;
     let mut fork = s.fork()?;
     let again = walk(&rt, &mut fork, &[b"c"])?;
     assert_eq!(rt; again, Var(6));
-    assert!(rt; matches!(fork.limit(again, Kinds::of(Kind::Reg)), Ok(false)));
+    assert!(rt; is_none_left(&mut fork, again, Kinds::of(Kind::Reg)));
     expect_tree(&rt, &mut s, "f /c\n")
 }
 
@@ -225,6 +249,6 @@ fn derives_made_ones(rt: HostRuntime) -> Result<(), Fail> {
     let b = walk(&rt, &mut s, &[b"etc", b"b"])?;
     assert_eq!(rt; b, Var(2));
     let old = walk(&rt, &mut s, &[b"etc", b"c"])?;
-    assert!(rt; matches!(s.limit(old, Kinds::of(Kind::Dir)), Ok(false)));
+    assert!(rt; is_none_left(&mut s, old, Kinds::of(Kind::Dir)));
     Ok(())
 }

@@ -22,7 +22,7 @@ returns-in-Some-clause-entry c =
 
 module _ (c : goal.In_ok-y-in-Nothing) where
   abbrev new_absent : Inside
-  new_absent = record { vars = c.append.new.vars; best = c.append.new.best; current = c.self.inside.current; alive = c.self.inside.alive; alloc = c.self.inside.alloc }
+  new_absent = record { vars = c.append.new.vars; best = c.append.new.best; kin = c.append.new.kin; current = c.self.inside.current; alive = c.self.inside.alive; alloc = c.self.inside.alloc }
 
   known_absent : c.args.x.0 < length c.self.inside.vars
   known_absent = rw (← c.self.view_is) at c.requires
@@ -30,7 +30,7 @@ module _ (c : goal.In_ok-y-in-Nothing) where
   leads_absent : LeadsTo c.self.inside.vars c.args.x.0 c.args.f.now Nothing
   leads_absent = c.in-Nothing.ensures
 
-  is_absent : IsAppended c.self.inside.vars c.self.inside.best (Made made.Absent) c.append.new.vars c.append.new.best c.in_ok-y-in-Nothing.y
+  is_absent : IsAppended c.self.inside.vars c.self.inside.best c.self.inside.kin (Made made.Absent) c.append.new.vars c.append.new.best c.append.new.kin c.in_ok-y-in-Nothing.y
   is_absent = c.in_ok-y-in-Nothing.ensures.ok
 
 pub invariant_of-self-in-Nothing : goal.invariant_of-self-in-Nothing
@@ -44,7 +44,7 @@ returns-in_ok-y-in-Nothing-clause-entry c = absent_is_entry c.self.inside (new_a
 
 module _ (c : goal.In_ok-y-in-At) where
   abbrev new_child : Inside
-  new_child = record { vars = c.append-in-At.new.vars; best = c.append-in-At.new.best; current = c.self.inside.current; alive = c.self.inside.alive; alloc = c.self.inside.alloc }
+  new_child = record { vars = c.append-in-At.new.vars; best = c.append-in-At.new.best; kin = c.append-in-At.new.kin; current = c.self.inside.current; alive = c.self.inside.alive; alloc = c.self.inside.alloc }
 
   known_child : c.args.x.0 < length c.self.inside.vars
   known_child = rw (← c.self.view_is) at c.requires
@@ -55,7 +55,7 @@ module _ (c : goal.In_ok-y-in-At) where
   name_is : c.in_ok-name-in-At.name ≡ c.args.f.now
   name_is = c.in_ok-name-in-At.ensures
 
-  is_child : IsAppended c.self.inside.vars c.self.inside.best (Child c.in-At.n c.args.f.now) c.append-in-At.new.vars c.append-in-At.new.best c.in_ok-y-in-At.y
+  is_child : IsAppended c.self.inside.vars c.self.inside.best c.self.inside.kin (Child c.in-At.n c.args.f.now) c.append-in-At.new.vars c.append-in-At.new.best c.append-in-At.new.kin c.in_ok-y-in-At.y
   is_child = rw name_is at c.in_ok-y-in-At.ensures.ok
 
   none : (i : ℕ) → ¬ (IsChild c.self.inside.vars c.in-At.n c.args.f.now i)

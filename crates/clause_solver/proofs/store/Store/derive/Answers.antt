@@ -8,12 +8,12 @@ use Rattle.clause_solver.proofs.store.Store.derive.Goals as goal
 
 module _ (c : goal.In_ok-z) where
   abbrev after : Inside
-  after = record { vars = c.append.new.vars; best = c.append.new.best; current = c.self.inside.current; alive = c.self.inside.alive; alloc = c.self.inside.alloc }
+  after = record { vars = c.append.new.vars; best = c.append.new.best; kin = c.append.new.kin; current = c.self.inside.current; alive = c.self.inside.alive; alloc = c.self.inside.alloc }
 
   inside : (c.args.x.0 < length c.self.inside.vars) × (c.args.y.0 < length c.self.inside.vars)
   inside = rw (← c.self.view_is) at c.requires.known
 
-  is : IsAppended c.self.inside.vars c.self.inside.best (Derived c.args.x.0 c.args.f.now c.args.y.0) c.append.new.vars c.append.new.best c.in_ok-z.z
+  is : IsAppended c.self.inside.vars c.self.inside.best c.self.inside.kin (Derived c.args.x.0 c.args.f.now c.args.y.0) c.append.new.vars c.append.new.best c.append.new.kin c.in_ok-z.z
   is = rw c.in_ok-name.ensures at c.in_ok-z.ensures.ok
 
   before : Earlier c.self.inside.vars (length c.self.inside.vars) (Derived c.args.x.0 c.args.f.now c.args.y.0)

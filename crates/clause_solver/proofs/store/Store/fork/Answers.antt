@@ -7,6 +7,7 @@ invariant_of-result c =
       order = rw c.in_ok-vars.ensures inv.order;
       same = rw (c.in_ok-vars.ensures, c.in_ok-best.ensures) inv.same;
       best = rw (c.in_ok-vars.ensures, c.in_ok-best.ensures) inv.best;
+      linked = rw (c.in_ok-vars.ensures, c.in_ok-kin.ensures) inv.linked;
       small = rw c.in_ok-vars.ensures inv.small;
       now_known = rw c.in_ok-vars.ensures inv.now_known;
       now_tree = rw c.in_ok-vars.ensures inv.now_tree;

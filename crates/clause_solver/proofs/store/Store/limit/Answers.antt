@@ -6,6 +6,7 @@ use Rattle.clause_solver.proofs.OneMore.{seen_of}
 use Rattle.clause_solver.proofs.Alive.{alive_iff}
 use Rattle.clause_solver.proofs.Redecided.{limited_but, limited_alive}
 use Rattle.clause_solver.proofs.Limited.{limited_order, limited_only, limited_always, limited_exact}
+use Rattle.clause_solver.proofs.Links.{limited_linked}
 use Rattle.clause_solver.proofs.store.Store.limit.Goals as goal
 use Rattle.clause_solver.proofs.store.Store.limit.Goals.{In_ok-narrow}
 
@@ -66,6 +67,7 @@ invariant_of-self c =
       order = rw (vars_are c) (limited_order vars c.args.x.0 c.args.k (is_known c) inv.order);
       same = c.in_ok-decided.ensures.same;
       best = rw (vars_are c) (is_best c);
+      linked = rw (vars_are c) (limited_linked vars c.self.inside.kin c.args.x.0 c.args.k (is_known c) inv.linked);
       small = rw (vars_are c, length-set) inv.small;
       now_known = rw (vars_are c, length-set) inv.now_known;
       now_tree = rw (vars_are c) (limited_always vars c.args.x.0 c.args.k (is_known c) c.self.inside.current inv.now_tree);

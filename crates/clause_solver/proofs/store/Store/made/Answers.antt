@@ -7,9 +7,9 @@ use Rattle.clause_solver.proofs.store.Store.made.Goals as goal
 
 module _ (c : goal.In_ok-y) where
   abbrev after : Inside
-  after = record { vars = c.append.new.vars; best = c.append.new.best; current = c.self.inside.current; alive = c.self.inside.alive; alloc = c.self.inside.alloc }
+  after = record { vars = c.append.new.vars; best = c.append.new.best; kin = c.append.new.kin; current = c.self.inside.current; alive = c.self.inside.alive; alloc = c.self.inside.alloc }
 
-  is : IsAppended c.self.inside.vars c.self.inside.best (Made c.args.value) c.append.new.vars c.append.new.best c.in_ok-y.y
+  is : IsAppended c.self.inside.vars c.self.inside.best c.self.inside.kin (Made c.args.value) c.append.new.vars c.append.new.best c.append.new.kin c.in_ok-y.y
   is = c.in_ok-y.ensures.ok
 
 pub invariant_of-self-2 : goal.invariant_of-self-2

@@ -21,6 +21,7 @@ invariant_of-self c =
       order = inv.order;
       same = inv.same;
       best = inv.best;
+      linked = inv.linked;
       small = inv.small;
       now_known = known c;
       now_tree = always c;

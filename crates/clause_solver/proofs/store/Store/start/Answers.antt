@@ -7,6 +7,7 @@ invariant_of-result c = record {
   order = search rules;
   same = search rules;
   best = search rules;
+  linked = search rules;
   small = search rules;
   now_known = search rules;
   now_tree = search rules;

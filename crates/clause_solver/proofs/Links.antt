@@ -1,0 +1,245 @@
+-- The links between the entries of a place hold as variables are added and limited, and lead past each entry.
+use Rattle.std.proofs.Common.{◌≡◌, ◌≢◌, ◌⊎◌, ℕ, zero, suc, ◌+◌, ◌<◌, ◌≤◌, inl, inr, Option, None, Some, List, [], ◌∷◌, ◌++◌, length, refl, sym, ap, ◌∙◌, arith, subst, length-set, get_or-set_other, get_or-set_same, set}
+use Rattle.std.proofs.lemmas.List.{length-append, get_or_append_left}
+use Rattle.std.proofs.Math.Seq.{get_or-append_seam}
+use Rattle.feature_trees.specs.declared.kind.Kinds.{Kinds}
+use Rattle.clause_solver.specs.declared.kin.Kin.{Kin}
+use Rattle.clause_solver.specs.declared.variable.Definition.{Definition}
+use Rattle.clause_solver.specs.declared.variable.Definition.TheVariants.{Start, Child, Derived, Ensured, Made}
+use Rattle.clause_solver.specs.declared.variable.Variable.{Variable}
+use Rattle.clause_solver.specs.Variables.{var_at, no_variable, limited, Earlier, Ordered, IsChild}
+use Rattle.clause_solver.specs.Fresh.{fresh}
+use Rattle.clause_solver.specs.Appends.{Within}
+use Rattle.clause_solver.specs.Builds.{ParentBelow}
+use Rattle.clause_solver.specs.Linked.{no_kin, kin_at, IsChildOf, IsLastChild, AreLinked, with_entry, with_variable}
+use Rattle.clause_solver.proofs.Names.{nat_cases, last_cases}
+use Rattle.clause_solver.proofs.OneMore.{longer, old_at, new_at}
+use Rattle.clause_solver.proofs.Limited.{limited_definition}
+
+below_or : (i n : ℕ) → (i < n) ⊎ (n ≤ i)
+below_or i zero = inr (omega arith)
+below_or zero (suc n) = inl (omega arith)
+below_or (suc i) (suc n) = elim (below_or i n) [ inl w ↦ inl (omega (arith, w)) | inr le ↦ inr (omega (arith, le)) ]
+
+-- no entry f of p stands behind what is left of the links
+pub record IsLeft (vars : List Variable) (p : ℕ) (f : List ℕ) (rest : Option ℕ) : Type 0 where
+  pub bound : ℕ
+  pub low : bound ≤ length vars
+  pub last : IsLastChild vars p bound rest
+  pub none : (i : ℕ) → bound ≤ i → IsChild vars p f i → ⊥
+
+-- how many variables may be left
+abbrev pub left_of : Option ℕ → ℕ
+left_of None = 0
+left_of (Some m) = suc m
+
+module _ (vars : List Variable) (kin : List Kin) (p : ℕ) (f : List ℕ) (linked : AreLinked vars kin) where
+  pub all_left : p < length vars → IsLeft vars p f (kin_at kin p).youngest
+  all_left inside = record {
+    bound = length vars;
+    low = omega arith;
+    last = linked.youngest p inside;
+    none = λ i le child. let w = child.0 in absurd (omega (arith, le, w));
+  }
+
+  pub left_there : (m : ℕ) → IsLeft vars p f (Some m) → m < length vars
+  left_there m left = let low = left.low in let below = left.last.0 in omega (arith, low, below)
+
+  pub next_left : (m : ℕ) → IsLeft vars p f (Some m) → ((var_at vars m).definition ≡ Child p f → ⊥) → IsLeft vars p f (kin_at kin m).older
+  next_left m left other = record {
+    bound = m;
+    low = let w = left_there m left in omega (arith, w);
+    last = linked.older m p (left_there m left) left.last.1;
+    none = λ i le child. elim (nat_cases i m) [
+      | inl e ↦ other (subst (λ n. (var_at vars n).definition ≡ Child p f) e child.1)
+      | inr ne ↦ elim (below_or i left.bound) [
+        | inl w ↦ left.last.2 i (omega (arith, le, ne)) w (f, child.1)
+        | inr past ↦ left.none i past child
+      ]
+    ];
+  }
+
+  pub none_left : IsLeft vars p f None → (i : ℕ) → ¬ (IsChild vars p f i)
+  none_left left i child = elim (below_or i left.bound) [
+    | inl w ↦ left.last i w (f, child.1)
+    | inr past ↦ left.none i past child
+  ]
+
+-- fewer are left behind an entry
+pub left_falls : (vars : List Variable) (p m : ℕ) (rest : Option ℕ) → IsLastChild vars p m rest → left_of rest < suc m
+left_falls vars p m None last = omega arith
+left_falls vars p m (Some k) last = let w = last.0 in omega (arith, w)
+
+-- the links hold of variables whose definitions are the same
+same_last : (vars new : List Variable) (p n : ℕ) (o : Option ℕ) → ((i : ℕ) → i < n → (var_at new i).definition ≡ (var_at vars i).definition) → IsLastChild vars p n o → IsLastChild new p n o
+same_last vars new p n None same last = λ i w child. last i w (child.0, sym (same i w) ∙ child.1)
+same_last vars new p n (Some m) same last = (
+  last.0,
+  (last.1.0, same m last.0 ∙ last.1.1),
+  λ i low w child. last.2 i low w (child.0, sym (same i w) ∙ child.1),
+)
+
+pub limited_linked : (vars : List Variable) (kin : List Kin) (x : ℕ) (k : Kinds) → x < length vars → AreLinked vars kin → AreLinked (limited vars x k) kin
+limited_linked vars kin x k inside linked =
+    let same : (i : ℕ) → (var_at (limited vars x k) i).definition ≡ (var_at vars i).definition = limited_definition vars x k inside in
+    record {
+      counted = rw length-set linked.counted;
+      youngest = λ p w. rw length-set (same_last vars (limited vars x k) p (length vars) _ (λ i b. same i) (linked.youngest p (rw length-set at w)));
+      older = λ i p w child. same_last vars (limited vars x k) p i _ (λ j b. same j) (linked.older i p (rw length-set at w) (child.0, sym (same i) ∙ child.1));
+    }
+
+at_end : (vars : List Variable) (v : Variable) (i : ℕ) → i ≡ length vars → var_at (vars ++ v ∷ []) i ≡ v
+at_end vars v i e = ap (var_at (vars ++ v ∷ [])) e ∙ get_or-append_seam vars v [] no_variable
+
+-- the variable that is added is no entry of p
+more_last : (vars : List Variable) (v : Variable) (p : ℕ) (o : Option ℕ) → ((f : List ℕ) → v.definition ≡ Child p f → ⊥) → IsLastChild vars p (length vars) o → IsLastChild (vars ++ v ∷ []) p (length vars + 1) o
+more_last vars v p None other last = λ i w child. elim (last_cases i (length vars) w) [
+  | inl b ↦ last i b (child.0, sym (ap (λ (u : Variable). u.definition) (get_or_append_left vars (v ∷ []) no_variable i b)) ∙ child.1)
+  | inr e ↦ other child.0 (sym (ap (λ (u : Variable). u.definition) (at_end vars v i e)) ∙ child.1)
+]
+more_last vars v p (Some m) other last =
+    let w = last.0 in (
+      omega (arith, w),
+      (last.1.0, ap (λ (u : Variable). u.definition) (get_or_append_left vars (v ∷ []) no_variable m w) ∙ last.1.1),
+      λ i low b child. elim (last_cases i (length vars) b) [
+        | inl b' ↦ last.2 i low b' (child.0, sym (ap (λ (u : Variable). u.definition) (get_or_append_left vars (v ∷ []) no_variable i b')) ∙ child.1)
+        | inr e ↦ other child.0 (sym (ap (λ (u : Variable). u.definition) (at_end vars v i e)) ∙ child.1)
+      ],
+    )
+
+module _ (vars : List Variable) (kin new : List Kin) (order : Ordered vars) (linked : AreLinked vars kin) (d : Definition) (before : Earlier vars (length vars) d) where
+  old_definition : (i : ℕ) → i < length vars → (var_at (vars ++ fresh d ∷ []) i).definition ≡ (var_at vars i).definition
+  old_definition i w = ap (λ (u : Variable). u.definition) (old_at vars order d before i w)
+
+  new_definition : (i : ℕ) → i ≡ length vars → (var_at (vars ++ fresh d ∷ []) i).definition ≡ d
+  new_definition i e = ap (λ (u : Variable). u.definition) (ap (var_at (vars ++ fresh d ∷ [])) e ∙ new_at vars order d before)
+
+  -- no variable is an entry of the last one
+  no_entry : (i : ℕ) → i < length vars + 1 → IsChildOf (vars ++ fresh d ∷ []) (length vars) i → ⊥
+  no_entry i w child = elim (last_cases i (length vars) w) [
+    | inl b ↦
+        let e : (var_at vars i).definition ≡ Child (length vars) child.0 = sym (old_definition i b) ∙ child.1 in
+        let before_it : Earlier vars i (Child (length vars) child.0) = rw e at (order.earlier i b) in
+        let low = before_it.0 in
+        omega (arith, b, low)
+    | inr e ↦
+        let q : d ≡ Child (length vars) child.0 = sym (new_definition i e) ∙ child.1 in
+        let before_it : Earlier vars (length vars) (Child (length vars) child.0) = rw q at before in
+        let low = before_it.0 in
+        omega (arith, low)
+  ]
+
+  -- what the links of each variable owe, given those of the old ones, and the place that the new one is an entry of
+  pub more_linked : length new ≡ length kin + 1
+      → ((p : ℕ) → p < length vars → ((f : List ℕ) → d ≡ Child p f → ⊥) → (kin_at new p).youngest ≡ (kin_at kin p).youngest)
+      → ((p : ℕ) (f : List ℕ) → d ≡ Child p f → (kin_at new p).youngest ≡ Some (length vars))
+      → (kin_at new (length vars)).youngest ≡ None
+      → ((i : ℕ) → i < length vars → (kin_at new i).older ≡ (kin_at kin i).older)
+      → ((p : ℕ) (f : List ℕ) → d ≡ Child p f → (kin_at new (length vars)).older ≡ (kin_at kin p).youngest)
+      → ((p : ℕ) → ((f : List ℕ) × (d ≡ Child p f)) ⊎ ((f : List ℕ) → d ≡ Child p f → ⊥))
+      → AreLinked (vars ++ fresh d ∷ []) new
+  more_linked long kept_young its_young none_young kept_old its_old cases = record {
+    counted = long ∙ ap (λ n. n + 1) linked.counted ∙ sym (longer vars order d before);
+    youngest = λ p w'.
+        let w : p < length vars + 1 = rw longer at w' in
+        rw longer (elim (last_cases p (length vars) w) [
+          | inl b ↦ elim (cases p) [
+            | inl is ↦ rw (its_young p is.0 is.1) (
+              omega arith,
+              (is.0, new_definition (length vars) refl ∙ is.1),
+              λ i low b' child. omega (arith, low, b'),
+            )
+            | inr other ↦ rw (kept_young p b other) (more_last vars (fresh d) p _ other (linked.youngest p b))
+          ]
+          | inr e ↦ rw (e, none_young) no_entry
+        ]);
+    older = λ i p w' child.
+        let w : i < length vars + 1 = rw longer at w' in
+        elim (last_cases i (length vars) w) [
+          | inl b ↦ rw (kept_old i b) (same_last vars (vars ++ fresh d ∷ []) p i _ (λ j b'. old_definition j (omega (arith, b, b'))) (linked.older i p b (child.0, sym (old_definition i b) ∙ child.1)))
+          | inr e ↦
+              let q : d ≡ Child p child.0 = sym (new_definition i e) ∙ child.1 in
+              let before_it : Earlier vars (length vars) (Child p child.0) = rw q at before in
+              rw (e, its_old p child.0 q) (same_last vars (vars ++ fresh d ∷ []) p (length vars) _ (λ j b'. old_definition j b') (linked.youngest p before_it.0))
+        ];
+  }
+
+  other_linked : ((p : ℕ) (f : List ℕ) → d ≡ Child p f → ⊥) → new ≡ kin ++ no_kin ∷ [] → AreLinked (vars ++ fresh d ∷ []) new
+  other_linked none is =
+      let count = linked.counted in
+      let seam : kin_at new (length vars) ≡ no_kin = rw (is, ← count) (get_or-append_seam kin no_kin [] no_kin) in
+      let old : (i : ℕ) → i < length vars → kin_at new i ≡ kin_at kin i = λ i w. let w' : i < length kin = rw count w in rw is (get_or_append_left kin (no_kin ∷ []) no_kin i w') in
+      more_linked
+      (rw is (length-append kin (no_kin ∷ [])))
+      (λ p w other. ap (λ (k : Kin). k.youngest) (old p w))
+      (λ p f e. absurd (none p f e))
+      (ap (λ (k : Kin). k.youngest) seam)
+      (λ i w. ap (λ (k : Kin). k.older) (old i w))
+      (λ p f e. absurd (none p f e))
+      (λ p. inr (none p))
+
+  entry_linked : (p : ℕ) (f : List ℕ) → d ≡ Child p f → p < length vars → new ≡ with_entry kin p → AreLinked (vars ++ fresh d ∷ []) new
+  entry_linked p f e inside is =
+      let count = linked.counted in
+      let changed : Kin = record (kin_at kin p) { youngest = Some (length kin) } in
+      let entry : Kin = record { youngest = None; older = (kin_at kin p).youngest } in
+      let p_in : p < length kin = rw count inside in
+      let long_set : length (set kin p changed) ≡ length vars = length-set kin p changed ∙ count in
+      let seam : kin_at new (length vars) ≡ entry = rw (is, ← long_set) (get_or-append_seam (set kin p changed) entry [] no_kin) in
+      let front : (i : ℕ) → i < length vars → kin_at new i ≡ kin_at (set kin p changed) i =
+      λ i w. let w' : i < length (set kin p changed) = rw long_set w in rw is (get_or_append_left (set kin p changed) (entry ∷ []) no_kin i w') in
+      let here : kin_at new p ≡ changed = front p inside ∙ get_or-set_same kin p changed no_kin p_in in
+      let there : (i : ℕ) → i < length vars → i ≢ p → kin_at new i ≡ kin_at kin i = λ i w ne. front i w ∙ get_or-set_other kin p i changed no_kin ne in
+      more_linked
+      (rw is (length-append (set kin p changed) (entry ∷ []) ∙ ap (λ n. n + 1) (length-set kin p changed)))
+      (λ q w other. elim (nat_cases q p) [
+        | inl same ↦ absurd (other f (subst (λ n. d ≡ Child n f) (sym same) e))
+        | inr ne ↦ ap (λ (k : Kin). k.youngest) (there q w ne)
+      ])
+      (λ q g eq.
+      let same : Child p f ≡ Child q g = sym e ∙ eq in
+      let ep : p ≡ q = cc in
+      rw (← ep) (ap (λ (k : Kin). k.youngest) here ∙ ap Some count))
+      (ap (λ (k : Kin). k.youngest) seam)
+      (λ i w. elim (nat_cases i p) [
+        | inl same ↦ rw same (ap (λ (k : Kin). k.older) here)
+        | inr ne ↦ ap (λ (k : Kin). k.older) (there i w ne)
+      ])
+      (λ q g eq.
+      let same : Child p f ≡ Child q g = sym e ∙ eq in
+      let ep : p ≡ q = cc in
+      rw (← ep) (ap (λ (k : Kin). k.older) seam))
+      (λ q. elim (nat_cases q p) [
+        | inl same ↦ inl (f, subst (λ n. d ≡ Child n f) (sym same) e)
+        | inr ne ↦ inr (λ g eq. let same : Child p f ≡ Child q g = sym e ∙ eq in let ep : p ≡ q = cc in ne (sym ep))
+      ])
+
+pub variable_linked : (vars : List Variable) (kin : List Kin) → Ordered vars → AreLinked vars kin → (d : Definition) → Earlier vars (length vars) d → AreLinked (vars ++ fresh d ∷ []) (with_variable kin d)
+variable_linked vars kin order linked Start before = other_linked vars kin (with_variable kin Start) order linked Start before (λ p f e. let q : Start ≡ Child p f = e in cc) refl
+variable_linked vars kin order linked (Child p f) before = entry_linked vars kin (with_variable kin (Child p f)) order linked (Child p f) before p f refl before.0 refl
+variable_linked vars kin order linked (Derived x f y) before = other_linked vars kin (with_variable kin (Derived x f y)) order linked (Derived x f y) before (λ p g e. let q : Derived x f y ≡ Child p g = e in cc) refl
+variable_linked vars kin order linked (Ensured x) before = other_linked vars kin (with_variable kin (Ensured x)) order linked (Ensured x) before (λ p g e. let q : Ensured x ≡ Child p g = e in cc) refl
+variable_linked vars kin order linked (Made m) before = other_linked vars kin (with_variable kin (Made m)) order linked (Made m) before (λ p g e. let q : Made m ≡ Child p g = e in cc) refl
+
+-- a definition names a place that has links
+pub parent_below : (vars : List Variable) (kin : List Kin) (d : Definition) → length kin ≡ length vars → Within vars d → ParentBelow (length kin) d
+parent_below vars kin Start same w = w
+parent_below vars kin (Child p f) same w = rw same w
+parent_below vars kin (Derived x f y) same w = w
+parent_below vars kin (Ensured x) same w = w
+parent_below vars kin (Made m) same w = w
+
+-- the start tree alone has no entry
+pub first_linked : (v : Variable) → v.definition ≡ Start → AreLinked (v ∷ []) (no_kin ∷ [])
+first_linked v e = record { counted = refl; youngest = young; older = old }
+  where
+    none : (p i : ℕ) → i < 1 → IsChildOf (v ∷ []) p i → ⊥
+    none p zero w child = let q : Start ≡ Child p child.0 = sym e ∙ child.1 in cc
+    none p (suc i) w child = omega (arith, w)
+
+    young : (p : ℕ) → p < 1 → IsLastChild (v ∷ []) p 1 (kin_at (no_kin ∷ []) p).youngest
+    young zero w = none zero
+    young (suc p) w = absurd (omega arith)
+
+    old : (i p : ℕ) → i < 1 → IsChildOf (v ∷ []) p i → IsLastChild (v ∷ []) p i (kin_at (no_kin ∷ []) i).older
+    old i p w child = absurd (none p i w child)
