@@ -6,9 +6,9 @@ use Rattle.std.proofs.lemmas.Bool.{leb-true, eqb-true, and_parts, and_from}
 use Rattle.script_names.specs.Names.{is_name}
 use Rattle.feature_trees.specs.declared.kind.Kinds.{Kinds}
 use Rattle.script_names.specs.Paths.{is_filled}
-use Rattle.shown_texts.specs.Numbers.{is_digit, number_of}
+use Rattle.shown_texts.specs.Numbers.{is_digit}
 use Rattle.shown_texts.specs.Paths.{if_name, name_of, names_onto}
-use Rattle.shown_texts.specs.Show.{is_shown, show, shown_of}
+use Rattle.shown_texts.specs.Show.{is_shown, show}
 use Rattle.shown_texts.specs.Lines.{line}
 use Rattle.tree_clauses.specs.declared.clause.Var.{Var}
 use Rattle.tree_clauses.specs.declared.clause.Literal.{Literal}

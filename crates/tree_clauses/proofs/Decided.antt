@@ -1,5 +1,5 @@
 -- What is found of one literal: whether it holds, and the value that it gives its subject.
-use Rattle.std.proofs.Common.{◌≡◌, ◌≢◌, ℕ, zero, suc, ◌<◌, ◌⊎◌, ◌↔◌, inl, inr, Bool, true, false, nat_eq, nat_lt, IsTrue, List, [], ◌∷◌, length, Option, Some, None, map, drop, refl, sym, ap, subst, ◌∙◌, arith, Bor}
+use Rattle.std.proofs.Common.{◌≡◌, ◌≢◌, ℕ, zero, suc, ◌<◌, ◌↔◌, inl, inr, Bool, true, nat_eq, nat_lt, IsTrue, List, [], ◌∷◌, length, Option, Some, None, map, drop, refl, sym, ap, subst, ◌∙◌, arith, Bor}
 use Rattle.std.specs.List.{Contains}
 use Rattle.std.specs.Option.{option_map}
 use Rattle.std.proofs.lemmas.Bool.{lt-ltb, eqb-true}
@@ -10,7 +10,7 @@ use Rattle.feature_trees.specs.declared.kind.Kind.{Kind}
 use Rattle.feature_trees.specs.declared.kind.Kind.TheVariants as kind
 use Rattle.feature_trees.specs.declared.kind.Kinds.{Kinds}
 use Rattle.feature_trees.specs.Kinds.{has, of}
-use Rattle.feature_trees.specs.Tree.{entry, kind_of, find, update, entries_of, is_dir}
+use Rattle.feature_trees.specs.Tree.{entry, kind_of, find, entries_of, is_dir}
 use Rattle.feature_trees.specs.Sound.{sound}
 use Rattle.feature_trees.specs.View as view
 use Rattle.feature_trees.proofs.Laws.{Rises}
@@ -18,10 +18,10 @@ use Rattle.feature_trees.proofs.Kept.{same_finds, find_first, value_there}
 use Rattle.tree_clauses.specs.declared.clause.Var.{Var}
 use Rattle.tree_clauses.specs.declared.clause.Literal.{Literal}
 use Rattle.tree_clauses.specs.declared.clause.Literal.TheVariants as L
-use Rattle.tree_clauses.specs.Literals.{Valuation, value_of_variable, Meets, MeetsAll, AgreesOutside, IsSound}
+use Rattle.tree_clauses.specs.Literals.{Valuation, value_of_variable, MeetsAll, AgreesOutside}
 use Rattle.tree_clauses.specs.MadeValues.{without, replaced}
 use Rattle.tree_clauses.specs.Solved.{IsInOrder, BeginEmpty, BeginWithEntries}
-use Rattle.tree_clauses.specs.Steps.{Known, IsThere, AreKnown, Agrees, FactIs, MadeIs}
+use Rattle.tree_clauses.specs.Steps.{Known, IsThere, FactIs, MadeIs}
 use Rattle.tree_clauses.proofs.Names.{same_yes}
 use Rattle.tree_clauses.proofs.Values.{entry_is, dir_kind, rises_entries, empty_from}
 use Rattle.tree_clauses.proofs.Orders.{same_order}

@@ -1,27 +1,26 @@
 -- Entries that are taken away or replaced: what stands under each name then.
-use Rattle.std.proofs.Common.{◌≡◌, ◌≢◌, ℕ, ◌⊎◌, ◌↔◌, inl, inr, Bool, true, false, IsTrue, List, [], ◌∷◌, Option, Some, None, refl, sym, ap, subst, ◌∙◌}
+use Rattle.std.proofs.Common.{◌≡◌, ℕ, ◌⊎◌, ◌↔◌, inl, inr, Bool, true, false, IsTrue, List, [], ◌∷◌, Option, Some, None, refl, sym, ap, subst, ◌∙◌}
 use Rattle.std.specs.List.{Contains}
 use Rattle.std.specs.Prelude.{◌&&◌, ◌==◌, if◌then◌else◌}
 use Rattle.std.specs.Option.{option_and_then}
 use Rattle.std.specs.Str.{bytes_eq}
-use Rattle.std.proofs.lemmas.Bool.{eqb-true, and_parts}
+use Rattle.std.proofs.lemmas.Bool.{eqb-true}
 use Rattle.std.proofs.lemmas.Slice.Eq.{bytes_eq-Decides}
 use Rattle.feature_trees.specs.declared.shape.Entry.{Entry}
 use Rattle.feature_trees.specs.declared.value.Value.{Value}
-use Rattle.feature_trees.specs.declared.value.Value.TheVariants.{Absent, Reg, Link, Other, Dir}
-use Rattle.feature_trees.specs.declared.kind.Kind.TheVariants as kind
-use Rattle.feature_trees.specs.Tree.{entry, kind_of, find, update, entries_of}
+use Rattle.feature_trees.specs.declared.value.Value.TheVariants.{Absent}
+use Rattle.feature_trees.specs.Tree.{entry, find, update, entries_of}
 use Rattle.feature_trees.specs.Sound.{sound}
-use Rattle.feature_trees.proofs.Laws.{Rises, rises_of, find-update_same, find-update_other}
+use Rattle.feature_trees.proofs.Laws.{Rises, find-update_same, find-update_other}
 use Rattle.feature_trees.proofs.Kept.{rises_update, same_finds}
 use Rattle.tree_clauses.specs.declared.clause.Literal.{Literal}
 use Rattle.tree_clauses.specs.declared.clause.Literal.TheVariants as L
-use Rattle.tree_clauses.specs.Literals.{Valuation, value_of_variable, Meets, MeetsAll, AgreesOutside, IsSound}
+use Rattle.tree_clauses.specs.Literals.{Valuation, value_of_variable, Meets, MeetsAll, AgreesOutside}
 use Rattle.tree_clauses.specs.MadeValues.{without, entry_value, replaced}
 use Rattle.tree_clauses.specs.Solved.{IsEntry, BeginWithEntries}
 use Rattle.tree_clauses.specs.Steps.{Known, IsThere, AreKnown, Agrees}
 use Rattle.tree_clauses.proofs.Names.{name_cases, same_yes}
-use Rattle.tree_clauses.proofs.Values.{entry_is, dir_kind, rises_entries}
+use Rattle.tree_clauses.proofs.Values.{entry_is, rises_entries}
 use Rattle.tree_clauses.proofs.Orders.{contains_head, contains_tail, contains_cases, contains_nothing}
 
 -- a name is one of these or not

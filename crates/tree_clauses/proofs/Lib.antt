@@ -7,3 +7,4 @@ pub mod Passing
 pub mod Decided
 pub mod Pieces
 pub mod ClauseLaw
+pub mod PlainCases

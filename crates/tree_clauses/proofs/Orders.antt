@@ -14,9 +14,8 @@ use Rattle.std.proofs.lemmas.Slice.Eq.{bytes_eq-Decides}
 use Rattle.feature_trees.specs.Tree.{name_cmp}
 use Rattle.feature_trees.proofs.Laws.{ord, flip_less}
 use Rattle.feature_trees.proofs.Found.{same_name}
-use Rattle.tree_clauses.specs.MadeValues.{is_first, once}
+use Rattle.tree_clauses.specs.MadeValues.{once}
 use Rattle.tree_clauses.specs.Solved.{Rising, IsInOrder}
-use Rattle.tree_clauses.proofs.Names.{bool_cases}
 
 -- what a list has
 
@@ -89,7 +88,7 @@ one_order (f ∷ fs) (g ∷ gs) r s same =
     let s' : Rising (f ∷ gs) = subst (λ x. Rising (x ∷ gs)) (sym e) s in
     let same' : SameNames (f ∷ fs) (f ∷ gs) = subst (λ x. SameNames (f ∷ fs) (x ∷ gs)) (sym e) same in
     let rest = one_order fs gs (tail_rises f fs r) (tail_rises f gs s')
-        (λ h. (rest_has f fs gs r h (same' h).0, rest_has f gs fs s' h (same' h).1)) in
+    (λ h. (rest_has f fs gs r h (same' h).0, rest_has f gs fs s' h (same' h).1)) in
     λ i. e i ∷ rest i
 
 pub same_order : (names fs gs : List (List ℕ)) → IsInOrder names fs → IsInOrder names gs → fs ≡ gs
@@ -182,9 +181,9 @@ falls_nowhere (f ∷ []) s = tt
 falls_nowhere (f ∷ g ∷ rest) s = (
   s 0 f (omega arith) (omega arith),
   falls_nowhere (g ∷ rest) (λ k d low w.
-  let e : suc k + 1 ≡ suc (k + 1) = omega arith in
-  let h = s (suc k) d (omega arith) (omega arith) in
-  rw e at h),
+      let e : suc k + 1 ≡ suc (k + 1) = omega arith in
+      let h = s (suc k) d (omega arith) (omega arith) in
+      rw e at h),
 )
 
 -- names that are sorted, and then stand once each, are in order

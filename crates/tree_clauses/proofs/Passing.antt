@@ -1,5 +1,5 @@
 -- Going through the literals of a clause: what is left to be solved and met after each.
-use Rattle.std.proofs.Common.{◌≡◌, ◌≢◌, ℕ, ◌-◌, ◌<◌, ◌≤◌, ◌⊎◌, ◌↔◌, inl, inr, Bool, true, false, IsTrue, List, [], ◌∷◌, length, take, drop, get_or, Option, Some, None, refl, sym, ap, subst, ◌∙◌, arith, take_all}
+use Rattle.std.proofs.Common.{◌≡◌, ℕ, ◌-◌, ◌<◌, ◌≤◌, ◌⊎◌, ◌↔◌, inl, inr, Bool, true, false, IsTrue, List, [], ◌∷◌, length, take, drop, get_or, Option, Some, None, refl, sym, ap, subst, ◌∙◌, arith, take_all}
 use Rattle.std.specs.List.{Contains}
 use Rattle.std.specs.Prelude.{◌&&◌}
 use Rattle.std.proofs.lemmas.Bool.{and_parts, and_from}
@@ -11,8 +11,8 @@ use Rattle.feature_trees.specs.Sound.{sound}
 use Rattle.tree_clauses.specs.declared.clause.Literal.{Literal}
 use Rattle.tree_clauses.specs.declared.clause.Literal.TheVariants as L
 use Rattle.tree_clauses.specs.declared.clause.Clause.{Clause}
-use Rattle.tree_clauses.specs.Literals.{Valuation, value_of_variable, Meets, MeetsAll, IsSound, Covers, CoversTree}
-use Rattle.tree_clauses.specs.Solved.{AllKnown, Makes, subject, Solves, done, made, fact, IsSolved}
+use Rattle.tree_clauses.specs.Literals.{Valuation, value_of_variable, MeetsAll, IsSound}
+use Rattle.tree_clauses.specs.Solved.{AllKnown, Makes, subject, Solves, done, made, fact}
 use Rattle.tree_clauses.specs.Decides.{Decides}
 use Rattle.tree_clauses.specs.Steps.{Known, IsThere, AreKnown, Agrees, CanBe, Gives, SolvedTo, FactIs, MadeIs, Passes, StepIs}
 use Rattle.tree_clauses.proofs.Names.{nat_cases}
@@ -54,13 +54,17 @@ one_value v w e = cc
 -- a fact is passed
 pub passes_fact : (known : Known) (literal : Literal) (literals : List Literal) (holds : Bool) → FactIs known literal (Some holds) → Passes known known literal literals holds
 passes_fact known literal literals holds f = record {
-  order = λ numbers are. (numbers, are, λ now. (
-    λ h. elim (opened h.1) [
-      | inl m ↦ absurd (m.0 (subject_known numbers literal (f.0 numbers are)))
-      | inr m ↦ (h.0, m.1, h.2)
-    ],
-    λ h. (h.0, fact literal (f.0 numbers are) h.1, h.2),
-  ));
+  order = λ numbers are. (
+    numbers,
+    are,
+    λ now. (
+      λ h. elim (opened h.1) [
+        | inl m ↦ absurd (m.0 (subject_known numbers literal (f.0 numbers are)))
+        | inr m ↦ (h.0, m.1, h.2)
+      ],
+      λ h. (h.0, fact literal (f.0 numbers are) h.1, h.2),
+    ),
+  );
   stays = λ can. can;
   met = λ g s. (
     λ h. (h.0, h.1.1, (f.1 g s h.0).1 h.1.0),
@@ -114,13 +118,17 @@ pub passes_made : (old new : Known) (literal : Literal) (literals : List Literal
 passes_made old new literal literals v gone gives s m =
     let y = subject literal in
     record {
-      order = λ numbers are. (y ∷ numbers, knows_more old new y v gone gives numbers are, λ now. (
-        λ h. elim (opened h.1) [
-          | inl f ↦ (h.0, f.2, h.2)
-          | inr f ↦ is_not old y gone ((are y).0 (subject_known numbers literal f.0))
-        ],
-        λ h. (h.0, made literal (λ c. is_not old y gone ((are y).0 c)) (m.0 numbers are) h.1, h.2),
-      ));
+      order = λ numbers are. (
+        y ∷ numbers,
+        knows_more old new y v gone gives numbers are,
+        λ now. (
+          λ h. elim (opened h.1) [
+            | inl f ↦ (h.0, f.2, h.2)
+            | inr f ↦ is_not old y gone ((are y).0 (subject_known numbers literal f.0))
+          ],
+          λ h. (h.0, made literal (λ c. is_not old y gone ((are y).0 c)) (m.0 numbers are) h.1, h.2),
+        ),
+      );
       stays = can_more old new y v gone gives s;
       met = λ g t. (
         λ h. (agrees_more old new y v gone gives g h.0 (m.1 g t h.0 h.1.0 h.1.1), h.1.1, refl),
@@ -218,15 +226,17 @@ ends_known clause tree known holds v h e =
             let parts = and_parts holds (is_dir v) t in
             let g = h.can.0 in
             let all = (h.met g h.can.1).1 (h.can.2, tt, parts.0) in
-            let at = h.can.2 now v e in
-            (v, record {
-              valuation = g;
-              values = h.can.1;
-              starts = all.0;
-              ends = at;
-              tree = dir_from v parts.1;
-              met = all.1;
-            }),
+            let at = h.can.2 now v e in (
+              v,
+              record {
+                valuation = g;
+                values = h.can.1;
+                starts = all.0;
+                ends = at;
+                tree = dir_from v parts.1;
+                met = all.1;
+              },
+            ),
         λ c.
             let covers = c.1 in
             let g = covers.valuation in

@@ -1,6 +1,6 @@
 -- Reading a clause's text. The reader is loose: what it reads is printed again and compared.
-use Rattle.std.specs.Prelude.{◌≡◌, ℕ, ◌-◌, ◌^◌, ◌&&◌, nat_le, Bool, IsTrue, List, [], ◌∷◌, ◌++◌, codes, Option, Some, None}
-use Rattle.std.specs.Prelude.{option_map, option_and_then, Result, Ok, Err, if◌then◌else◌}
+use Rattle.std.specs.Prelude.{◌≡◌, ℕ, ◌-◌, ◌^◌, ◌&&◌, nat_le, Bool, IsTrue, List, [], ◌∷◌, ◌++◌, codes}
+use Rattle.std.specs.Prelude.{Option, Some, None, option_map, option_and_then, Result, Ok, Err, if◌then◌else◌}
 use Rattle.std.specs.List.{list_any, list_all}
 use Rattle.std.specs.Str.{bytes_eq}
 use Rattle.script_names.specs.Names.{is_name}
@@ -39,7 +39,8 @@ kinds_of text =
     let words = pieces ends_member text in
     with_kind words (codes "dir") kinds.Dir
     (with_kind words (codes "other") kinds.Other
-    (with_kind words (codes "link") kinds.Link (with_kind words (codes "reg") kinds.Reg (with_kind words (codes "absent") kinds.Absent none))))
+    (with_kind words (codes "link") kinds.Link
+    (with_kind words (codes "reg") kinds.Reg (with_kind words (codes "absent") kinds.Absent none))))
 
 -- the literal of two variables and a name, of these words
 abbrev pub entry_of : List ℕ → List ℕ → List ℕ → Option Literal
@@ -69,18 +70,22 @@ abbrev pub literal_of : List (List ℕ) → Option Literal
 literal_of [] = None
 literal_of (word ∷ []) = None
 literal_of (word ∷ x ∷ []) = option_map (λ x. NotEmpty x) (var_of x)
-literal_of (word ∷ x ∷ f ∷ []) = if bytes_eq word (codes "kind") then kind_of x f else (if bytes_eq word (codes "fence") then fence_of x f else target_of x f)
+literal_of (word ∷ x ∷ f ∷ []) =
+    if bytes_eq word (codes "kind") then kind_of x f
+    else (if bytes_eq word (codes "fence") then fence_of x f else target_of x f)
 literal_of (word ∷ x ∷ f ∷ y ∷ []) = if bytes_eq word (codes "entry") then entry_of x f y else similar_of x f y
 literal_of (word ∷ x ∷ f ∷ y ∷ z ∷ more) = None
 
 -- the literals of lines, behind others
 abbrev pub literals_onto : List Literal → List (List ℕ) → Option (List Literal)
 literals_onto done [] = Some done
-literals_onto done (line ∷ lines) = option_and_then (λ literal. literals_onto (done ++ literal ∷ []) lines) (literal_of (pieces ends_word line))
+literals_onto done (line ∷ lines) =
+    option_and_then (λ literal. literals_onto (done ++ literal ∷ []) lines) (literal_of (pieces ends_word line))
 
 -- the clause of a head line with these words and the literals
 abbrev pub headed : List (List ℕ) → List Literal → Option Clause
-headed (clause ∷ word ∷ x ∷ other ∷ y ∷ []) literals = option_and_then (λ x. option_map (λ y. record { literals = literals; start = x; now = y }) (var_of y)) (var_of x)
+headed (clause ∷ word ∷ x ∷ other ∷ y ∷ []) literals =
+    option_and_then (λ x. option_map (λ y. record { literals = literals; start = x; now = y }) (var_of y)) (var_of x)
 headed words literals = None
 
 -- the clause of lines
@@ -133,4 +138,5 @@ IsReadAs clause (Err Memory) = Unit {0}
 -- the text of a clause determines it, and is no text that reading refuses
 abbrev pub ClausesReadBack : Type 0
 ClausesReadBack =
-    (clause : Clause) → IsTrue (is_clause clause) → (answer : Result Clause ClauseFault) → IsHeld answer → ReadsClause (clause_text clause) answer → IsReadAs clause answer
+    (clause : Clause) → IsTrue (is_clause clause) → (answer : Result Clause ClauseFault) → IsHeld answer
+    → ReadsClause (clause_text clause) answer → IsReadAs clause answer

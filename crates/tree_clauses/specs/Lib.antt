@@ -7,3 +7,4 @@ pub mod MadeValues
 pub mod Held
 pub mod Cuts
 pub mod ClauseRead
+pub mod Plain

@@ -1,6 +1,6 @@
 -- Values that are made of others: entries taken away, entries replaced, and names in the order of their bytes.
 use Rattle.std.specs.Prelude.{ℕ, Bool, false, ◌&&◌, ◌==◌, List, [], ◌∷◌, Option, Some, None, if◌then◌else◌}
-use Rattle.std.specs.Option.{option_map, option_and_then}
+use Rattle.std.specs.Option.{option_and_then}
 use Rattle.std.specs.Str.{bytes_eq}
 use Rattle.feature_trees.specs.declared.shape.Entry.{Entry}
 use Rattle.feature_trees.specs.declared.value.Value.{Value}

@@ -1,5 +1,5 @@
 -- Going through the literals of a clause with a value for each known variable.
-use Rattle.std.specs.Prelude.{◌≡◌, ◌≢◌, ℕ, ◌↔◌, IsTrue, Bool, List, [], ◌∷◌, Option, Some, None, Contains}
+use Rattle.std.specs.Prelude.{◌≡◌, ◌≢◌, ℕ, ◌↔◌, IsTrue, Bool, List, ◌∷◌, Option, Some, None, Contains}
 use Rattle.feature_trees.specs.declared.value.Value.{Value}
 use Rattle.tree_clauses.specs.declared.clause.Literal.{Literal}
 use Rattle.tree_clauses.specs.Literals.{Valuation, value_of_variable, Meets, MeetsAll, IsSound}

@@ -7,8 +7,8 @@ ghost use Rattle.tree_clauses.specs.Steps.{StepIs};
 
 use crate::clause::{Clause, Literal, Var};
 use crate::facts::{is_directory, read_fact};
-use crate::making::make;
 use crate::known_values::Values;
+use crate::making::make;
 use feature_trees::Value;
 use script_names::Memory;
 use std::alloc::Global;

@@ -1,9 +1,10 @@
 //! Clauses over the variables of feature trees: what a clause covers, and a clause as text.
 //! It stands on feature_trees, shown_texts and script_names. Begin with `clause`, and with specs/Literals.antt for
-//! what a literal says; `meets` decides whether a clause covers a tree. `theorems` says that a clause's text is read as
-//! the clause.
+//! what a literal says; `meets` decides whether a clause covers a tree, and `theorems` says that the text of a clause
+//! is read as the clause.
 #![tactic(auto)]
 
+mod case;
 mod clause;
 mod cuts;
 mod deciding;
@@ -15,10 +16,13 @@ mod rising;
 mod text;
 pub mod theorems;
 
+pub use case::Case;
 pub use clause::{Clause, Literal, Var};
 pub use deciding::meets;
 pub use read::{ClauseFault, read_clause};
 pub use text::{print_clause, put_clause};
 
+#[cfg(test)]
+mod tests;
 #[cfg(test)]
 mod text_tests;

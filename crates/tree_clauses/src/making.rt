@@ -9,8 +9,8 @@ ghost use Rattle.tree_clauses.specs.Steps.{Known, MadeIs};
 
 use crate::clause::{Literal, Var};
 use crate::facts::copied_entries;
-use crate::rising::in_order;
 use crate::known_values::{Held, Values};
+use crate::rising::in_order;
 use feature_trees::{Entries, Kind, Kinds, Value};
 use script_names::{Copied, Memory, Name};
 use std::alloc::Global;

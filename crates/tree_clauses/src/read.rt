@@ -24,6 +24,17 @@ pub enum ClauseFault {
     Memory,
 }
 
+impl From<Memory> for ClauseFault {
+    ghost use Rattle.std.specs.Prelude.{◌≡◌};
+    ghost use Rattle.tree_clauses.specs.declared.read.ClauseFault.TheVariants.{Memory as NoMemory};
+
+    ghost from_gives = { λ _ fault. fault ≡ NoMemory };
+
+    fn from(_refused: Memory) -> ClauseFault {
+        ClauseFault::Memory
+    }
+}
+
 fn read_var(word: &[u8]) -> Option<Var>
     ensures { result ≡ var_of word.now }
 {

@@ -1,8 +1,14 @@
-//! What holds of the texts of clauses.
+//! What holds of the texts of clauses, and of plain cases.
 
 ghost use Rattle.tree_clauses.specs.ClauseRead.{ClausesReadBack};
+ghost use Rattle.tree_clauses.specs.Plain.{PlainCasesAreSolved};
 
 /// The text of a clause is read as the clause.
 pub fn clauses_read_back()
     ensures { ClausesReadBack }
+{}
+
+/// A plain case is in solved order.
+pub fn plain_cases_are_solved()
+    ensures { PlainCasesAreSolved }
 {}

@@ -1,4 +1,4 @@
-use Rattle.std.proofs.Common.{Some, None, true, refl, subst, sym, ap, ◌∙◌}
+use Rattle.std.proofs.Common.{Some, true, refl, subst, sym}
 use Rattle.std.specs.Prelude.{◌&&◌}
 use Rattle.tree_clauses.specs.Decides.{Decides}
 use Rattle.tree_clauses.specs.Held.{known_in}

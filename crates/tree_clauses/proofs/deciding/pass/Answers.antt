@@ -1,4 +1,4 @@
-use Rattle.std.proofs.Common.{Some, None, subst, sym, ap, ◌∙◌}
+use Rattle.std.proofs.Common.{subst, sym, ap, ◌∙◌}
 use Rattle.std.specs.Option.{option_map}
 use Rattle.tree_clauses.specs.Held.{held_value, known_in}
 use Rattle.tree_clauses.specs.Steps.{IsThere, Gives, FactIs, MadeIs}

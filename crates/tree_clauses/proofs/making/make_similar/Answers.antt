@@ -1,4 +1,4 @@
-use Rattle.std.proofs.Common.{Some, None, ap, subst, sym, ◌∙◌}
+use Rattle.std.proofs.Common.{ap, subst, sym, ◌∙◌}
 use Rattle.tree_clauses.specs.Held.{known_in}
 use Rattle.tree_clauses.specs.MadeValues.{replaced}
 use Rattle.tree_clauses.specs.Solved.{IsInOrder}
