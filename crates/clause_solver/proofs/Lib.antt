@@ -19,3 +19,4 @@ pub mod Built
 pub mod Moved
 pub mod Redecided
 pub mod Excluded
+pub mod Filled

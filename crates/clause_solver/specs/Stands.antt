@@ -1,8 +1,9 @@
 -- What a store stands for: pairs of a start tree and a valuation of the store's variables.
-use Rattle.std.specs.Prelude.{◌≡◌, ℕ, ◌<◌, ◌≤◌, List, [], ◌∷◌, length, take}
+use Rattle.std.specs.Prelude.{◌≡◌, ◌≢◌, ℕ, ◌<◌, ◌≤◌, List, [], ◌∷◌, length, take}
 use Rattle.feature_trees.specs.declared.value.Value.{Value}
+use Rattle.feature_trees.specs.declared.value.Value.TheVariants as value
 use Rattle.feature_trees.specs.declared.kind.Kind.TheVariants as kind
-use Rattle.feature_trees.specs.Tree.{entry, kind_of, put}
+use Rattle.feature_trees.specs.Tree.{entry, entries_of, kind_of, put}
 use Rattle.tree_clauses.specs.declared.clause.Literal.{Literal}
 use Rattle.tree_clauses.specs.Literals.{Valuation, value_of_variable, MeetsAll, IsSound}
 
@@ -53,3 +54,13 @@ pub record HasPut (s : Seen) (x : ℕ) (f : List ℕ) (z y : ℕ) : Type 0 where
 pub record HasValue (s : Seen) (y : ℕ) (v : Value) : Type 0 where
   pub known : y < s.count
   pub is : (t : Value) (g : Valuation) → Stands s t g → value_of_variable g y ≡ v
+
+-- the variable y is a directory with the entries of x, in every pair
+pub record HasEntriesOf (s : Seen) (x y : ℕ) : Type 0 where
+  pub known : y < s.count
+  pub is : (t : Value) (g : Valuation) → Stands s t g
+      → value_of_variable g y ≡ value.Dir (entries_of (value_of_variable g x))
+
+-- the value has an entry
+abbrev pub HasSome : Value → Type 0
+HasSome v = (f : List ℕ) × (entry v f ≢ value.Absent)

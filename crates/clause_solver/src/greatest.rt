@@ -278,8 +278,8 @@ fn is_satisfied_at(vars: &Shared<Variable>, best: &Shared<Kind>, i: usize) -> bo
     }
 }
 
-// Whether some valuation is left, where each variable has its greatest kind.
-fn is_satisfied(vars: &Shared<Variable>, best: &Shared<Kind>) -> bool
+/// Whether some valuation is left, where each variable has its greatest kind.
+pub(crate) fn is_satisfied(vars: &Shared<Variable>, best: &Shared<Kind>) -> bool
     requires same { length best.now ≡ length vars.now }
     requires order { Ordered vars.now }
     ensures { IsTrue result ↔ IsSatisfied vars.now best.now (unfenced vars.now) }

@@ -1,4 +1,4 @@
-ghost use Rattle.std.specs.Prelude.{◌≡◌, ℕ, ◌+◌, ◌<◌, ◌≤◌, ◌↔◌, List, [], ◌∷◌, length, take, IsTrue};
+ghost use Rattle.std.specs.Prelude.{◌≡◌, ℕ, ◌+◌, ◌<◌, ◌≤◌, ◌↔◌, List, [], ◌∷◌, length, take, IsTrue, true};
 ghost use Rattle.std.specs.Prelude.{IfOk, IfSome, OnOk, OnErr};
 ghost use Rattle.feature_trees.specs.declared.value.Value.{Value};
 ghost use Rattle.feature_trees.specs.Kinds.{has, none, both};
@@ -8,13 +8,14 @@ ghost use Rattle.tree_clauses.specs.Literals.{Valuation, value_of_variable, Cove
 ghost use Rattle.tree_clauses.specs.Solved.{IsSolved};
 ghost use Rattle.clause_solver.specs.Pairs.{HasPair};
 ghost use Rattle.clause_solver.specs.Stands.{Seen, Stands, Alive, Extends, HasEntry, IsDirectory, HasPut, HasValue};
-ghost use Rattle.clause_solver.specs.Variables.{fixed_in, limited, made_value, narrowed};
+ghost use Rattle.clause_solver.specs.Stands.{HasEntriesOf, HasSome};
+ghost use Rattle.clause_solver.specs.Variables.{filled, fixed_in, limited, made_value, narrowed};
 ghost use Rattle.clause_solver.specs.Variables.{possible, possible_by, var_at};
 ghost use Rattle.feature_trees.specs.declared.value.Value.TheVariants as value;
 
 use crate::appended::{Found, append, resolve};
 use crate::children::find;
-use crate::greatest::{kind_made, redecide};
+use crate::greatest::{is_satisfied, kind_made, redecide};
 use crate::kin::Kin;
 use crate::literals::write_literals;
 use crate::new_name::new_name;
@@ -22,7 +23,7 @@ use crate::places::var_at;
 use crate::start_tree::{grow, open_places};
 use crate::variable::{Definition, MadeValue, Variable};
 use feature_trees::{Kind, Kinds, Value};
-use script_names::{Common, Copied, Memory, Name};
+use script_names::{Bytes, Common, Copied, Memory, Name};
 use shared_table::{Shared, fork_alone, push_alone, set_alone};
 use std::alloc::Global;
 use std::marker::Model;
@@ -239,6 +240,64 @@ impl Store {
         self.made(MadeValue::Absent)
     }
 
+    /// The variable of a file. For want of memory the store is as before.
+    pub fn made_reg(&mut self) -> Result<Var, Memory>
+        ensures extends { Extends self.old self.new }
+        ensures reg { IfOk result (λ y. HasValue self.new y.0 value.Reg) }
+        ensures kept { OnErr result (self.new ≡ self.old) }
+        ensures count { self.new.count ≤ self.old.count + 1 }
+    {
+        self.made(MadeValue::Reg)
+    }
+
+    /// The variable of a link to a target. For want of memory the store is as before.
+    pub fn made_link(&mut self, target: &Bytes) -> Result<Var, Memory>
+        ensures extends { Extends self.old self.new }
+        ensures link { IfOk result (λ y. HasValue self.new y.0 (value.Link target.now)) }
+        ensures kept { OnErr result (self.new ≡ self.old) }
+        ensures count { self.new.count ≤ self.old.count + 1 }
+    {
+        let target = target.copy(self.alloc)?;
+        self.made(MadeValue::Link(target))
+    }
+
+    /// The variable of a directory with the entries of x; what is no directory has none. For want of memory the store
+    /// is as before.
+    pub fn ensure(&mut self, x: Var) -> Result<Var, Memory>
+        requires known { x.0 < self.old.count }
+        ensures extends { Extends self.old self.new }
+        ensures entries { IfOk result (λ y. HasEntriesOf self.new x.0 y.0) }
+        ensures kept { OnErr result (self.new ≡ self.old) }
+        ensures count { self.new.count ≤ self.old.count + 1 }
+    {
+        let y = append(
+            self.alloc,
+            &mut self.vars,
+            &mut self.best,
+            &mut self.kin,
+            Definition::Ensured(x.0),
+        )?;
+        Ok(Var(y))
+    }
+
+    /// Leaves the pairs in which a variable has an entry, and says whether one is left. For want of memory the store
+    /// is as before.
+    pub fn not_empty(&mut self, x: Var) -> Result<bool, Memory>
+        requires { x.0 < self.old.count }
+        ensures kept { (self.new.count ≡ self.old.count) × (self.new.current ≡ self.old.current) }
+        ensures exact { IfOk result (λ left. (t : Value) (g : Valuation) → Stands self.new t g
+            ↔ (Stands self.old t g × HasSome (value_of_variable g x.0))) }
+        ensures alive { IfOk result (λ left. IsTrue left ↔ Alive self.new) }
+        ensures unchanged { OnErr result (self.new ≡ self.old) }
+    {
+        let mut vars = fork_alone(&self.vars)?;
+        fill(self.alloc, &mut vars, x.0 as usize)?;
+        let left = is_satisfied(&vars, &self.best);
+        self.vars = vars;
+        self.alive = left;
+        Ok(left)
+    }
+
     // The variable of a made value.
     fn made(&mut self, value: MadeValue) -> Result<Var, Memory>
         ensures extends { Extends self.old self.new }
@@ -322,6 +381,32 @@ fn narrowed_at(
         kinds: narrowed(v, k),
         fence,
         not_empty: v.not_empty,
+    })
+}
+
+// Says of the variable at a place that it has an entry; for want of memory all is as before.
+fn fill(alloc: Global, vars: &mut Shared<Variable>, x: usize) -> Result<(), Memory>
+    requires { x < length vars.old }
+    ensures { OnOk result (vars.new ≡ filled vars.old x) }
+{
+    let filled = filled_at(alloc, vars, x)?;
+    set_alone(vars, x, filled)?;
+    Ok(())
+}
+
+// The variable at a place, which has an entry.
+fn filled_at(alloc: Global, vars: &Shared<Variable>, x: usize) -> Result<Variable, Memory>
+    requires { x < length vars.now }
+    ensures { IfOk result (λ v. v ≡ record (var_at vars.now x) { not_empty = true }) }
+{
+    let v = var_at(vars, x);
+    let definition = v.definition.fork()?;
+    let fence = v.fence.copy(alloc)?;
+    Ok(Variable {
+        definition,
+        kinds: v.kinds,
+        fence,
+        not_empty: true,
     })
 }
 
