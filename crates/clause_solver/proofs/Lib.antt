@@ -20,3 +20,8 @@ pub mod Moved
 pub mod Redecided
 pub mod Excluded
 pub mod Filled
+pub mod Emptied
+pub mod Fenced
+pub mod Entered
+pub mod Without
+pub mod EmptySettles

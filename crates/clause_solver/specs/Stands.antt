@@ -64,3 +64,17 @@ pub record HasEntriesOf (s : Seen) (x y : ℕ) : Type 0 where
 -- the value has an entry
 abbrev pub HasSome : Value → Type 0
 HasSome v = (f : List ℕ) × (entry v f ≢ value.Absent)
+
+-- the value has no entry
+abbrev pub HasNone : Value → Type 0
+HasNone v = (f : List ℕ) → entry v f ≡ value.Absent
+
+-- the new store has those pairs of the old one in which the variable x has no entry, each valuation extended by values
+-- for the new variables
+pub record Empties (old new : Seen) (x : ℕ) : Type 0 where
+  pub more : old.count ≤ new.count
+  pub same : new.current ≡ old.current
+  pub down : (t : Value) (g : Valuation) → Stands new t g
+      → Stands old t (take old.count g) × HasNone (value_of_variable g x)
+  pub up : (t : Value) (g : Valuation) → Stands old t g → HasNone (value_of_variable g x)
+      → (h : Valuation) × Stands new t h × (take old.count h ≡ g)
