@@ -28,13 +28,13 @@ pub record IsNarrower (old new : List Variable) : Type 0 where
 
 -- that x has no entry comes to this: the narrower variables, and no entry of `here` under another name than these
 pub record ComesTo (old : List Variable) (x : ℕ) (new : List Variable) (here : ℕ) (names : List (List ℕ)) : Type 0
-    where
-  pub narrower : IsNarrower old new
-  pub inside : here < length new
-  pub there : (g : Valuation) → IsSound g → AllFit old g → HasNone (value_of_variable g x)
-      → AllFit new g × HasNoneOutside (value_of_variable g here) names
-  pub back : (g : Valuation) → IsSound g → AllFit new g → HasNoneOutside (value_of_variable g here) names
-      → HasNone (value_of_variable g x)
+  where
+    pub narrower : IsNarrower old new
+    pub inside : here < length new
+    pub there : (g : Valuation) → IsSound g → AllFit old g → HasNone (value_of_variable g x)
+        → AllFit new g × HasNoneOutside (value_of_variable g here) names
+    pub back : (g : Valuation) → IsSound g → AllFit new g → HasNoneOutside (value_of_variable g here) names
+        → HasNone (value_of_variable g x)
 
 -- that x has no entry comes to the narrower variables alone
 pub record IsEmptied (old : List Variable) (x : ℕ) (new : List Variable) : Type 0 where

@@ -1,5 +1,5 @@
--- How the entries of a place of the start tree are found: each place leads to its last entry, and each entry to the one
--- before it of the same place.
+-- How the entries of a place of the start tree are found: each place leads to its last entry, and each entry to the
+-- one before it of the same place.
 use Rattle.std.specs.Prelude.{◌≡◌, ℕ, ◌<◌, List, [], ◌∷◌, ◌++◌, length, Option, None, Some, slice_index_or, slice_set}
 use Rattle.clause_solver.specs.declared.kin.Kin.{Kin}
 use Rattle.clause_solver.specs.declared.variable.Definition.{Definition}

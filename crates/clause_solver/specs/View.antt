@@ -11,7 +11,8 @@ use Rattle.clause_solver.specs.Written.{literals_from}
 abbrev pub seen : Inside → Seen
 seen a = record { count = length a.vars; literals = literals_from 0 a.vars; current = a.current }
 
--- the variables stand in order, each with its greatest kind and its links, and both the start and the tree now are directories
+-- the variables stand in order, each with its greatest kind and its links, and both the start and the tree now are
+-- directories
 pub record IsSettled (a : Inside) : Type 0 where
   pub order : Ordered a.vars
   pub same : length a.best ≡ length a.vars

@@ -167,7 +167,12 @@ fn let_in(alloc: Global, fence: &Option<List<Name>>, names: &[Name]) -> Result<L
 }
 
 // The place may have entries under these names alone.
-fn enclose(alloc: Global, vars: &mut Shared<Variable>, n: usize, names: &[Name]) -> Result<(), Memory>
+fn enclose(
+    alloc: Global,
+    vars: &mut Shared<Variable>,
+    n: usize,
+    names: &[Name],
+) -> Result<(), Memory>
     requires { n < length vars.old }
     ensures { OnOk result (vars.new ≡ fenced vars.old n names.now) }
 {

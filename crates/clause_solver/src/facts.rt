@@ -12,7 +12,12 @@ use shared_table::{Shared, set_alone};
 use std::alloc::Global;
 
 /// Limits the variable at a place to a set of kinds; for want of memory all is as before.
-pub(crate) fn narrow(alloc: Global, vars: &mut Shared<Variable>, x: usize, k: Kinds) -> Result<(), Memory>
+pub(crate) fn narrow(
+    alloc: Global,
+    vars: &mut Shared<Variable>,
+    x: usize,
+    k: Kinds,
+) -> Result<(), Memory>
     requires { x < length vars.old }
     ensures { OnOk result (vars.new ≡ limited vars.old x k) }
 {

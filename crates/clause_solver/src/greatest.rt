@@ -140,7 +140,10 @@ fn settled(vars: &Shared<Variable>, best: &Shared<Kind>, x: usize) -> Result<Sha
 }
 
 /// The greatest kinds, whatever they were before.
-pub(crate) fn settled_all(vars: &Shared<Variable>, best: &Shared<Kind>) -> Result<Shared<Kind>, Memory>
+pub(crate) fn settled_all(
+    vars: &Shared<Variable>,
+    best: &Shared<Kind>,
+) -> Result<Shared<Kind>, Memory>
     requires same { length best.now ≡ length vars.now }
     requires order { Ordered vars.now }
     ensures same { IfOk result (λ new. length new ≡ length vars.now) }

@@ -88,8 +88,8 @@ impl Store {
         })
     }
 
-    /// An equal store, which owns the same nodes: no variable is copied, and a later change of the one store leaves the
-    /// other.
+    /// An equal store, which owns the same nodes: no variable is copied, and a later change of the one store leaves
+    /// the other.
     pub fn fork(&self) -> Result<Store, Memory>
         ensures { IfOk result (λ fork. fork ≡ self.now) }
     {
@@ -115,7 +115,8 @@ impl Store {
         Var(self.current)
     }
 
-    /// Limits a variable to a set of kinds, and says whether a pair is left. For want of memory the store is as before.
+    /// Limits a variable to a set of kinds, and says whether a pair is left. For want of memory the store is as
+    /// before.
     pub fn limit(&mut self, x: Var, k: Kinds) -> Result<bool, Memory>
         requires { x.0 < self.old.count }
         ensures kept { (self.new.count ≡ self.old.count) × (self.new.current ≡ self.old.current) }

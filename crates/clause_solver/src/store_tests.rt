@@ -61,19 +61,36 @@ fn expect_tree<R: Abort + AllocGlobal>(rt: &R, s: &mut Store, text: &str) -> Res
     Ok(())
 }
 
+// The store in which `/etc` and `/usr/bin` are directories.
+fn two_directories<R: Abort + AllocGlobal>(rt: &R) -> Result<Store, Fail> {
+    let mut s = Store::start(rt.alloc())?;
+    let etc = walk(rt, &mut s, &[b"etc"])?;
+    assert!(rt; is_left(&mut s, etc, Kinds::of(Kind::Dir)));
+    let bin = walk(rt, &mut s, &[b"usr", b"bin"])?;
+    assert!(rt; is_left(&mut s, bin, Kinds::of(Kind::Dir)));
+    assert_eq!(rt; (etc, bin), (Var(1), Var(3)));
+    Ok(s)
+}
+
 #[test]
-fn limits(rt: HostRuntime) -> Result<(), Fail> {
+fn starts_anywhere(rt: HostRuntime) -> Result<(), Fail> {
     let mut s = Store::start(rt.alloc())?;
     expect_clause(&rt, &s, "clause start v0 now v0\nkind v0 dir\n")?;
-    expect_tree(&rt, &mut s, "")?;
-    let etc = walk(&rt, &mut s, &[b"etc"])?;
-    assert!(rt; is_left(&mut s, etc, Kinds::of(Kind::Dir)));
-    let bin = walk(&rt, &mut s, &[b"usr", b"bin"])?;
-    assert!(rt; is_left(&mut s, bin, Kinds::of(Kind::Dir)));
+    expect_tree(&rt, &mut s, "")
+}
+
+#[test]
+fn limits(rt: HostRuntime) -> Result<(), Fail> {
+    let mut s = two_directories(&rt)?;
     let again = walk(&rt, &mut s, &[b"usr", b"bin"])?;
-    assert_eq!(rt; (etc, bin, again), (Var(1), Var(3), Var(3)));
+    assert_eq!(rt; again, Var(3));
     expect_clause(&rt, &s, TWO_DIRECTORIES)?;
-    expect_tree(&rt, &mut s, "d /etc\nd /usr\nd /usr/bin\n")?;
+    expect_tree(&rt, &mut s, "d /etc\nd /usr\nd /usr/bin\n")
+}
+
+#[test]
+fn forks_keep_their_pairs(rt: HostRuntime) -> Result<(), Fail> {
+    let mut s = two_directories(&rt)?;
     let mut fork = s.fork()?;
     let now = s.now();
     assert!(rt; is_none_left(&mut s, now, Kinds::of(Kind::Reg)));
@@ -115,7 +132,7 @@ fn shows_each_kind(rt: HostRuntime) -> Result<(), Fail> {
 }
 
 #[test]
-fn takes_many(rt: HostRuntime) -> Result<(), Fail> {
+fn takes_deep_paths(rt: HostRuntime) -> Result<(), Fail> {
     let mut deep = Store::start(rt.alloc())?;
     let name: &[u8] = b"a";
     let x = walk(&rt, &mut deep, &[name; 64])?;
@@ -125,8 +142,13 @@ fn takes_many(rt: HostRuntime) -> Result<(), Fail> {
     assert!(rt; matches!(tree, Value::Dir(_)));
     // the line of the k-th name has 2 k + 3 bytes
     assert_eq!(rt; print_tree(rt.alloc(), &tree)?.len(), 4352);
+    Ok(())
+}
+
+#[test]
+fn takes_many_entries(rt: HostRuntime) -> Result<(), Fail> {
     let mut wide = Store::start(rt.alloc())?;
-    for i in 0u32..2000 {
+    for i in 0u32..500 {
         let digits = [
             b'0' + (i / 1000 % 10) as u8,
             b'0' + (i / 100 % 10) as u8,
@@ -139,7 +161,7 @@ fn takes_many(rt: HostRuntime) -> Result<(), Fail> {
     let now = wide.now();
     assert!(rt; is_left(&mut wide, now, Kinds::all()));
     match wide.start_tree(rt.alloc())? {
-        Value::Dir(entries) => assert_eq!(rt; entries.len(), 2000),
+        Value::Dir(entries) => assert_eq!(rt; entries.len(), 500),
         _ => assert!(rt; false),
     }
     Ok(())
@@ -168,31 +190,53 @@ fn put_under<R: Abort + AllocGlobal>(rt: &R, s: &mut Store, word: &[u8], y: Var)
     Ok(())
 }
 
-#[test]
-fn derives(rt: HostRuntime) -> Result<(), Fail> {
+// The store in which an empty directory is put where nothing stood.
+fn one_made<R: Abort + AllocGlobal>(rt: &R) -> Result<Store, Fail> {
     let mut s = Store::start(rt.alloc())?;
-    let a = walk(&rt, &mut s, &[b"a"])?;
+    let a = walk(rt, &mut s, &[b"a"])?;
     assert!(rt; is_left(&mut s, a, Kinds::of(Kind::Absent)));
     let dir = make(&mut s, true)?;
-    put_under(&rt, &mut s, b"a", dir)?;
-    expect_clause(&rt, &s, ONE_MADE)?;
-    expect_tree(&rt, &mut s, "")?;
-    let below = walk(&rt, &mut s, &[b"a", b"b"])?;
-    let c = walk(&rt, &mut s, &[b"c"])?;
+    put_under(rt, &mut s, b"a", dir)?;
+    Ok(s)
+}
+
+// And a file is taken away.
+fn one_gone<R: Abort + AllocGlobal>(rt: &R) -> Result<Store, Fail> {
+    let mut s = one_made(rt)?;
+    let below = walk(rt, &mut s, &[b"a", b"b"])?;
+    let c = walk(rt, &mut s, &[b"c"])?;
     assert_eq!(rt; (below, c), (Var(4), Var(5)));
     assert!(rt; is_left(&mut s, c, Kinds::of(Kind::Reg)));
     let gone = make(&mut s, false)?;
-    put_under(&rt, &mut s, b"c", gone)?;
-    expect_clause(&rt, &s, ONE_GONE)?;
-    expect_tree(&rt, &mut s, "f /c\n")?;
+    put_under(rt, &mut s, b"c", gone)?;
+    Ok(s)
+}
+
+#[test]
+fn derives(rt: HostRuntime) -> Result<(), Fail> {
+    let mut s = one_made(&rt)?;
+    expect_clause(&rt, &s, ONE_MADE)?;
+    expect_tree(&rt, &mut s, "")
+}
+
+#[test]
+fn derives_twice(rt: HostRuntime) -> Result<(), Fail> {
+    let mut s = one_gone(&rt)?;
     // a limit that the definition has already writes nothing
     let now = s.now();
     assert!(rt; is_left(&mut s, now, Kinds::of(Kind::Dir)));
     expect_clause(&rt, &s, ONE_GONE)?;
+    expect_tree(&rt, &mut s, "f /c\n")
+}
+
+#[test]
+fn derives_beside_a_fork(rt: HostRuntime) -> Result<(), Fail> {
+    let mut s = one_gone(&rt)?;
     let mut fork = s.fork()?;
     let again = walk(&rt, &mut fork, &[b"c"])?;
     assert_eq!(rt; again, Var(6));
     assert!(rt; is_none_left(&mut fork, again, Kinds::of(Kind::Reg)));
+    expect_clause(&rt, &s, ONE_GONE)?;
     expect_tree(&rt, &mut s, "f /c\n")
 }
 

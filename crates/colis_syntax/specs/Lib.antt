@@ -1,3 +1,2 @@
 pub mod WellFormed
-pub mod OwnNames
 pub mod ProgramText

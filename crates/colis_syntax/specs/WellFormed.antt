@@ -1,5 +1,6 @@
 -- Which programs are well formed, rule by rule.
-use Rattle.std.specs.Prelude.{ℕ, Bool, true, false, not, ◌&&◌, nat_le, List, [], ◌∷◌, ◌++◌, length, Option, Some, None, if◌then◌else◌}
+use Rattle.std.specs.Prelude.{ℕ, Bool, true, false, not, ◌&&◌, nat_le, List, [], ◌∷◌, ◌++◌, length}
+use Rattle.std.specs.Prelude.{Option, Some, None, if◌then◌else◌}
 use Rattle.std.specs.List.{list_all, list_any}
 use Rattle.std.specs.Str.{bytes_eq}
 use Rattle.colis_syntax.specs.declared.syntax.Stmt.{Stmt}
@@ -12,7 +13,8 @@ use Rattle.colis_syntax.specs.declared.syntax.StmtArm.{StmtArm}
 use Rattle.colis_syntax.specs.declared.syntax.PatArm.{PatArm}
 use Rattle.colis_syntax.specs.declared.def.Def.{Def}
 use Rattle.colis_syntax.specs.declared.syntax.Fields.TheOpen as o
-use Rattle.colis_syntax.specs.declared.syntax.Fields.TheFolds.{fold-Stmt, fold-Str, fold-StrPiece, fold-Fields, fold-SetTo, fold-ChainPart, fold-StmtArm, fold-PatArm}
+use Rattle.colis_syntax.specs.declared.syntax.Fields.TheFolds.{fold-Stmt, fold-Str, fold-StrPiece, fold-Fields}
+use Rattle.colis_syntax.specs.declared.syntax.Fields.TheFolds.{fold-SetTo, fold-ChainPart, fold-StmtArm, fold-PatArm}
 
 -- where a statement stands: the functions that it may call, whether a loop is round it that it may leave, and whether
 -- a function is round it that it may leave
@@ -27,6 +29,7 @@ Test = Scope → Bool
 
 -- ---- scopes
 
+-- the scope with these functions, in a loop or not, in a function or not
 abbrev pub scope_of : List Def → Bool → Bool → Scope
 scope_of defs in_loop in_def = record { defs = defs; in_loop = in_loop; in_def = in_def }
 
@@ -60,6 +63,7 @@ all_pass s tests = list_all (λ test. test s) tests
 abbrev pub is_argument : ℕ → Bool
 is_argument number = nat_le 1 number && nat_le number 9
 
+-- a string: the number of an argument is one, and a substitution is left by no statement
 abbrev pub str_layer : o.Str-F Test Test Test Test Test Test Test Test → Test
 str_layer (o.Lit bytes) s = true
 str_layer (o.Var name) s = true
@@ -69,15 +73,18 @@ str_layer (o.Or first other) s = first s
 str_layer (o.Output body) s = body (enclosed s)
 str_layer (o.Join parts) s = all_pass s parts
 
+-- a piece of a word passes where its string does
 abbrev pub piece_layer : o.StrPiece-F Test Test Test Test Test Test Test Test → Test
 piece_layer (o.Plain string) s = string s
 piece_layer (o.Quoted string) s = string s
 piece_layer (o.Split string) s = string s
 
+-- a word passes where its pieces do
 abbrev pub fields_layer : o.Fields-F Test Test Test Test Test Test Test Test → Test
 fields_layer (o.Word pieces) s = all_pass s pieces
 fields_layer o.Args s = true
 
+-- a statement passes where its parts do, each in its scope, and what its construct asks for holds
 abbrev pub stmt_layer : o.Stmt-F Test Test Test Test Test Test Test Test → Test
 stmt_layer o.Skip s = true
 stmt_layer (o.Set at sets) s = all_pass s sets
@@ -109,12 +116,15 @@ stmt_layer (o.Export at fields) s = all_pass s fields
 stmt_layer (o.Unset at fields) s = all_pass s fields
 stmt_layer (o.Stop at reason) s = true
 
+-- an assignment passes where its value does
 abbrev pub set_layer : o.SetTo-F Test Test Test Test Test Test Test Test → Test
 set_layer set s = set.value s
 
+-- a member of an and-or list passes where its statement does
 abbrev pub part_layer : o.ChainPart-F Test Test Test Test Test Test Test Test → Test
 part_layer part s = part.stmt s
 
+-- an arm of `if` passes where its condition and its body do
 abbrev pub arm_layer : o.StmtArm-F Test Test Test Test Test Test Test Test → Test
 arm_layer arm s = arm.cond s && arm.body s
 

@@ -8,8 +8,3 @@ pub mod steps;
 mod walks;
 
 pub use acts::act;
-
-#[cfg(test)]
-mod steps_tests;
-#[cfg(test)]
-mod tests;

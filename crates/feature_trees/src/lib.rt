@@ -16,8 +16,3 @@ pub use print::{print_tree, put_tree};
 pub use put::PutFault;
 pub use read::{MOST_NAMES, TreeFault, read_tree};
 pub use value::{Entries, Value};
-
-#[cfg(test)]
-mod read_tests;
-#[cfg(test)]
-mod tests;

@@ -6,8 +6,6 @@
 mod boxed;
 mod bytes;
 mod common;
-#[cfg(test)]
-mod common_tests;
 mod component;
 mod copied;
 mod list;
@@ -15,12 +13,8 @@ mod mark;
 mod memory;
 mod name;
 mod path;
-#[cfg(test)]
-mod path_tests;
 mod reason;
 mod split;
-#[cfg(test)]
-mod tests;
 mod text;
 pub mod theorems;
 

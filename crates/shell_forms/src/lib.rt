@@ -8,8 +8,6 @@ mod finding;
 mod found;
 mod functions;
 mod place;
-#[cfg(test)]
-mod tests;
 mod words;
 
 pub use accepted::{Accepted, FormFault, accept};

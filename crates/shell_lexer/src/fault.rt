@@ -3,7 +3,7 @@ ghost use Rattle.std.specs.Prelude.{◌≡◌};
 use script_names::Memory;
 use shell_syntax::Form;
 
-/// Why a text has no tokens; each offset is in bytes from the beginning of the text.
+/// Why a text is not cut into tokens; each offset is in bytes from the beginning of the text.
 #[derive(Clone, Copy, Debug, PartialEq, Eq)]
 pub enum LexFault {
     /// The first NUL.

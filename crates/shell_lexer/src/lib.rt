@@ -22,6 +22,3 @@ mod token;
 pub use fault::LexFault;
 pub use lexer::lex;
 pub use token::{Lexed, RawPart, Token, TokenKind};
-
-#[cfg(test)]
-mod tests;

@@ -12,6 +12,3 @@ mod tokens;
 mod trees;
 
 pub use script::parse;
-
-#[cfg(test)]
-mod tests;

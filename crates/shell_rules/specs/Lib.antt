@@ -1,1 +1,13 @@
+pub mod Calls
+pub mod Cases
+pub mod Commands
+pub mod Examples
+pub mod Expansion
+pub mod Laws
+pub mod Loops
+pub mod OwnNames
+pub mod RuleLaws
+pub mod Scopes
+pub mod State
 pub mod Strict
+pub mod Whole

@@ -4,12 +4,14 @@ use feature_trees::Value;
 use script_names::{Copied, List, Mark, Memory, Reason, Site};
 use std::alloc::Global;
 
-/// How a script ends: with a status, true for success; stopped where nothing is specified; or bound, with no turn
-/// left.
+/// How a run of a script or a program ends.
 #[derive(Clone, Copy, Debug, PartialEq, Eq)]
 pub enum End {
+    /// With success, or with failure.
     Status(bool),
+    /// Without a result, since what it met at the site has no specification here.
     Stopped(Reason, Site),
+    /// With no turn left for the loop at the site.
     Bound(Site),
 }
 

@@ -9,7 +9,7 @@ use std::alloc::Global;
 pub enum Form {
     /// `<<`, a here-document (XCU 2.7.4 Here-Document).
     Heredoc,
-    /// `$((`, or `((` where a command begins (XCU 2.6.4 Arithmetic Expansion).
+    /// `$((`, or `((` where a token begins (XCU 2.6.4 Arithmetic Expansion).
     Arith,
     /// `&` that is no part of another operator (XCU 2.9.3 Lists, Asynchronous Lists).
     Background,

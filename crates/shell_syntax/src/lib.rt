@@ -12,8 +12,6 @@ mod printing;
 mod redirect;
 mod script;
 mod syntax;
-#[cfg(test)]
-mod tests;
 
 pub use form::Form;
 pub use key::Key;

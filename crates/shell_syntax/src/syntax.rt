@@ -28,7 +28,8 @@ pub enum Part {
     },
 }
 
-/// A word: its parts, in order (XCU 2.3 Token Recognition). `at` is the byte offset of its first byte.
+/// A word: its parts, in order (XCU 2.3 Token Recognition). `at` is the byte offset of its first byte; the value of an
+/// assignment has that of the whole word, with the variable's name.
 #[cycle(syntax)]
 #[derive(Drop)]
 pub struct Word {

@@ -19,6 +19,3 @@ pub use field::{fields, join};
 pub use pattern::matches;
 pub use piece::Piece;
 pub use trim::trim_newlines;
-
-#[cfg(test)]
-mod tests;

@@ -20,6 +20,3 @@ pub use parts::cut;
 pub use path::{push_name, push_path, read_path};
 pub use reason::{push_reason, read_reason};
 pub use spelling::{push_shown, read_shown, show};
-
-#[cfg(test)]
-mod tests;

@@ -4,3 +4,4 @@ pub mod Lasts
 pub mod Plans
 pub mod ActRow
 pub mod ActChanges
+pub mod Performed

@@ -173,20 +173,20 @@ file = two Reg Other
 -- `mv` to another path; W is what stands there under the moved path's last name
 abbrev pub move_rules : List Rule
 move_rules =
-    leaves_from 66 (of Absent) anything Failed
-    ∷ leaves_from 65 some (is (of Link)) stop
+    leaves_from 65 some (is (of Link)) stop
+    ∷ leaves_from 66 (of Absent) anything Failed
     ∷ leaves_from 67 some outside Failed
     ∷ does_from 68 no_dir (inside (of Absent)) Moves
     ∷ does_from 69 (of Dir) (inside (of Absent)) Moves
     ∷ leaves_from 70 (of Dir) (is file) Failed
-    ∷ does_from 77 file (is file) Moves
-    ∷ leaves_from 78 (of Link) (is file) (Stopped reason.Same)
     ∷ does_from 71 no_dir (into (of Absent)) MovesInside
     ∷ leaves_from 72 no_dir (into (of Dir)) Failed
     ∷ does_from 73 (of Dir) (into (of Absent)) MovesInside
     ∷ leaves_from 74 (of Dir) (into no_dir) Failed
     ∷ leaves_from 75 (of Dir) into_full Failed
     ∷ does_from 76 (of Dir) into_empty MovesInside
+    ∷ does_from 77 file (is file) Moves
+    ∷ leaves_from 78 (of Link) (is file) (Stopped reason.Same)
     ∷ does_from 79 file (into file) MovesInside
     ∷ leaves_from 80 (of Link) (into no_dir) (Stopped reason.Same)
     ∷ leaves_from 81 file (into (of Link)) (Stopped reason.Same)

@@ -12,8 +12,6 @@ mod operands;
 mod options;
 mod pairs;
 mod places;
-#[cfg(test)]
-mod plan_tests;
 mod planned;
 mod questions;
 pub mod sights;

@@ -6,6 +6,7 @@ ghost use Rattle.utility_calls.specs.Changes.{MakesInDirs, RemovesInDirs};
 ghost use Rattle.utility_calls.specs.ActRows.{RowApplies as ActRowApplies, NoOtherApplies as NoOtherActRow};
 ghost use Rattle.utility_calls.specs.ActChanges.{QuestionsChangeNothing, OnlySuccessesChange, ActsKeepDirs};
 ghost use Rattle.utility_calls.specs.ActChanges.{ChangesHaveNames};
+ghost use Rattle.utility_calls.specs.Performed.{CallsHavePerformedActs};
 
 use feature_trees::theorems::puts_are_local;
 
@@ -50,4 +51,9 @@ pub fn acts_change_trees()
     ensures unchanged { OnlySuccessesChange }
     ensures dir { ActsKeepDirs }
     ensures named { ChangesHaveNames }
+{}
+
+/// Each act that a call comes to meets the conditions of acts, whatever the call's words.
+pub fn planned_acts_are_performed()
+    ensures { CallsHavePerformedActs }
 {}

@@ -1,0 +1,161 @@
+-- Each case of a move is plain.
+use Rattle.std.proofs.Common.{◌≡◌, ◌≢◌, ℕ, zero, suc, ◌+◌, ◌<◌, ◌≤◌, ◌⊎◌, inl, inr, ◌↔◌, Bool, true, false, not, ◌&&◌, IsTrue, Option, Some, None, List, [], ◌∷◌, ◌++◌, length, take, refl, sym, ap, subst, ◌∙◌, arith, append-nil, append_assoc}
+use Rattle.std.specs.List.{Contains}
+use Rattle.script_names.specs.Paths.{PathParts}
+use Rattle.feature_trees.specs.declared.kind.Kind.TheVariants as kind
+use Rattle.feature_trees.specs.declared.kind.Kinds.{Kinds}
+use Rattle.feature_trees.specs.Kinds.{has, of, all}
+use Rattle.feature_trees.specs.Tree.{kind_of}
+use Rattle.tree_clauses.specs.declared.clause.Literal.{Literal}
+use Rattle.tree_clauses.specs.declared.clause.Literal.TheVariants.{Kind}
+use Rattle.tree_clauses.specs.Literals.{Valuation, value_of_variable, MeetsAll}
+use Rattle.utility_calls.specs.declared.acts.Act.{Act}
+use Rattle.utility_calls.specs.declared.acts.Act.TheVariants.{Move}
+use Rattle.utility_calls.specs.Table.{Rule, move_by}
+use Rattle.utility_calls.specs.Acts.{path_of, place_of, last_name, with_name, is_prefix, IsPerformed}
+use Rattle.utility_calls.specs.ActRows.{IsAmong}
+use Rattle.act_cases.specs.declared.looks.Ways.{Ways}
+use Rattle.act_cases.specs.declared.moves.MovePlan.{MovePlan}
+use Rattle.act_cases.specs.Looks.{var, kinds_from, way_literals, look_literals, end_of}
+use Rattle.act_cases.specs.Puts.{put_literals, root_of}
+use Rattle.act_cases.specs.Plans.{end_literals}
+use Rattle.act_cases.specs.Tables.{through, ways_of, end_of_place, is_inner, names_at}
+use Rattle.act_cases.specs.Moves.{spare, freed, onward, outward, placed, moved_literals, moves_by, move_locals, move_root, move_case, source_where, is_anything, second_names, is_move, move_plan, second_plan, move_rule_case}
+use Rattle.tree_clauses.specs.Plain.{IsOneOf, IsLimited, PlainOrder, done, absent, kinds, IsPlain}
+use Rattle.act_cases.proofs.Meets.{meets_split}
+use Rattle.act_cases.proofs.Ordered.{firsts, below_contains, contains_below, not_yet, Within, AllLimited, limited_within, AllKinds, through_limited, way_order, AllBelow, all_below, put_order}
+use Rattle.act_cases.proofs.PlainCases.{is_through, through_ways, end_order}
+use Rattle.act_cases.proofs.MoveTabled.{there_only, MovesWell, move_well}
+
+-- a look from a known variable
+look_order : (w : Ways) (x y n : ℕ) (names : List (List ℕ)) (b rest : List Literal) (after : List ℕ) → n ≡ y → x < n
+    → ((m : ℕ) (b' : List Literal) → m ≡ y + length names → Within b b' → AllKinds b' w x y names → PlainOrder b' (firsts m) rest after)
+    → PlainOrder b (firsts n) (look_literals w x y names ++ rest) after
+look_order w x y n names b rest after e lt next =
+    kinds (var x) (kinds_from w names) (below_contains n x lt)
+    (way_order w x y n names (Kind (var x) (kinds_from w names) ∷ b) rest after e lt (inl refl)
+    (λ m b' em within all'. next m b' em (λ l h. within l (inr h)) all'))
+
+root_low : (names : List (List ℕ)) (z r m : ℕ) → z < m → r + length names ≤ m → root_of names z r < m
+root_low [] z r m lt le = lt
+root_low (f ∷ rest) z r m lt le = omega arith
+
+-- a plan that moves looks through directories at both paths, and at some name
+pub record MovesInDirs (plan : MovePlan) (p q : List (List ℕ)) : Type 0 where
+  pub somewhere : q ≢ []
+  pub source_kinds : Kinds
+  pub source_is : plan.source ≡ through source_kinds
+
+module _ (plan : MovePlan) (p q : List (List ℕ)) where
+  abbrev n : ℕ
+  n = length p
+
+  abbrev k : ℕ
+  k = length q
+
+  known_end : (b : List Literal) (m j : ℕ) → m ≡ j → PlainOrder b (firsts m) [] (firsts j)
+  known_end b m j e = subst (λ j. PlainOrder b (firsts m) [] (firsts j)) e done
+
+  end_in : end_of 0 (n + 1) q < n + k + 1
+  end_in = by q
+    where
+      later : (x y : ℕ) (ns : List (List ℕ)) (m : ℕ) → x < m → y + length ns ≤ m → end_of x y ns < m
+      later x y [] m lt le = lt
+      later x y (f ∷ rest) m lt le = later y (y + 1) rest m (omega arith) (omega arith)
+
+      by : (ns : List (List ℕ)) → end_of 0 (n + 1) ns < n + length ns + 1
+      by ns = later 0 (n + 1) ns (n + length ns + 1) (omega arith) (omega arith)
+
+  moved_order : (c : Bool) → (c ≡ true → MovesInDirs plan p q) → (m : ℕ) → m ≡ n + k + 1 → (b : List Literal) → AllKinds b plan.source 0 1 p
+      → PlainOrder b (firsts m) (moves_by c p q) (firsts (move_locals c p q + 1))
+  moved_order false moves m em b first = known_end b m (n + k + 1) em
+  moved_order true moves m em b first =
+      let w = moves refl in
+      let last = firsts (move_locals true p q + 1) in
+      let limited : AllLimited b 0 1 p = through_limited b w.source_kinds 0 1 p (subst (λ v. AllKinds b v 0 1 p) w.source_is first) in
+      let third = look_literals (through all) (freed p q) (onward p q) q in
+      let fourth = put_literals (freed p q) (onward p q) q n (outward p q) in
+      absent (var (spare p q)) (not_yet m (spare p q) (omega (arith, em)))
+      (subst (λ i. PlainOrder (Kind (var (spare p q)) (of kind.Absent) ∷ b) (i ∷ firsts m) (put_literals 0 1 p (spare p q) (spare p q + 1) ++ (third ++ fourth)) last) em
+      (put_order 0 1 (spare p q) (spare p q + 1) (suc m) p (Kind (var (spare p q)) (of kind.Absent) ∷ b) (third ++ fourth) last (omega (arith, em)) (omega (arith, em))
+      (all_below (suc m) 0 1 p (omega arith) (omega (arith, em))) (limited_within b (Kind (var (spare p q)) (of kind.Absent) ∷ b) 0 1 p (λ l h. inr h) limited)
+      (λ m2 b2 em2 in2.
+      look_order (through all) (freed p q) (onward p q) m2 q b2 fourth last (omega (arith, em2)) (root_low p (spare p q) (spare p q + 1) m2 (omega (arith, em2)) (omega (arith, em2)))
+      (λ m3 b3 em3 in3 kinds3.
+      subst (λ (l : List Literal). PlainOrder b3 (firsts m3) l last) (append-nil fourth)
+      (put_order (freed p q) (onward p q) n (outward p q) m3 q b3 [] last (omega (arith, em3)) (omega (arith, em3))
+      (all_below m3 (freed p q) (onward p q) q (root_low p (spare p q) (spare p q + 1) m3 (omega (arith, em3)) (omega (arith, em3))) (omega (arith, em3)))
+      (through_limited b3 all (freed p q) (onward p q) q kinds3)
+      (λ m4 b4 em4 in4. known_end b4 m4 (move_locals true p q + 1) (omega (arith, em4))))))))
+
+  kinds_within : (b b' : List Literal) (w : Ways) (x y : ℕ) (ns : List (List ℕ)) → Within b b' → AllKinds b w x y ns → AllKinds b' w x y ns
+  kinds_within b b' w x y [] h a = h _ a
+  kinds_within b b' w x y (f ∷ rest) h a = (h _ a.0, kinds_within b b' w y (y + 1) rest h a.1)
+
+  move_order : (plan.moves ≡ true → MovesInDirs plan p q) → PlainOrder [] (0 ∷ []) (move_case plan p q).literals (firsts (move_locals plan.moves p q + 1))
+  move_order moves =
+      let last = firsts (move_locals plan.moves p q + 1) in
+      let ends = end_literals plan.end (end_of 0 (n + 1) q) ++ moves_by plan.moves p q in
+      look_order plan.source 0 1 1 p [] (look_literals plan.place 0 (n + 1) q ++ ends) last refl (omega arith)
+      (λ m b em in1 first.
+      look_order plan.place 0 (n + 1) m q b ends last (omega (arith, em)) (omega (arith, em))
+      (λ m2 b2 em2 in2 second.
+      end_order plan.end (end_of 0 (n + 1) q) m2 b2 (moves_by plan.moves p q) last (omega (arith, em2, end_in))
+      (λ b3 in3.
+      moved_order plan.moves moves m2 (omega (arith, em2)) b3 (kinds_within b b3 plan.source 0 1 p (λ l h. in3 l (in2 l h)) first))))
+
+  known_all : (l i : ℕ) → Contains (firsts (l + 1)) i ↔ (i ≤ l)
+  known_all l i = (λ h. let lt = contains_below (l + 1) i h in omega (arith, lt), λ le. below_contains (l + 1) i (omega arith))
+
+  root_within : (c : Bool) → move_root c p q ≤ move_locals c p q
+  root_within false = omega arith
+  root_within true = let lt = root_low q n (outward p q) (spare p q + n + k + k + 1) (omega arith) (omega arith) in omega (arith, lt)
+
+  put_dir : (g : Valuation) (x y z r : ℕ) (ns : List (List ℕ)) → ns ≢ [] → MeetsAll g (put_literals x y ns z r) → kind_of (value_of_variable g (root_of ns z r)) ≡ kind.Dir
+  put_dir g x y z r [] ne m = absurd (ne refl)
+  put_dir g x y z r (f ∷ rest) ne m = (meets_split g (put_literals y (y + 1) rest z r) _ m).1.0.0
+
+  root_dir : (g : Valuation) (c : Bool) → (c ≡ true → q ≢ []) → kind_of (value_of_variable g 0) ≡ kind.Dir → MeetsAll g (moves_by c p q)
+      → kind_of (value_of_variable g (move_root c p q)) ≡ kind.Dir
+  root_dir g false ne d m = d
+  root_dir g true ne d m =
+      let one = meets_split g (put_literals 0 1 p (spare p q) (spare p q + 1)) _ m.1 in
+      let two = meets_split g (look_literals (through all) (freed p q) (onward p q) q) _ one.1 in
+      put_dir g (freed p q) (onward p q) n (outward p q) q (ne refl) two.1
+
+  pub move_plain : (plan.moves ≡ true → MovesInDirs plan p q) → IsPlain (move_case plan p q)
+  move_plain moves = record {
+    known = firsts (move_locals plan.moves p q + 1);
+    order = move_order moves;
+    variables = λ i. known_all (move_locals plan.moves p q) i;
+    root = root_within plan.moves;
+    dir = λ g s d m.
+        let one = meets_split g (look_literals plan.source 0 1 p) _ m in
+        let two = meets_split g (look_literals plan.place 0 (n + 1) q) _ one.1 in
+        let three = meets_split g (end_literals plan.end (end_of 0 (n + 1) q)) _ two.1 in
+        root_dir g plan.moves (λ e. (moves e).somewhere) d three.1;
+  }
+
+pub second_plain : (slash below : Bool) (j : ℕ) (p q : List (List ℕ)) → IsPlain (move_case (second_plan slash below j) p q)
+second_plain slash below j p q = move_plain (second_plan slash below j) p q (λ e. absurd (cc))
+
+source_through : (s : Bool) (o : Option Kinds) → there_only o ≡ true → ways_of s (source_where o) ≡ through (ways_of s (source_where o)).last
+source_through s None h = absurd (cc)
+source_through s (Some ks) h = through_ways s (source_where (Some ks)) h
+
+longer : (names : List (List ℕ)) (m : Option (List ℕ)) (c i : Bool) → names ≢ [] → c ≡ false → second_names c i names m ≢ []
+longer names m true i ne e = absurd (cc)
+longer names m false false ne e = ne
+longer names None false true ne e = ne
+longer [] (Some f) false true ne e = absurd (ne refl)
+longer (g ∷ names) (Some f) false true ne e = λ h. absurd (cc)
+
+pub move_rule_plain : (a b : PathParts) → IsPerformed (Move a b) → (r : Rule) → IsAmong r (move_by (is_prefix a.names b.names)) → IsPlain (move_rule_case (Move a b) r)
+move_rule_plain a b performed r among =
+    let w = move_well (is_prefix a.names b.names) r among in
+    move_plain (move_plan a.slash r) a.names (second_names (is_anything r.place) (is_inner r.place) b.names (last_name a.names))
+    (λ e. record {
+      somewhere = longer b.names (last_name a.names) (is_anything r.place) (is_inner r.place) (performed.0 refl).1 (w.named e);
+      source_kinds = (ways_of a.slash (source_where r.source)).last;
+      source_is = source_through a.slash r.source (w.source e);
+    })

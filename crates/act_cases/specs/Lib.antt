@@ -1,0 +1,6 @@
+pub mod Looks
+pub mod Puts
+pub mod Plans
+pub mod Tables
+pub mod Cases
+pub mod Moves

@@ -1,0 +1,172 @@
+-- The cases of a move, which look along two paths: that of what is moved, and that of its place.
+use Rattle.std.specs.Prelude.{ℕ, zero, suc, ◌+◌, ◌-◌, Bool, true, false, List, [], ◌∷◌, ◌++◌, length, map, take}
+use Rattle.std.specs.Prelude.{Option, Some, None, if◌then◌else◌}
+use Rattle.feature_trees.specs.declared.value.Value.{Value}
+use Rattle.feature_trees.specs.declared.value.Value.TheVariants as value
+use Rattle.feature_trees.specs.declared.kind.Kind.TheVariants.{Absent, Link}
+use Rattle.feature_trees.specs.declared.kind.Kinds.{Kinds}
+use Rattle.feature_trees.specs.Kinds.{of, all}
+use Rattle.feature_trees.specs.Tree.{at, put}
+use Rattle.tree_clauses.specs.declared.clause.Literal.{Literal}
+use Rattle.tree_clauses.specs.declared.clause.Literal.TheVariants.{Kind}
+use Rattle.utility_calls.specs.declared.acts.Act.{Act}
+use Rattle.utility_calls.specs.declared.sights.Effect.{Effect}
+use Rattle.utility_calls.specs.declared.sights.Effect.TheVariants.{Nothing, MakesDir, KeepsDir, MakesFile, MakesLink}
+use Rattle.utility_calls.specs.declared.sights.Effect.TheVariants.{LinksInside, TakesAway, Moves, MovesInside}
+use Rattle.utility_calls.specs.Sights.{Where, but}
+use Rattle.utility_calls.specs.Sights.{anything, is, within, inside, outside, empty, full, into, into_empty, into_full}
+use Rattle.utility_calls.specs.Table.{Rule, rules, stop}
+use Rattle.utility_calls.specs.Acts.{path_of, place_of, inner_name, is_below}
+use Rattle.tree_clauses.specs.declared.case.Case.{Case}
+use Rattle.act_cases.specs.declared.plans.End.TheVariants as end
+use Rattle.act_cases.specs.declared.moves.MovePlan.{MovePlan}
+use Rattle.act_cases.specs.Looks.{var, look_literals, end_of}
+use Rattle.act_cases.specs.Puts.{put_literals, root_of}
+use Rattle.act_cases.specs.Plans.{end_literals}
+use Rattle.act_cases.specs.Tables.{through, ways_of, end_of_place, is_inner, names_at}
+use Rattle.act_cases.specs.Cases.{link_cases, slash_cases}
+
+-- ---- the variables of a case: 0 is the tree, the entries along the one path follow, and then those along the other
+
+-- the variable of nothing
+abbrev pub spare : List (List ℕ) → List (List ℕ) → ℕ
+spare p q = length p + length q + 1
+
+-- the tree without what stood at the first path
+abbrev pub freed : List (List ℕ) → List (List ℕ) → ℕ
+freed p q = root_of p (spare p q) (spare p q + 1)
+
+-- the first entry in it along the second path
+abbrev pub onward : List (List ℕ) → List (List ℕ) → ℕ
+onward p q = spare p q + 1 + length p
+
+-- the first value in which what is moved is put
+abbrev pub outward : List (List ℕ) → List (List ℕ) → ℕ
+outward p q = onward p q + length q
+
+-- the tree afterwards
+abbrev pub placed : List (List ℕ) → List (List ℕ) → ℕ
+placed p q = root_of q (length p) (outward p q)
+
+-- ---- the literals
+
+-- those of a move: nothing is put at the first path, and in the tree that comes of it what stood there at the second
+abbrev pub moved_literals : List (List ℕ) → List (List ℕ) → List Literal
+moved_literals p q =
+    Kind (var (spare p q)) (of Absent)
+    ∷ (put_literals 0 1 p (spare p q) (spare p q + 1)
+    ++ (look_literals (through all) (freed p q) (onward p q) q
+    ++ put_literals (freed p q) (onward p q) q (length p) (outward p q)))
+
+abbrev pub moves_by : Bool → List (List ℕ) → List (List ℕ) → List Literal
+moves_by false p q = []
+moves_by true p q = moved_literals p q
+
+abbrev pub move_locals : Bool → List (List ℕ) → List (List ℕ) → ℕ
+move_locals false p q = length p + length q
+move_locals true p q = spare p q + length p + length q + length q
+
+abbrev pub move_root : Bool → List (List ℕ) → List (List ℕ) → ℕ
+move_root false p q = 0
+move_root true p q = placed p q
+
+-- the tree with what stands at the first path moved to the second
+abbrev pub moved_by : Bool → List (List ℕ) → List (List ℕ) → Value → Value
+moved_by false p q t = t
+moved_by true p q t = put (put t p value.Absent) q (at t p)
+
+-- the case of a row that looks along both paths
+abbrev pub move_case : MovePlan → List (List ℕ) → List (List ℕ) → Case
+move_case plan p q = record {
+  row = plan.number;
+  locals = move_locals plan.moves p q;
+  literals = look_literals plan.source 0 1 p
+      ++ (look_literals plan.place 0 (length p + 1) q
+      ++ (end_literals plan.end (end_of 0 (length p + 1) q) ++ moves_by plan.moves p q));
+  done = plan.answer;
+  root = var (move_root plan.moves p q);
+}
+
+-- ---- the rows
+
+-- what a row says of what is moved, as a condition on its path
+abbrev pub source_where : Option Kinds → Where
+source_where None = anything
+source_where (Some kinds) = is kinds
+
+-- whether a row says nothing of the place
+abbrev pub is_anything : Where → Bool
+is_anything anything = true
+is_anything (is kinds) = false
+is_anything within = false
+is_anything (inside kinds) = false
+is_anything outside = false
+is_anything empty = false
+is_anything full = false
+is_anything (into kinds) = false
+is_anything into_empty = false
+is_anything into_full = false
+
+-- the names that it looks along from the root to the place: none where it says nothing of it
+abbrev pub second_names : Bool → Bool → List (List ℕ) → Option (List ℕ) → List (List ℕ)
+second_names true inner names m = []
+second_names false inner names m = names_at inner names m
+
+-- whether an effect moves something
+abbrev pub is_move : Effect → Bool
+is_move Nothing = false
+is_move MakesDir = false
+is_move KeepsDir = false
+is_move MakesFile = false
+is_move MakesLink = false
+is_move LinksInside = false
+is_move TakesAway = false
+is_move Moves = true
+is_move MovesInside = true
+
+-- a row of a move's table as it is made into a case
+abbrev pub move_plan : Bool → Rule → MovePlan
+move_plan slash r = record {
+  number = r.number;
+  answer = r.answer;
+  source = ways_of slash (source_where r.source);
+  place = ways_of false r.place;
+  end = end_of_place r.place;
+  moves = is_move r.effect;
+}
+
+-- where a move looks at the way of its second path: something is moved, or that path is below the first
+abbrev pub looked : Bool → Where
+looked true = anything
+looked false = is (but Absent)
+
+-- the row of a link at the first so many names of the second path
+abbrev pub second_plan : Bool → Bool → ℕ → MovePlan
+second_plan slash below k = record {
+  number = 128 + k;
+  answer = stop;
+  source = ways_of slash (looked below);
+  place = through (of Link);
+  end = end.Any;
+  moves = false;
+}
+
+-- the case of a row of the table
+abbrev pub move_rule_case : Act → Rule → Case
+move_rule_case act r =
+    move_case (move_plan (path_of act).slash r) (path_of act).names
+    (second_names (is_anything r.place) (is_inner r.place) (place_of act) (inner_name act))
+
+-- the cases of links on the way of the second path: so many, from the one at the first k names on
+abbrev pub second_cases : Act → ℕ → ℕ → List Case
+second_cases act k zero = []
+second_cases act k (suc more) =
+    move_case (second_plan (path_of act).slash (is_below act) k) (path_of act).names (take k (place_of act))
+    ∷ second_cases act (k + 1) more
+
+-- the cases of a move
+abbrev pub move_cases : Act → List Case
+move_cases act =
+    link_cases (path_of act).names 1 (length (path_of act).names - 1)
+    ++ (slash_cases (path_of act).slash (path_of act).names
+    ++ (map (move_rule_case act) (rules (is_below act) act) ++ second_cases act 1 (length (place_of act) - 1)))

@@ -1,0 +1,488 @@
+ghost use Rattle.std.specs.Prelude.{◌≡◌, ◌-◌, ◌<◌, ◌≤◌, ◌++◌, ◌∷◌, [], length, map, All, IsTrue, IfOk, OnOk};
+ghost use Rattle.script_names.specs.Names.{is_name};
+ghost use Rattle.feature_trees.specs.declared.kind.Kind.TheVariants.{Link};
+ghost use Rattle.utility_calls.specs.Sights.{but};
+ghost use Rattle.utility_calls.specs.Acts.{path_of, place_of, inner_name, target_of, moved, with_name, IsPerformed};
+ghost use Rattle.act_cases.specs.Tables.{where_of, rule_of, fitting, through, free, beside, ways_of, end_of_place};
+ghost use Rattle.act_cases.specs.Tables.{is_inner, names_at, plan_of, link_plan, slash_plan};
+ghost use Rattle.act_cases.specs.Moves.{source_where, is_anything, is_move};
+ghost use Rattle.act_cases.specs.Moves.{move_plan, looked, second_plan, second_names};
+ghost use Rattle.act_cases.specs.Moves.{move_rule_case, second_cases, move_cases};
+ghost use Rattle.act_cases.specs.Cases.{IsOnOnePath, HasSource, AreCases};
+ghost use Rattle.act_cases.specs.Cases.{link_cases, slash_cases, rule_case, cases_of};
+
+use crate::looks::Ways;
+use crate::moves::{MovePlan, make_move_case};
+use crate::plans::{End, Plan, make_case};
+use crate::tables::{Place, TableRow, table_of};
+use feature_trees::{Kind, Kinds};
+use script_names::{Bytes, Copied, Done, List, Memory, Name, Reason};
+use std::alloc::Global;
+use tree_clauses::Case;
+use utility_calls::acts::Act;
+use utility_calls::sights::Effect;
+
+// The kinds that fit a path with a slash behind it.
+fn fitting(slash: bool, kinds: Kinds) -> Kinds
+    ensures { result ≡ fitting slash kinds }
+{
+    if slash {
+        let fits = Kinds::either(Kinds::of(Kind::Absent), Kinds::of(Kind::Dir));
+        Kinds::both(kinds, fits)
+    } else {
+        kinds
+    }
+}
+
+// All kinds but Link.
+fn not_link() -> Kinds
+    ensures { result ≡ but Link }
+{
+    let file = Kinds::either(Kinds::of(Kind::Reg), Kinds::of(Kind::Other));
+    let place = Kinds::either(Kinds::of(Kind::Absent), Kinds::of(Kind::Dir));
+    Kinds::either(place, file)
+}
+
+// No link on the way.
+fn free(kinds: Kinds) -> Ways
+    ensures { result ≡ free kinds }
+{
+    Ways {
+        strict: not_link(),
+        parent: not_link(),
+        last: kinds,
+    }
+}
+
+// Directories all the way.
+fn through(kinds: Kinds) -> Ways
+    ensures { result ≡ through kinds }
+{
+    Ways {
+        strict: Kinds::of(Kind::Dir),
+        parent: Kinds::of(Kind::Dir),
+        last: kinds,
+    }
+}
+
+// No link on the way, and what holds the last name is no directory.
+fn beside(kinds: Kinds) -> Ways
+    ensures { result ≡ beside kinds }
+{
+    let file = Kinds::either(Kinds::of(Kind::Reg), Kinds::of(Kind::Other));
+    Ways {
+        strict: not_link(),
+        parent: Kinds::either(Kinds::of(Kind::Absent), file),
+        last: kinds,
+    }
+}
+
+// What a row looks at, by whether its path ends in a slash.
+fn ways_of(slash: bool, place: Place) -> Ways
+    ensures { result ≡ ways_of slash (where_of place) }
+{
+    match place {
+        Place::Anything => free(fitting(slash, Kinds::all())),
+        Place::Is(kinds) => {
+            if kinds.has(Kind::Absent) {
+                free(fitting(slash, kinds))
+            } else {
+                through(fitting(slash, kinds))
+            }
+        }
+        Place::Within => through(fitting(slash, Kinds::all())),
+        Place::Inside(kinds) => through(fitting(slash, kinds)),
+        Place::Outside => beside(fitting(slash, Kinds::all())),
+        Place::Empty => through(Kinds::of(Kind::Dir)),
+        Place::Full => through(Kinds::of(Kind::Dir)),
+        Place::Into(kinds) => through(kinds),
+        Place::IntoEmpty => through(Kinds::of(Kind::Dir)),
+        Place::IntoFull => through(Kinds::of(Kind::Dir)),
+    }
+}
+
+// What a row asks of the entries.
+fn end_of(place: Place) -> End
+    ensures { result ≡ end_of_place (where_of place) }
+{
+    match place {
+        Place::Anything => End::Any,
+        Place::Is(_) => End::Any,
+        Place::Within => End::Any,
+        Place::Inside(_) => End::Any,
+        Place::Outside => End::Any,
+        Place::Empty => End::Empty,
+        Place::Full => End::Full,
+        Place::Into(_) => End::Any,
+        Place::IntoEmpty => End::Empty,
+        Place::IntoFull => End::Full,
+    }
+}
+
+// Whether a row looks below its path.
+fn is_inner(place: Place) -> bool
+    ensures { result ≡ is_inner (where_of place) }
+{
+    match place {
+        Place::Anything => false,
+        Place::Is(_) => false,
+        Place::Within => false,
+        Place::Inside(_) => false,
+        Place::Outside => false,
+        Place::Empty => false,
+        Place::Full => false,
+        Place::Into(_) => true,
+        Place::IntoEmpty => true,
+        Place::IntoFull => true,
+    }
+}
+
+// A row of a table as it is made into a case.
+fn plan_of(slash: bool, row: &TableRow) -> Plan
+    ensures { result ≡ plan_of slash (rule_of row.now) }
+{
+    Plan {
+        number: row.number,
+        answer: row.answer,
+        ways: ways_of(slash, row.place),
+        end: end_of(row.place),
+        effect: row.effect,
+    }
+}
+
+// The row of a link at the first so many names.
+fn link_plan(number: u8) -> Plan
+    ensures { result ≡ link_plan number }
+{
+    Plan {
+        number,
+        answer: Done::Stopped(Reason::Link),
+        ways: through(Kinds::of(Kind::Link)),
+        end: End::Any,
+        effect: Effect::Nothing,
+    }
+}
+
+// The row of a slash behind a file, a link or another thing.
+fn slash_plan() -> Plan
+    ensures { result ≡ slash_plan }
+{
+    let things = Kinds::either(Kinds::of(Kind::Link), Kinds::of(Kind::Other));
+    Plan {
+        number: 64,
+        answer: Done::Stopped(Reason::Slash),
+        ways: through(Kinds::either(Kinds::of(Kind::Reg), things)),
+        end: End::Any,
+        effect: Effect::Nothing,
+    }
+}
+
+// How many strict prefixes with a name there are.
+fn prefixes(names: &[Name]) -> usize
+    ensures { result ≡ length names.now - 1 }
+{
+    if names.len() == 0 { 0 } else { names.len() - 1 }
+}
+
+// Adds the cases of links on the way.
+fn add_links(alloc: Global, cases: &mut List<Case>, names: &[Name]) -> Result<(), Memory>
+    requires { length names.now ≤ 64 }
+    ensures { OnOk result (cases.new ≡ cases.old ++ link_cases names.now 1 (length names.now - 1)) }
+{
+    let target = Bytes::new(alloc);
+    for k in 0..prefixes(names) {
+        let n = k + 1;
+        let made = make_case(alloc, &link_plan(n as u8), &names[..n], &target)?;
+        cases.add(made)?;
+    }
+    Ok(())
+}
+
+// Adds the case of a slash, for a path that ends in one.
+fn add_slash(
+    alloc: Global,
+    cases: &mut List<Case>,
+    slash: bool,
+    names: &[Name],
+) -> Result<(), Memory>
+    requires { length names.now ≤ 64 }
+    ensures { OnOk result (cases.new ≡ cases.old ++ slash_cases slash names.now) }
+{
+    if !slash {
+        return Ok(());
+    }
+    let target = Bytes::new(alloc);
+    let made = make_case(alloc, &slash_plan(), names, &target)?;
+    cases.add(made)
+}
+
+// The names, copied.
+fn copy_names(alloc: Global, names: &[Name]) -> Result<List<Name>, Memory>
+    ensures { IfOk result (λ copies. copies ≡ names.now) }
+{
+    let mut copies = List::new(alloc);
+    for f in names {
+        let copy = f.copy(alloc)?;
+        copies.add(copy)?;
+    }
+    Ok(copies)
+}
+
+// Names, and the act's inner name behind them where it has one.
+fn inside_names(alloc: Global, act: &Act, names: &[Name]) -> Result<List<Name>, Memory>
+    ensures { IfOk result (λ longer. longer ≡ with_name names.now (inner_name act.now)) }
+{
+    let mut names = copy_names(alloc, names)?;
+    match act.inner_name() {
+        None => Ok(names),
+        Some(f) => {
+            let last = f.copy(alloc)?;
+            names.add(last)?;
+            Ok(names)
+        }
+    }
+}
+
+// Each of the names is a name.
+fn are_names(names: &[Name])
+    ensures { All (λ f. IsTrue (is_name f)) names.now }
+{
+    for f in names {
+        f.is_sound();
+    }
+}
+
+// The names that a row looks along.
+fn looked_at<'a>(act: &'a Act, inside: &'a [Name], inner: bool) -> &'a [Name]
+    requires { inside.now ≡ with_name (path_of act.now).names (inner_name act.now) }
+    ensures names { result.now ≡ names_at inner (path_of act.now).names (inner_name act.now) }
+    ensures few { length result.now ≤ 65 }
+{
+    let names = act.path().names();
+    if inner { inside } else { names }
+}
+
+// Adds the cases of the rows of the act's table.
+fn add_rows(
+    alloc: Global,
+    cases: &mut List<Case>,
+    act: &Act,
+    inside: &[Name],
+    rows: &[TableRow],
+) -> Result<(), Memory>
+    requires { inside.now ≡ with_name (path_of act.now).names (inner_name act.now) }
+    ensures { OnOk result (cases.new ≡ cases.old ++ map (rule_case act.now) (map rule_of rows.now)) }
+{
+    let target = act.copy_target(alloc)?;
+    let slash = act.path().slash();
+    for row in rows {
+        let names = looked_at(act, inside, is_inner(row.place));
+        let made = make_case(alloc, &plan_of(slash, row), names, &target)?;
+        cases.add(made)?;
+    }
+    Ok(())
+}
+
+// The cases of an act on one path, as they are made.
+fn make_cases(alloc: Global, act: &Act, inside: &[Name]) -> Result<List<Case>, Memory>
+    requires one_path { IsOnOnePath act.now }
+    requires inside { inside.now ≡ with_name (path_of act.now).names (inner_name act.now) }
+    ensures { IfOk result (λ cases. cases ≡ cases_of act.now) }
+{
+    let mut cases = List::new(alloc);
+    let path = act.path();
+    add_links(alloc, &mut cases, path.names())?;
+    add_slash(alloc, &mut cases, path.slash(), path.names())?;
+    let rows = table_of(alloc, act, false)?;
+    add_rows(alloc, &mut cases, act, inside, rows.as_slice())?;
+    Ok(cases)
+}
+
+// The cases of an act on one path.
+fn path_cases(alloc: Global, act: &Act) -> Result<List<Case>, Memory>
+    requires performed { IsPerformed act.now }
+    requires one_path { IsOnOnePath act.now }
+    ensures { IfOk result (λ cases. AreCases act.now cases) }
+{
+    let names = act.path().names();
+    let inside = inside_names(alloc, act, names)?;
+    are_names(names);
+    are_names(inside.as_slice());
+    let cases = make_cases(alloc, act, inside.as_slice())?;
+    Ok(cases)
+}
+
+// Whether a row says nothing of the place.
+fn is_anything(place: Place) -> bool
+    ensures { result ≡ is_anything (where_of place) }
+{
+    match place {
+        Place::Anything => true,
+        Place::Is(_) => false,
+        Place::Within => false,
+        Place::Inside(_) => false,
+        Place::Outside => false,
+        Place::Empty => false,
+        Place::Full => false,
+        Place::Into(_) => false,
+        Place::IntoEmpty => false,
+        Place::IntoFull => false,
+    }
+}
+
+// Whether an effect moves something.
+fn is_move(effect: Effect) -> bool
+    ensures { result ≡ is_move effect }
+{
+    match effect {
+        Effect::Nothing | Effect::MakesDir | Effect::KeepsDir | Effect::MakesFile => false,
+        Effect::MakesLink | Effect::LinksInside | Effect::TakesAway => false,
+        Effect::Moves | Effect::MovesInside => true,
+    }
+}
+
+// What a row of a move says of what is moved.
+fn source_ways(slash: bool, source: Option<Kinds>) -> Ways
+    ensures { result ≡ ways_of slash (source_where source) }
+{
+    match source {
+        None => ways_of(slash, Place::Anything),
+        Some(kinds) => ways_of(slash, Place::Is(kinds)),
+    }
+}
+
+// A row of a move's table as it is made into a case.
+fn move_plan(slash: bool, row: &TableRow) -> MovePlan
+    ensures { result ≡ move_plan slash (rule_of row.now) }
+{
+    MovePlan {
+        number: row.number,
+        answer: row.answer,
+        source: source_ways(slash, row.source),
+        place: ways_of(false, row.place),
+        end: end_of(row.place),
+        moves: is_move(row.effect),
+    }
+}
+
+// Where a move looks at the way of its second path.
+fn looked(slash: bool, below: bool) -> Ways
+    ensures { result ≡ ways_of slash (looked below) }
+{
+    if below {
+        ways_of(slash, Place::Anything)
+    } else {
+        let dir = Kinds::either(Kinds::of(Kind::Other), Kinds::of(Kind::Dir));
+        let file = Kinds::either(Kinds::of(Kind::Reg), Kinds::of(Kind::Link));
+        ways_of(slash, Place::Is(Kinds::either(file, dir)))
+    }
+}
+
+// The row of a link at the first so many names of the second path.
+fn second_plan(slash: bool, below: bool, k: u8) -> MovePlan
+    requires { k < 128 }
+    ensures { result ≡ second_plan slash below k }
+{
+    MovePlan {
+        number: 128 + k,
+        answer: Done::Stopped(Reason::Link),
+        source: looked(slash, below),
+        place: through(Kinds::of(Kind::Link)),
+        end: End::Any,
+        moves: false,
+    }
+}
+
+// The names that a row of a move looks along to the place.
+fn second_names<'a>(act: &'a Act, inside: &'a [Name], any: bool, inner: bool) -> &'a [Name]
+    requires { inside.now ≡ with_name (place_of act.now) (inner_name act.now) }
+    ensures names { result.now ≡ second_names any inner (place_of act.now) (inner_name act.now) }
+    ensures few { length result.now ≤ 65 }
+{
+    let names = act.place().names();
+    if any {
+        return &names[..0];
+    }
+    if inner { inside } else { names }
+}
+
+// Adds the cases of the rows of a move's table.
+fn add_move_rows(
+    alloc: Global,
+    cases: &mut List<Case>,
+    act: &Act,
+    inside: &[Name],
+    rows: &[TableRow],
+) -> Result<(), Memory>
+    requires { inside.now ≡ with_name (place_of act.now) (inner_name act.now) }
+    ensures { OnOk result (cases.new ≡ cases.old ++ map (move_rule_case act.now) (map rule_of rows.now)) }
+{
+    let path = act.path();
+    let slash = path.slash();
+    for row in rows {
+        let names = second_names(act, inside, is_anything(row.place), is_inner(row.place));
+        let made = make_move_case(alloc, &move_plan(slash, row), path.names(), names)?;
+        cases.add(made)?;
+    }
+    Ok(())
+}
+
+// Adds the cases of links on the way of the second path.
+fn add_seconds(alloc: Global, cases: &mut List<Case>, act: &Act) -> Result<(), Memory>
+    ensures { OnOk result (cases.new ≡ cases.old ++ second_cases act.now 1 (length (place_of act.now) - 1)) }
+{
+    let path = act.path();
+    let below = act.is_below();
+    let names = act.place().names();
+    for i in 0..prefixes(names) {
+        let k = i + 1;
+        let plan = second_plan(path.slash(), below, k as u8);
+        let made = make_move_case(alloc, &plan, path.names(), &names[..k])?;
+        cases.add(made)?;
+    }
+    Ok(())
+}
+
+// The cases of a move, as they are made.
+fn make_move_cases(alloc: Global, act: &Act, inside: &[Name]) -> Result<List<Case>, Memory>
+    requires { inside.now ≡ with_name (place_of act.now) (inner_name act.now) }
+    ensures { IfOk result (λ cases. cases ≡ move_cases act.now) }
+{
+    let mut cases = List::new(alloc);
+    let path = act.path();
+    add_links(alloc, &mut cases, path.names())?;
+    add_slash(alloc, &mut cases, path.slash(), path.names())?;
+    let rows = table_of(alloc, act, act.is_below())?;
+    add_move_rows(alloc, &mut cases, act, inside, rows.as_slice())?;
+    add_seconds(alloc, &mut cases, act)?;
+    Ok(cases)
+}
+
+// The cases of a move.
+fn cases_of_move(alloc: Global, act: &Act) -> Result<List<Case>, Memory>
+    requires performed { IsPerformed act.now }
+    requires a_move { HasSource (moved act.now) }
+    ensures { IfOk result (λ cases. AreCases act.now cases) }
+{
+    let names = act.path().names();
+    let place = act.place().names();
+    let inside = inside_names(alloc, act, place)?;
+    are_names(names);
+    are_names(place);
+    are_names(inside.as_slice());
+    let cases = make_move_cases(alloc, act, inside.as_slice())?;
+    Ok(cases)
+}
+
+/// The cases of an act that meets the conditions of one that is done: one plain case for each of its rows, by rising
+/// row. On each tree the case of the row that the act takes leads to the tree that the act leaves, and no other case
+/// leads anywhere.
+pub fn cases(alloc: Global, act: &Act) -> Result<List<Case>, Memory>
+    requires { IsPerformed act.now }
+    ensures { IfOk result (λ cases. AreCases act.now cases) }
+{
+    match act.moved() {
+        Some(_) => cases_of_move(alloc, act),
+        None => path_cases(alloc, act),
+    }
+}

@@ -1,0 +1,5 @@
+pub mod Places
+pub mod Halts
+pub mod Runs
+pub mod Operands
+pub mod Ends

@@ -1,0 +1,93 @@
+ghost use Rattle.std.specs.Prelude.{◌≡◌, IfOk, OnErr};
+ghost use Rattle.feature_trees.specs.declared.kind.Kind.TheVariants.{Dir};
+ghost use Rattle.feature_trees.specs.Tree.{kind_of};
+ghost use Rattle.shell_rules.specs.Whole.{ended_by};
+ghost use Rattle.colis_meaning.specs.Meaning.{co_program};
+ghost use Rattle.colis_interp.specs.Ends.{end_answer};
+
+use crate::execution::run_stmt;
+use crate::halt::Halt;
+use crate::place::Place;
+use crate::root::Root;
+use crate::shell::Shell;
+use colis_syntax::Program;
+use feature_trees::Value;
+use script_names::{Copied, List, Memory};
+use shell_rules::{Conc, End, Leave, Trace};
+use shell_words::Env;
+use std::alloc::Global;
+use std::mem;
+
+// The end that an answer of the body comes to.
+fn end_answer(ran: Result<(), Halt>, status: bool) -> Result<End, Memory>
+    ensures { result ≡ end_answer ran status }
+{
+    match ran {
+        Ok(()) => Ok(End::Status(status)),
+        Err(Halt::Left(Leave::Broke)) => Ok(End::Status(status)),
+        Err(Halt::Left(Leave::Continued)) => Ok(End::Status(status)),
+        Err(Halt::Left(Leave::Returned)) => Ok(End::Status(status)),
+        Err(Halt::Left(Leave::Exited)) => Ok(End::Status(status)),
+        Err(Halt::Left(Leave::Stopped(reason, site))) => Ok(End::Stopped(reason, site)),
+        Err(Halt::Left(Leave::Bound(site))) => Ok(End::Bound(site)),
+        Err(Halt::Memory) => Err(Memory),
+    }
+}
+
+/// Runs a program in a step of a scenario, from a state of the shell, a tree and a trace: the end, the state, the tree
+/// and the trace are those of the program's meaning. The strict flag is that of the state. After want of memory the
+/// tree is some directory, and the trace is as it was; so it is a front of the meaning's trace, since a run only adds
+/// to it.
+pub fn run(
+    alloc: Global,
+    p: &Program,
+    step: u16,
+    conc: &mut Conc,
+    tree: &mut Value,
+    trace: &mut Trace,
+) -> Result<End, Memory>
+    requires { kind_of tree.old ≡ Dir }
+    ensures meaning { IfOk result (λ end. co_program p.now step conc.old tree.old trace.old
+        ≡ record { end = end; conc = conc.new; tree = tree.new; trace = trace.new }) }
+    ensures dir { kind_of tree.new ≡ Dir }
+    ensures kept { OnErr result (trace.new ≡ trace.old) }
+{
+    let kept = trace.copy(alloc)?;
+    let place = Place {
+        step,
+        at: 0,
+        functions: p.defs(),
+        excepted: false,
+        inner: false,
+    };
+    let mut shell = Shell {
+        conc: mem::replace(conc, no_state(alloc)),
+        root: Root::new(mem::replace(tree, Value::Absent)),
+        trace: mem::replace(trace, List::new(alloc)),
+        substituted: true,
+    };
+    let ran = run_stmt(alloc, p.body(), p.defs(), place, &mut shell);
+    let end = end_answer(ran, shell.conc.status);
+    let Shell {
+        conc: left,
+        root,
+        trace: marks,
+        substituted: _,
+    } = shell;
+    *conc = left;
+    *tree = root.into_tree();
+    *trace = if end.is_err() { kept } else { marks };
+    end
+}
+
+// A state that stands in for the one that a run has taken.
+fn no_state(alloc: Global) -> Conc {
+    Conc {
+        vars: Env::new(alloc),
+        args: List::new(alloc),
+        strict: false,
+        status: true,
+        captured: None,
+        turns: 0,
+    }
+}

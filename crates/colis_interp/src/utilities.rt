@@ -1,0 +1,80 @@
+ghost use Rattle.std.specs.Prelude.{◌≡◌, ◌≤◌, ◌<◌, length, IfOk};
+ghost use Rattle.utility_calls.specs.Calls.{call};
+ghost use Rattle.utility_calls.specs.Performed.{HasPerformedActs};
+ghost use Rattle.shell_rules.specs.Calls.{do_planned, do_call_of, negated_if};
+ghost use Rattle.colis_interp.specs.Places.{place_of};
+ghost use Rattle.colis_interp.specs.Runs.{Runs, state_of};
+
+use crate::acts::{do_act, do_operands};
+use crate::halt::Halt;
+use crate::place::Place;
+use crate::shell::{Shell, print};
+use script_names::{Bytes, List, Memory};
+use std::alloc::Global;
+use utility_calls::calls::{Planned, plan};
+use utility_calls::theorems::planned_acts_are_performed;
+
+// The answer of a question, or its opposite.
+fn negated_if(negate: bool, yes: bool) -> bool
+    ensures { result ≡ negated_if negate yes }
+{
+    if negate { !yes } else { yes }
+}
+
+// Does what a call comes to.
+fn do_planned(alloc: Global, planned: &Planned, place: Place, shell: &mut Shell) -> Result<(), Halt>
+    requires { HasPerformedActs planned.now }
+    ensures turns { shell.new.conc.turns ≤ shell.old.conc.turns }
+    ensures runs { Runs (do_planned planned.now (place_of place.entry) (state_of shell.old)) result shell.new }
+{
+    match planned {
+        Planned::Known(ok) => {
+            shell.conc.status = *ok;
+            Ok(())
+        }
+        Planned::Ask { act, negate } => {
+            let yes = do_act(alloc, act, place, shell)?;
+            shell.conc.status = negated_if(*negate, yes);
+            Ok(())
+        }
+        Planned::Print(text) => {
+            print(text.as_slice(), shell)?;
+            shell.conc.status = true;
+            Ok(())
+        }
+        Planned::Change(operands) => {
+            let ok = do_operands(alloc, operands.as_slice(), place, shell)?;
+            shell.conc.status = ok;
+            Ok(())
+        }
+        Planned::Unspecified(reason) => Err(place.stop(*reason)),
+    }
+}
+
+// What the fields of a command come to; its acts meet their conditions.
+fn planned(alloc: Global, fields: &List<Bytes>) -> Result<Planned, Memory>
+    requires { 0 < length fields.now }
+    ensures call { IfOk result (λ planned. planned ≡ call fields.now) }
+    ensures performed { IfOk result (λ planned. HasPerformedActs planned) }
+{
+    planned_acts_are_performed();
+    plan(alloc, fields)
+}
+
+/// Runs a command of these fields: the first is the name of a utility.
+pub(crate) fn call_utility(
+    alloc: Global,
+    fields: &List<Bytes>,
+    place: Place,
+    shell: &mut Shell,
+) -> Result<(), Halt>
+    ensures turns { shell.new.conc.turns ≤ shell.old.conc.turns }
+    ensures runs { Runs (do_call_of fields.now (place_of place.entry) (state_of shell.old)) result shell.new }
+{
+    if fields.len() == 0 {
+        shell.conc.status = shell.substituted;
+        return Ok(());
+    }
+    let planned = planned(alloc, fields)?;
+    do_planned(alloc, &planned, place, shell)
+}

@@ -1,0 +1,176 @@
+-- What a program does: of each construct, from what its parts do. The rules are those of shell_rules, one for each
+-- construct.
+use Rattle.std.specs.Prelude.{ℕ, Bool, List, [], ◌∷◌, map}
+use Rattle.script_names.specs.declared.mark.Mark.{Mark}
+use Rattle.feature_trees.specs.declared.value.Value.{Value}
+use Rattle.shell_words.specs.Pieces.{PieceParts}
+use Rattle.colis_syntax.specs.declared.syntax.Stmt.{Stmt}
+use Rattle.colis_syntax.specs.declared.syntax.Str.{Str}
+use Rattle.colis_syntax.specs.declared.syntax.StrPiece.{StrPiece}
+use Rattle.colis_syntax.specs.declared.syntax.Fields.{Fields}
+use Rattle.colis_syntax.specs.declared.syntax.SetTo.{SetTo}
+use Rattle.colis_syntax.specs.declared.syntax.ChainPart.{ChainPart}
+use Rattle.colis_syntax.specs.declared.syntax.StmtArm.{StmtArm}
+use Rattle.colis_syntax.specs.declared.syntax.PatArm.{PatArm}
+use Rattle.colis_syntax.specs.declared.def.Def.{Def}
+use Rattle.colis_syntax.specs.declared.syntax.Fields.TheOpen as o
+use Rattle.colis_syntax.specs.declared.syntax.Fields.TheFolds.{fold-Stmt, fold-Str, fold-StrPiece, fold-Fields}
+use Rattle.colis_syntax.specs.declared.syntax.Fields.TheFolds.{fold-SetTo, fold-ChainPart, fold-StmtArm, fold-PatArm}
+use Rattle.colis_syntax.specs.WellFormed.{ProgramParts}
+use Rattle.shell_rules.specs.declared.state.Conc.{Conc}
+use Rattle.shell_rules.specs.State.{Text, Doing, Action, Funs, Does, with}
+use Rattle.shell_rules.specs.Expansion as word
+use Rattle.shell_rules.specs.Commands as rule
+use Rattle.shell_rules.specs.Loops as loops
+use Rattle.shell_rules.specs.Cases as cases
+use Rattle.shell_rules.specs.Calls as calls
+use Rattle.shell_rules.specs.Whole.{Ended, whole_run}
+
+-- ---- what the parts of a statement do, where functions are defined
+
+-- a string, a piece of a word, and what gives fields
+abbrev pub StrDoes : Type 0
+StrDoes = Funs → Doing Text
+
+abbrev pub PieceDoes : Type 0
+PieceDoes = Funs → Doing PieceParts
+
+abbrev pub FieldsDo : Type 0
+FieldsDo = Funs → Doing (List Text)
+
+-- a member of an and-or list, an arm of `case`, an assignment, and an arm of `if`
+abbrev pub LinkDoes : Type 0
+LinkDoes = Funs → Bool × Action
+
+abbrev pub CaseArmDoes : Type 0
+CaseArmDoes = Funs → List (List (Doing PieceParts)) × Action
+
+abbrev pub SetDoes : Type 0
+SetDoes = Funs → Text × Doing Text
+
+abbrev pub ArmDoes : Type 0
+ArmDoes = Funs → Action × Action
+
+-- ---- the rules, a line for each construct, over its parts
+
+abbrev pub fields_layer : o.Fields-F FieldsDo Does StrDoes PieceDoes LinkDoes CaseArmDoes SetDoes ArmDoes → FieldsDo
+fields_layer (o.Word pieces) f = word.do_word (with f pieces)
+fields_layer o.Args f = word.do_arguments
+
+abbrev pub stmt_layer : o.Stmt-F FieldsDo Does StrDoes PieceDoes LinkDoes CaseArmDoes SetDoes ArmDoes → Does
+stmt_layer o.Skip f = rule.do_skip
+stmt_layer (o.Set at sets) f = calls.do_set at (with f sets)
+stmt_layer (o.Call at fields) f = calls.do_call at (with f fields)
+stmt_layer (o.Fun at name fields) f = calls.do_function at (calls.found name f) (with f fields)
+stmt_layer (o.Seq parts) f = rule.do_all (with f parts)
+stmt_layer (o.Chain first rest) f = rule.do_chain (first f) (with f rest)
+stmt_layer (o.Not body) f = rule.do_not (body f)
+stmt_layer (o.If arms last) f = rule.do_if (with f arms) (last f)
+stmt_layer (o.For at name fields body) f = loops.do_for at name (with f fields) (body f)
+stmt_layer (o.While at cond body) f = loops.do_while at (cond f) (body f)
+stmt_layer (o.Case at subject arms) f = cases.do_case at (subject f) (with f arms)
+stmt_layer (o.Sub at body) f = rule.do_subshell at (body f)
+stmt_layer (o.Quiet body) f = rule.do_quiet (body f)
+stmt_layer (o.Err at body) f = rule.do_error_joined at (body f)
+stmt_layer o.Strict f = rule.do_strict
+stmt_layer o.Lax f = rule.do_lax
+stmt_layer (o.Exit at fields) f = calls.do_exit at (with f fields)
+stmt_layer (o.Return at fields) f = calls.do_return at (with f fields)
+stmt_layer o.Break f = loops.do_break
+stmt_layer o.Continue f = loops.do_continue
+stmt_layer (o.Export at fields) f = calls.do_export at (with f fields)
+stmt_layer (o.Unset at fields) f = calls.do_unset at (with f fields)
+stmt_layer (o.Stop at reason) f = rule.do_stop at reason
+
+abbrev pub str_layer : o.Str-F FieldsDo Does StrDoes PieceDoes LinkDoes CaseArmDoes SetDoes ArmDoes → StrDoes
+str_layer (o.Lit bytes) f = word.do_literal bytes
+str_layer (o.Var name) f = word.do_variable name
+str_layer (o.Arg number) f = word.do_argument number
+str_layer o.Count f = word.do_count
+str_layer (o.Or first other) f = word.do_default (first f) other
+str_layer (o.Output body) f = word.do_output (body f)
+str_layer (o.Join parts) f = word.do_join (with f parts)
+
+abbrev pub piece_layer : o.StrPiece-F FieldsDo Does StrDoes PieceDoes LinkDoes CaseArmDoes SetDoes ArmDoes → PieceDoes
+piece_layer (o.Plain string) f = word.do_plain (string f)
+piece_layer (o.Quoted string) f = word.do_quoted (string f)
+piece_layer (o.Split string) f = word.do_split (string f)
+
+abbrev pub link_layer : o.ChainPart-F FieldsDo Does StrDoes PieceDoes LinkDoes CaseArmDoes SetDoes ArmDoes → LinkDoes
+link_layer link f = (link.and, link.stmt f)
+
+abbrev pub case_arm_layer : o.PatArm-F FieldsDo Does StrDoes PieceDoes LinkDoes CaseArmDoes SetDoes ArmDoes
+    → CaseArmDoes
+case_arm_layer arm f = (map (with f) arm.patterns, arm.body f)
+
+abbrev pub set_layer : o.SetTo-F FieldsDo Does StrDoes PieceDoes LinkDoes CaseArmDoes SetDoes ArmDoes → SetDoes
+set_layer set f = (set.name, set.value f)
+
+abbrev pub arm_layer : o.StmtArm-F FieldsDo Does StrDoes PieceDoes LinkDoes CaseArmDoes SetDoes ArmDoes → ArmDoes
+arm_layer arm f = (arm.cond f, arm.body f)
+
+-- ---- the whole syntax
+
+-- what a statement does
+abbrev pub co_stmt : Stmt → Does
+co_stmt =
+    fold-Stmt FieldsDo Does StrDoes PieceDoes LinkDoes CaseArmDoes SetDoes ArmDoes
+    fields_layer stmt_layer str_layer piece_layer link_layer case_arm_layer set_layer arm_layer
+
+-- a string
+abbrev pub co_str : Str → StrDoes
+co_str =
+    fold-Str FieldsDo Does StrDoes PieceDoes LinkDoes CaseArmDoes SetDoes ArmDoes
+    fields_layer stmt_layer str_layer piece_layer link_layer case_arm_layer set_layer arm_layer
+
+-- a piece of a word
+abbrev pub co_piece : StrPiece → PieceDoes
+co_piece =
+    fold-StrPiece FieldsDo Does StrDoes PieceDoes LinkDoes CaseArmDoes SetDoes ArmDoes
+    fields_layer stmt_layer str_layer piece_layer link_layer case_arm_layer set_layer arm_layer
+
+-- what gives fields
+abbrev pub co_fields : Fields → FieldsDo
+co_fields =
+    fold-Fields FieldsDo Does StrDoes PieceDoes LinkDoes CaseArmDoes SetDoes ArmDoes
+    fields_layer stmt_layer str_layer piece_layer link_layer case_arm_layer set_layer arm_layer
+
+-- an assignment
+abbrev pub co_set : SetTo → SetDoes
+co_set =
+    fold-SetTo FieldsDo Does StrDoes PieceDoes LinkDoes CaseArmDoes SetDoes ArmDoes
+    fields_layer stmt_layer str_layer piece_layer link_layer case_arm_layer set_layer arm_layer
+
+-- a member of an and-or list
+abbrev pub co_link : ChainPart → LinkDoes
+co_link =
+    fold-ChainPart FieldsDo Does StrDoes PieceDoes LinkDoes CaseArmDoes SetDoes ArmDoes
+    fields_layer stmt_layer str_layer piece_layer link_layer case_arm_layer set_layer arm_layer
+
+-- an arm of `if`
+abbrev pub co_arm : StmtArm → ArmDoes
+co_arm =
+    fold-StmtArm FieldsDo Does StrDoes PieceDoes LinkDoes CaseArmDoes SetDoes ArmDoes
+    fields_layer stmt_layer str_layer piece_layer link_layer case_arm_layer set_layer arm_layer
+
+-- an arm of `case`
+abbrev pub co_case_arm : PatArm → CaseArmDoes
+co_case_arm =
+    fold-PatArm FieldsDo Does StrDoes PieceDoes LinkDoes CaseArmDoes SetDoes ArmDoes
+    fields_layer stmt_layer str_layer piece_layer link_layer case_arm_layer set_layer arm_layer
+
+-- ---- programs
+
+-- the functions of a program, behind those that are defined already: each one sees those before it
+abbrev pub funs_of : List Def → Funs → Funs
+funs_of [] f = f
+funs_of (def ∷ defs) f = funs_of defs ((def.name, co_stmt def.body f) ∷ f)
+
+-- the names of functions
+abbrev pub names_of : List Def → List Text
+names_of = map (λ def. def.name)
+
+-- what a program does in a step, from a state of the shell, a tree and a trace
+abbrev pub co_program : ProgramParts → ℕ → Conc → Value → List Mark → Ended
+co_program program step conc tree trace =
+    whole_run (co_stmt program.body (funs_of program.defs [])) step (names_of program.defs) conc tree trace

@@ -1,0 +1,12 @@
+//! What holds of every program's runs, for the layers above.
+
+ghost use Rattle.colis_meaning.specs.Laws.{RunsOnlyAdd, TurnsNeverRise, MoreTurnsSameRun, StatementsAreLawful};
+
+/// A run of a program only adds to the trace; it has no more turns left than it began with; and one that is not bound
+/// is, with more turns, the same run but for the turns that are left. The same holds of each statement.
+pub fn runs_are_lawful()
+    ensures trace { RunsOnlyAdd }
+    ensures turns { TurnsNeverRise }
+    ensures more { MoreTurnsSameRun }
+    ensures statements { StatementsAreLawful }
+{}

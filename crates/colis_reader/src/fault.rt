@@ -1,0 +1,21 @@
+use script_names::Memory;
+
+/// Why a text is not read as a program.
+#[derive(Clone, Copy, Debug, PartialEq, Eq)]
+pub enum ProgramFault {
+    /// No well formed program has this text.
+    Bad,
+    /// Want of memory.
+    Memory,
+}
+
+impl From<Memory> for ProgramFault {
+    ghost use Rattle.std.specs.Prelude.{◌≡◌};
+    ghost use Rattle.colis_reader.specs.declared.fault.ProgramFault.TheVariants.{Memory as MemoryFault};
+
+    ghost from_gives = { λ _ fault. fault ≡ MemoryFault };
+
+    fn from(_memory: Memory) -> ProgramFault {
+        ProgramFault::Memory
+    }
+}

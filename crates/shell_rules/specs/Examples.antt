@@ -1,0 +1,328 @@
+-- Worked examples of the rules: short scripts, each with its end and the rows of its acts by hand.
+use Rattle.std.specs.Prelude.{◌≡◌, ℕ, Bool, true, false, List, [], ◌∷◌, map, Some, None, codes}
+use Rattle.std.specs.FinMap as env
+use Rattle.script_names.specs.declared.mark.Site.{Site}
+use Rattle.script_names.specs.declared.reason.Reason.{Reason}
+use Rattle.script_names.specs.declared.reason.Reason.TheVariants as reason
+use Rattle.feature_trees.specs.declared.value.Value.TheVariants as value
+use Rattle.shell_rules.specs.declared.state.Conc.{Conc}
+use Rattle.shell_rules.specs.declared.run.End.{End}
+use Rattle.shell_rules.specs.declared.run.End.TheVariants.{Status, Stopped, Bound}
+use Rattle.shell_rules.specs.State.{Text, Doing, Action}
+use Rattle.shell_rules.specs.Expansion.{do_literal, do_variable, do_default, do_join, do_output}
+use Rattle.shell_rules.specs.Expansion.{do_plain, do_quoted, do_split, do_word}
+use Rattle.shell_rules.specs.Commands.{do_skip, do_strict, do_all, do_chain, do_not, do_if, do_subshell, do_quiet}
+use Rattle.shell_rules.specs.Commands.{do_error_joined}
+use Rattle.shell_rules.specs.Loops.{do_break, do_continue, do_for, do_while}
+use Rattle.shell_rules.specs.Cases.{do_case}
+use Rattle.shell_rules.specs.Calls.{do_call, do_set, do_function, do_exit, do_return, do_export, do_unset}
+use Rattle.shell_rules.specs.Whole.{Ended, whole_run}
+
+-- ---- commands; each begins at the offset that is its number here
+
+abbrev pub word : Text → Doing (List Text)
+word text = do_word (do_plain (do_literal text) ∷ [])
+
+abbrev pub unquoted : Doing Text → Doing (List Text)
+unquoted string = do_word (do_split string ∷ [])
+
+abbrev pub in_quotes : Doing Text → Doing (List Text)
+in_quotes string = do_word (do_quoted string ∷ [])
+
+-- `true`, `false`, `echo WORD`, `mkdir WORD`
+abbrev pub succeeds : Action
+succeeds = do_call 1 (word (codes "true") ∷ [])
+
+abbrev pub fails : Action
+fails = do_call 2 (word (codes "false") ∷ [])
+
+abbrev pub echoes : Text → Action
+echoes text = do_call 3 (word (codes "echo") ∷ word text ∷ [])
+
+abbrev pub makes : Text → Action
+makes text = do_call 4 (word (codes "mkdir") ∷ word text ∷ [])
+
+-- `test WORD ..`
+abbrev pub tests : List (Doing (List Text)) → Action
+tests words = do_call 5 (word (codes "test") ∷ words)
+
+-- `x=STRING`
+abbrev pub sets : Doing Text → Action
+sets string = do_set 6 ((codes "x", string) ∷ [])
+
+-- `exit`, and `exit WORD`
+abbrev pub exits : Action
+exits = do_exit 7 []
+
+abbrev pub exits_with : Text → Action
+exits_with text = do_exit 7 (word text ∷ [])
+
+-- commands, one after another
+abbrev pub two : Action → Action → Action
+two first second = do_all (first ∷ second ∷ [])
+
+-- `first && second` and `first || second`
+abbrev pub both : Action → Action → Action
+both first second = do_chain first ((true, second) ∷ [])
+
+abbrev pub either : Action → Action → Action
+either first second = do_chain first ((false, second) ∷ [])
+
+-- `( body )`, and a call of a function with this body
+abbrev pub sub : Action → Action
+sub body = do_subshell 8 body
+
+abbrev pub calls : Action → Action
+calls body = do_function 9 (Some body) (word (codes "f") ∷ [])
+
+-- `while condition; do body; done`, and `for x in WORD ..; do body; done`
+abbrev pub while_loop : Action → Action → Action
+while_loop condition body = do_while 10 condition body
+
+abbrev pub for_loop : List (Doing (List Text)) → Action → Action
+for_loop words body = do_for 11 (codes "x") words body
+
+-- `case STRING in PATTERN) exit 0;; esac; false`
+abbrev pub case_of : Doing Text → List (List (Doing Text)) → Action
+case_of string patterns =
+    do_case 12 string
+    (map (λ strings. (map (λ one. do_plain one ∷ []) strings, exits_with (codes "0"))) patterns)
+
+abbrev pub is_text : Doing Text → Text → Action
+is_text string text = two (case_of string ((do_literal text ∷ []) ∷ [])) fails
+
+-- ---- runs
+
+-- the shell before a run, with or without `set -e`, and with so many turns
+abbrev pub shell : Bool → ℕ → Conc
+shell strict turns =
+    record { vars = env.empty; args = []; strict = strict; status = true; captured = None; turns = turns }
+
+-- a script; whether `set -e` holds; the turns; how it ends, in step 1 and from an empty tree; the rows of its acts
+pub record Example : Type 0 where
+  pub body : Action
+  pub strict : Bool
+  pub turns : ℕ
+  pub end : End
+  pub rows : List ℕ
+
+abbrev pub run_of : Example → Ended
+run_of e = whole_run e.body 1 (codes "f" ∷ []) (shell e.strict e.turns) (value.Dir []) []
+
+-- what an example comes to, and what is wanted
+abbrev pub comes : Example → End × List ℕ
+comes e = ((run_of e).end, map (λ mark. mark.row) (run_of e).trace)
+
+abbrev pub wanted : Example → End × List ℕ
+wanted e = (e.end, e.rows)
+
+abbrev pub site : ℕ → Site
+site at = record { step = 1; at = at }
+
+abbrev pub stops : Reason → ℕ → End
+stops why at = Stopped why (site at)
+
+-- a script without an act, without turns
+abbrev pub plainly : Action → End → Example
+plainly body end = record { body = body; strict = false; turns = 0; end = end; rows = [] }
+
+-- under `set -e`
+abbrev pub strictly : Action → End → Example
+strictly body end = record { body = body; strict = true; turns = 0; end = end; rows = [] }
+
+-- with turns
+abbrev pub with_turns : ℕ → Action → End → Example
+with_turns turns body end = record { body = body; strict = false; turns = turns; end = end; rows = [] }
+
+-- with acts
+abbrev pub acting : Action → End → List ℕ → Example
+acting body end rows = record { body = body; strict = false; turns = 9; end = end; rows = rows }
+
+-- ---- the examples
+
+-- `set -e` (XCU 2.14 set)
+abbrev pub strict_examples : List Example
+strict_examples =
+    -- false; true, with `set -e` and without
+    strictly (two fails succeeds) (Status false)
+    ∷ plainly (two fails succeeds) (Status true)
+    -- if false; then :; fi
+    ∷ strictly (do_if ((fails, do_skip) ∷ []) do_skip) (Status true)
+    -- ! true; true
+    ∷ strictly (two (do_not succeeds) succeeds) (Status true)
+    -- false && true; true; and true && false; true
+    ∷ strictly (two (both fails succeeds) succeeds) (Status true)
+    ∷ strictly (two (both succeeds fails) succeeds) (Status false)
+    -- while false; do :; done
+    ∷ strictly (while_loop fails do_skip) (Status true)
+    -- (false); true; and (false) || true
+    ∷ strictly (two (sub fails) succeeds) (Status false)
+    ∷ strictly (either (sub fails) succeeds) (Status true)
+    -- (false; true) || false: what is excepted outside is excepted in the subshell
+    ∷ strictly (either (sub (two fails succeeds)) fails) (Status true)
+    -- f() { false; true; }; f; and f || false
+    ∷ strictly (calls (two fails succeeds)) (Status false)
+    ∷ strictly (either (calls (two fails succeeds)) fails) (Status true)
+    -- f() { ! true; }; f; true: a call that fails ends the shell
+    ∷ strictly (two (calls (do_not succeeds)) succeeds) (Status false)
+    -- x=$(false), x=$(false; true) || true, x=$(false || true)
+    ∷ strictly (sets (do_output fails)) (stops reason.Strict 2)
+    ∷ strictly (either (sets (do_output (two fails succeeds))) succeeds) (stops reason.Strict 2)
+    ∷ strictly (sets (do_output (either fails succeeds))) (Status true)
+    -- x=$(! true); true: an assignment that fails ends the shell
+    ∷ strictly (two (sets (do_output (do_not succeeds))) succeeds) (Status false)
+    -- (set -e); false; true: the flag of a subshell does not come out
+    ∷ plainly (do_all (sub do_strict ∷ fails ∷ succeeds ∷ [])) (Status true)
+    ∷ plainly (do_all (do_strict ∷ fails ∷ succeeds ∷ [])) (Status false)
+    ∷ []
+
+-- the status of what is no utility
+abbrev pub status_examples : List Example
+status_examples =
+    -- false; exit; and false; exit 0, exit 3, exit 00, exit 256, exit x, exit 0001
+    plainly (two fails exits) (Status false)
+    ∷ plainly (two fails (exits_with (codes "0"))) (Status true)
+    ∷ plainly (exits_with (codes "3")) (Status false)
+    ∷ plainly (two fails (exits_with (codes "00"))) (Status true)
+    ∷ plainly (exits_with (codes "256")) (stops reason.Status 7)
+    ∷ plainly (exits_with (codes "x")) (stops reason.Status 7)
+    ∷ plainly (exits_with (codes "0001")) (stops reason.Status 7)
+    -- false; x=$(exit): a substitution begins with the status before its command
+    ∷ plainly (two fails (sets (do_output exits))) (Status false)
+    -- false; x=
+    ∷ plainly (two fails (sets (do_literal []))) (Status true)
+    -- x=$(false)$(true); and x=$(true)$(false)
+    ∷ plainly (sets (do_join (do_output fails ∷ do_output succeeds ∷ []))) (Status true)
+    ∷ plainly (sets (do_join (do_output succeeds ∷ do_output fails ∷ []))) (Status false)
+    -- $(false); and true $(false)
+    ∷ plainly (do_call 1 (unquoted (do_output fails) ∷ [])) (Status false)
+    ∷ plainly (do_call 1 (word (codes "true") ∷ unquoted (do_output fails) ∷ [])) (Status true)
+    -- false; ( exit ); and ( exit 1 ); true
+    ∷ plainly (two fails (sub exits)) (Status false)
+    ∷ plainly (two (sub (exits_with (codes "1"))) succeeds) (Status true)
+    -- f() { exit 0; }; f; false; and f() { return; }; false; f
+    ∷ plainly (two (calls (exits_with (codes "0"))) fails) (Status true)
+    ∷ plainly (two fails (calls (do_return 7 []))) (Status false)
+    -- if false; then :; else exit; fi
+    ∷ plainly (do_if ((fails, do_skip) ∷ []) exits) (Status false)
+    -- false; case a in b) exit 0;; esac
+    ∷ plainly (two fails (case_of (do_literal (codes "a")) ((do_literal (codes "b") ∷ []) ∷ []))) (Status true)
+    ∷ []
+
+-- loops (XCU 2.9.4.2, 2.9.4.5)
+abbrev pub loop_examples : List Example
+loop_examples =
+    -- while true; do :; done; with no turn, and with three
+    with_turns 0 (while_loop succeeds do_skip) (Bound (site 10))
+    ∷ with_turns 3 (while_loop succeeds do_skip) (Bound (site 10))
+    -- while true; do false; break; done: `break` succeeds
+    ∷ with_turns 1 (while_loop succeeds (two fails do_break)) (Status true)
+    -- while continue; do :; done, and while break; do :; done
+    ∷ with_turns 2 (while_loop do_continue do_skip) (Bound (site 10))
+    ∷ with_turns 0 (while_loop do_break do_skip) (Status true)
+    -- for x in a b; do continue; done; with one turn, and with two
+    ∷ with_turns 1 (for_loop (word (codes "a") ∷ word (codes "b") ∷ []) do_continue) (Bound (site 11))
+    ∷ with_turns 2 (for_loop (word (codes "a") ∷ word (codes "b") ∷ []) do_continue) (Status true)
+    -- for x in a b; do break; done; and for x in a; do false; done
+    ∷ with_turns 1 (for_loop (word (codes "a") ∷ word (codes "b") ∷ []) do_break) (Status true)
+    ∷ with_turns 1 (for_loop (word (codes "a") ∷ []) fails) (Status false)
+    -- false; for x in a; do exit; done; and false; for x in; do exit; done
+    ∷ with_turns 1 (two fails (for_loop (word (codes "a") ∷ []) exits)) (Status false)
+    ∷ with_turns 0 (two fails (for_loop [] exits)) (Status true)
+    -- `break` leaves one loop: for x in a b; do while true; do break; done; done
+    ∷ with_turns 4 (for_loop (word (codes "a") ∷ word (codes "b") ∷ []) (while_loop succeeds do_break)) (Status true)
+    ∷ with_turns 3 (for_loop (word (codes "a") ∷ word (codes "b") ∷ []) (while_loop succeeds do_break))
+    (Bound (site 10))
+    ∷ []
+
+-- words and redirections (XCU 2.6, 2.7)
+abbrev pub word_examples : List Example
+word_examples =
+    -- what $(echo a), $(echo a; echo), $( (echo a) ), $(echo a >/dev/null) give
+    plainly (is_text (do_output (echoes (codes "a"))) (codes "a")) (Status true)
+    ∷ plainly (is_text (do_output (two (echoes (codes "a")) (echoes []))) (codes "a")) (Status true)
+    ∷ plainly (is_text (do_output (two (echoes []) (echoes (codes "a")))) (codes "a")) (Status false)
+    ∷ plainly (is_text (do_output (sub (echoes (codes "a")))) (codes "a")) (Status true)
+    ∷ plainly (is_text (do_output (do_quiet (echoes (codes "a")))) []) (Status true)
+    ∷ plainly (is_text (do_output (two (do_quiet (echoes (codes "a"))) (echoes (codes "b")))) (codes "b"))
+    (Status true)
+    -- test -n $(true), and test -n "$(true)"
+    ∷ plainly (tests (word (codes "-n") ∷ unquoted (do_output succeeds) ∷ [])) (Status true)
+    ∷ plainly (tests (word (codes "-n") ∷ in_quotes (do_output succeeds) ∷ [])) (Status false)
+    -- test *, and test "*"
+    ∷ plainly (tests (word (codes "*") ∷ [])) (stops reason.Glob 5)
+    ∷ plainly (tests (in_quotes (do_literal (codes "*")) ∷ [])) (Status true)
+    -- test $PWD, test ${PWD:-a}
+    ∷ plainly (tests (unquoted (do_variable (codes "PWD")) ∷ [])) (stops reason.Call 5)
+    ∷ plainly (tests (unquoted (do_default (do_variable (codes "PWD")) (codes "a")) ∷ [])) (stops reason.Call 5)
+    -- test ${x:-}, and test ${x:-a}, of an empty string
+    ∷ plainly (tests (in_quotes (do_default (do_literal []) []) ∷ [])) (Status false)
+    ∷ plainly (tests (in_quotes (do_default (do_literal []) (codes "a")) ∷ [])) (Status true)
+    -- $name exit with a name that is computed
+    ∷ plainly (do_call 1 (unquoted (do_literal (codes "exit")) ∷ [])) (stops reason.Call 1)
+    -- true 2>&1; x=$(true 2>&1); x=$(true >/dev/null 2>&1); x=$(test $PWD 2>&1)
+    ∷ plainly (do_error_joined 13 succeeds) (Status true)
+    ∷ plainly (sets (do_output (do_error_joined 13 succeeds))) (stops reason.Message 13)
+    ∷ plainly (sets (do_output (do_quiet (do_error_joined 13 succeeds)))) (Status true)
+    ∷ plainly (sets (do_output (do_error_joined 13 (tests (unquoted (do_variable (codes "PWD")) ∷ [])))))
+    (stops reason.Message 13)
+    -- unset f, of a function; unset x; unset IFS; export x=1; export 1x; export IFS=a
+    ∷ plainly (do_unset 14 (word (codes "f") ∷ [])) (stops reason.Call 14)
+    ∷ plainly (two fails (do_unset 14 (word (codes "x") ∷ []))) (Status true)
+    ∷ plainly (do_unset 14 (word (codes "IFS") ∷ [])) (stops reason.Call 14)
+    ∷ plainly (two fails (do_export 14 (word (codes "x=1") ∷ []))) (Status true)
+    ∷ plainly (do_export 14 (word (codes "1x") ∷ [])) (stops reason.Call 14)
+    ∷ plainly (do_export 14 (word (codes "IFS=a") ∷ [])) (stops reason.Call 14)
+    ∷ []
+
+-- acts
+abbrev pub act_examples : List Example
+act_examples =
+    -- mkdir /a
+    acting (makes (codes "/a")) (Status true) (68 ∷ [])
+    -- mkdir /a/b /c: an operand that fails stops no other, and the call fails
+    ∷ acting (do_call 4 (word (codes "mkdir") ∷ word (codes "/a/b") ∷ word (codes "/c") ∷ []))
+    (Status false) (66 ∷ 68 ∷ [])
+    -- mkdir -p /a
+    ∷ acting (do_call 4 (word (codes "mkdir") ∷ word (codes "-p") ∷ word (codes "/a") ∷ [])) (Status true) (68 ∷ [])
+    -- test -d /a; and test ! -d /a
+    ∷ acting (tests (word (codes "-d") ∷ word (codes "/a") ∷ [])) (Status false) (66 ∷ [])
+    ∷ acting (tests (word (codes "!") ∷ word (codes "-d") ∷ word (codes "/a") ∷ [])) (Status true) (66 ∷ [])
+    ∷ []
+
+-- the order in which things are done
+abbrev pub order_examples : List Example
+order_examples =
+    -- mkdir /a ""; a reason stops the call before any act
+    acting (do_call 4 (word (codes "mkdir") ∷ word (codes "/a") ∷ in_quotes (do_literal []) ∷ []))
+    (stops reason.Empty 4) []
+    -- test * $(mkdir /a), and test $(mkdir /a) *: each word is cut before the next one is expanded
+    ∷ acting (tests (word (codes "*") ∷ unquoted (do_output (makes (codes "/a"))) ∷ [])) (stops reason.Glob 5) []
+    ∷ acting (tests (unquoted (do_output (makes (codes "/a"))) ∷ word (codes "*") ∷ [])) (stops reason.Glob 5)
+    (68 ∷ [])
+    -- the acts before a stop are done: x=$(mkdir /a)$PWD
+    ∷ acting (sets (do_join (do_output (makes (codes "/a")) ∷ do_variable (codes "PWD") ∷ []))) (stops reason.Call 6)
+    (68 ∷ [])
+    ∷ []
+
+-- `case` (XCU 2.9.4.3)
+abbrev pub case_examples : List Example
+case_examples =
+    -- case a in a) exit 0;; $(mkdir /a)) exit 0;; esac, and case a in b|$(mkdir /a)) exit 0;; esac
+    acting
+    (case_of (do_literal (codes "a")) ((do_literal (codes "a") ∷ []) ∷ (do_output (makes (codes "/a")) ∷ []) ∷ []))
+    (Status true) []
+    ∷ acting (case_of (do_literal (codes "a")) ((do_literal (codes "b") ∷ do_output (makes (codes "/a")) ∷ []) ∷ []))
+    (Status true) (68 ∷ [])
+    -- case a in [^b]) exit 0;; esac; and case a in a) exit 0;; [^b]) exit 0;; esac
+    ∷ acting (case_of (do_literal (codes "a")) ((do_literal (codes "[^b]") ∷ []) ∷ [])) (stops reason.Pattern 12) []
+    ∷ acting (case_of (do_literal (codes "a")) ((do_literal (codes "a") ∷ []) ∷ (do_literal (codes "[^b]") ∷ []) ∷ []))
+    (Status true) []
+    -- case ab in ?*) exit 0;; esac; false
+    ∷ acting (is_text (do_literal (codes "ab")) (codes "?*")) (Status true) []
+    ∷ acting (is_text (do_literal (codes "ab")) (codes "?")) (Status false) []
+    ∷ []
+
+-- each comes to what is wanted
+abbrev pub Hold : List Example → Type 0
+Hold examples = map comes examples ≡ map wanted examples

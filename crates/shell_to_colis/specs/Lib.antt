@@ -1,0 +1,4 @@
+pub mod Members
+pub mod Translated
+pub mod Shell
+pub mod Laws

@@ -1,0 +1,307 @@
+use concrete_utils::steps::act;
+use feature_trees::{Entries, Value};
+use script_names::{Bytes, Copied, Done, List, Memory, Path, Reason};
+use std::alloc::Global;
+use std::process::Abort;
+use std::test::Fail;
+use utility_calls::acts::Act;
+use utility_calls::calls::{Planned, plan};
+
+// What stands on the tree of the tests: `d` a directory, `f` a file, `o` another thing, `l` a link.
+const SAMPLE: &str = "d /d
+d /d/e
+f /d/f
+l /d/l
+o /d/o
+d /d/g
+d /d/g/g
+d /e
+f /f
+f /h
+l /l
+o /o
+d /g
+d /x
+d /x/f
+d /x/l
+d /x/g
+f /x/g/a
+l /y
+l /x/o";
+
+// A value of the kind that a letter names; a link leads to `t`.
+fn value(alloc: Global, letter: &[u8]) -> Result<Value, Memory> {
+    match letter {
+        b"d" => Ok(Value::Dir(Entries::new(alloc))),
+        b"f" => Ok(Value::Reg),
+        b"l" => Ok(Value::Link(Bytes::from_slice(alloc, b"t")?)),
+        b"o" => Ok(Value::Other),
+        _ => Ok(Value::Absent),
+    }
+}
+
+// Puts what a text names on a tree: a letter and a path, and further ones behind a comma.
+fn put_all<R: Abort + AllocGlobal>(rt: &R, tree: &mut Value, text: &str) -> Result<(), Fail> {
+    for part in text.split(',') {
+        if let Some((letter, path)) = part.split_once(' ') {
+            let p = Path::read(rt.alloc(), path.as_bytes())?;
+            assert!(rt; !p.names().is_empty());
+            tree.put(&p, value(rt.alloc(), letter.as_bytes())?)?;
+        }
+    }
+    Ok(())
+}
+
+// The tree of the tests.
+fn sample<R: Abort + AllocGlobal>(rt: &R) -> Result<Value, Fail> {
+    let mut tree = Value::Dir(Entries::new(rt.alloc()));
+    for line in SAMPLE.lines() {
+        put_all(rt, &mut tree, line)?;
+    }
+    Ok(tree)
+}
+
+fn answer_text(answer: Done) -> &'static str {
+    match answer {
+        Done::Ok => "ok",
+        Done::Failed => "failed",
+        Done::Stopped(Reason::Link) => "link",
+        Done::Stopped(Reason::Slash) => "slash",
+        Done::Stopped(Reason::Run) => "run",
+        Done::Stopped(Reason::Same) => "same",
+        Done::Stopped(Reason::Conffile) => "conffile",
+        Done::Stopped(_) => "another",
+    }
+}
+
+// A call, the row that its last act takes on the tree of the tests, the answer, and what is put there then.
+type Taken = (&'static str, u8, &'static str, &'static str);
+
+// The act takes the row on the tree of the tests, answers so, and leaves this tree.
+fn expect<R: Abort + AllocGlobal>(rt: &R, a: &Act, row: &Taken) -> Result<(), Fail> {
+    let mut tree = sample(rt)?;
+    let mut left = sample(rt)?;
+    put_all(rt, &mut left, row.3)?;
+    assert!(rt; a.is_performed());
+    let (number, answer) = act(rt.alloc(), a, &mut tree)?;
+    assert_eq!(rt; number, row.1, "{}", row.0);
+    assert_eq!(rt; answer_text(answer), row.2, "{}", row.0);
+    assert!(rt; tree.equal(&left), "{}", row.0);
+    Ok(())
+}
+
+fn words(alloc: Global, text: &str) -> Result<List<Bytes>, Memory> {
+    let mut all = List::new(alloc);
+    for part in text.split(' ') {
+        let word = Bytes::from_slice(alloc, part.as_bytes())?;
+        all.add(word)?;
+    }
+    Ok(all)
+}
+
+// The last act of a call takes the row.
+fn expect_call<R: Abort + AllocGlobal>(rt: &R, row: &Taken) -> Result<(), Fail> {
+    let list = words(rt.alloc(), row.0)?;
+    assert!(rt; list.len() > 0);
+    match plan(rt.alloc(), &list)? {
+        Planned::Ask { act, negate: _ } => expect(rt, &act, row),
+        Planned::Change(all) => {
+            for acts in &all.into_vec() {
+                if let Some(last) = acts.as_slice().last() {
+                    expect(rt, last, row)?;
+                }
+            }
+            Ok(())
+        }
+        _ => {
+            assert!(rt; false, "{}", row.0);
+            Ok(())
+        }
+    }
+}
+
+// The act of a package manager that a word names.
+fn place(alloc: Global, name: &[u8], p: Path) -> Result<Act, Memory> {
+    match name {
+        b"PlaceFile" => Ok(Act::PlaceFile(p)),
+        b"PlaceConf" => Ok(Act::PlaceConf(p)),
+        b"Discard" => Ok(Act::Discard(p)),
+        b"DiscardDir" => Ok(Act::DiscardDir(p)),
+        _ => {
+            let target = Bytes::from_slice(alloc, b"t")?;
+            Ok(Act::PlaceLink { p, target })
+        }
+    }
+}
+
+// The act of a package manager that a row names, by a word and a path.
+fn placed(alloc: Global, text: &str) -> Result<Act, Fail> {
+    let (name, path) = text.split_once(' ').unwrap_or(("", "/"));
+    let p = Path::read(alloc, path.as_bytes())?;
+    Ok(place(alloc, name.as_bytes(), p)?)
+}
+
+// A copy in the place of the act.
+fn copied(alloc: Global, a: Act) -> Result<Act, Memory> {
+    a.copy(alloc)
+}
+
+// The act of a package manager takes the row.
+fn expect_place<R: Abort + AllocGlobal>(rt: &R, row: &Taken) -> Result<(), Fail> {
+    let a = placed(rt.alloc(), row.0)?;
+    expect(rt, &a, row)
+}
+
+// So does its copy.
+fn expect_copy<R: Abort + AllocGlobal>(rt: &R, row: &Taken) -> Result<(), Fail> {
+    let a = placed(rt.alloc(), row.0)?;
+    let twin = copied(rt.alloc(), a)?;
+    expect(rt, &twin, row)
+}
+
+const QUESTIONS: &[Taken] = &[
+    ("test -e /l", 65, "link", ""),
+    ("test -e /n", 66, "failed", ""),
+    ("test -e /f", 67, "ok", ""),
+    ("test -f /l", 65, "link", ""),
+    ("test -f /d", 66, "failed", ""),
+    ("test -f /f", 67, "ok", ""),
+    ("test -d /l", 65, "link", ""),
+    ("test -d /f", 66, "failed", ""),
+    ("test -d /d", 67, "ok", ""),
+    ("test -d /", 67, "ok", ""),
+    ("test -h /f", 66, "failed", ""),
+    ("test -h /l", 67, "ok", ""),
+    ("test -x /l", 65, "link", ""),
+    ("test -x /n", 66, "failed", ""),
+    ("test -x /d", 67, "ok", ""),
+    ("test -x /f", 68, "run", ""),
+    ("test -e /l/a", 1, "link", ""),
+    ("test -e /d/l/a", 2, "link", ""),
+    ("test -e /f/", 64, "slash", ""),
+    ("test -h /l/", 64, "slash", ""),
+    ("test -e /n/", 66, "failed", ""),
+];
+
+const CHANGES: &[Taken] = &[
+    ("mkdir /l/a", 1, "link", ""),
+    ("mkdir /f/", 64, "slash", ""),
+    ("mkdir /f/a", 66, "failed", ""),
+    ("mkdir /l", 67, "failed", ""),
+    ("mkdir /n/", 68, "ok", "d /n"),
+    ("mkdir -p /l", 65, "link", ""),
+    ("mkdir -p /f/a", 66, "failed", ""),
+    ("mkdir -p /f", 67, "failed", ""),
+    ("mkdir -p /n", 68, "ok", "d /n"),
+    ("mkdir -p /d", 68, "ok", ""),
+    ("rmdir /f", 66, "failed", ""),
+    ("rmdir /d", 67, "failed", ""),
+    ("rmdir /e", 68, "ok", "- /e"),
+    ("rm /n", 66, "failed", ""),
+    ("rm /d", 67, "failed", ""),
+    ("rm /l", 68, "ok", "- /l"),
+    ("rm -r /n", 66, "failed", ""),
+    ("rm -r /d", 69, "ok", "- /d"),
+    ("rm -f /d", 67, "failed", ""),
+    ("rm -f /f/a", 70, "ok", ""),
+    ("rm -f /f", 71, "ok", "- /f"),
+    ("rm -f /n", 71, "ok", ""),
+    ("rm -rf /f/a", 70, "ok", ""),
+    ("rm -rf /d", 72, "ok", "- /d"),
+    ("rm -rf /n", 72, "ok", ""),
+    ("touch /l", 65, "link", ""),
+    ("touch /f/a", 66, "failed", ""),
+    ("touch /n", 67, "ok", "f /n"),
+    ("touch /f", 67, "ok", ""),
+    ("touch /d", 68, "ok", ""),
+    ("ln -s t /l", 65, "link", ""),
+    ("ln -s t /f/a", 66, "failed", ""),
+    ("ln -s t /f", 67, "failed", ""),
+    ("ln -s t /n", 68, "ok", "l /n"),
+    ("ln -s f /d", 70, "failed", ""),
+    ("ln -s t /e", 71, "ok", "l /e/t"),
+    ("ln -sf t /l", 65, "link", ""),
+    ("ln -sf t /f/a", 66, "failed", ""),
+    ("ln -sf t /f", 69, "ok", "l /f"),
+    ("ln -sf t /n", 69, "ok", "l /n"),
+    ("ln -sf e /d", 72, "failed", ""),
+    ("ln -sf t /e", 73, "ok", "l /e/t"),
+];
+
+const MOVES: &[Taken] = &[
+    ("mv /l/a /n", 1, "link", ""),
+    ("mv /f /l/a", 129, "link", ""),
+    ("mv /f /d/l/a", 130, "link", ""),
+    ("mv /d /d/l/a", 130, "link", ""),
+    ("mv /n /l/a", 66, "failed", ""),
+    ("mv /d /d/l", 65, "link", ""),
+    ("mv /d /d/n", 66, "failed", ""),
+    ("mv /n /m", 66, "failed", ""),
+    ("mv /f /l", 65, "link", ""),
+    ("mv /f /h/a", 67, "failed", ""),
+    ("mv /f /n", 68, "ok", "- /f,f /n"),
+    ("mv /l /n", 68, "ok", "- /l,l /n"),
+    ("mv /e /n", 69, "ok", "- /e,d /n"),
+    ("mv /e /f", 70, "failed", ""),
+    ("mv /f /e", 71, "ok", "- /f,f /e/f"),
+    ("mv /f /x", 72, "failed", ""),
+    ("mv /g /e", 73, "ok", "- /g,d /e/g"),
+    ("mv /x/f /d", 74, "failed", ""),
+    ("mv /g /d", 75, "failed", ""),
+    ("mv /x/g /d/g", 76, "ok", "- /x/g,d /d/g/g,f /d/g/g/a"),
+    ("mv /f /h", 77, "ok", "- /f,f /h"),
+    ("mv /f /o", 77, "ok", "- /f,f /o"),
+    ("mv /l /f", 78, "same", ""),
+    ("mv /f /d", 79, "ok", "- /f,f /d/f"),
+    ("mv /l /d", 80, "same", ""),
+    ("mv /o /x", 81, "same", ""),
+];
+
+const PLACES: &[Taken] = &[
+    ("PlaceFile /l/a", 1, "link", ""),
+    ("PlaceFile /f/a", 66, "failed", ""),
+    ("PlaceFile /d", 67, "failed", ""),
+    ("PlaceFile /n", 68, "ok", "f /n"),
+    ("PlaceFile /l", 68, "ok", "f /l"),
+    ("PlaceLink /f/a", 66, "failed", ""),
+    ("PlaceLink /d", 67, "link", ""),
+    ("PlaceLink /f", 68, "ok", "l /f"),
+    ("PlaceConf /f/a", 66, "failed", ""),
+    ("PlaceConf /d", 67, "failed", ""),
+    ("PlaceConf /n", 68, "ok", "f /n"),
+    ("PlaceConf /l", 69, "conffile", ""),
+    ("Discard /f/a", 66, "ok", ""),
+    ("Discard /d", 67, "ok", ""),
+    ("Discard /f", 68, "ok", "- /f"),
+    ("DiscardDir /f", 66, "ok", ""),
+    ("DiscardDir /d", 67, "ok", ""),
+    ("DiscardDir /e", 68, "ok", "- /e"),
+];
+
+#[test]
+fn questions_take_each_row(rt: HostRuntime) -> Result<(), Fail> {
+    for row in QUESTIONS {
+        expect_call(&rt, row)?;
+    }
+    Ok(())
+}
+
+#[test]
+fn changes_take_each_row(rt: HostRuntime) -> Result<(), Fail> {
+    for row in CHANGES {
+        expect_call(&rt, row)?;
+    }
+    for row in MOVES {
+        expect_call(&rt, row)?;
+    }
+    Ok(())
+}
+
+#[test]
+fn a_package_manager_takes_each_row(rt: HostRuntime) -> Result<(), Fail> {
+    for row in PLACES {
+        expect_place(&rt, row)?;
+        expect_copy(&rt, row)?;
+    }
+    Ok(())
+}

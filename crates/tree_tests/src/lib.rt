@@ -1,0 +1,14 @@
+//! Tests of feature_trees, utility_calls and concrete_utils. They stand apart from these crates, so that no crate is
+//! proved twice.
+#![tactic(auto)]
+
+#[cfg(test)]
+mod all_acts;
+#[cfg(test)]
+mod four_acts;
+#[cfg(test)]
+mod plans;
+#[cfg(test)]
+mod tree_texts;
+#[cfg(test)]
+mod trees;

@@ -1,0 +1,194 @@
+//! Texts of trees, each by hand with the tree's own text, or with the line at fault and why.
+
+use feature_trees::{Entries, TreeFault, Value, print_tree, read_tree};
+use script_names::{Bytes, Name};
+use std::alloc::Global;
+use std::test::Fail;
+
+// Texts in any order, and their trees' own texts.
+const READ: &[(&str, &str)] = &[
+    ("", ""),
+    ("d /etc\n", "d /etc\n"),
+    ("d /etc", "d /etc\n"),
+    ("f /a\n", "f /a\n"),
+    ("o /a", "o /a\n"),
+    ("l /a b\n", "l /a b\n"),
+    ("l /a /b/./c/\n", "l /a /b/./c/\n"),
+    ("l /a \\e\n", "l /a \\e\n"),
+    ("l /a a\\x20b", "l /a a\\x20b\n"),
+    ("l /a \\x0a\\x5cx61\n", "l /a \\x0a\\x5cx61\n"),
+    ("f /a\\x20b\n", "f /a\\x20b\n"),
+    ("f /\\xc3\\xa9\n", "f /\\xc3\\xa9\n"),
+    ("f /...\nf /.a\nf /-\n", "f /-\nf /...\nf /.a\n"),
+    ("f /b\nf /a\n", "f /a\nf /b\n"),
+    ("f /a\nf /Z\nf /B", "f /B\nf /Z\nf /a\n"),
+    ("d /a\nf /a/b\n", "d /a\nf /a/b\n"),
+    ("d /a\nd /a/a\nd /a/a/a\n", "d /a\nd /a/a\nd /a/a/a\n"),
+    ("f /a.b\nd /a\nf /a/x\n", "d /a\nf /a/x\nf /a.b\n"),
+    (
+        "d /b\nd /a\nf /b/x\no /a/y\n",
+        "d /a\no /a/y\nd /b\nf /b/x\n",
+    ),
+    (
+        "d /a\nf /a/b\nf /c\nl /a/a /",
+        "d /a\nl /a/a /\nf /a/b\nf /c\n",
+    ),
+    (
+        "d /a\nd /a/b\nf /c\nf /a/b/c\nd /a/a\nf /a/a/b\n",
+        "d /a\nd /a/a\nf /a/a/b\nd /a/b\nf /a/b/c\nf /c\n",
+    ),
+];
+
+// Texts of no tree: the least line at fault, and why.
+const REFUSED: &[(&str, u32, u8)] = &[
+    // an empty line is not of the form
+    ("\n", 1, 1),
+    ("\nf /a\n", 1, 1),
+    ("f /a\n\n", 2, 1),
+    ("f /a\n\nf /b\n", 2, 1),
+    // a letter, a path, and of a link a target, with one blank between them
+    ("d", 1, 1),
+    ("d ", 1, 1),
+    ("/a", 1, 1),
+    ("d/a", 1, 1),
+    (" d /a", 1, 1),
+    ("d  /a", 1, 1),
+    ("d /a ", 1, 1),
+    ("d /a b", 1, 1),
+    ("f\t/a", 1, 1),
+    ("f /a\r\n", 1, 1),
+    ("x /a", 1, 1),
+    ("s /a", 1, 1),
+    ("D /a", 1, 1),
+    ("df /a", 1, 1),
+    ("l /a", 1, 1),
+    ("l /a ", 1, 1),
+    ("l /a b c", 1, 1),
+    ("l /a  b", 1, 1),
+    ("f /a\nf /b\nf /c\nx", 4, 1),
+    // a path of one name at least
+    ("d /", 1, 1),
+    ("l / a", 1, 1),
+    ("d a", 1, 1),
+    ("d /a/", 1, 1),
+    ("d //a", 1, 1),
+    ("d /a\nf /a//b", 2, 1),
+    ("d /.", 1, 1),
+    ("d /a\nf /a/..", 2, 1),
+    ("d /\\e", 1, 1),
+    ("f /a\\x2fb", 1, 1),
+    ("f /\\x00", 1, 1),
+    // one spelling of each name and target
+    ("f /\\x61", 1, 1),
+    ("f /a\nf /\\x61", 2, 1),
+    ("f /\\x61/b", 1, 1),
+    ("f /\\xC3", 1, 1),
+    ("f /a,b", 1, 1),
+    ("f /a\\", 1, 1),
+    ("l /a \\x61", 1, 1),
+    ("l /a a\\e", 1, 1),
+    ("l /a {", 1, 1),
+    // a path that is named already
+    ("f /a\nf /a\n", 2, 2),
+    ("d /a\nd /a\n", 2, 2),
+    ("d /a\nl /a b\n", 2, 2),
+    ("f /a\nd /a\nf /a/b\n", 2, 2),
+    ("d /a\nf /a/b\no /b\nf /a/b", 4, 2),
+    // a parent that is no earlier directory
+    ("f /a/b", 1, 3),
+    ("f /a/b\nd /a\n", 1, 3),
+    ("d /b\nd /a/b\nd /a\n", 2, 3),
+    ("f /a\nf /a/b\n", 2, 3),
+    ("l /a b\nf /a/b\n", 2, 3),
+    ("o /a\nf /a/b\n", 2, 3),
+    ("d /a\nf /a/b/c\n", 2, 3),
+    ("d /a\nd /a/b\nf /a/b/c\nf /a/c/d", 4, 3),
+    // the least line
+    ("x\nf /a/b\n", 1, 1),
+    ("f /a/b\nx\n", 1, 3),
+    ("f /a\nf /a\nx\n", 2, 2),
+    ("f /a\nx\nf /a\n", 2, 1),
+    ("f /a\nf /a/b\nf /a\n", 2, 3),
+    ("f /a/b\nf /a/b\n", 1, 3),
+];
+
+// Whether the text is read as the tree of another.
+fn reads_as(alloc: Global, text: &[u8], tree: &[u8]) -> Result<bool, Fail> {
+    let read = read_tree(alloc, text)?;
+    let printed = print_tree(alloc, &read)?;
+    Ok(printed.as_slice() == tree)
+}
+
+#[test]
+fn texts_are_read(rt: HostRuntime) -> Result<(), Fail> {
+    for row in READ {
+        let same = reads_as(rt.alloc(), row.0.as_bytes(), row.1.as_bytes())?;
+        assert!(rt; same, "{row:?}");
+    }
+    Ok(())
+}
+
+#[test]
+fn the_least_line_is_refused(rt: HostRuntime) -> Result<(), Fail> {
+    for row in REFUSED {
+        match read_tree(rt.alloc(), row.0.as_bytes()) {
+            Ok(_) => assert!(rt; false, "{row:?}"),
+            Err(TreeFault::Line { line, why }) => {
+                assert!(rt;
+                    line == row.1 && why == row.2,
+                    "{row:?}: line {line} why {why}"
+                )
+            }
+            Err(TreeFault::Memory) => assert!(rt; false, "{row:?}"),
+        }
+    }
+    Ok(())
+}
+
+// A line for a directory whose path has that many names.
+fn long_line(alloc: Global, names: usize) -> Result<Bytes, Fail> {
+    let mut text = Bytes::from_slice(alloc, b"d ")?;
+    for _ in 0..names {
+        text.extend(b"/a")?;
+    }
+    Ok(text)
+}
+
+// How a text of one line is refused.
+fn why(alloc: Global, text: &[u8]) -> u8 {
+    match read_tree(alloc, text) {
+        Err(TreeFault::Line { line: _, why }) => why,
+        _ => 0,
+    }
+}
+
+#[test]
+fn paths_have_at_most_4096_names(rt: HostRuntime) -> Result<(), Fail> {
+    let longest = long_line(rt.alloc(), 4096)?;
+    assert_eq!(rt; why(rt.alloc(), longest.as_slice()), 3);
+    let longer = long_line(rt.alloc(), 4097)?;
+    assert_eq!(rt; why(rt.alloc(), longer.as_slice()), 1);
+    Ok(())
+}
+
+// A directory in another, and so on.
+fn nested(alloc: Global, names: usize) -> Result<Value, Fail> {
+    let name = Name::read(alloc, b"a")?;
+    let mut tree = Value::Dir(Entries::new(alloc));
+    for _ in 0..names {
+        let mut entries = Entries::new(alloc);
+        entries.set(&name, tree)?;
+        tree = Value::Dir(entries);
+    }
+    Ok(tree)
+}
+
+#[test]
+fn deep_trees_are_printed(rt: HostRuntime) -> Result<(), Fail> {
+    let printed = print_tree(rt.alloc(), &nested(rt.alloc(), 4097)?)?;
+    assert_eq!(rt; printed.len(), 16801797);
+    let printed = print_tree(rt.alloc(), &nested(rt.alloc(), 100)?)?;
+    let same = reads_as(rt.alloc(), printed.as_slice(), printed.as_slice())?;
+    assert!(rt; same);
+    Ok(())
+}

@@ -1,0 +1,227 @@
+-- Each act that a call comes to meets its conditions.
+use Rattle.std.proofs.Common.{◌≡◌, ◌≢◌, ℕ, zero, suc, ◌-◌, Bool, true, false, not, ◌&&◌, ◌||◌, if◌then◌else◌, Option, Some, None, List, [], ◌∷◌, ◌++◌, length, take, map, All, refl, sym, ap, ◌∙◌}
+use Rattle.std.specs.Prelude.{codes}
+use Rattle.std.specs.Str.{bytes_eq}
+use Rattle.std.proofs.lemmas.List.Elements.{All-nil, All-cons, All-append}
+use Rattle.std.proofs.lemmas.Slice.Eq.{bytes_eq-Decides}
+use Rattle.script_names.specs.declared.path.PathFault.{PathFault}
+use Rattle.script_names.specs.declared.reason.Reason.{Reason}
+use Rattle.script_names.specs.declared.reason.Reason.TheVariants as reason
+use Rattle.script_names.specs.Paths.{PathParts, is_filled, path_fault, spelled_names, path_of as spelled}
+use Rattle.utility_calls.specs.declared.acts.Act.{Act}
+use Rattle.utility_calls.specs.declared.acts.Act.TheVariants.{EnsureDir}
+use Rattle.utility_calls.specs.declared.operands.Each.{Each}
+use Rattle.utility_calls.specs.declared.operands.Each.TheVariants as each
+use Rattle.utility_calls.specs.declared.planned.Planned.{Planned}
+use Rattle.utility_calls.specs.declared.planned.Planned.TheVariants.{Known, Ask, Print, Change, Unspecified}
+use Rattle.utility_calls.specs.declared.questions.Question.{Question}
+use Rattle.utility_calls.specs.declared.questions.Question.TheVariants as question
+use Rattle.utility_calls.specs.declared.calls.Utility.{Utility}
+use Rattle.utility_calls.specs.declared.calls.Utility.TheVariants as utility
+use Rattle.utility_calls.specs.Acts.{IsPerformed, IsMove}
+use Rattle.utility_calls.specs.Options.{is_option, options, behind, is_ended, unended, options_fit, has_option}
+use Rattle.utility_calls.specs.Operands.{first_of, path_reason, operand_reason, slash_reason, file_reason, each_reason, first_reason, ensured, each_acts, all_acts}
+use Rattle.utility_calls.specs.Pairs.{same_names, is_parent, still_reason, full_reason, end_reason, target_reason, place_reason, link_reason, ln_reason, ln_act, to_reason, mv_reason, mv_act}
+use Rattle.utility_calls.specs.Questions.{negated, question_of, asking, ask_path, ask, is_not, is_other_operator, test_one, test_two, test_three, test_four, test_call, is_bracket, bracket_call}
+use Rattle.utility_calls.specs.Calls.{unless, some_reason, each_call, each_behind, act_call, with_options, mkdir_each, is_deep, ln_behind, mv_behind, echo_call, echo_text, begins_with_dash, has_backslash, utility_call, utility_named, call}
+use Rattle.utility_calls.specs.Performed.{HasPerformedActs}
+use Rattle.std.specs.List.{list_any}
+
+-- the fact as a record, of which the plan can be told
+record Fine (p : Planned) : Type 0 where
+  fact : HasPerformedActs p
+
+either : {p q : Planned} (b : Bool) → Fine p → Fine q → Fine (if b then p else q)
+either true hp hq = hp
+either false hp hq = hq
+
+unspecified : (why : Reason) → Fine (Unspecified why)
+unspecified why = record { fact = tt }
+
+known : (status : Bool) → Fine (Known status)
+known status = record { fact = tt }
+
+printing : (text : List ℕ) → Fine (Print text)
+printing text = record { fact = tt }
+
+-- ---- questions
+
+negated_fine : (p : Planned) → Fine p → Fine (negated p)
+negated_fine (Known status) h = record { fact = tt }
+negated_fine (Ask act negate) h = record { fact = h.fact }
+negated_fine (Print text) h = record { fact = tt }
+negated_fine (Change acts) h = record { fact = h.fact }
+negated_fine (Unspecified why) h = record { fact = tt }
+
+asking_performed : (q : Question) (path : PathParts) → IsPerformed (asking q path)
+asking_performed question.Exists path = ((λ e. absurd (cc)), tt)
+asking_performed question.IsReg path = ((λ e. absurd (cc)), tt)
+asking_performed question.IsDir path = ((λ e. absurd (cc)), tt)
+asking_performed question.IsLink path = ((λ e. absurd (cc)), tt)
+asking_performed question.CanRun path = ((λ e. absurd (cc)), tt)
+
+ask_path_fine : (q : Question) (fault : Option PathFault) (path : PathParts) → Fine (ask_path q fault path)
+ask_path_fine q (Some fault) path = record { fact = tt }
+ask_path_fine q None path = record { fact = asking_performed q path }
+
+ask_fine : (q : Option Question) (word : List ℕ) → Fine (ask q word)
+ask_fine None word = record { fact = tt }
+ask_fine (Some q) word = either (is_filled word) (ask_path_fine q (path_fault word) (spelled word)) (known false)
+
+two_fine : (a b : List ℕ) → Fine (test_two a b)
+two_fine a b =
+    either (is_not a) (known (not (is_filled b)))
+    (either (bytes_eq a (codes "-n")) (known (is_filled b))
+    (either (bytes_eq a (codes "-z")) (known (not (is_filled b))) (ask_fine (question_of a) b)))
+
+three_fine : (a b c : List ℕ) → Fine (test_three a b c)
+three_fine a b c =
+    either (bytes_eq b (codes "=")) (known (bytes_eq a c))
+    (either (bytes_eq b (codes "!=")) (known (not (bytes_eq a c)))
+    (either (is_other_operator b) (unspecified reason.Call)
+    (either (is_not a) (negated_fine (test_two b c) (two_fine b c)) (unspecified reason.Call))))
+
+four_fine : (a b c d : List ℕ) → Fine (test_four a b c d)
+four_fine a b c d = either (is_not a) (negated_fine (test_three b c d) (three_fine b c d)) (unspecified reason.Call)
+
+test_fine : (words : List (List ℕ)) → Fine (test_call words)
+test_fine [] = record { fact = tt }
+test_fine (a ∷ []) = record { fact = tt }
+test_fine (a ∷ b ∷ []) = two_fine a b
+test_fine (a ∷ b ∷ c ∷ []) = three_fine a b c
+test_fine (a ∷ b ∷ c ∷ d ∷ []) = four_fine a b c d
+test_fine (a ∷ b ∷ c ∷ d ∷ e ∷ more) = record { fact = tt }
+
+bracket_fine : (words : List (List ℕ)) → Fine (bracket_call words)
+bracket_fine words = either _ (test_fine (take (length words - 1) words)) (unspecified reason.Call)
+
+-- ---- operands
+
+unless_fine : (why : Option Reason) (p : Planned) → (why ≡ None → Fine p) → Fine (unless why p)
+unless_fine (Some why) p h = record { fact = tt }
+unless_fine None p h = h refl
+
+first_none : (a b : Option Reason) → first_of a b ≡ None → (a ≡ None) × (b ≡ None)
+first_none (Some why) b e = absurd (cc)
+first_none None b e = (refl, e)
+
+has_names : (fault : Option PathFault) (names : List (List ℕ)) → path_reason fault names ≡ None → names ≢ []
+has_names (Some fault) names e = absurd (cc)
+has_names None [] e = absurd (cc)
+has_names None (name ∷ names) e = λ q. absurd (cc)
+
+by_test : (b : Bool) (fault : Option PathFault) (names : List (List ℕ)) → (if b then Some reason.Call else path_reason fault names) ≡ None → names ≢ []
+by_test true fault names e = absurd (cc)
+by_test false fault names e = has_names fault names e
+
+operand_names : (ended : Bool) (word : List ℕ) → operand_reason ended word ≡ None → spelled_names word ≢ []
+operand_names ended word e = by_test (not ended && is_option word) (path_fault word) (spelled_names word) e
+
+file_names : (ended : Bool) (word : List ℕ) → file_reason ended word ≡ None → spelled_names word ≢ []
+file_names ended word e = operand_names ended word (first_none (operand_reason ended word) (slash_reason (spelled word)) e).0
+
+take_names : (names : List (List ℕ)) (n : ℕ) → names ≢ [] → take (suc n) names ≢ []
+take_names [] n h = absurd (h refl)
+take_names (name ∷ names) n h = λ e. absurd (cc)
+
+alone : (act : Act) → IsPerformed act → All IsPerformed (act ∷ [])
+alone act h = All-cons IsPerformed act [] h (All-nil IsPerformed)
+
+ensured_performed : (names : List (List ℕ)) (n : ℕ) → names ≢ [] → All IsPerformed (ensured names n)
+ensured_performed names zero h = All-nil IsPerformed
+ensured_performed names (suc n) h =
+    let t = take_names names n h in
+    All-append IsPerformed (ensured names n) (EnsureDir (record { names = take (suc n) names; slash = false }) ∷ [])
+    (ensured_performed names n h) (alone (EnsureDir (record { names = take (suc n) names; slash = false })) ((λ _. (t, t)), tt))
+
+each_performed : (e : Each) (ended : Bool) (word : List ℕ) → each_reason e ended word ≡ None → All IsPerformed (each_acts e (spelled word))
+each_performed each.MakeDir ended word n = let h = operand_names ended word n in alone _ ((λ _. (h, h)), tt)
+each_performed each.EnsureDirs ended word n =
+    let h = operand_names ended word n in
+    let path = spelled word in
+    All-append IsPerformed (ensured path.names (length path.names - 1)) (EnsureDir path ∷ [])
+    (ensured_performed path.names (length path.names - 1) h) (alone (EnsureDir path) ((λ _. (h, h)), tt))
+each_performed each.RemoveDir ended word n = let h = operand_names ended word n in alone _ ((λ _. (h, h)), tt)
+each_performed (each.Remove force deep) ended word n = let h = operand_names ended word n in alone _ ((λ _. (h, h)), tt)
+each_performed each.Touch ended word n = let h = file_names ended word n in alone _ ((λ _. (h, h)), tt)
+
+all_performed : (e : Each) (ended : Bool) (words : List (List ℕ)) → first_reason e ended words ≡ None → All (λ acts. All IsPerformed acts) (all_acts e words)
+all_performed e ended [] n = All-nil (λ acts. All IsPerformed acts)
+all_performed e ended (word ∷ words) n =
+    let h = first_none (each_reason e ended word) (first_reason e ended words) n in
+    All-cons (λ acts. All IsPerformed acts) (each_acts e (spelled word)) (all_acts e words) (each_performed e ended word h.0) (all_performed e ended words h.1)
+
+each_fine : (e : Each) (words : List (List ℕ)) → Fine (each_behind e words)
+each_fine e words =
+    unless_fine _ (Change (all_acts e (unended words))) (λ n.
+    record { fact = all_performed e (is_ended words) (unended words) (first_none (some_reason (unended words)) (first_reason e (is_ended words) (unended words)) n).1 })
+
+act_fine : (why : Option Reason) (act : Act) → (why ≡ None → IsPerformed act) → Fine (act_call why act)
+act_fine why act h =
+    unless_fine why (Change ((act ∷ []) ∷ [])) (λ n.
+    record { fact = All-cons (λ acts. All IsPerformed acts) (act ∷ []) [] (alone act (h n)) (All-nil (λ acts. All IsPerformed acts)) })
+
+-- ---- `ln` and `mv`
+
+ln_performed : (symbolic force ended : Bool) (words : List (List ℕ)) → ln_reason symbolic force ended words ≡ None → IsPerformed (ln_act force words)
+ln_performed symbolic force ended [] n = absurd (cc)
+ln_performed symbolic force ended (target ∷ []) n =
+    let e : Some reason.Call ≡ None = (first_none (target_reason symbolic target) (Some reason.Call) n).1 in absurd (cc)
+ln_performed symbolic force ended (target ∷ word ∷ more) n =
+    let link = (first_none (target_reason symbolic target) (link_reason force ended target word more) n).1 in
+    let h = operand_names ended word (first_none (operand_reason ended word) (first_of (place_reason force target (spelled word)) (end_reason more)) link).0 in
+    ((λ _. (h, h)), tt)
+
+names_same : (names : List (List ℕ)) → same_names names names ≡ true
+names_same [] = refl
+names_same (name ∷ names) = ap (λ b. b && same_names names names) ((bytes_eq-Decides name name).1 refl) ∙ names_same names
+
+still_other : (a b : List (List ℕ)) → still_reason a b ≡ None → a ≢ b
+still_other a b n e =
+    let same : same_names a b ≡ true = ap (λ x. same_names a x) (sym e) ∙ names_same a in
+    none (same_names a b) (is_parent b a) same n
+  where
+    none : (x y : Bool) → x ≡ true → (if x || y then Some reason.Same else None) ≡ None → ⊥
+    none true y t n = absurd (cc)
+    none false y t n = absurd (cc)
+
+mv_performed : (ended : Bool) (words : List (List ℕ)) → mv_reason ended words ≡ None → IsPerformed (mv_act words)
+mv_performed ended [] n = absurd (cc)
+mv_performed ended (a ∷ []) n =
+    let e : Some reason.Call ≡ None = (first_none (file_reason ended a) (Some reason.Call) n).1 in absurd (cc)
+mv_performed ended (a ∷ b ∷ more) n =
+    let first = first_none (file_reason ended a) (to_reason ended (spelled a) b more) n in
+    let still = first_of (still_reason (spelled_names a) (spelled_names b)) (first_of (full_reason (spelled b)) (end_reason more)) in
+    let second = first_none (file_reason ended b) still first.1 in
+    let third = first_none (still_reason (spelled_names a) (spelled_names b)) (first_of (full_reason (spelled b)) (end_reason more)) second.1 in
+    let ha = file_names ended a first.0 in
+    let hb = file_names ended b second.0 in
+    ((λ _. (ha, hb)), still_other (spelled_names a) (spelled_names b) third.0)
+
+-- ---- all calls
+
+echo_fine : (words : List (List ℕ)) → Fine (echo_call words)
+echo_fine words =
+    either (begins_with_dash words || list_any has_backslash words) (unspecified reason.Echo) (printing (echo_text words))
+
+utility_fine : (u : Option Utility) (words : List (List ℕ)) → Fine (utility_call u words)
+utility_fine None words = unspecified reason.Call
+utility_fine (Some utility.True) words = known true
+utility_fine (Some utility.False) words = known false
+utility_fine (Some utility.Echo) words = echo_fine words
+utility_fine (Some utility.MakeDir) words = either _ (each_fine (mkdir_each (has_option 112 words)) (behind words)) (unspecified reason.Call)
+utility_fine (Some utility.RemoveDir) words = either _ (each_fine each.RemoveDir (behind words)) (unspecified reason.Call)
+utility_fine (Some utility.Remove) words = either _ (each_fine (each.Remove (has_option 102 words) (is_deep (options words))) (behind words)) (unspecified reason.Call)
+utility_fine (Some utility.Touch) words = either _ (each_fine each.Touch (behind words)) (unspecified reason.Call)
+utility_fine (Some utility.Link) words =
+    let operands = unended (behind words) in
+    either _ (act_fine _ (ln_act (has_option 102 words) operands) (ln_performed (has_option 115 words) (has_option 102 words) (is_ended (behind words)) operands)) (unspecified reason.Call)
+utility_fine (Some utility.Move) words =
+    let operands = unended (behind words) in
+    either _ (act_fine _ (mv_act operands) (mv_performed (is_ended (behind words)) operands)) (unspecified reason.Call)
+utility_fine (Some utility.Test) words = test_fine words
+utility_fine (Some utility.Bracket) words = bracket_fine words
+
+pub performed : (words : List (List ℕ)) → HasPerformedActs (call words)
+performed [] = tt
+performed (name ∷ words) = (utility_fine (utility_named name) words).fact
