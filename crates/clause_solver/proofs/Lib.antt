@@ -19,3 +19,9 @@ pub mod Built
 pub mod Moved
 pub mod Redecided
 pub mod Excluded
+pub mod Filled
+pub mod Emptied
+pub mod Fenced
+pub mod Entered
+pub mod Without
+pub mod EmptySettles

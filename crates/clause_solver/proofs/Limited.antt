@@ -55,7 +55,7 @@ module _ (vars : List Variable) (x : ℕ) (k : Kinds) (inside : x < length vars)
     | inr n ↦ rw get_or-set_other refl
   ]
 
-  limited_kinds : (i : ℕ) (q : Kind) → IsTrue (has (var_at (limited vars x k) i).kinds q) → IsTrue (has (var_at vars i).kinds q)
+  pub limited_kinds : (i : ℕ) (q : Kind) → IsTrue (has (var_at (limited vars x k) i).kinds q) → IsTrue (has (var_at vars i).kinds q)
   limited_kinds i q h = elim (nat_cases i x) [
     | inl e ↦ rw e (narrowed_only (fixed_in (var_at vars x).definition k) (var_at vars x).kinds k q (rw (e, get_or-set_same) at h))
     | inr n ↦ rw get_or-set_other at h

@@ -79,14 +79,16 @@ same_last vars new p n (Some m) same last = (
   λ i low w child. last.2 i low w (child.0, sym (same i w) ∙ child.1),
 )
 
+-- the links hold wherever the definitions are the same
+pub same_linked : (vars new : List Variable) (kin : List Kin) → length new ≡ length vars → ((i : ℕ) → (var_at new i).definition ≡ (var_at vars i).definition) → AreLinked vars kin → AreLinked new kin
+same_linked vars new kin long same linked = record {
+  counted = linked.counted ∙ sym long;
+  youngest = λ p w. rw long (same_last vars new p (length vars) _ (λ i b. same i) (linked.youngest p (rw long at w)));
+  older = λ i p w child. same_last vars new p i _ (λ j b. same j) (linked.older i p (rw long at w) (child.0, sym (same i) ∙ child.1));
+}
+
 pub limited_linked : (vars : List Variable) (kin : List Kin) (x : ℕ) (k : Kinds) → x < length vars → AreLinked vars kin → AreLinked (limited vars x k) kin
-limited_linked vars kin x k inside linked =
-    let same : (i : ℕ) → (var_at (limited vars x k) i).definition ≡ (var_at vars i).definition = limited_definition vars x k inside in
-    record {
-      counted = rw length-set linked.counted;
-      youngest = λ p w. rw length-set (same_last vars (limited vars x k) p (length vars) _ (λ i b. same i) (linked.youngest p (rw length-set at w)));
-      older = λ i p w child. same_last vars (limited vars x k) p i _ (λ j b. same j) (linked.older i p (rw length-set at w) (child.0, sym (same i) ∙ child.1));
-    }
+limited_linked vars kin x k inside linked = same_linked vars (limited vars x k) kin (length-set vars x _) (limited_definition vars x k inside) linked
 
 at_end : (vars : List Variable) (v : Variable) (i : ℕ) → i ≡ length vars → var_at (vars ++ v ∷ []) i ≡ v
 at_end vars v i e = ap (var_at (vars ++ v ∷ [])) e ∙ get_or-append_seam vars v [] no_variable

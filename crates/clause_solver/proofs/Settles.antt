@@ -5,12 +5,12 @@ use Rattle.script_names.specs.Names.{is_name}
 use Rattle.clause_solver.specs.declared.variable.MadeValue.{MadeValue}
 use Rattle.clause_solver.specs.declared.variable.MadeValue.TheVariants as made
 use Rattle.clause_solver.specs.declared.variable.Definition.{Definition}
-use Rattle.clause_solver.specs.declared.variable.Definition.TheVariants.{Child, Derived, Made}
+use Rattle.clause_solver.specs.declared.variable.Definition.TheVariants.{Child, Derived, Ensured, Made}
 use Rattle.clause_solver.specs.declared.variable.Variable.{Variable}
 use Rattle.clause_solver.specs.declared.appended.Found.TheVariants.{Nothing, At}
 use Rattle.clause_solver.specs.declared.store.Store.TheInside.{Inside}
 use Rattle.tree_clauses.specs.Literals.{value_of_variable}
-use Rattle.clause_solver.specs.Stands.{Stands, Extends, HasEntry, HasPut, HasValue}
+use Rattle.clause_solver.specs.Stands.{Stands, Extends, HasEntry, HasEntriesOf, HasPut, HasValue}
 use Rattle.clause_solver.specs.Variables.{Ordered, Earlier, IsChild, defined, made_value}
 use Rattle.clause_solver.specs.Fresh.{fresh}
 use Rattle.clause_solver.specs.Appends.{IsAppended, LeadsTo}
@@ -99,4 +99,13 @@ pub made_is_value : (a b : Inside) (y : ℕ) (m : MadeValue) → IsSettled a →
 made_is_value a b y m inv now is = record {
   known = appended_known a b y (Made m) inv tt (made_single a.vars m) now is;
   is = appended_is a b y (Made m) inv tt (made_single a.vars m) now is;
+}
+
+pub ensured_single : (vars : List Variable) (x : ℕ) → IsSingle vars (Ensured x)
+ensured_single vars x p g i e = let bad : Ensured x ≡ Child p g = e in cc
+
+pub ensured_has : (a b : Inside) (y x : ℕ) → IsSettled a → x < length a.vars → b.current ≡ a.current → IsAppended a.vars a.best a.kin (Ensured x) b.vars b.best b.kin y → HasEntriesOf (seen b) x y
+ensured_has a b y x inv inside now is = record {
+  known = appended_known a b y (Ensured x) inv inside (ensured_single a.vars x) now is;
+  is = appended_is a b y (Ensured x) inv inside (ensured_single a.vars x) now is;
 }

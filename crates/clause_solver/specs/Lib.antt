@@ -1,4 +1,5 @@
 pub mod Stands
+pub mod Emptied
 pub mod Variables
 pub mod Greatest
 pub mod Written

@@ -1,8 +1,9 @@
 -- What a store stands for: pairs of a start tree and a valuation of the store's variables.
-use Rattle.std.specs.Prelude.{◌≡◌, ℕ, ◌<◌, ◌≤◌, List, [], ◌∷◌, length, take}
+use Rattle.std.specs.Prelude.{◌≡◌, ◌≢◌, ℕ, ◌<◌, ◌≤◌, List, [], ◌∷◌, length, take}
 use Rattle.feature_trees.specs.declared.value.Value.{Value}
+use Rattle.feature_trees.specs.declared.value.Value.TheVariants as value
 use Rattle.feature_trees.specs.declared.kind.Kind.TheVariants as kind
-use Rattle.feature_trees.specs.Tree.{entry, kind_of, put}
+use Rattle.feature_trees.specs.Tree.{entry, entries_of, kind_of, put}
 use Rattle.tree_clauses.specs.declared.clause.Literal.{Literal}
 use Rattle.tree_clauses.specs.Literals.{Valuation, value_of_variable, MeetsAll, IsSound}
 
@@ -53,3 +54,27 @@ pub record HasPut (s : Seen) (x : ℕ) (f : List ℕ) (z y : ℕ) : Type 0 where
 pub record HasValue (s : Seen) (y : ℕ) (v : Value) : Type 0 where
   pub known : y < s.count
   pub is : (t : Value) (g : Valuation) → Stands s t g → value_of_variable g y ≡ v
+
+-- the variable y is a directory with the entries of x, in every pair
+pub record HasEntriesOf (s : Seen) (x y : ℕ) : Type 0 where
+  pub known : y < s.count
+  pub is : (t : Value) (g : Valuation) → Stands s t g
+      → value_of_variable g y ≡ value.Dir (entries_of (value_of_variable g x))
+
+-- the value has an entry
+abbrev pub HasSome : Value → Type 0
+HasSome v = (f : List ℕ) × (entry v f ≢ value.Absent)
+
+-- the value has no entry
+abbrev pub HasNone : Value → Type 0
+HasNone v = (f : List ℕ) → entry v f ≡ value.Absent
+
+-- the new store has those pairs of the old one in which the variable x has no entry, each valuation extended by values
+-- for the new variables
+pub record Empties (old new : Seen) (x : ℕ) : Type 0 where
+  pub more : old.count ≤ new.count
+  pub same : new.current ≡ old.current
+  pub down : (t : Value) (g : Valuation) → Stands new t g
+      → Stands old t (take old.count g) × HasNone (value_of_variable g x)
+  pub up : (t : Value) (g : Valuation) → Stands old t g → HasNone (value_of_variable g x)
+      → (h : Valuation) × Stands new t h × (take old.count h ≡ g)

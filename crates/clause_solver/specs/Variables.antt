@@ -125,6 +125,10 @@ narrowed v k = if fixed_in v.definition k then v.kinds else both v.kinds k
 abbrev pub limited : List Variable → ℕ → Kinds → List Variable
 limited vars x k = slice_set vars x (record (var_at vars x) { kinds = narrowed (var_at vars x) k })
 
+-- the variable at a place has an entry
+abbrev pub filled : List Variable → ℕ → List Variable
+filled vars x = slice_set vars x (record (var_at vars x) { not_empty = true })
+
 -- the one kind that a definition fixes, else the kinds that are given
 abbrev pub possible_by : Definition → Kinds → Kinds
 possible_by Start ks = ks

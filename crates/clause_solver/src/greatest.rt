@@ -35,15 +35,15 @@ pub(crate) fn choose(kinds: Kinds) -> Kind
     }
 }
 
-// Whether the name is one of these.
-fn is_member(names: &[Name], f: &Name) -> bool
+/// Whether the name is one of these.
+pub(crate) fn is_member(names: &[Name], f: &Name) -> bool
     ensures { result ≡ member f.now names.now }
 {
     names.iter().any(|g| f.compare(g) == Ordering::Equal)
 }
 
-// Whether a fence lets the name in.
-fn allows(fence: &Option<List<Name>>, f: &Name) -> bool
+/// Whether a fence lets the name in.
+pub(crate) fn allows(fence: &Option<List<Name>>, f: &Name) -> bool
     ensures { result ≡ allowed fence.now f.now }
 {
     match fence {
@@ -134,6 +134,23 @@ fn settled(vars: &Shared<Variable>, best: &Shared<Kind>, x: usize) -> Result<Sha
 {
     let mut new = fork_alone(best)?;
     for i in x..vars.len() {
+        settle_one(vars, &mut new, i)?;
+    }
+    Ok(new)
+}
+
+/// The greatest kinds, whatever they were before.
+pub(crate) fn settled_all(
+    vars: &Shared<Variable>,
+    best: &Shared<Kind>,
+) -> Result<Shared<Kind>, Memory>
+    requires same { length best.now ≡ length vars.now }
+    requires order { Ordered vars.now }
+    ensures same { IfOk result (λ new. length new ≡ length vars.now) }
+    ensures best { IfOk result (λ new. IsBest vars.now new) }
+{
+    let mut new = fork_alone(best)?;
+    for i in 0..vars.len() {
         settle_one(vars, &mut new, i)?;
     }
     Ok(new)
@@ -278,8 +295,8 @@ fn is_satisfied_at(vars: &Shared<Variable>, best: &Shared<Kind>, i: usize) -> bo
     }
 }
 
-// Whether some valuation is left, where each variable has its greatest kind.
-fn is_satisfied(vars: &Shared<Variable>, best: &Shared<Kind>) -> bool
+/// Whether some valuation is left, where each variable has its greatest kind.
+pub(crate) fn is_satisfied(vars: &Shared<Variable>, best: &Shared<Kind>) -> bool
     requires same { length best.now ≡ length vars.now }
     requires order { Ordered vars.now }
     ensures { IsTrue result ↔ IsSatisfied vars.now best.now (unfenced vars.now) }

@@ -5,6 +5,8 @@
 
 mod appended;
 mod children;
+mod emptying;
+mod facts;
 mod greatest;
 mod kin;
 mod literals;

@@ -8,13 +8,16 @@ ghost use Rattle.tree_clauses.specs.Literals.{Valuation, value_of_variable, Cove
 ghost use Rattle.tree_clauses.specs.Solved.{IsSolved};
 ghost use Rattle.clause_solver.specs.Pairs.{HasPair};
 ghost use Rattle.clause_solver.specs.Stands.{Seen, Stands, Alive, Extends, HasEntry, IsDirectory, HasPut, HasValue};
-ghost use Rattle.clause_solver.specs.Variables.{fixed_in, limited, made_value, narrowed};
+ghost use Rattle.clause_solver.specs.Stands.{Empties, HasEntriesOf, HasSome};
+ghost use Rattle.clause_solver.specs.Variables.{made_value};
 ghost use Rattle.clause_solver.specs.Variables.{possible, possible_by, var_at};
 ghost use Rattle.feature_trees.specs.declared.value.Value.TheVariants as value;
 
 use crate::appended::{Found, append, resolve};
 use crate::children::find;
-use crate::greatest::{kind_made, redecide};
+use crate::emptying::without_entries;
+use crate::facts::{fill, narrow};
+use crate::greatest::{is_satisfied, kind_made, redecide, settled_all};
 use crate::kin::Kin;
 use crate::literals::write_literals;
 use crate::new_name::new_name;
@@ -22,8 +25,8 @@ use crate::places::var_at;
 use crate::start_tree::{grow, open_places};
 use crate::variable::{Definition, MadeValue, Variable};
 use feature_trees::{Kind, Kinds, Value};
-use script_names::{Common, Copied, Memory, Name};
-use shared_table::{Shared, fork_alone, push_alone, set_alone};
+use script_names::{Bytes, Common, Copied, Memory, Name};
+use shared_table::{Shared, fork_alone, push_alone};
 use std::alloc::Global;
 use std::marker::Model;
 use tree_clauses::{Clause, Var};
@@ -240,6 +243,82 @@ impl Store {
         self.made(MadeValue::Absent)
     }
 
+    /// The variable of a file. For want of memory the store is as before.
+    pub fn made_reg(&mut self) -> Result<Var, Memory>
+        ensures extends { Extends self.old self.new }
+        ensures reg { IfOk result (λ y. HasValue self.new y.0 value.Reg) }
+        ensures kept { OnErr result (self.new ≡ self.old) }
+        ensures count { self.new.count ≤ self.old.count + 1 }
+    {
+        self.made(MadeValue::Reg)
+    }
+
+    /// The variable of a link to a target. For want of memory the store is as before.
+    pub fn made_link(&mut self, target: &Bytes) -> Result<Var, Memory>
+        ensures extends { Extends self.old self.new }
+        ensures link { IfOk result (λ y. HasValue self.new y.0 (value.Link target.now)) }
+        ensures kept { OnErr result (self.new ≡ self.old) }
+        ensures count { self.new.count ≤ self.old.count + 1 }
+    {
+        let target = target.copy(self.alloc)?;
+        self.made(MadeValue::Link(target))
+    }
+
+    /// The variable of a directory with the entries of x; what is no directory has none. For want of memory the store
+    /// is as before.
+    pub fn ensure(&mut self, x: Var) -> Result<Var, Memory>
+        requires known { x.0 < self.old.count }
+        ensures extends { Extends self.old self.new }
+        ensures entries { IfOk result (λ y. HasEntriesOf self.new x.0 y.0) }
+        ensures kept { OnErr result (self.new ≡ self.old) }
+        ensures count { self.new.count ≤ self.old.count + 1 }
+    {
+        let y = append(
+            self.alloc,
+            &mut self.vars,
+            &mut self.best,
+            &mut self.kin,
+            Definition::Ensured(x.0),
+        )?;
+        Ok(Var(y))
+    }
+
+    /// Leaves the pairs in which a variable has an entry, and says whether one is left. For want of memory the store
+    /// is as before.
+    pub fn not_empty(&mut self, x: Var) -> Result<bool, Memory>
+        requires { x.0 < self.old.count }
+        ensures kept { (self.new.count ≡ self.old.count) × (self.new.current ≡ self.old.current) }
+        ensures exact { IfOk result (λ left. (t : Value) (g : Valuation) → Stands self.new t g
+            ↔ (Stands self.old t g × HasSome (value_of_variable g x.0))) }
+        ensures alive { IfOk result (λ left. IsTrue left ↔ Alive self.new) }
+        ensures unchanged { OnErr result (self.new ≡ self.old) }
+    {
+        let mut vars = fork_alone(&self.vars)?;
+        fill(self.alloc, &mut vars, x.0 as usize)?;
+        let left = is_satisfied(&vars, &self.best);
+        self.vars = vars;
+        self.alive = left;
+        Ok(left)
+    }
+
+    /// Leaves the pairs in which a variable has no entry, and says whether one is left; there may be further variables.
+    /// For want of memory the store is as before.
+    pub fn empty(&mut self, x: Var) -> Result<bool, Memory>
+        requires { x.0 < self.old.count }
+        ensures empties { IfOk result (λ left. Empties self.old self.new x.0) }
+        ensures alive { IfOk result (λ left. IsTrue left ↔ Alive self.new) }
+        ensures unchanged { OnErr result (self.new ≡ self.old) }
+    {
+        let new = without_entries(self.alloc, &self.vars, &self.best, &self.kin, x.0)?;
+        let best = settled_all(&new.vars, &new.best)?;
+        let left = is_satisfied(&new.vars, &best);
+        self.vars = new.vars;
+        self.best = best;
+        self.kin = new.kin;
+        self.alive = left;
+        Ok(left)
+    }
+
     // The variable of a made value.
     fn made(&mut self, value: MadeValue) -> Result<Var, Memory>
         ensures extends { Extends self.old self.new }
@@ -292,61 +371,6 @@ impl Store {
             start: Var(0),
             now: Var(self.current),
         })
-    }
-}
-
-// Limits the variable at a place to a set of kinds; for want of memory all is as before.
-fn narrow(alloc: Global, vars: &mut Shared<Variable>, x: usize, k: Kinds) -> Result<(), Memory>
-    requires { x < length vars.old }
-    ensures { OnOk result (vars.new ≡ limited vars.old x k) }
-{
-    let narrowed = narrowed_at(alloc, vars, x, k)?;
-    set_alone(vars, x, narrowed)?;
-    Ok(())
-}
-
-// The variable at a place, limited to a set of kinds.
-fn narrowed_at(
-    alloc: Global,
-    vars: &Shared<Variable>,
-    x: usize,
-    k: Kinds,
-) -> Result<Variable, Memory>
-    requires { x < length vars.now }
-    ensures { IfOk result (λ v. v ≡ record (var_at vars.now x) { kinds = narrowed (var_at vars.now x) k }) }
-{
-    let v = var_at(vars, x);
-    let definition = v.definition.fork()?;
-    let fence = v.fence.copy(alloc)?;
-    Ok(Variable {
-        definition,
-        kinds: narrowed(v, k),
-        fence,
-        not_empty: v.not_empty,
-    })
-}
-
-// The kinds of a variable that is limited to a set; where its definition says as much, they stay.
-fn narrowed(v: &Variable, k: Kinds) -> Kinds
-    ensures { result ≡ narrowed v.now k }
-{
-    if fixed_in(v.definition.get(), k) {
-        v.kinds
-    } else {
-        Kinds::both(v.kinds, k)
-    }
-}
-
-// Whether the definition fixes the kind, and it is one of the set.
-fn fixed_in(definition: &Definition, k: Kinds) -> bool
-    ensures { result ≡ fixed_in definition.now k }
-{
-    match definition {
-        Definition::Start => false,
-        Definition::Child(_, _) => false,
-        Definition::Derived(_, _, _) => k.has(Kind::Dir),
-        Definition::Ensured(_) => k.has(Kind::Dir),
-        Definition::Made(value) => k.has(kind_made(value)),
     }
 }
 

@@ -1,0 +1,123 @@
+-- A variable without entries: the stages put together.
+use Rattle.std.proofs.Common.{◌≡◌, ℕ, ◌<◌, ◌≤◌, IsTrue, List, [], ◌∷◌, length, take, refl, sym, ap, ◌∙◌, arith, length-set, subst}
+use Rattle.std.proofs.lemmas.List.{take_all, get_or-take, length-take-le}
+use Rattle.feature_trees.specs.declared.kind.Kind.{Kind}
+use Rattle.feature_trees.specs.declared.value.Value.{Value}
+use Rattle.feature_trees.specs.declared.value.Value.TheVariants as value
+use Rattle.feature_trees.specs.Tree.{kind_of}
+use Rattle.tree_clauses.specs.Literals.{Valuation, value_of_variable, IsSound}
+use Rattle.clause_solver.specs.declared.kin.Kin.{Kin}
+use Rattle.clause_solver.specs.declared.variable.Variable.{Variable}
+use Rattle.clause_solver.specs.Stands.{Stands, Empties, HasNone}
+use Rattle.clause_solver.specs.Variables.{var_at, Listed, AllFit, Ordered, AlwaysDir, OnlyDir, is_node}
+use Rattle.clause_solver.specs.Emptied.{HasNoneOutside, IsNarrower, ComesTo, IsEmptied, StandTogether, HasMore, HasItsVariable, IsClosed, IsWithout, fenced}
+use Rattle.clause_solver.proofs.Pairs.{fits_from, fits_to}
+use Rattle.clause_solver.proofs.OneMore.{seen_of, sound_take}
+use Rattle.clause_solver.proofs.Links.{same_linked}
+use Rattle.clause_solver.proofs.Fenced.{fenced_fits, fits_fenced, fenced_only, fenced_order, fenced_linked}
+
+pub narrower_together : (old new : List Variable) (best : List Kind) (kin : List Kin) → StandTogether old best kin → IsNarrower old new → StandTogether new best kin
+narrower_together old new best kin t n = record {
+  order = n.order;
+  same = t.same ∙ sym n.long;
+  linked = same_linked old new kin n.long n.definition t.linked;
+  small = rw n.long t.small;
+}
+
+pub fenced_together : (vars : List Variable) (best : List Kind) (kin : List Kin) (n : ℕ) (names : List (List ℕ)) → n < length vars → IsTrue (is_node (var_at vars n).definition) → ((f : List ℕ) → Listed f names → HasItsVariable vars n f) → StandTogether vars best kin → StandTogether (fenced vars n names) best kin
+fenced_together vars best kin n names inside node known t = record {
+  order = fenced_order vars n names inside node known t.order;
+  same = t.same ∙ sym (length-set vars n _);
+  linked = fenced_linked vars n names inside kin t.linked;
+  small = rw length-set t.small;
+}
+
+pub fenced_closed : (old vars : List Variable) (n : ℕ) (names : List (List ℕ)) → 0 < length old → n < length old → HasMore old vars → IsClosed old n names (fenced vars n names)
+fenced_closed old vars n names some inside m =
+    let less = m.more in
+    let inside' : n < length vars = omega (arith, inside, less) in
+    record {
+      more = rw length-set less;
+      first = λ h. fenced_only vars n names inside' 0 (rw (m.old_at 0 some) h);
+      down = λ g l fits.
+          let parts = fenced_fits vars n names inside' g fits in
+          (m.down g (rw length-set at l) parts.0, rw (get_or-take (length old) g n value.Absent inside) parts.1);
+      up = λ g l s fits none.
+          let r = m.up g l s fits in
+          let same : value_of_variable r.0 n ≡ value_of_variable g n = sym (get_or-take (length old) r.0 n value.Absent inside) ∙ ap (λ u. value_of_variable u n) r.4 in
+          (r.0, rw length-set r.1, r.2, fits_fenced vars n names inside' r.0 r.3 (rw same none), r.4);
+    }
+
+pub closed_without : (old mid : List Variable) (x n : ℕ) (names : List (List ℕ)) (new : List Variable) → ComesTo old x mid n names → IsClosed mid n names new → IsWithout old x new
+closed_without old mid x n names new to closed =
+    let long = to.narrower.long in
+    let less = closed.more in
+    record {
+      more = rw (sym long) less;
+      first = λ h. closed.first (λ k t. h k (to.narrower.kinds 0 k t));
+      down = λ g l s fits.
+          let parts = closed.down g l fits in
+          let sound = sound_take (length mid) g (omega (arith, l, less)) s in
+          subst (λ k. AllFit old (take k g) × HasNone (value_of_variable (take k g) x)) long (to.narrower.fits (take (length mid) g) parts.0, to.back (take (length mid) g) sound parts.0 parts.1);
+      up = λ g l s fits none.
+          let r = to.there g s fits none in
+          let q = closed.up g (l ∙ sym long) s r.0 r.1 in
+          (q.0, q.1, q.2, q.3, ap (λ k. take k q.0) (sym long) ∙ q.4);
+    }
+
+pub emptied_without : (old : List Variable) (x : ℕ) (new : List Variable) → IsEmptied old x new → IsWithout old x new
+emptied_without old x new e =
+    let long = e.narrower.long in
+    record {
+      more = rw long (omega arith);
+      first = λ h k t. h k (e.narrower.kinds 0 k t);
+      down = λ g l s fits.
+          let whole : take (length old) g ≡ g = take_all (length old) g (omega (arith, l, long)) in
+          subst (λ u. AllFit old u × HasNone (value_of_variable u x)) (sym whole) (e.narrower.fits g fits, e.back g s fits);
+      up = λ g l s fits none. (g, l ∙ sym long, s, e.there g s fits none, take_all (length old) g (omega (arith, l)));
+    }
+
+-- the tree now is a directory in the new pairs too
+pub without_always : (old : List Variable) (x : ℕ) (new : List Variable) (now : ℕ) → now < length old → IsWithout old x new → AlwaysDir old now → AlwaysDir new now
+without_always old x new now known w h g l s fits =
+    let less = w.more in
+    let parts = w.down g l s fits in
+    let sound = sound_take (length old) g (omega (arith, l, less)) s in
+    rw (get_or-take (length old) g now value.Absent known) at (h (take (length old) g) (length-take-le (length old) g (omega (arith, l, less))) sound parts.0)
+
+pub without_empties : (old : List Variable) (x : ℕ) (new : List Variable) (now : ℕ) → Ordered old → Ordered new → x < length old → now < length old → IsWithout old x new → Empties (seen_of old now) (seen_of new now) x
+without_empties old x new now order new_order inside known w =
+    let less = w.more in
+    record {
+      more = less;
+      same = refl;
+      down = λ t g h.
+          let parts = w.down g h.counted h.values (fits_from new g new_order h.values h.met) in
+          let long = h.counted in
+          let s = sound_take (length old) g (omega (arith, long, less)) h.values in (
+            record {
+              counted = length-take-le (length old) g (omega (arith, long, less));
+              starts = rw (get_or-take (length old) g 0 value.Absent order.some) h.starts;
+              tree = h.tree;
+              ends = rw (get_or-take (length old) g now value.Absent known) h.ends;
+              met = fits_to old (take (length old) g) s parts.0;
+              values = s;
+            },
+            rw (get_or-take (length old) g x value.Absent inside) at parts.1,
+          );
+      up = λ t g h none.
+          let r = w.up g h.counted h.values (fits_from old g order h.values h.met) none in
+          let at_old : (i : ℕ) → i < length old → value_of_variable r.0 i ≡ value_of_variable g i =
+          λ i b. sym (get_or-take (length old) r.0 i value.Absent b) ∙ ap (λ u. value_of_variable u i) r.4 in (
+            r.0,
+            record {
+              counted = r.1;
+              starts = at_old 0 order.some ∙ h.starts;
+              tree = h.tree;
+              ends = ap kind_of (at_old now known) ∙ h.ends;
+              met = fits_to new r.0 r.2 r.3;
+              values = r.2;
+            },
+            r.4,
+          );
+    }

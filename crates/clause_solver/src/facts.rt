@@ -1,0 +1,98 @@
+//! What becomes known of a variable: its kinds, and that it has an entry.
+
+ghost use Rattle.std.specs.Prelude.{◌≡◌, ◌<◌, length, IfOk, OnOk, true};
+ghost use Rattle.clause_solver.specs.Variables.{filled, fixed_in, limited, narrowed, var_at};
+
+use crate::greatest::kind_made;
+use crate::places::var_at;
+use crate::variable::{Definition, Variable};
+use feature_trees::{Kind, Kinds};
+use script_names::{Copied, Memory};
+use shared_table::{Shared, set_alone};
+use std::alloc::Global;
+
+/// Limits the variable at a place to a set of kinds; for want of memory all is as before.
+pub(crate) fn narrow(
+    alloc: Global,
+    vars: &mut Shared<Variable>,
+    x: usize,
+    k: Kinds,
+) -> Result<(), Memory>
+    requires { x < length vars.old }
+    ensures { OnOk result (vars.new ≡ limited vars.old x k) }
+{
+    let narrowed = narrowed_at(alloc, vars, x, k)?;
+    set_alone(vars, x, narrowed)?;
+    Ok(())
+}
+
+// The variable at a place, limited to a set of kinds.
+fn narrowed_at(
+    alloc: Global,
+    vars: &Shared<Variable>,
+    x: usize,
+    k: Kinds,
+) -> Result<Variable, Memory>
+    requires { x < length vars.now }
+    ensures { IfOk result (λ v. v ≡ record (var_at vars.now x) { kinds = narrowed (var_at vars.now x) k }) }
+{
+    let v = var_at(vars, x);
+    let definition = v.definition.fork()?;
+    let fence = v.fence.copy(alloc)?;
+    Ok(Variable {
+        definition,
+        kinds: narrowed(v, k),
+        fence,
+        not_empty: v.not_empty,
+    })
+}
+
+/// Says of the variable at a place that it has an entry; for want of memory all is as before.
+pub(crate) fn fill(alloc: Global, vars: &mut Shared<Variable>, x: usize) -> Result<(), Memory>
+    requires { x < length vars.old }
+    ensures { OnOk result (vars.new ≡ filled vars.old x) }
+{
+    let filled = filled_at(alloc, vars, x)?;
+    set_alone(vars, x, filled)?;
+    Ok(())
+}
+
+// The variable at a place, which has an entry.
+fn filled_at(alloc: Global, vars: &Shared<Variable>, x: usize) -> Result<Variable, Memory>
+    requires { x < length vars.now }
+    ensures { IfOk result (λ v. v ≡ record (var_at vars.now x) { not_empty = true }) }
+{
+    let v = var_at(vars, x);
+    let definition = v.definition.fork()?;
+    let fence = v.fence.copy(alloc)?;
+    Ok(Variable {
+        definition,
+        kinds: v.kinds,
+        fence,
+        not_empty: true,
+    })
+}
+
+// The kinds of a variable that is limited to a set; where its definition says as much, they stay.
+fn narrowed(v: &Variable, k: Kinds) -> Kinds
+    ensures { result ≡ narrowed v.now k }
+{
+    if fixed_in(v.definition.get(), k) {
+        v.kinds
+    } else {
+        Kinds::both(v.kinds, k)
+    }
+}
+
+// Whether the definition fixes the kind, and it is one of the set.
+fn fixed_in(definition: &Definition, k: Kinds) -> bool
+    ensures { result ≡ fixed_in definition.now k }
+{
+    match definition {
+        Definition::Start => false,
+        Definition::Child(_, _) => false,
+        Definition::Derived(_, _, _) => k.has(Kind::Dir),
+        Definition::Ensured(_) => k.has(Kind::Dir),
+        Definition::Made(value) => k.has(kind_made(value)),
+    }
+}
