@@ -1,4 +1,4 @@
-//! The CoLiS language: what every shell script is executed as. Its types, which programs are well formed, and the
+//! The CoLiS language, into which shell scripts are translated. Its types, which programs are well formed, and the
 //! state and the ends of runs, which are those of shell_rules. It stands on shell_rules, shown_texts and the crates
 //! below these. Begin with `syntax`.
 #![tactic(auto)]

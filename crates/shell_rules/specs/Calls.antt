@@ -72,8 +72,8 @@ do_planned (Change lists) p s = then_do (do_operands true lists p s) (λ ok s. G
 do_planned (Unspecified reason) p s = stopped reason p s
 
 -- The fields of a command: the first is the name of a utility. A command without fields has the status of its last
--- command substitution, or success. A name that is no utility's stops the run: also that of a function or one of
--- `special_names`, where it was computed, since these are no names of utilities.
+-- command substitution, or success. A name that is no utility's stops the run: also one of `special_names` that was
+-- computed, and in an accepted script that of a function, which has no utility's name there.
 abbrev pub do_call_of : List Text → Action
 do_call_of [] p s = Go tt (with_status s.substituted s)
 do_call_of (name ∷ words) p s = do_planned (call (name ∷ words)) p s

@@ -1,5 +1,5 @@
--- The variables that a shell sets or gives a meaning of its own, so that their values differ from shell to shell
--- (POSIX.1-2017, XCU 2.5.3 Shell Variables, and what shells have beside these).
+-- Of the variables that a shell sets or gives a meaning of its own (POSIX.1-2017, XCU 2.5.3 Shell Variables, and what
+-- shells have beside these) those on which shells are known to differ. The list is this program's own.
 use Rattle.std.specs.Prelude.{ℕ, Bool, ◌||◌, nat_eq, List, [], ◌∷◌, codes}
 use Rattle.std.specs.List.{list_any, starts_with}
 use Rattle.std.specs.Str.{bytes_eq}

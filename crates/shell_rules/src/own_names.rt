@@ -49,8 +49,8 @@ const OWN_NAMES: [&[u8]; 42] = [
     b"_",
 ];
 
-/// Whether a variable is the shell's own: one that a shell sets or gives a meaning of its own, so that its value
-/// differs from shell to shell (POSIX.1-2017, XCU 2.5.3 Shell Variables, and what shells have beside these).
+/// Whether a variable is the shell's own: one that a shell sets or gives a meaning of its own, on which shells are
+/// known to differ, by this program's list (POSIX.1-2017, XCU 2.5.3 Shell Variables, and what shells have beside).
 pub fn is_shells_own(name: &[u8]) -> bool
     ensures { result ≡ is_shells_own name.now }
 {
