@@ -136,7 +136,7 @@ fn scripts_come_to_what_their_rows_say(rt: HostRuntime) -> Result<(), Fail> {
     let tables = [
         (WORKED, 7u32),
         (STATUS, 28),
-        (WORDS, 27),
+        (WORDS, 30),
         (LOOPS, 18),
         (CASES_AND_FUNCTIONS, 20),
         (CALLS, 31),

@@ -187,7 +187,16 @@ x=exit; $x 1%
 end stopped call 3:18%trace%turns 100%after%d /srv%
 100 d /srv%
 false; >/dev/null%
-end success%trace%turns 100%after%d /srv%"#;
+end success%trace%turns 100%after%d /srv%
+100 d /srv%
+x=a; for i in 0 1 2 3 4 5 6 7 8 9 0 1 2 3 4 5; do x="$x$x"; done; touch /srv/a%
+end success%trace 3:76:67%turns 84%after%d /srv%f /srv/a%
+100 d /srv%
+x=a; for i in 0 1 2 3 4 5 6 7 8 9 0 1 2 3 4 5 6; do x="$x$x"; done; touch /srv/a%
+end stopped long 3:62%trace%turns 83%after%d /srv%
+100 d /srv%
+x=a; for i in 0 1 2 3 4 5 6 7 8 9 0 1 2 3 4 5; do x="$x$x"; done; case "$x$x" in a) ;; esac%
+end stopped long 3:76%trace%turns 84%after%d /srv%"#;
 
 pub const LOOPS: &str = r#"100 d /srv%
 x=$(y=1; touch /srv/a; echo b)%[ -z "$y" ] && touch "/srv/$x"%
