@@ -13,6 +13,6 @@ mod tables;
 pub use making::cases;
 
 #[cfg(test)]
-mod tests;
-#[cfg(test)]
 mod taken_tests;
+#[cfg(test)]
+mod tests;
