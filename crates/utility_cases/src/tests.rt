@@ -174,21 +174,31 @@ const GONE: &[Taking] = &[
     (Call::Exists, &[b"b"], false, &[65, 66, 67]),
 ];
 
+// A row that an act takes first, and the rows that acts take then.
+const AFTER: &[(Call, &[&[u8]], u8, &[Taking])] = &[
+    (Call::IsDir, &[b"a"], 65, LINK),
+    (Call::IsDir, &[b"a"], 66, NO_DIR),
+    (Call::IsDir, &[b"a"], 67, SOME_DIR),
+    (Call::MakeDir, &[b"a"], 68, MADE),
+    (Call::Remove, &[b"a"], 71, GONE),
+];
+
 #[test]
 fn takes_rows_after_rows(rt: HostRuntime) -> Result<(), Fail> {
     let all = Store::start(rt.alloc())?;
-    let link = after(&rt, &all, Call::IsDir, &[b"a"], 65)?;
-    expect(&rt, &link, LINK)?;
-    let no_dir = after(&rt, &all, Call::IsDir, &[b"a"], 66)?;
-    expect(&rt, &no_dir, NO_DIR)?;
-    let some_dir = after(&rt, &all, Call::IsDir, &[b"a"], 67)?;
-    expect(&rt, &some_dir, SOME_DIR)?;
+    for case in AFTER {
+        let store = after(&rt, &all, case.0, case.1, case.2)?;
+        expect(&rt, &store, case.3)?;
+    }
+    Ok(())
+}
+
+#[test]
+fn takes_rows_below_what_was_made(rt: HostRuntime) -> Result<(), Fail> {
+    let all = Store::start(rt.alloc())?;
     let made = after(&rt, &all, Call::MakeDir, &[b"a"], 68)?;
-    expect(&rt, &made, MADE)?;
     let below = after(&rt, &made, Call::MakeDir, &[b"a", b"b"], 68)?;
-    expect(&rt, &below, MADE_BELOW)?;
-    let gone = after(&rt, &all, Call::Remove, &[b"a"], 71)?;
-    expect(&rt, &gone, GONE)
+    expect(&rt, &below, MADE_BELOW)
 }
 
 #[test]
