@@ -1,5 +1,6 @@
 use crate::acts::Act;
-use script_names::{Bytes, List, Reason};
+use script_names::{Bytes, Copied, List, Memory, Reason};
+use std::alloc::Global;
 
 /// What a call of a utility comes to, as far as its words alone say.
 #[derive(Debug, Drop)]
@@ -15,4 +16,22 @@ pub enum Planned {
     Change(List<List<Act>>),
     /// No specified meaning.
     Unspecified(Reason),
+}
+
+impl Copied for Planned {
+    fn copy(&self, alloc: Global) -> Result<Planned, Memory> {
+        match self {
+            Planned::Known(ok) => Ok(Planned::Known(*ok)),
+            Planned::Ask { act, negate } => {
+                let act = act.copy(alloc)?;
+                Ok(Planned::Ask {
+                    act,
+                    negate: *negate,
+                })
+            }
+            Planned::Print(text) => Ok(Planned::Print(text.copy(alloc)?)),
+            Planned::Change(lists) => Ok(Planned::Change(lists.copy(alloc)?)),
+            Planned::Unspecified(reason) => Ok(Planned::Unspecified(*reason)),
+        }
+    }
 }
