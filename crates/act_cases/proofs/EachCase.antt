@@ -21,7 +21,8 @@ use Rattle.act_cases.specs.declared.plans.Plan.{Plan}
 use Rattle.act_cases.specs.Looks.{Sees}
 use Rattle.act_cases.specs.Plans.{put_by, case_of}
 use Rattle.act_cases.specs.Tables.{through, plan_of, link_plan, slash_plan, names_at, is_inner}
-use Rattle.act_cases.specs.Cases.{IsOnOnePath, link_row, Leads, IsExact, AnswersAs, rule_case}
+use Rattle.act_cases.specs.Cases.{IsOnOnePath, link_row, IsExact, AnswersAs, rule_case}
+use Rattle.tree_clauses.specs.Leads.{Leads}
 use Rattle.act_cases.proofs.Meets.{AreNames, first_name, later_names}
 use Rattle.act_cases.proofs.Leading.{leads_from, leads_to}
 use Rattle.act_cases.proofs.Seeing.{through_from, through_to, parents_clear, there_parents}
@@ -136,7 +137,7 @@ module _ (act : Act) (one_path : IsOnOnePath act) (performed : IsPerformed act) 
       (link_taken act t k low high is, x.2))
       (λ t u tree same is.
       let at_link = link_says t (row act t).number k (ap (λ (r : Row). r.number) same) low high tree.dir (row_says act one_path performed t tree.dir) in
-      leads_to (link_plan k) (take k names) [] (some_names k names named) t u tree.sound
+      leads_to (link_plan k) (take k names) [] (some_names k names named) t u tree
       (through_to (of Link) t (take k names) (there_parents t (take k names) (link_there _ at_link)) (ap (has (of Link)) at_link)) tt is)
 
   -- ---- a slash
@@ -159,7 +160,7 @@ module _ (act : Act) (one_path : IsOnOnePath act) (performed : IsPerformed act) 
       (slash_taken act t (parents_clear t names parts.0) s is.0 is.1, x.2))
       (λ t u tree same is.
       let x = slash_says t (row act t).number (ap (λ (r : Row). r.number) same) tree.dir (row_says act one_path performed t tree.dir) in
-      leads_to slash_plan names [] named t u tree.sound
+      leads_to slash_plan names [] named t u tree
       (through_to (three Reg Link Other) t names (there_parents t names x.2) (is_thing (kind_of (at t names)) x.2 x.3)) tt is)
 
   -- ---- a row of the table
@@ -195,5 +196,5 @@ module _ (act : Act) (one_path : IsOnOnePath act) (performed : IsPerformed act) 
       (λ t u tree same is.
       let x = rule_says t r (row act t).number (ap (λ (r : Row). r.number) same) among tree.dir (row_says act one_path performed t tree.dir) in
       let y = rule_to t names (path_of act).slash (inner_name act) r.place (has_name r among) s.inner_name x.0 x.1 in
-      leads_to plan looked (target_of act) (looked_names (is_inner r.place)) t u tree.sound y.0 y.1
+      leads_to plan looked (target_of act) (looked_names (is_inner r.place)) t u tree y.0 y.1
       (is ∙ effect_is act t r.effect (is_inner r.place) s.effect))

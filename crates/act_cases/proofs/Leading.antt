@@ -14,7 +14,7 @@ use Rattle.act_cases.specs.declared.plans.Plan.{Plan}
 use Rattle.act_cases.specs.Looks.{kinds_from, Sees, way_literals, look_literals}
 use Rattle.act_cases.specs.Puts.{put_literals, root_of}
 use Rattle.act_cases.specs.Plans.{EndMet, end_literals, is_put, made_value, made_literals, put_by, changes, root_by, case_of}
-use Rattle.act_cases.specs.Cases.{Leads}
+use Rattle.tree_clauses.specs.Leads.{Leads}
 use Rattle.act_cases.proofs.Meets.{meets_split, meets_join, Along, Outwards, AreNames, first_seen, way_from, way_to, along_end, end_length, end_from, end_to, made_from, made_to, put_from, put_to, outwards_root}
 use Rattle.act_cases.proofs.Valued.{line, rings, line_length, value_at, along_at, outwards_at, Each, each_sound, each_join, line_sound, rings_sound}
 
@@ -58,7 +58,7 @@ module _ (plan : Plan) (names : List (List ℕ)) (target : List ℕ) (named : Ar
   pub leads_from : (u : Value) → Leads (case_of plan names target) t u → Sees plan.ways t names × EndMet plan.end (at t names) × (u ≡ put_by plan.effect names target t)
   leads_from u h =
       let g = h.valuation in
-      let one = meets_split g (look_literals plan.ways 0 1 names) _ h.met in
+      let one = meets_split g (look_literals plan.ways 0 1 names) _ h.met.1 in
       let two = meets_split g (end_literals plan.end n) _ one.1 in
       let way = way_from plan.ways g 0 1 t names h.starts (subst (λ (v : Value). IsTrue (has (kinds_from plan.ways names) (kind_of v))) h.starts one.0.0) one.0.1 in (
         way.0,
@@ -105,9 +105,10 @@ module _ (plan : Plan) (names : List (List ℕ)) (target : List ℕ) (named : Ar
           let m = made_sound plan.effect target (at t names) (sound_at_names names t s) in
           (m, each_join (rings t names made) [] (rings_sound t made names s m named) tt)
 
-  pub leads_to : (u : Value) → IsTrue (sound t) → Sees plan.ways t names → EndMet plan.end (at t names) → u ≡ put_by plan.effect names target t
+  pub leads_to : (u : Value) → IsTree t → Sees plan.ways t names → EndMet plan.end (at t names) → u ≡ put_by plan.effect names target t
       → Leads (case_of plan names target) t u
-  leads_to u s sees end is =
+  leads_to u tree sees end is =
+      let s = tree.sound in
       let b = is_put plan.effect in
       let g = all_values b in
       record {
@@ -115,7 +116,10 @@ module _ (plan : Plan) (names : List (List ℕ)) (target : List ℕ) (named : Ar
         values = each_sound g (all_sound b s);
         starts = refl;
         ends = root_is b ∙ sym is;
-        met = meets_join g (look_literals plan.ways 0 1 names) _
-            (first_seen plan.ways t names sees, way_to plan.ways g 0 1 t names refl sees (along_all b))
-            (meets_join g (end_literals plan.end n) _ (end_to g plan.end n (at t names) (at_end g t names refl (along_all b)) end) (changed b s));
+        met = (
+          rw tree.dir refl,
+          meets_join g (look_literals plan.ways 0 1 names) _
+              (first_seen plan.ways t names sees, way_to plan.ways g 0 1 t names refl sees (along_all b))
+              (meets_join g (end_literals plan.end n) _ (end_to g plan.end n (at t names) (at_end g t names refl (along_all b)) end) (changed b s)),
+        );
       }

@@ -29,7 +29,8 @@ use Rattle.act_cases.specs.Looks.{Sees}
 use Rattle.act_cases.specs.Plans.{EndMet, case_of}
 use Rattle.act_cases.specs.Tables.{through, ways_of, end_of_place, is_inner, names_at, link_plan, slash_plan}
 use Rattle.act_cases.specs.Moves.{moved_by, source_where, is_anything, second_names, is_move, move_plan, looked, second_plan, move_rule_case, move_case}
-use Rattle.act_cases.specs.Cases.{link_row, Leads}
+use Rattle.act_cases.specs.Cases.{link_row}
+use Rattle.tree_clauses.specs.Leads.{Leads}
 use Rattle.act_cases.proofs.Meets.{AreNames}
 use Rattle.act_cases.proofs.Leading.{leads_from, leads_to}
 use Rattle.act_cases.proofs.Seeing.{has_all, through_from, through_to, parents_clear, there_parents}
@@ -147,7 +148,7 @@ module _ (a b : PathParts) (performed : IsPerformed (Move a b)) (few_a : length 
       (link_taken act t k low high is, x.2))
       (λ t u tree same is.
       let at_link = link_tells t (row act t).number k (ap (λ (r : Row). r.number) same) low high (row_tells act t performed tree.dir) in
-      leads_to (link_plan k) (take k p) [] (some_names k p named_a) t u tree.sound
+      leads_to (link_plan k) (take k p) [] (some_names k p named_a) t u tree
       (through_to (of Link) t (take k p) (there_parents t (take k p) (link_there _ at_link)) (ap (has (of Link)) at_link)) tt is)
 
   -- ---- a slash
@@ -170,7 +171,7 @@ module _ (a b : PathParts) (performed : IsPerformed (Move a b)) (few_a : length 
       (slash_taken act t (parents_clear t p parts.0) s is.0 is.1, x.2))
       (λ t u tree same is.
       let x = slash_tells t (row act t).number (ap (λ (r : Row). r.number) same) (row_tells act t performed tree.dir) in
-      leads_to slash_plan p [] named_a t u tree.sound
+      leads_to slash_plan p [] named_a t u tree
       (through_to (three Reg Link Other) t p (there_parents t p x.2) (is_thing (kind_of (at t p)) x.2 x.3)) tt is)
 
   -- ---- a link on the way of the second path
@@ -197,7 +198,7 @@ module _ (a b : PathParts) (performed : IsPerformed (Move a b)) (few_a : length 
       (second_taken act t k y.0 y.1 low high is, x.3))
       (λ t u tree same is.
       let x = second_tells t (row act t).number k (ap (λ (r : Row). r.number) same) (row_tells act t performed tree.dir) in
-      moves_to p (take k q) named_a named t plan u tree.sound (looked_to t p a.slash below x.0 x.1)
+      moves_to p (take k q) named_a named t plan u tree (looked_to t p a.slash below x.0 x.1)
       (through_to (of Link) t (take k q) (there_parents t (take k q) (link_there _ x.2)) (ap (has (of Link)) x.2)) tt (λ c. absurd (cc)) is)
 
   -- ---- a row of the table
@@ -272,7 +273,7 @@ module _ (a b : PathParts) (performed : IsPerformed (Move a b)) (few_a : length 
       let x = rule_tells t r (row act t).number (ap (λ (r : Row). r.number) same) among (row_tells act t performed tree.dir) in
       let parts = and_parts (is_source r.source (kind_of (at t p))) (holds r.place (seen t q false m)) x.2 in
       let z = place_to t q m somewhere_b some r.place c refl (λ e. x.1 (looks_where below c r.source (kind_of (at t p)) w.looks e parts.0)) parts.1 in
-      moves_to p names named_a (second_named c i) t plan u tree.sound (source_to t p a.slash r.source x.0 parts.0) z.0 z.1
+      moves_to p names named_a (second_named c i) t plan u tree (source_to t p a.slash r.source x.0 parts.0) z.0 z.1
       (λ moves.
       room_by t names tree.sound (clear_second m c i (w.beside moves) (w.named moves))
       (through_from (ways_of false r.place).last t names (subst (λ v. Sees v t names) (through_ways false r.place (w.through moves)) z.0)).0)

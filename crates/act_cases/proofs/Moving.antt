@@ -6,7 +6,7 @@ use Rattle.feature_trees.specs.declared.value.Value.TheVariants as value
 use Rattle.feature_trees.specs.declared.kind.Kind.TheVariants.{Absent}
 use Rattle.feature_trees.specs.Kinds.{has, of, all}
 use Rattle.feature_trees.specs.Tree.{entry, at, kind_of, put, has_parents}
-use Rattle.feature_trees.specs.Sound.{sound}
+use Rattle.feature_trees.specs.Sound.{sound, IsTree}
 use Rattle.feature_trees.proofs.Laws.{sound-entry}
 use Rattle.feature_trees.proofs.Kept.{sound-put}
 use Rattle.tree_clauses.specs.Literals.{Valuation, value_of_variable, IsSound, MeetsAll}
@@ -19,7 +19,7 @@ use Rattle.act_cases.specs.Puts.{put_literals, root_of}
 use Rattle.act_cases.specs.Plans.{EndMet, end_literals}
 use Rattle.act_cases.specs.Tables.{through}
 use Rattle.act_cases.specs.Moves.{spare, freed, onward, outward, placed, moved_literals, moves_by, move_root, moved_by, move_case}
-use Rattle.act_cases.specs.Cases.{Leads}
+use Rattle.tree_clauses.specs.Leads.{Leads}
 use Rattle.act_cases.proofs.Meets.{meets_split, meets_join, Along, Outwards, AreNames, first_seen, way_from, way_to, along_end, end_length, end_from, end_to, put_from, put_to, outwards_root}
 use Rattle.act_cases.proofs.Valued.{line, rings, line_length, rings_length, value_at, along_at, outwards_at, Each, each_sound, each_join, line_sound, rings_sound}
 use Rattle.act_cases.proofs.Seeing.{has_all, through_to}
@@ -72,7 +72,7 @@ module _ (p q : List (List ℕ)) (named_p : AreNames p) (named_q : AreNames q) (
       → Sees plan.source t p × Sees plan.place t q × EndMet plan.end (at t q) × (u ≡ moved_by plan.moves p q t)
   moves_from plan u h =
       let g = h.valuation in
-      let one = meets_split g (look_literals plan.source 0 1 p) _ h.met in
+      let one = meets_split g (look_literals plan.source 0 1 p) _ h.met.1 in
       let first = look_from plan.source g 0 1 t p h.starts one.0 in
       let two = meets_split g (look_literals plan.place 0 (n + 1) q) _ one.1 in
       let second = look_from plan.place g 0 (n + 1) t q h.starts two.0 in
@@ -196,17 +196,21 @@ module _ (p q : List (List ℕ)) (named_p : AreNames p) (named_q : AreNames q) (
   values_sound : (c : Bool) → IsTrue (sound t) → Each (values c)
   values_sound c s = (s, each_join (line t p) _ (line_sound t p s) (each_join b1 (last c) (line_sound t q s) (last_sound c s)))
 
-  pub moves_to : (plan : MovePlan) (u : Value) → IsTrue (sound t) → Sees plan.source t p → Sees plan.place t q → EndMet plan.end (at t q)
+  pub moves_to : (plan : MovePlan) (u : Value) → IsTree t → Sees plan.source t p → Sees plan.place t q → EndMet plan.end (at t q)
       → (plan.moves ≡ true → IsTrue (has_parents without q)) → u ≡ moved_by plan.moves p q t → Leads (move_case plan p q) t u
-  moves_to plan u s one two end room is =
+  moves_to plan u tree one two end room is =
+      let s = tree.sound in
       let g = values plan.moves in
       record {
         valuation = g;
         values = each_sound g (values_sound plan.moves s);
         starts = refl;
         ends = root_is plan.moves ∙ sym is;
-        met = meets_join g (look_literals plan.source 0 1 p) _ (look_to plan.source g 0 1 t p refl one (along_p plan.moves))
-            (meets_join g (look_literals plan.place 0 (n + 1) q) _ (look_to plan.place g 0 (n + 1) t q refl two (along_q plan.moves))
-            (meets_join g (end_literals plan.end (end_of 0 (n + 1) q)) _ (end_to g plan.end (end_of 0 (n + 1) q) (at t q) (along_end g 0 (n + 1) t q refl (along_q plan.moves)) end)
-            (moved_met plan.moves s room)));
+        met = (
+          rw tree.dir refl,
+          meets_join g (look_literals plan.source 0 1 p) _ (look_to plan.source g 0 1 t p refl one (along_p plan.moves))
+              (meets_join g (look_literals plan.place 0 (n + 1) q) _ (look_to plan.place g 0 (n + 1) t q refl two (along_q plan.moves))
+              (meets_join g (end_literals plan.end (end_of 0 (n + 1) q)) _ (end_to g plan.end (end_of 0 (n + 1) q) (at t q) (along_end g 0 (n + 1) t q refl (along_q plan.moves)) end)
+              (moved_met plan.moves s room))),
+        );
       }

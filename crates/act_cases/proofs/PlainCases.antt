@@ -29,6 +29,7 @@ use Rattle.act_cases.specs.Plans.{end_literals, is_put, made_literals, changes, 
 use Rattle.act_cases.specs.Tables.{fitting, free, through, ways_of, is_inner, names_at, plan_of, link_plan, slash_plan}
 use Rattle.tree_clauses.specs.Plain.{IsOneOf, AreNoneOrDir, IsLimited, PlainOrder, done, absent, reg, link, dir, same, kinds, empty as empty_fact, filled, IsPlain}
 use Rattle.act_cases.specs.Cases.{IsOnOnePath, rule_case, cases_of}
+use Rattle.act_cases.proofs.KindSets.{of_dir}
 use Rattle.act_cases.proofs.Meets.{meets_split, end_length}
 use Rattle.act_cases.proofs.Tabled.{all_of, test_of, implies}
 use Rattle.act_cases.proofs.Ordered.{firsts, below_contains, contains_below, not_yet, Within, AllLimited, limited_within, AllKinds, through_limited, way_order, all_below, put_order}
@@ -107,12 +108,14 @@ module _ (plan : Plan) (names : List (List ℕ)) (target : List ℕ) where
       → PlainOrder [] (0 ∷ []) (case_of plan names target).literals (firsts (locals_by (is_put plan.effect) names + 1))
   case_order puts =
       let c = is_put plan.effect in
+      let root = Kind (var 0) (of kind.Dir) in
       let first = Kind (var 0) (kinds_from plan.ways names) in
-      kinds (var 0) (kinds_from plan.ways names) (0, omega arith, refl)
-      (way_order plan.ways 0 1 1 names (first ∷ []) (end_literals plan.end n ++ changes c plan.effect names target) (firsts (locals_by c names + 1)) refl (omega arith) (inl refl)
+      kinds (var 0) (of kind.Dir) (0, omega arith, refl)
+      (kinds (var 0) (kinds_from plan.ways names) (0, omega arith, refl)
+      (way_order plan.ways 0 1 1 names (first ∷ root ∷ []) (end_literals plan.end n ++ changes c plan.effect names target) (firsts (locals_by c names + 1)) refl (omega arith) (inl refl)
       (λ m b em within all.
       end_order plan.end n m b (changes c plan.effect names target) (firsts (locals_by c names + 1)) (omega (arith, em))
-      (λ b' more. changes_order c refl puts m em b' (all_limited_within b b' plan.ways 0 1 names more all))))
+      (λ b' more. changes_order c refl puts m em b' (all_limited_within b b' plan.ways 0 1 names more all)))))
 
   known_all : (l i : ℕ) → Contains (firsts (l + 1)) i ↔ (i ≤ l)
   known_all l i = (λ h. let lt = contains_below (l + 1) i h in omega (arith, lt), λ le. below_contains (l + 1) i (omega arith))
@@ -140,8 +143,9 @@ module _ (plan : Plan) (names : List (List ℕ)) (target : List ℕ) where
     order = case_order puts;
     variables = λ i. known_all (locals_by (is_put plan.effect) names) i;
     root = root_within (is_put plan.effect);
-    dir = λ g s d m.
-        let one = meets_split g (look_literals plan.ways 0 1 names) _ m in
+    dir = λ g s m.
+        let d = of_dir _ m.0 in
+        let one = meets_split g (look_literals plan.ways 0 1 names) _ m.1 in
         let two = meets_split g (end_literals plan.end n) _ one.1 in
         root_dir g (is_put plan.effect) (λ e. (puts e).somewhere) d two.1;
   }

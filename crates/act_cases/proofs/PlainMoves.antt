@@ -22,6 +22,7 @@ use Rattle.act_cases.specs.Plans.{end_literals}
 use Rattle.act_cases.specs.Tables.{through, ways_of, end_of_place, is_inner, names_at}
 use Rattle.act_cases.specs.Moves.{spare, freed, onward, outward, placed, moved_literals, moves_by, move_locals, move_root, move_case, source_where, is_anything, second_names, is_move, move_plan, second_plan, move_rule_case}
 use Rattle.tree_clauses.specs.Plain.{IsOneOf, IsLimited, PlainOrder, done, absent, kinds, IsPlain}
+use Rattle.act_cases.proofs.KindSets.{of_dir}
 use Rattle.act_cases.proofs.Meets.{meets_split}
 use Rattle.act_cases.proofs.Ordered.{firsts, below_contains, contains_below, not_yet, Within, AllLimited, limited_within, AllKinds, through_limited, way_order, AllBelow, all_below, put_order}
 use Rattle.act_cases.proofs.PlainCases.{is_through, through_ways, end_order}
@@ -96,13 +97,15 @@ module _ (plan : MovePlan) (p q : List (List ℕ)) where
   move_order moves =
       let last = firsts (move_locals plan.moves p q + 1) in
       let ends = end_literals plan.end (end_of 0 (n + 1) q) ++ moves_by plan.moves p q in
-      look_order plan.source 0 1 1 p [] (look_literals plan.place 0 (n + 1) q ++ ends) last refl (omega arith)
+      let root = Kind (var 0) (of kind.Dir) in
+      kinds (var 0) (of kind.Dir) (0, omega arith, refl)
+      (look_order plan.source 0 1 1 p (root ∷ []) (look_literals plan.place 0 (n + 1) q ++ ends) last refl (omega arith)
       (λ m b em in1 first.
       look_order plan.place 0 (n + 1) m q b ends last (omega (arith, em)) (omega (arith, em))
       (λ m2 b2 em2 in2 second.
       end_order plan.end (end_of 0 (n + 1) q) m2 b2 (moves_by plan.moves p q) last (omega (arith, em2, end_in))
       (λ b3 in3.
-      moved_order plan.moves moves m2 (omega (arith, em2)) b3 (kinds_within b b3 plan.source 0 1 p (λ l h. in3 l (in2 l h)) first))))
+      moved_order plan.moves moves m2 (omega (arith, em2)) b3 (kinds_within b b3 plan.source 0 1 p (λ l h. in3 l (in2 l h)) first)))))
 
   known_all : (l i : ℕ) → Contains (firsts (l + 1)) i ↔ (i ≤ l)
   known_all l i = (λ h. let lt = contains_below (l + 1) i h in omega (arith, lt), λ le. below_contains (l + 1) i (omega arith))
@@ -129,8 +132,9 @@ module _ (plan : MovePlan) (p q : List (List ℕ)) where
     order = move_order moves;
     variables = λ i. known_all (move_locals plan.moves p q) i;
     root = root_within plan.moves;
-    dir = λ g s d m.
-        let one = meets_split g (look_literals plan.source 0 1 p) _ m in
+    dir = λ g s m.
+        let d = of_dir _ m.0 in
+        let one = meets_split g (look_literals plan.source 0 1 p) _ m.1 in
         let two = meets_split g (look_literals plan.place 0 (n + 1) q) _ one.1 in
         let three = meets_split g (end_literals plan.end (end_of 0 (n + 1) q)) _ two.1 in
         root_dir g plan.moves (λ e. (moves e).somewhere) d three.1;

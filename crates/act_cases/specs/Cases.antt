@@ -5,7 +5,6 @@ use Rattle.script_names.specs.declared.reason.Done.{Done}
 use Rattle.script_names.specs.Paths.{PathParts}
 use Rattle.feature_trees.specs.declared.value.Value.{Value}
 use Rattle.feature_trees.specs.Sound.{IsTree}
-use Rattle.tree_clauses.specs.Literals.{Valuation, value_of_variable, IsSound, MeetsAll}
 use Rattle.utility_calls.specs.declared.acts.Act.{Act}
 use Rattle.utility_calls.specs.declared.sights.Row.{Row}
 use Rattle.utility_calls.specs.declared.sights.Effect.TheVariants.{Nothing}
@@ -14,6 +13,7 @@ use Rattle.utility_calls.specs.Acts.{path_of, place_of, inner_name, target_of, m
 use Rattle.utility_calls.specs.Acts.{tree_after}
 use Rattle.tree_clauses.specs.declared.case.Case.{Case}
 use Rattle.act_cases.specs.Plans.{case_of}
+use Rattle.tree_clauses.specs.Leads.{Leads}
 use Rattle.tree_clauses.specs.Plain.{IsPlain}
 use Rattle.act_cases.specs.Tables.{link_plan, slash_plan, plan_of, names_at, is_inner}
 
@@ -51,15 +51,6 @@ rows_of act =
     link_rows 1 (length (path_of act).names - 1)
     ++ (slash_rows (path_of act).slash
     ++ (map row_of (rules (is_below act) act) ++ second_rows (moved act) (place_of act)))
-
--- the case leads from a tree to a value: some valuation with the one for variable 0 and the other for the root meets
--- its literals
-pub record Leads (made : Case) (t u : Value) : Type 0 where
-  pub valuation : Valuation
-  pub values : IsSound valuation
-  pub starts : value_of_variable valuation 0 ≡ t
-  pub ends : value_of_variable valuation made.root.0 ≡ u
-  pub met : MeetsAll valuation made.literals
 
 -- the case leads from each tree exactly where its row is the act's row there, and to the tree that the act leaves
 abbrev pub IsExact : Act → Case → Type 0

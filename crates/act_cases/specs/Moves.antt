@@ -3,7 +3,7 @@ use Rattle.std.specs.Prelude.{ℕ, zero, suc, ◌+◌, ◌-◌, Bool, true, fals
 use Rattle.std.specs.Prelude.{Option, Some, None, if◌then◌else◌}
 use Rattle.feature_trees.specs.declared.value.Value.{Value}
 use Rattle.feature_trees.specs.declared.value.Value.TheVariants as value
-use Rattle.feature_trees.specs.declared.kind.Kind.TheVariants.{Absent, Link}
+use Rattle.feature_trees.specs.declared.kind.Kind.TheVariants.{Absent, Link, Dir}
 use Rattle.feature_trees.specs.declared.kind.Kinds.{Kinds}
 use Rattle.feature_trees.specs.Kinds.{of, all}
 use Rattle.feature_trees.specs.Tree.{at, put}
@@ -80,9 +80,10 @@ abbrev pub move_case : MovePlan → List (List ℕ) → List (List ℕ) → Case
 move_case plan p q = record {
   row = plan.number;
   locals = move_locals plan.moves p q;
-  literals = look_literals plan.source 0 1 p
+  literals = Kind (var 0) (of Dir)
+      ∷ (look_literals plan.source 0 1 p
       ++ (look_literals plan.place 0 (length p + 1) q
-      ++ (end_literals plan.end (end_of 0 (length p + 1) q) ++ moves_by plan.moves p q));
+      ++ (end_literals plan.end (end_of 0 (length p + 1) q) ++ moves_by plan.moves p q)));
   done = plan.answer;
   root = var (move_root plan.moves p q);
 }

@@ -92,13 +92,14 @@ abbrev pub root_by : Bool → List (List ℕ) → ℕ
 root_by false names = 0
 root_by true names = root_of names (length names + 1) (length names + 2)
 
--- the case of a row
+-- the case of a row; a tree is a directory
 abbrev pub case_of : Plan → List (List ℕ) → List ℕ → Case
 case_of plan names target = record {
   row = plan.number;
   locals = locals_by (is_put plan.effect) names;
-  literals = look_literals plan.ways 0 1 names
-      ++ (end_literals plan.end (length names) ++ changes (is_put plan.effect) plan.effect names target);
+  literals = Kind (var 0) (of kind.Dir)
+      ∷ (look_literals plan.ways 0 1 names
+      ++ (end_literals plan.end (length names) ++ changes (is_put plan.effect) plan.effect names target));
   done = plan.answer;
   root = var (root_by (is_put plan.effect) names);
 }

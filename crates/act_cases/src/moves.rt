@@ -90,6 +90,7 @@ pub(crate) fn make_move_case(
     let n = p.len() as u32;
     let k = q.len() as u32;
     let mut literals = List::new(alloc);
+    literals.add(Literal::Kind(Var(0), Kinds::of(Kind::Dir)))?;
     add_look(alloc, &mut literals, &plan.source, 0, 1, p)?;
     add_look(alloc, &mut literals, &plan.place, 0, n + 1, q)?;
     add_end(alloc, &mut literals, plan.end, end_of(0, n + 1, q))?;

@@ -128,6 +128,7 @@ pub(crate) fn make_case(
 {
     let n = names.len() as u32;
     let mut literals = List::new(alloc);
+    literals.add(Literal::Kind(Var(0), Kinds::of(Kind::Dir)))?;
     add_look(alloc, &mut literals, &plan.ways, 0, 1, names)?;
     add_end(alloc, &mut literals, plan.end, n)?;
     if !is_put(plan.effect) {

@@ -19,6 +19,7 @@ const QUESTIONS: &[Printed] = &[
         1,
         "clause start v0 now v0
 kind v0 dir
+kind v0 dir
 entry v0 a v1
 kind v1 link
 ",
@@ -29,6 +30,7 @@ kind v1 link
         "failed",
         2,
         "clause start v0 now v0
+kind v0 dir
 kind v0 absent,reg,other,dir
 entry v0 a v1
 kind v1 absent,reg,other,dir
@@ -43,6 +45,7 @@ kind v2 absent,dir
         2,
         "clause start v0 now v0
 kind v0 dir
+kind v0 dir
 entry v0 a v1
 kind v1 dir
 entry v1 b v2
@@ -56,6 +59,7 @@ kind v2 -
         0,
         "clause start v0 now v0
 kind v0 dir
+kind v0 dir
 ",
     ),
 ];
@@ -68,6 +72,7 @@ const CHANGES: &[Printed] = &[
         "failed",
         2,
         "clause start v0 now v0
+kind v0 dir
 kind v0 absent,reg,other,dir
 entry v0 a v1
 kind v1 absent,reg,other
@@ -81,6 +86,7 @@ kind v2 absent,reg,link,other,dir
         "ok",
         5,
         "clause start v0 now v5
+kind v0 dir
 kind v0 dir
 entry v0 a v1
 kind v1 dir
@@ -101,6 +107,7 @@ entry v5 a v4
         3,
         "clause start v0 now v3
 kind v0 dir
+kind v0 dir
 entry v0 a v1
 kind v1 absent,dir
 similar v2 {} v1
@@ -115,6 +122,7 @@ entry v3 a v2
         1,
         "clause start v0 now v0
 kind v0 dir
+kind v0 dir
 entry v0 a v1
 kind v1 reg,link,other
 ",
@@ -125,6 +133,7 @@ kind v1 reg,link,other
         "failed",
         1,
         "clause start v0 now v0
+kind v0 dir
 kind v0 dir
 entry v0 a v1
 kind v1 dir
@@ -137,6 +146,7 @@ notempty v1
         "ok",
         3,
         "clause start v0 now v3
+kind v0 dir
 kind v0 dir
 entry v0 a v1
 kind v1 dir
@@ -152,6 +162,7 @@ entry v3 a v2
         "ok",
         5,
         "clause start v0 now v5
+kind v0 dir
 kind v0 dir
 entry v0 a v1
 kind v1 dir
@@ -174,6 +185,7 @@ const MOVES: &[Printed] = &[
         "failed",
         1,
         "clause start v0 now v0
+kind v0 dir
 kind v0 absent,reg,other,dir
 entry v0 a v1
 kind v1 absent
@@ -186,6 +198,7 @@ kind v0 absent,reg,link,other,dir
         "ok",
         6,
         "clause start v0 now v6
+kind v0 dir
 kind v0 dir
 entry v0 a v1
 kind v1 reg,link,other
@@ -208,6 +221,7 @@ entry v6 b v1
         "ok",
         9,
         "clause start v0 now v9
+kind v0 dir
 kind v0 dir
 entry v0 a v1
 kind v1 dir
@@ -237,6 +251,7 @@ entry v9 b v8
         "failed",
         3,
         "clause start v0 now v0
+kind v0 dir
 kind v0 absent,reg,other,dir
 entry v0 a v1
 kind v1 absent,reg,link,other,dir
@@ -253,6 +268,7 @@ kind v3 absent,reg,other,dir
         "link",
         2,
         "clause start v0 now v0
+kind v0 dir
 kind v0 dir
 entry v0 a v1
 kind v1 reg,link,other,dir

@@ -8,3 +8,4 @@ pub mod Held
 pub mod Cuts
 pub mod ClauseRead
 pub mod Plain
+pub mod Leads

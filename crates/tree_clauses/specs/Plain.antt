@@ -67,14 +67,13 @@ pub data PlainOrder : List Literal → List ℕ → List Literal → List ℕ �
       → PlainOrder (NotEmpty x ∷ before) known literals after → PlainOrder before known (NotEmpty x ∷ literals) after
 
 -- The case is plain: its variables are variable 0 and the `locals` many behind it, all known in the end, and the root
--- is a directory wherever variable 0 is one and all literals are met.
+-- is a directory wherever all literals are met.
 pub record IsPlain (made : Case) : Type 0 where
   pub known : List ℕ
   pub order : PlainOrder [] (0 ∷ []) made.literals known
   pub variables : (i : ℕ) → Contains known i ↔ (i ≤ made.locals)
   pub root : made.root.0 ≤ made.locals
-  pub dir : (g : Valuation) → IsSound g → kind_of (value_of_variable g 0) ≡ kind.Dir → MeetsAll g made.literals
-      → kind_of (value_of_variable g made.root.0) ≡ kind.Dir
+  pub dir : (g : Valuation) → IsSound g → MeetsAll g made.literals → kind_of (value_of_variable g made.root.0) ≡ kind.Dir
 
 -- a case as a clause, from the tree before to the tree after
 abbrev pub case_clause : Case → Clause
