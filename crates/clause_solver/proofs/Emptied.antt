@@ -1,6 +1,5 @@
 -- That a variable has no entry, along the definitions.
 use Rattle.std.proofs.Common.{◌≡◌, ◌≢◌, ℕ, ◌<◌, ◌⊎◌, inl, inr, IsTrue, Bool, true, false, if◌then◌else◌, List, [], ◌∷◌, ◌++◌, length, refl, sym, ap, ◌∙◌, arith, length-set, subst}
-use Rattle.feature_trees.specs.declared.kind.Kind.{Kind}
 use Rattle.feature_trees.specs.declared.kind.Kind.TheVariants as kind
 use Rattle.feature_trees.specs.declared.value.Value.TheVariants as value
 use Rattle.feature_trees.specs.Kinds.{has, of as of'}
@@ -11,10 +10,9 @@ use Rattle.clause_solver.specs.declared.variable.MadeValue.{MadeValue}
 use Rattle.clause_solver.specs.declared.variable.MadeValue.TheVariants as made
 use Rattle.clause_solver.specs.declared.variable.Definition.TheVariants.{Derived, Ensured, Made}
 use Rattle.clause_solver.specs.declared.variable.Variable.{Variable}
-use Rattle.clause_solver.specs.Stands.{HasNone}
 use Rattle.clause_solver.specs.Variables.{var_at, Listed, member, defined, made_value, limited, AllFit, Ordered}
-use Rattle.clause_solver.specs.Emptied.{HasNoneOutside, IsNarrower, ComesTo, IsEmptied, vars_past, names_past}
-use Rattle.clause_solver.proofs.Names.{bool_cases, name_cases, listed_from_member, member_from_listed}
+use Rattle.clause_solver.specs.Emptied.{IsNarrower, ComesTo, IsEmptied, vars_past, names_past}
+use Rattle.clause_solver.proofs.Names.{name_cases, listed_from_member, member_from_listed}
 use Rattle.clause_solver.proofs.KindSets.{of_absent}
 use Rattle.clause_solver.proofs.Pairs.{sound_at}
 use Rattle.clause_solver.proofs.Limited.{limited_definition, limited_kinds, limited_fits, fits_limited, limited_order}

@@ -1,5 +1,5 @@
 -- A store in which a variable has no entry is settled.
-use Rattle.std.proofs.Common.{◌≡◌, ℕ, ◌<◌, ◌↔◌, IsTrue, List, length, refl, arith}
+use Rattle.std.proofs.Common.{◌≡◌, ℕ, ◌↔◌, IsTrue, List, length, arith}
 use Rattle.feature_trees.specs.declared.kind.Kind.{Kind}
 use Rattle.clause_solver.specs.declared.store.Store.TheInside.{Inside}
 use Rattle.clause_solver.specs.Variables.{AlwaysDir}

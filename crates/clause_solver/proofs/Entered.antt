@@ -4,12 +4,11 @@ use Rattle.std.proofs.lemmas.List.{take_all, length-append, length-take-le}
 use Rattle.std.proofs.Math.Seq.{take-append_seam}
 use Rattle.script_names.specs.Names.{is_name}
 use Rattle.feature_trees.specs.declared.kind.Kind.{Kind}
-use Rattle.feature_trees.specs.declared.value.Value.{Value}
-use Rattle.tree_clauses.specs.Literals.{Valuation, value_of_variable, IsSound}
+use Rattle.tree_clauses.specs.Literals.{Valuation}
 use Rattle.clause_solver.specs.declared.kin.Kin.{Kin}
 use Rattle.clause_solver.specs.declared.variable.Definition.TheVariants.{Child}
 use Rattle.clause_solver.specs.declared.variable.Variable.{Variable}
-use Rattle.clause_solver.specs.Variables.{var_at, Listed, AllFit, Earlier, Ordered, IsChild, defined, is_node}
+use Rattle.clause_solver.specs.Variables.{var_at, Listed, Earlier, Ordered, IsChild, defined, is_node}
 use Rattle.clause_solver.specs.Fresh.{fresh}
 use Rattle.clause_solver.specs.Appends.{IsAppended}
 use Rattle.clause_solver.specs.Emptied.{StandTogether, HasMore, HasItsVariable}

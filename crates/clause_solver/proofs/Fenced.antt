@@ -1,9 +1,7 @@
 -- What a fence leaves.
-use Rattle.std.proofs.Common.{◌≡◌, ◌≢◌, ℕ, ◌<◌, ◌⊎◌, inl, inr, IsTrue, Bool, true, false, if◌then◌else◌, Option, Some, None, filter, List, [], ◌∷◌, length, refl, sym, ap, ◌∙◌, length-set, get_or-set_other, get_or-set_same}
-use Rattle.feature_trees.specs.declared.kind.Kind.{Kind}
+use Rattle.std.proofs.Common.{◌≡◌, ◌≢◌, ℕ, ◌<◌, inl, inr, IsTrue, Bool, true, false, if◌then◌else◌, Option, Some, filter, List, [], ◌∷◌, length, refl, sym, ap, ◌∙◌, length-set, get_or-set_other, get_or-set_same}
 use Rattle.feature_trees.specs.declared.value.Value.TheVariants as value
 use Rattle.feature_trees.specs.Tree.{entry}
-use Rattle.feature_trees.specs.Kinds.{has}
 use Rattle.tree_clauses.specs.Literals.{Valuation, value_of_variable}
 use Rattle.tree_clauses.proofs.Values.{absent_or_not}
 use Rattle.clause_solver.specs.declared.kin.Kin.{Kin}

@@ -25,3 +25,11 @@ pub mod Fenced
 pub mod Entered
 pub mod Without
 pub mod EmptySettles
+pub mod Drafting
+pub mod PlainViews
+pub mod Going
+pub mod Turns
+pub mod DraftSteps
+pub mod Drafted
+pub mod Added
+pub mod Looked

@@ -41,13 +41,13 @@ meets_join g [] ys h w = w
 meets_join g (x ∷ xs) ys h w = (h.0, meets_join g xs ys h.1 w)
 
 module _ (g : Valuation) (i : ℕ) where
-  made_from : (m : MadeValue) → IsSound g → MeetsAll g (made_literals i m) → value_of_variable g i ≡ made_value m
+  pub made_from : (m : MadeValue) → IsSound g → MeetsAll g (made_literals i m) → value_of_variable g i ≡ made_value m
   made_from made.Absent s h = absent_kind (value_of_variable g i) (of_absent _ h.0)
   made_from made.Reg s h = reg_kind (value_of_variable g i) (of_reg _ h.0)
   made_from (made.Link b) s h = h.0
   made_from made.Dir s h = empty_from (value_of_variable g i) (sound_at g s i) (of_dir _ h.0) h.1.0
 
-  made_to : (m : MadeValue) → value_of_variable g i ≡ made_value m → MeetsAll g (made_literals i m)
+  pub made_to : (m : MadeValue) → value_of_variable g i ≡ made_value m → MeetsAll g (made_literals i m)
   made_to made.Absent e = (rw e refl, tt)
   made_to made.Reg e = (rw e refl, tt)
   made_to (made.Link b) e = (e, tt)
@@ -61,7 +61,7 @@ module _ (g : Valuation) (i : ℕ) where
   definition_from vars (Ensured x) s before h = ensured_from (value_of_variable g i) (value_of_variable g x) (sound_at g s i) (sound_at g s x) h.0.0 h.0.1
   definition_from vars (Made m) s before h = made_from m s h
 
-  definition_to : (d : Definition) → IsSound g → value_of_variable g i ≡ defined g d → MeetsAll g (definition_literals i d)
+  pub definition_to : (d : Definition) → IsSound g → value_of_variable g i ≡ defined g d → MeetsAll g (definition_literals i d)
   definition_to Start s e = tt
   definition_to (Child p f) s e = (e, tt)
   definition_to (Derived x f y) s e = (

@@ -13,15 +13,11 @@ use Rattle.tree_clauses.specs.Literals.{value_of_variable}
 use Rattle.clause_solver.specs.Stands.{Stands, Extends, HasEntry, HasEntriesOf, HasPut, HasValue}
 use Rattle.clause_solver.specs.Variables.{Ordered, Earlier, IsChild, defined, made_value}
 use Rattle.clause_solver.specs.Fresh.{fresh}
-use Rattle.clause_solver.specs.Appends.{IsAppended, LeadsTo}
+use Rattle.clause_solver.specs.Appends.{IsAppended, IsSingle, LeadsTo}
 use Rattle.clause_solver.specs.View.{seen, IsSettled}
 use Rattle.clause_solver.proofs.OneMore.{seen_of, longer, append_order, append_best, append_only, append_always, append_extends, append_is}
 use Rattle.clause_solver.proofs.Leads.{absent_entry, child_entry}
 use Rattle.clause_solver.proofs.Links.{variable_linked}
-
--- no child is the same entry
-abbrev pub IsSingle : List Variable → Definition → Type 0
-IsSingle vars d = (x : ℕ) (f : List ℕ) (i : ℕ) → d ≡ Child x f → ¬ (IsChild vars x f i)
 
 module _ (a b : Inside) (y : ℕ) (d : Definition) (inv : IsSettled a) (before : Earlier a.vars (length a.vars) d) (none : IsSingle a.vars d) (now : b.current ≡ a.current) (is : IsAppended a.vars a.best a.kin d b.vars b.best b.kin y) where
   new_order : Ordered (a.vars ++ fresh d ∷ [])

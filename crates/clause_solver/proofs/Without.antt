@@ -1,16 +1,15 @@
 -- A variable without entries: the stages put together.
-use Rattle.std.proofs.Common.{◌≡◌, ℕ, ◌<◌, ◌≤◌, IsTrue, List, [], ◌∷◌, length, take, refl, sym, ap, ◌∙◌, arith, length-set, subst}
+use Rattle.std.proofs.Common.{◌≡◌, ℕ, ◌<◌, IsTrue, List, length, take, refl, sym, ap, ◌∙◌, arith, length-set, subst}
 use Rattle.std.proofs.lemmas.List.{take_all, get_or-take, length-take-le}
 use Rattle.feature_trees.specs.declared.kind.Kind.{Kind}
-use Rattle.feature_trees.specs.declared.value.Value.{Value}
 use Rattle.feature_trees.specs.declared.value.Value.TheVariants as value
 use Rattle.feature_trees.specs.Tree.{kind_of}
-use Rattle.tree_clauses.specs.Literals.{Valuation, value_of_variable, IsSound}
+use Rattle.tree_clauses.specs.Literals.{value_of_variable}
 use Rattle.clause_solver.specs.declared.kin.Kin.{Kin}
 use Rattle.clause_solver.specs.declared.variable.Variable.{Variable}
-use Rattle.clause_solver.specs.Stands.{Stands, Empties, HasNone}
-use Rattle.clause_solver.specs.Variables.{var_at, Listed, AllFit, Ordered, AlwaysDir, OnlyDir, is_node}
-use Rattle.clause_solver.specs.Emptied.{HasNoneOutside, IsNarrower, ComesTo, IsEmptied, StandTogether, HasMore, HasItsVariable, IsClosed, IsWithout, fenced}
+use Rattle.clause_solver.specs.Stands.{Empties, HasNone}
+use Rattle.clause_solver.specs.Variables.{var_at, Listed, AllFit, Ordered, AlwaysDir, is_node}
+use Rattle.clause_solver.specs.Emptied.{IsNarrower, ComesTo, IsEmptied, StandTogether, HasMore, HasItsVariable, IsClosed, IsWithout, fenced}
 use Rattle.clause_solver.proofs.Pairs.{fits_from, fits_to}
 use Rattle.clause_solver.proofs.OneMore.{seen_of, sound_take}
 use Rattle.clause_solver.proofs.Links.{same_linked}

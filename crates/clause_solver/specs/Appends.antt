@@ -10,7 +10,7 @@ use Rattle.clause_solver.specs.declared.variable.Variable.{Variable}
 use Rattle.clause_solver.specs.declared.appended.Found.{Found}
 use Rattle.clause_solver.specs.declared.appended.Found.TheVariants.{Known, Nothing, At}
 use Rattle.tree_clauses.specs.Literals.{Valuation, value_of_variable, IsSound}
-use Rattle.clause_solver.specs.Variables.{var_at, is_node, AllFit}
+use Rattle.clause_solver.specs.Variables.{var_at, is_node, AllFit, IsChild}
 use Rattle.clause_solver.specs.Greatest.{best_by}
 use Rattle.clause_solver.specs.Fresh.{fresh}
 use Rattle.clause_solver.specs.Linked.{with_variable}
@@ -46,3 +46,7 @@ LeadsTo vars x f (Known y) =
     × ((g : Valuation) → IsSound g → AllFit vars g → entry (value_of_variable g x) f ≡ value_of_variable g y)
 LeadsTo vars x f Nothing = (g : Valuation) → IsSound g → AllFit vars g → entry (value_of_variable g x) f ≡ value.Absent
 LeadsTo vars x f (At n) = (n < length vars) × IsTrue (is_node (var_at vars n).definition) × SameEntry vars x f n
+
+-- no child is the same entry
+abbrev pub IsSingle : List Variable → Definition → Type 0
+IsSingle vars d = (x : ℕ) (f : List ℕ) (i : ℕ) → d ≡ Child x f → ¬ (IsChild vars x f i)

@@ -13,3 +13,6 @@ pub mod NewNames
 pub mod Pairs
 pub mod Opens
 pub mod Builds
+pub mod Adds
+pub mod Drafts
+pub mod Looking

@@ -3,13 +3,16 @@
 //! specs/Stands.antt for what a store stands for.
 #![tactic(auto)]
 
+mod add_case;
 mod appended;
 mod children;
+mod drafts;
 mod emptying;
 mod facts;
 mod greatest;
 mod kin;
 mod literals;
+mod looking;
 mod new_name;
 mod places;
 mod start_tree;
@@ -17,7 +20,9 @@ mod store;
 mod variable;
 
 pub use store::Store;
-pub use tree_clauses::{Clause, Literal, Var, print_clause, put_clause};
+pub use tree_clauses::{Case, Clause, Literal, Var, print_clause, put_clause};
 
+#[cfg(test)]
+mod empty_tests;
 #[cfg(test)]
 mod store_tests;

@@ -1,11 +1,13 @@
 ghost use Rattle.std.specs.Prelude.{◌≡◌, ℕ, ◌+◌, ◌<◌, ◌≤◌, ◌↔◌, List, [], ◌∷◌, length, take, IsTrue};
-ghost use Rattle.std.specs.Prelude.{IfOk, IfSome, OnOk, OnErr};
+ghost use Rattle.std.specs.Prelude.{IfOk, IfSome, MatchOption, OnOk, OnErr};
 ghost use Rattle.feature_trees.specs.declared.value.Value.{Value};
 ghost use Rattle.feature_trees.specs.Kinds.{has, none, both};
 ghost use Rattle.feature_trees.specs.Tree.{entry, kind_of};
 ghost use Rattle.feature_trees.specs.Sound.{IsTree};
 ghost use Rattle.tree_clauses.specs.Literals.{Valuation, value_of_variable, Covers};
+ghost use Rattle.tree_clauses.specs.Plain.{IsPlain};
 ghost use Rattle.tree_clauses.specs.Solved.{IsSolved};
+ghost use Rattle.clause_solver.specs.Adds.{AddsCase, LeadsNowhere};
 ghost use Rattle.clause_solver.specs.Pairs.{HasPair};
 ghost use Rattle.clause_solver.specs.Stands.{Seen, Stands, Alive, Extends, HasEntry, IsDirectory, HasPut, HasValue};
 ghost use Rattle.clause_solver.specs.Stands.{Empties, HasEntriesOf, HasSome};
@@ -13,6 +15,7 @@ ghost use Rattle.clause_solver.specs.Variables.{made_value};
 ghost use Rattle.clause_solver.specs.Variables.{possible, possible_by, var_at};
 ghost use Rattle.feature_trees.specs.declared.value.Value.TheVariants as value;
 
+use crate::add_case::drafted;
 use crate::appended::{Found, append, resolve};
 use crate::children::find;
 use crate::emptying::without_entries;
@@ -20,6 +23,7 @@ use crate::facts::{fill, narrow};
 use crate::greatest::{is_satisfied, kind_made, redecide, settled_all};
 use crate::kin::Kin;
 use crate::literals::write_literals;
+use crate::looking::is_excluded;
 use crate::new_name::new_name;
 use crate::places::var_at;
 use crate::start_tree::{grow, open_places};
@@ -29,7 +33,7 @@ use script_names::{Bytes, Common, Copied, Memory, Name};
 use shared_table::{Shared, fork_alone, push_alone};
 use std::alloc::Global;
 use std::marker::Model;
-use tree_clauses::{Clause, Var};
+use tree_clauses::{Case, Clause, Var};
 
 /// A set of pairs of a start tree and a tree now, by values for variables: each variable is defined from earlier ones,
 /// so that a start tree decides the values of all.
@@ -317,6 +321,40 @@ impl Store {
         self.kin = new.kin;
         self.alive = left;
         Ok(left)
+    }
+
+    /// The pairs from whose tree now the case leads on, with the tree that it leads to as the tree now. None exactly
+    /// where no pair is left. This store stays as it is.
+    pub fn add_case(&self, case: &Case) -> Result<Option<Store>, Memory>
+        requires plain { IsPlain case.now }
+        ensures { let old = self.now in let made = case.now in
+            IfOk result (λ found. MatchOption found (LeadsNowhere old made) (AddsCase old made)) }
+    {
+        if is_excluded(self, case) {
+            return Ok(None);
+        }
+        let draft = drafted(
+            self.alloc,
+            &self.vars,
+            &self.best,
+            &self.kin,
+            self.current,
+            case,
+        )?;
+        let current = draft.place(case.root);
+        let best = settled_all(&draft.vars, &draft.best)?;
+        let left = is_satisfied(&draft.vars, &best);
+        if !left {
+            return Ok(None);
+        }
+        Ok(Some(Store {
+            vars: draft.vars,
+            best,
+            kin: draft.kin,
+            current,
+            alive: true,
+            alloc: self.alloc,
+        }))
     }
 
     // The variable of a made value.

@@ -1,4 +1,4 @@
-use Rattle.std.proofs.Common.{◌≡◌, ◌∙◌, ap, sym, subst, Option, None, Some}
+use Rattle.std.proofs.Common.{◌≡◌, ◌∙◌, ap, sym, subst, Some}
 use Rattle.clause_solver.specs.declared.kin.Kin.{Kin}
 use Rattle.clause_solver.specs.declared.variable.Definition.TheVariants.{Child}
 use Rattle.clause_solver.specs.Variables.{var_at}

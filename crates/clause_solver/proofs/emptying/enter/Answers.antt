@@ -1,4 +1,4 @@
-use Rattle.std.proofs.Common.{◌≡◌, ℕ, length}
+use Rattle.std.proofs.Common.{ℕ}
 use Rattle.clause_solver.specs.declared.variable.Definition.TheVariants.{Child}
 use Rattle.clause_solver.specs.Variables.{IsChild}
 use Rattle.clause_solver.specs.Appends.{IsAppended}

@@ -1,4 +1,4 @@
-use Rattle.std.proofs.Common.{◌≡◌, ◌<◌, length, arith}
+use Rattle.std.proofs.Common.{arith}
 use Rattle.clause_solver.proofs.Entered.{more_twice, known_next, all_known, item_known}
 use Rattle.clause_solver.proofs.emptying.with_entries.Goals as goal
 

@@ -1,4 +1,4 @@
-use Rattle.std.proofs.Common.{◌≡◌, ◌<◌, length, Some, None, subst}
+use Rattle.std.proofs.Common.{Some, None, subst}
 use Rattle.clause_solver.specs.Emptied.{EndsAt, IsClosed}
 use Rattle.clause_solver.proofs.Without.{narrower_together, closed_without, emptied_without}
 use Rattle.clause_solver.proofs.emptying.without_entries.Goals as goal

@@ -4,9 +4,9 @@ use Rattle.clause_solver.specs.declared.store.Store.TheInside.{Inside}
 use Rattle.clause_solver.specs.declared.variable.MadeValue.TheVariants as made
 use Rattle.clause_solver.specs.declared.variable.Definition.TheVariants.{Child, Made}
 use Rattle.clause_solver.specs.Variables.{Earlier, IsChild}
-use Rattle.clause_solver.specs.Appends.{LeadsTo, IsAppended}
+use Rattle.clause_solver.specs.Appends.{LeadsTo, IsAppended, IsSingle}
 use Rattle.clause_solver.proofs.Leads.{known_entry, found_entry}
-use Rattle.clause_solver.proofs.Settles.{IsSingle, appended_settled, appended_extends, made_single, child_single, absent_is_entry, child_before, child_is_entry}
+use Rattle.clause_solver.proofs.Settles.{appended_settled, appended_extends, made_single, child_single, absent_is_entry, child_before, child_is_entry}
 use Rattle.clause_solver.proofs.store.Store.child.Goals as goal
 
 pub returns-in-Known-clause-entry : goal.returns-in-Known-clause-entry

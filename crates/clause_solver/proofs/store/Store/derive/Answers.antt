@@ -2,8 +2,8 @@ use Rattle.std.proofs.Common.{◌<◌, length, refl}
 use Rattle.clause_solver.specs.declared.store.Store.TheInside.{Inside}
 use Rattle.clause_solver.specs.declared.variable.Definition.TheVariants.{Derived}
 use Rattle.clause_solver.specs.Variables.{Earlier}
-use Rattle.clause_solver.specs.Appends.{IsAppended}
-use Rattle.clause_solver.proofs.Settles.{IsSingle, appended_settled, appended_extends, derived_single, derived_before, derived_is_put}
+use Rattle.clause_solver.specs.Appends.{IsAppended, IsSingle}
+use Rattle.clause_solver.proofs.Settles.{appended_settled, appended_extends, derived_single, derived_before, derived_is_put}
 use Rattle.clause_solver.proofs.store.Store.derive.Goals as goal
 
 module _ (c : goal.In_ok-z) where

@@ -1,6 +1,6 @@
 use Rattle.std.proofs.Common.{◌≡◌, ◌<◌, ◌≤◌, ◌↔◌, IsTrue, ◌∙◌, ap, length, length-set}
 use Rattle.clause_solver.specs.Variables.{filled}
-use Rattle.clause_solver.specs.Greatest.{IsBest, IsSatisfied, unfenced}
+use Rattle.clause_solver.specs.Greatest.{IsSatisfied, unfenced}
 use Rattle.clause_solver.specs.Stands.{Alive}
 use Rattle.clause_solver.proofs.OneMore.{seen_of}
 use Rattle.clause_solver.proofs.Alive.{alive_iff}

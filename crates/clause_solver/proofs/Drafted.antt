@@ -1,0 +1,171 @@
+-- The way through a case, from its first literal to its end.
+use Rattle.std.proofs.Common.{◌≡◌, ◌≢◌, ℕ, ◌-◌, ◌<◌, ◌≤◌, ◌↔◌, inl, inr, IsTrue, Bool, true, false, Some, None, List, [], ◌∷◌, length, take, drop, get_or, refl, sym, ap, ◌∙◌, arith, subst, Contains}
+use Rattle.std.proofs.lemmas.List.{take_all}
+use Rattle.tree_clauses.specs.declared.case.Case.{Case}
+use Rattle.tree_clauses.specs.declared.clause.Literal.{Literal}
+use Rattle.tree_clauses.specs.declared.clause.Literal.TheVariants as L
+use Rattle.tree_clauses.specs.declared.clause.Var.{Var}
+use Rattle.tree_clauses.specs.Literals.{value_of_variable}
+use Rattle.tree_clauses.specs.Plain.{IsPlain}
+use Rattle.tree_clauses.specs.Solved.{subject}
+use Rattle.tree_clauses.proofs.Orders.{contains_head, contains_nothing, contains_cases}
+use Rattle.clause_solver.specs.declared.drafts.Draft.{Draft}
+use Rattle.clause_solver.specs.declared.variable.Variable.{Variable}
+use Rattle.clause_solver.specs.Drafts.{place_in, IsPlaced, Agrees, IsSteady, Leaves, Goes, CanGo, GoesOn, IsDrafted}
+use Rattle.clause_solver.specs.Emptied.{StandTogether}
+use Rattle.clause_solver.proofs.Names.{nat_cases}
+use Rattle.clause_solver.proofs.PlainViews.{view, SimilarView, is_same, is_replaced}
+
+-- on the way: what is left of a case to be passed
+abbrev pub Going : List Variable → ℕ → Case → List Literal → Draft → Type 0
+Going old now made rest draft =
+    (after : List ℕ) × ((i : ℕ) → Contains after i ↔ (i ≤ made.locals)) × Goes old now made.literals after rest draft
+
+module _ (old : List Variable) (now : ℕ) (made : Case) (plain : IsPlain made) (draft : Draft) (vars : draft.vars ≡ old) (start : place_in draft 0 ≡ Some now) (other : (x : ℕ) → x ≢ 0 → place_in draft x ≡ None) (inside : now < length old) where
+  at_start : (x n : ℕ) → place_in draft x ≡ Some n → (x ≡ 0) × (n ≡ now)
+  at_start x n e = elim (nat_cases x 0) [
+    | inl z ↦ let q : Some n ≡ Some now = sym e ∙ ap (place_in draft) z ∙ start in (z, cc)
+    | inr ne ↦ let bad : Some n ≡ None = sym e ∙ other x ne in absurd (cc)
+  ]
+
+  begin_leaves : Leaves old now [] (place_in draft) draft.vars
+  begin_leaves = rw vars (record {
+    more = omega arith;
+    first = λ f. f;
+    start = start;
+    down = λ g l s fits. let whole : take (length old) g ≡ g = take_all (length old) g (omega (arith, l)) in (rw whole fits, λ h hs a. tt);
+    up = λ g h l s fits hs e m.
+        let a : Agrees (place_in draft) g h = λ x n p. let q = at_start x n p in ap (value_of_variable h) q.0 ∙ e ∙ ap (value_of_variable g) (sym q.1) in
+        (g, l, s, fits, take_all (length old) g (omega (arith, l)), a);
+  })
+
+  begin_placed : (x : ℕ) → Contains (0 ∷ []) x ↔ IsPlaced (place_in draft x)
+  begin_placed x = elim (nat_cases x 0) [
+    | inl z ↦ (λ c. rw (z, start) tt, λ p. rw z (contains_head 0 []))
+    | inr ne ↦ (
+      λ c. elim (contains_cases 0 x [] c) [
+        | inl e ↦ absurd (ne (sym e))
+        | inr n ↦ absurd (contains_nothing x n)
+      ],
+      λ p. let bad : ⊥ = rw (other x ne) at p in absurd bad,
+    )
+  ]
+
+  pub begins : StandTogether draft.vars draft.best draft.kin → Going old now made made.literals draft
+  begins together = (
+    plain.known,
+    plain.variables,
+    record {
+      before = [];
+      known = 0 ∷ [];
+      order = plain.order;
+      split = λ h. (λ m. (tt, m), λ q. q.1);
+      placed = begin_placed;
+      leaves = begin_leaves;
+      steady = record { together = together; inside = λ x n e. let q = at_start x n e in rw (vars, q.1) inside };
+    },
+  )
+
+-- what is left is its first literal and the others
+rest_is : (literal : Literal) (left : List Literal) → take (length (literal ∷ left) - 1) (drop 1 (literal ∷ left)) ≡ left
+rest_is literal left = take_all (length (literal ∷ left) - 1) left (omega arith)
+
+pub first_and_rest : (left : List Literal) (n : ℕ) (literal : Literal) → n ≡ length left → 1 ≤ length left → literal ≡ get_or left 0 literal → left ≡ literal ∷ take (n - 1) (drop 1 left)
+first_and_rest [] n literal same w is = absurd (omega arith)
+first_and_rest (l ∷ ls) n literal same w is =
+    let e : take (n - 1) (drop 1 (l ∷ ls)) ≡ ls = ap (λ k. take (k - 1) (drop 1 (l ∷ ls))) same ∙ rest_is l ls in
+    let head : literal ≡ l = is in
+    rw (e, head) refl
+
+pub goes_on : (old : List Variable) (now : ℕ) (made : Case) (left rest more : List Literal) (literal : Literal) (a b : Draft) → left ≡ literal ∷ rest → Going old now made left a → GoesOn a (literal ∷ rest) b more → Going old now made more b
+goes_on old now made left rest more literal a b e g on =
+    let here : Goes old now made.literals g.0 (literal ∷ rest) a = subst (λ l. Goes old now made.literals g.0 l a) e g.2 in
+    (g.0, g.1, on old now made.literals g.0 here)
+
+pub can_go : (old : List Variable) (now : ℕ) (made : Case) (left rest : List Literal) (literal : Literal) (a : Draft) → left ≡ literal ∷ rest → Going old now made left a → CanGo a (literal ∷ rest)
+can_go old now made left rest literal a e g =
+    (old, now, made.literals, g.0, subst (λ l. Goes old now made.literals g.0 l a) e g.2)
+
+nothing_left : (left : List Literal) → length left < 1 → left ≡ []
+nothing_left [] w = refl
+nothing_left (l ∷ ls) w = absurd (omega arith)
+
+pub ends : (old : List Variable) (now : ℕ) (made : Case) (left : List Literal) (draft : Draft) → length left < 1 → Going old now made left draft → IsDrafted old now made draft
+ends old now made left draft w g =
+    let goes : Goes old now made.literals g.0 [] draft = subst (λ l. Goes old now made.literals g.0 l draft) (nothing_left left w) g.2 in
+    let all : goes.known ≡ g.0 = view goes.order in
+    let l = goes.leaves in
+    record {
+      leaves = record {
+        more = l.more;
+        first = l.first;
+        start = l.start;
+        down = λ h long s fits. let parts = l.down h long s fits in (parts.0, λ k ks a. (goes.split k).1 (parts.1 k ks a, tt));
+        up = λ h k long s fits ks e m. l.up h k long s fits ks e ((goes.split k).0 m).0;
+      };
+      placed = λ x. (
+        λ p. (g.1 x).0 (rw all at ((goes.placed x).1 p)),
+        λ low. (goes.placed x).0 (rw all ((g.1 x).1 low)),
+      );
+      steady = goes.steady;
+    }
+
+-- ---- what a draft is ready for
+
+module _ (a : Draft) (rest : List Literal) where
+  pub is_steady : CanGo a rest → IsSteady a
+  is_steady g = g.4.steady
+
+  pub entry_placed : (x : Var) (f : List ℕ) (y : Var) → CanGo a (L.Entry x f y ∷ rest) → IsPlaced (place_in a x.0)
+  entry_placed x f y g = (g.4.placed x.0).0 (view g.4.order).0
+
+  pub fence_placed : (x : Var) (names : List (List ℕ)) → CanGo a (L.Fence x names ∷ rest) → IsPlaced (place_in a x.0)
+  fence_placed x names g = (g.4.placed x.0).0 (view g.4.order).1
+
+  pub fence_is : (x : Var) (names : List (List ℕ)) → CanGo a (L.Fence x names ∷ rest) → names ≡ []
+  fence_is x names g = (view g.4.order).0
+
+  pub filled_placed : (x : Var) → CanGo a (L.NotEmpty x ∷ rest) → IsPlaced (place_in a x.0)
+  filled_placed x g = (g.4.placed x.0).0 (view g.4.order).0
+
+  pub similar_placed : (y : Var) (names : List (List ℕ)) (x : Var) → CanGo a (L.Similar y names x ∷ rest) → IsPlaced (place_in a x.0)
+  similar_placed y names x g = (g.4.placed x.0).0 (by_view (view g.4.order))
+    where
+      by_view : {before : List Literal} {known after : List ℕ} → SimilarView before known y names x rest after → Contains known x.0
+      by_view (is_same e kx none r) = kx
+      by_view (is_replaced f z more e begins kx kz none r) = kx
+
+module _ (a : Draft) (y x : Var) where
+  -- behind a directory with a replaced entry stands that entry
+  pub similar_rest : (names : List (List ℕ)) (rest : List Literal) → 1 ≤ length names → length rest < 1 → ¬ (CanGo a (L.Similar y names x ∷ rest))
+  similar_rest [] rest some none g = absurd (omega arith)
+  similar_rest (f ∷ fs) (l ∷ ls) some none g = absurd (omega arith)
+  similar_rest (f ∷ fs) [] some none g = by_view (view g.4.order)
+    where
+      by_view : {before : List Literal} {known after : List ℕ} → SimilarView before known y (f ∷ fs) x [] after → ⊥
+      by_view (is_same e kx n r) = let bad : f ∷ fs ≡ [] = e in cc
+      by_view (is_replaced h z more e begins kx kz n r) = let bad : [] ≡ L.Entry y h z ∷ more = begins in cc
+
+  pub similar_value : (names : List (List ℕ)) (rest : List Literal) (literal : Literal) → 1 ≤ length names → 1 ≤ length rest → literal ≡ get_or rest 0 literal → CanGo a (L.Similar y names x ∷ rest) → IsPlaced (place_in a (subject literal))
+  similar_value [] rest literal some more is g = absurd (omega arith)
+  similar_value (f ∷ fs) [] literal some more is g = absurd (omega arith)
+  similar_value (f ∷ fs) (l ∷ ls) literal some more is g = (g.4.placed (subject literal)).0 (by_view (view g.4.order))
+    where
+      by_view : {before : List Literal} {known after : List ℕ} → SimilarView before known y (f ∷ fs) x (l ∷ ls) after → Contains known (subject literal)
+      by_view (is_same e kx n r) = let bad : f ∷ fs ≡ [] = e in absurd (cc)
+      by_view (is_replaced h z rest e begins kx kz n r) =
+          let both : l ∷ ls ≡ L.Entry y h z ∷ rest = begins in
+          let head : l ≡ L.Entry y h z = cc in
+          let here : literal ≡ L.Entry y h z = is ∙ head in
+          rw here kz
+
+pub first_name : (names : List (List ℕ)) (f : List ℕ) → 1 ≤ length names → f ≡ get_or names 0 f → names ≡ f ∷ drop 1 names
+first_name [] f some is = absurd (omega arith)
+first_name (g ∷ gs) f some is = ap (λ h. h ∷ gs) (sym is)
+
+pub no_name : (names : List (List ℕ)) → length names < 1 → names ≡ []
+no_name [] w = refl
+no_name (f ∷ fs) w = absurd (omega arith)
+
+pub not_so : (b : Bool) (P : Type 0) → IsTrue b ↔ P → b ≡ false → ¬ P
+not_so b P both e p = let t : b ≡ true = both.1 p in let bad : true ≡ false = sym t ∙ e in cc

@@ -1,0 +1,168 @@
+//! Calls one after the other, by the rows that they take.
+
+ghost use Rattle.std.specs.Prelude.{All, IfOk};
+ghost use Rattle.tree_clauses.specs.Plain.{IsPlain};
+
+use act_cases::cases;
+use clause_solver::{Store, print_clause};
+use script_names::{Bytes, List, Memory};
+use shown_texts::push_number;
+use std::alloc::Global;
+use std::process::Abort;
+use std::test::Fail;
+use tree_clauses::Case;
+use utility_calls::acts::Act;
+use utility_calls::calls::{Planned, plan};
+
+// Calls with the row that each takes, from all trees on; a call behind them; and the rows that are left of it.
+const LEFT: &str = "; | mkdir /a | 67 68
+; | mkdir /a/b | 1 66 67 68
+; | rmdir /a/ | 64 66 67 68
+; | ln -s t /a | 65 67 68 70 71
+mkdir /a 68; | mkdir /a | 67
+mkdir /a 68; | mkdir /a/b | 68
+mkdir /a 68; | rmdir /a | 68
+mkdir /a 68; mkdir /a/b 68; | rmdir /a | 67
+mkdir /a 68; mkdir /a/b 68; rmdir /a/b 68; | rmdir /a | 68
+mkdir /a 68; touch /a/b 67; rm /a/b 68; | rmdir /a | 68
+rmdir /a 67; | rmdir /a | 67
+rmdir /a 67; | rm -rf /a | 72
+rmdir /a 67; rm -f /a/b 71; | rmdir /a | 67 68
+test -e /a/b 67; mkdir -p /a 68; | test -e /a/b | 67
+test -e /a/b 66; mkdir -p /a 68; | test -e /a/b | 66
+mkdir -p /a 68; | touch /a | 68
+touch /a 67; | test -f /a | 67
+ln -s t /a 68; | test -h /a | 67
+ln -s t /a 68; | test -e /a | 65
+rm -rf /a 72; | test -e /a | 66
+touch /a 67; | mv /a /b | 65 68 71 72 77 79 81
+touch /a 67; mv /a /b 68; | test -e /a | 66
+touch /a 67; mv /a /b 68; | test -f /b | 67
+rmdir /a 67; rmdir /b 67; | mv /a /b | 73 74 75 76
+rmdir /a 67; mkdir /b 68; | mv /a /b | 73";
+
+// Calls with the row that each takes, from all trees on, and the clause of the store behind them, with `|` for a
+// newline.
+const CLAUSES: &str = "rmdir /a 67; -> now v0|kind v0 dir|entry v0 a v1|kind v1 dir|notempty v1|
+rmdir /a 68; -> now v3|kind v0 dir|entry v0 a v1|kind v1 dir|fence v1 {}|kind v2 absent|similar v3 {a} v0|entry v3 a v2|
+mkdir -p /a 68; -> now v3|kind v0 dir|entry v0 a v1|kind v1 absent,dir|similar v2 {} v1|similar v3 {a} v0|entry v3 a v2|
+touch /a 67; -> now v3|kind v0 dir|entry v0 a v1|kind v1 absent,reg|kind v2 reg|similar v3 {a} v0|entry v3 a v2|
+ln -s t /a 68; -> now v3|kind v0 dir|entry v0 a v1|kind v1 absent|target v2 t|similar v3 {a} v0|entry v3 a v2|
+mkdir /a 68; mkdir /a/b 68; -> now v7|kind v0 dir|entry v0 a v1|kind v1 absent|kind v2 dir|fence v2 {}|similar v3 {a} v0|entry v3 a v2|kind v4 absent|kind v5 dir|fence v5 {}|similar v6 {b} v2|entry v6 b v5|similar v7 {a} v3|entry v7 a v6|";
+
+fn words(alloc: Global, text: &str) -> Result<List<Bytes>, Memory> {
+    let mut all = List::new(alloc);
+    for part in text.split(' ') {
+        let word = Bytes::from_slice(alloc, part.as_bytes())?;
+        all.add(word)?;
+    }
+    Ok(all)
+}
+
+// The cases of an act.
+fn act_cases<R: Abort + AllocGlobal>(rt: &R, act: &Act) -> Result<List<Case>, Fail>
+    ensures { IfOk result (All IsPlain) }
+{
+    assert!(rt; act.is_performed());
+    Ok(cases(rt.alloc(), act)?)
+}
+
+// The cases of the act of a call.
+fn call_cases<R: Abort + AllocGlobal>(rt: &R, text: &str) -> Result<List<Case>, Fail>
+    ensures { IfOk result (All IsPlain) }
+{
+    let list = words(rt.alloc(), text)?;
+    assert!(rt; list.len() > 0);
+    match plan(rt.alloc(), &list)? {
+        Planned::Ask { act, negate: _ } => act_cases(rt, &act),
+        Planned::Change(all) => {
+            for acts in &all.into_vec() {
+                if let Some(last) = acts.as_slice().last() {
+                    return act_cases(rt, last);
+                }
+            }
+            Ok(List::new(rt.alloc()))
+        }
+        _ => Ok(List::new(rt.alloc())),
+    }
+}
+
+// The rows that are left of a call, each with a blank before it.
+fn rows_left<R: Abort + AllocGlobal>(rt: &R, store: &Store, text: &str) -> Result<Bytes, Fail> {
+    let all = call_cases(rt, text)?;
+    let mut rows = Bytes::new(rt.alloc());
+    for made in all.as_slice() {
+        if let Some(_) = store.add_case(made)? {
+            rows.extend(b" ")?;
+            push_number(&mut rows, u64::from(made.row))?;
+        }
+    }
+    Ok(rows)
+}
+
+// The store with the case of a row, or as it is where no case has the row.
+fn with_row<R: Abort + AllocGlobal>(
+    rt: &R,
+    store: Store,
+    text: &str,
+    row: &str,
+) -> Result<Store, Fail> {
+    let all = call_cases(rt, text)?;
+    for made in all.as_slice() {
+        let mut number = Bytes::new(rt.alloc());
+        push_number(&mut number, u64::from(made.row))?;
+        if number.as_slice() == row.as_bytes() {
+            let added = store.add_case(made)?;
+            assert!(rt; added.is_some(), "{}", text);
+            if let Some(new) = added {
+                return Ok(new);
+            }
+        }
+    }
+    assert!(rt; false, "{}", text);
+    Ok(store)
+}
+
+// The store behind calls, each with the row that it takes, from all trees on.
+fn store_behind<R: Abort + AllocGlobal>(rt: &R, calls: &str) -> Result<Store, Fail> {
+    let mut store = Store::start(rt.alloc())?;
+    for call in calls.split(';') {
+        if let Some((text, row)) = call.trim().rsplit_once(' ') {
+            store = with_row(rt, store, text, row)?;
+        }
+    }
+    Ok(store)
+}
+
+#[test]
+fn rows_are_left(rt: HostRuntime) -> Result<(), Fail> {
+    for line in LEFT.lines() {
+        let (calls, rest) = line.split_once(" | ").unwrap_or(("", ""));
+        let (call, rows) = rest.split_once(" |").unwrap_or(("", "none"));
+        let store = store_behind(&rt, calls)?;
+        let left = rows_left(&rt, &store, call)?;
+        assert_eq!(rt; left.as_slice(), rows.as_bytes(), "{}", line);
+    }
+    Ok(())
+}
+
+// Whether a clause has the text of a row.
+fn has_text(alloc: Global, store: &Store, text: &str) -> Result<bool, Memory> {
+    let mut wanted = Bytes::from_slice(alloc, b"clause start v0 ")?;
+    for sign in text.as_bytes() {
+        wanted.push(if *sign == b'|' { b'\n' } else { *sign })?;
+    }
+    let clause = store.clause()?;
+    let printed = print_clause(alloc, &clause)?;
+    Ok(printed.as_slice() == wanted.as_slice())
+}
+
+#[test]
+fn clauses_of_stores(rt: HostRuntime) -> Result<(), Fail> {
+    for line in CLAUSES.lines() {
+        let (calls, text) = line.split_once(" -> ").unwrap_or(("", ""));
+        let store = store_behind(&rt, calls)?;
+        assert!(rt; has_text(rt.alloc(), &store, text)?, "{}", line);
+    }
+    Ok(())
+}
