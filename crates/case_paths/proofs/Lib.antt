@@ -1,0 +1,7 @@
+pub mod Orders
+pub mod Plays
+pub mod Parting
+pub mod Forking
+pub mod Single
+pub mod Going
+pub mod Whole

@@ -1,0 +1,3 @@
+pub mod Traces
+pub mod Paths
+pub mod Stages

@@ -1,0 +1,74 @@
+-- What is known of a path before it has ended, and how one state parts into several.
+use Rattle.std.specs.Prelude.{◌≡◌, ℕ, ◌+◌, ◌≤◌, ◌⊎◌, List, [], ◌∷◌, ◌++◌, length}
+use Rattle.script_names.specs.declared.mark.Mark.{Mark}
+use Rattle.script_names.specs.declared.mark.Site.{Site}
+use Rattle.feature_trees.specs.declared.value.Value.{Value}
+use Rattle.utility_calls.specs.declared.acts.Act.{Act}
+use Rattle.tree_clauses.specs.declared.case.Case.{Case}
+use Rattle.clause_solver.specs.Pairs.{HasPair}
+use Rattle.clause_solver.specs.Adds.{AddsCase, LeadsNowhere}
+use Rattle.act_decisions.specs.Decisions.{Decision, play, AllPerformed}
+use Rattle.case_paths.specs.declared.state.PathState.{PathState}
+use Rattle.case_paths.specs.declared.state.Found.{Found}
+use Rattle.case_paths.specs.declared.pursuit.Pursued.{Pursued}
+use Rattle.case_paths.specs.declared.pursuit.Pursued.TheVariants.{Ended, Forks}
+use Rattle.case_paths.specs.Traces.{Rising, AllBegin}
+use Rattle.case_paths.specs.Paths.{EndsAs, traces, AllAlive}
+
+-- some of these has a pair with the start tree
+abbrev pub Holds : List PathState → Value → Type 0
+Holds [] t = ⊥
+Holds (x ∷ xs) t = ((v : Value) × HasPair x.store t v) ⊎ Holds xs t
+
+-- The states part those pairs that the state x has: each start tree of x is in one of them, and no other is; each has
+-- a pair, and their traces rise and begin with that of x.
+pub record Parts (x : PathState) (ys : List PathState) : Type 0 where
+  pub all : (t v : Value) → HasPair x.store t v → Holds ys t
+  pub none_else : (t : Value) → Holds ys t → (v : Value) × HasPair x.store t v
+  pub alive : AllAlive ys
+  pub rising : Rising (traces ys)
+  pub under : AllBegin x.trace (traces ys)
+
+-- the trace with one mark more
+abbrev pub marked : List Mark → Site → ℕ → List Mark
+marked trace site n = trace ++ record { site = site; row = n } ∷ []
+
+-- an act at a site forks a state into one for each case that leads on from some pair, with the mark of its row
+pub data Forked (site : Site) (x : PathState) : List Case → List PathState → Type 0 where
+  none : Forked site x [] []
+  dead : {made : Case} {cases : List Case} {ys : List PathState} → LeadsNowhere x.store made → Forked site x cases ys
+      → Forked site x (made ∷ cases) ys
+  live : {made : Case} {cases : List Case} {y : PathState} {ys : List PathState} → AddsCase x.store made y.store
+      → y.trace ≡ marked x.trace site made.row → Forked site x cases ys → Forked site x (made ∷ cases) (y ∷ ys)
+
+-- A stage of a decision, which is played behind a trace from the tree that `first` gives for a start tree: what is
+-- left of the decision, played from each pair of the state behind its trace and these acts, comes to what is played
+-- for the pair's start tree.
+pub record IsStageOf {A : Type 0} (d : Decision A) (first : Value → Value) (trace : List Mark) (x : PathState)
+    (rest : Decision A) (acts : List Act) : Type 0 where
+  pub count : length x.trace ≡ length trace + length acts
+  pub performed : AllPerformed rest
+  pub plays : (t v : Value) → HasPair x.store t v → play rest v x.trace acts ≡ play d (first t) trace []
+
+-- the state is a stage, with something left of the decision
+abbrev pub IsStage : {A : Type 0} → Decision A → (Value → Value) → List Mark → PathState → Type 0
+IsStage {A} d first trace x = (rest : Decision A) × (acts : List Act) × IsStageOf d first trace x rest acts
+
+-- each of these is a stage
+abbrev pub AllStages : {A : Type 0} → Decision A → (Value → Value) → List Mark → List PathState → Type 0
+AllStages d first trace [] = Unit {0}
+AllStages d first trace (x ∷ xs) = IsStage d first trace x × AllStages d first trace xs
+
+-- the path has ended: what is played from each of its pairs ends as it does
+abbrev pub HasEnded : {A : Type 0} → Decision A → (Value → Value) → List Mark → Found A → Type 0
+HasEnded d first trace x = (t v : Value) → HasPair x.state.store t v → EndsAs (play d (first t) trace []) x v
+
+-- each of these has ended
+abbrev pub AllEnded : {A : Type 0} → Decision A → (Value → Value) → List Mark → List (Found A) → Type 0
+AllEnded d first trace [] = Unit {0}
+AllEnded d first trace (x ∷ xs) = HasEnded d first trace x × AllEnded d first trace xs
+
+-- what comes of a stage: the path has ended, or it has parted into at least two further stages
+abbrev pub Comes : {A : Type 0} → Decision A → (Value → Value) → List Mark → PathState → Pursued A → Type 0
+Comes d first trace x (Ended path) = HasEnded d first trace path × Parts x (path.state ∷ [])
+Comes d first trace x (Forks ys) = AllStages d first trace ys × Parts x ys × (2 ≤ length ys)

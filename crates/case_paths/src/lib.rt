@@ -1,0 +1,16 @@
+//! Symbolic execution of what is decided at its acts alone: all paths of a decision from a set of pairs of trees, each
+//! pair on the path of its own run.
+//! It stands on act_decisions, act_cases and clause_solver. Begin with `explore` and `Machine`, and with
+//! specs/Paths.antt for what its answer is.
+#![tactic(auto)]
+
+mod exploration;
+mod fork;
+mod machine;
+mod pursuit;
+mod queue;
+mod state;
+
+pub use exploration::explore;
+pub use machine::Machine;
+pub use state::{Found, PathState, PathsFault, Ran};
