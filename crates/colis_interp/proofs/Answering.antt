@@ -1,8 +1,8 @@
 -- What the parts of a command answer.
-use Rattle.std.proofs.Common.{◌≡◌, ℕ, Bool, true, false, IsTrue, ◌<◌, ◌↔◌, ◌||◌, if◌then◌else◌, List, [], ◌∷◌, map, length, Result, Ok, Err, refl, sym, ap, ◌∙◌, subst, arith}
+use Rattle.std.proofs.Common.{◌≡◌, ℕ, Bool, true, false, ◌<◌, ◌||◌, if◌then◌else◌, List, [], ◌∷◌, map, length, Result, Ok, refl, sym, ap, ◌∙◌, subst, arith}
 use Rattle.std.specs.List.{list_any}
 use Rattle.shell_words.specs.declared.letter.Letter.{Letter}
-use Rattle.shell_words.specs.Patterns.{Decides, Matches, items, is_left_out}
+use Rattle.shell_words.specs.Patterns.{Decides, items}
 use Rattle.script_names.specs.declared.reason.Reason.TheVariants as reason
 use Rattle.shell_rules.specs.State as st
 use Rattle.shell_rules.specs.Cases.{matches, pattern_answer}

@@ -1,5 +1,5 @@
 -- The next member of a list: an and-or list, arms and patterns of `case`.
-use Rattle.std.proofs.Common.{◌≡◌, ◌<◌, ℕ, suc, ◌+◌, Bool, true, false, not, List, [], ◌∷◌, map, drop, length, get_or, add-one, Result, Ok, Err, if◌then◌else◌, refl, sym, ap, ◌∙◌, subst, arith}
+use Rattle.std.proofs.Common.{◌≡◌, ◌<◌, ℕ, suc, ◌+◌, Bool, true, false, not, List, [], ◌∷◌, map, drop, length, get_or, add-one, Result, Err, if◌then◌else◌, refl, sym, ap, ◌∙◌, subst, arith}
 use Rattle.std.specs.Prelude.{◌==◌}
 use mathlib.Core.Bool.{beq}
 use Rattle.std.proofs.Math.Seq.{drop-cons}

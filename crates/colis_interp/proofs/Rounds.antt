@@ -1,16 +1,15 @@
 -- A round of a `while`, by what comes behind its condition and its body.
-use Rattle.std.proofs.Common.{◌≡◌, ◌<◌, ◌≤◌, ℕ, zero, suc, Bool, true, false, Result, Ok, Err, refl, sym, ap, ◌∙◌, subst, arith}
+use Rattle.std.proofs.Common.{◌≡◌, ◌<◌, ℕ, zero, suc, Bool, true, Result, Ok, Err, refl, sym, ap, ◌∙◌, subst, arith}
 use Rattle.shell_rules.specs.declared.leave.Leave.TheVariants as leave
 use Rattle.shell_rules.specs.State as st
 use Rattle.shell_rules.specs.State.{Run, State, Place, Action, then_do, except, site_of}
-use Rattle.shell_rules.specs.Loops.{after_body, after_condition, take_turn, while_round, while_rounds}
+use Rattle.shell_rules.specs.Loops.{after_body, after_condition, take_turn, while_rounds}
 use Rattle.colis_interp.specs.declared.shell.Shell.{Shell}
 use Rattle.colis_interp.specs.declared.halt.Halt.{Halt}
-use Rattle.colis_interp.specs.declared.halt.Behind.{Behind}
 use Rattle.colis_interp.specs.declared.halt.Behind.TheVariants.{Holds, Ends, Again}
 use Rattle.colis_interp.specs.Halts.{Answer, behind_body, behind_condition}
 use Rattle.colis_interp.specs.Runs.{Runs, state_of}
-use Rattle.colis_interp.proofs.Steps.{goes_on, condition_holds, condition_ends, condition_again, condition_left, body_done, body_left}
+use Rattle.colis_interp.proofs.Steps.{condition_holds, condition_ends, condition_again, condition_left, body_done, body_left}
 
 -- an answer that is known
 pub answer_is : {A : Type 0} (r : Result A Halt) (x y : A) → ◌≡◌ {A = Result A Halt} (Ok x) r → x ≡ y → r ≡ Ok y

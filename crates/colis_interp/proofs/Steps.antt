@@ -1,5 +1,5 @@
 -- What the answer of a run says of the one round it.
-use Rattle.std.proofs.Common.{◌≡◌, ℕ, Bool, true, false, List, [], ◌∷◌, Option, Some, None, Result, Ok, Err, if◌then◌else◌, refl, sym, ap, ◌∙◌, subst}
+use Rattle.std.proofs.Common.{◌≡◌, Bool, true, false, Result, Ok, Err, if◌then◌else◌, refl, sym, ap, ◌∙◌, subst}
 use Rattle.shell_rules.specs.declared.leave.Leave.{Leave}
 use Rattle.shell_rules.specs.declared.leave.Leave.TheVariants as leave
 use Rattle.shell_rules.specs.State as st

@@ -1,5 +1,5 @@
 -- What the parts of a statement do, from their own parts.
-use Rattle.std.proofs.Common.{◌≡◌, Bool, List, map, refl, sym, ap, ◌∙◌}
+use Rattle.std.proofs.Common.{◌≡◌, map, ap}
 use Rattle.colis_syntax.specs.declared.syntax.SetTo.{SetTo}
 use Rattle.colis_syntax.specs.declared.syntax.ChainPart.{ChainPart}
 use Rattle.colis_syntax.specs.declared.syntax.StmtArm.{StmtArm}

@@ -4,7 +4,6 @@ use Rattle.script_names.specs.declared.reason.Reason.TheVariants as reason
 use Rattle.shell_words.specs.declared.fault.WordFault.{WordFault}
 use Rattle.shell_words.specs.declared.fault.WordFault.TheVariants.{Long, Glob, Pattern, Memory}
 use Rattle.colis_interp.specs.declared.place.Place.{Place}
-use Rattle.shell_rules.specs.declared.leave.Leave.{Leave}
 use Rattle.shell_rules.specs.declared.leave.Leave.TheVariants as leave
 use Rattle.colis_interp.specs.declared.halt.Halt.{Halt}
 use Rattle.colis_interp.specs.declared.halt.Halt.TheVariants as halt

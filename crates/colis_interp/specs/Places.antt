@@ -3,7 +3,6 @@ use Rattle.script_names.specs.declared.reason.Reason.{Reason}
 use Rattle.shell_rules.specs.State as st
 use Rattle.colis_meaning.specs.Meaning.{names_of}
 use Rattle.colis_interp.specs.declared.place.Place.{Place}
-use Rattle.shell_rules.specs.declared.leave.Leave.{Leave}
 use Rattle.shell_rules.specs.declared.leave.Leave.TheVariants as leave
 use Rattle.colis_interp.specs.declared.halt.Halt.{Halt}
 use Rattle.colis_interp.specs.declared.halt.Halt.TheVariants as halt

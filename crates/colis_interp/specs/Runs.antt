@@ -7,7 +7,7 @@ use Rattle.colis_interp.specs.declared.halt.Halt.TheVariants as halt
 
 -- the state of a shell
 abbrev pub state_of : Shell → st.State
-state_of s = record { conc = s.conc; tree = s.root.tree; trace = s.trace; substituted = s.substituted }
+state_of s = record { conc = s.conc; tree = s.root.tree; trace = s.trace; acts = s.acts; substituted = s.substituted }
 
 -- The run goes on with the answer's value, or is left as the answer says, in the state of the shell. Want of memory
 -- says nothing.

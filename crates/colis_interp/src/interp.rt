@@ -17,6 +17,14 @@ use shell_rules::{Conc, End, Leave, Trace};
 use shell_words::Env;
 use std::alloc::Global;
 use std::mem;
+use utility_calls::acts::Act;
+
+/// What a run came to: how it ended, and the acts that it did, in order.
+#[derive(Drop)]
+pub struct Ran {
+    pub end: End,
+    pub acts: List<Act>,
+}
 
 // The end that an answer of the body comes to.
 fn end_answer(ran: Result<(), Halt>, status: bool) -> Result<End, Memory>
@@ -34,10 +42,10 @@ fn end_answer(ran: Result<(), Halt>, status: bool) -> Result<End, Memory>
     }
 }
 
-/// Runs a program in a step of a scenario, from a state of the shell, a tree and a trace: the end, the state, the tree
-/// and the trace are those of the program's meaning. The strict flag is that of the state. After want of memory the
-/// tree is some directory, and the trace is as it was; so it is a front of the meaning's trace, since a run only adds
-/// to it.
+/// Runs a program in a step of a scenario, from a state of the shell, a tree and a trace: the end, the acts, the state,
+/// the tree and the trace are those of the program's meaning. The strict flag is that of the state. After want of
+/// memory the tree is some directory, and the trace is as it was; so it is a front of the meaning's trace, since a run
+/// only adds to it.
 pub fn run(
     alloc: Global,
     p: &Program,
@@ -45,10 +53,10 @@ pub fn run(
     conc: &mut Conc,
     tree: &mut Value,
     trace: &mut Trace,
-) -> Result<End, Memory>
+) -> Result<Ran, Memory>
     requires { kind_of tree.old ≡ Dir }
-    ensures meaning { IfOk result (λ end. co_program p.now step conc.old tree.old trace.old
-        ≡ record { end = end; conc = conc.new; tree = tree.new; trace = trace.new }) }
+    ensures meaning { IfOk result (λ ran. co_program p.now step conc.old tree.old trace.old
+        ≡ record { end = ran.end; conc = conc.new; tree = tree.new; trace = trace.new; acts = ran.acts }) }
     ensures dir { kind_of tree.new ≡ Dir }
     ensures kept { OnErr result (trace.new ≡ trace.old) }
 {
@@ -64,20 +72,29 @@ pub fn run(
         conc: mem::replace(conc, no_state(alloc)),
         root: Root::new(mem::replace(tree, Value::Absent)),
         trace: mem::replace(trace, List::new(alloc)),
+        acts: List::new(alloc),
         substituted: true,
     };
     let ran = run_stmt(alloc, p.body(), p.defs(), place, &mut shell);
-    let end = end_answer(ran, shell.conc.status);
+    let ended = end_answer(ran, shell.conc.status);
     let Shell {
         conc: left,
         root,
         trace: marks,
+        acts,
         substituted: _,
     } = shell;
     *conc = left;
     *tree = root.into_tree();
-    *trace = if end.is_err() { kept } else { marks };
-    end
+    let end = match ended {
+        Ok(end) => end,
+        Err(memory) => {
+            *trace = kept;
+            return Err(memory);
+        }
+    };
+    *trace = marks;
+    Ok(Ran { end, acts })
 }
 
 // A state that stands in for the one that a run has taken.

@@ -15,4 +15,4 @@ mod shell;
 mod strings;
 mod utilities;
 
-pub use interp::run;
+pub use interp::{Ran, run};

@@ -8,16 +8,18 @@ ghost use Rattle.colis_interp.specs.Runs.{Runs, state_of};
 use crate::halt::Halt;
 use crate::place::Place;
 use crate::root::Root;
-use script_names::{Bytes, Memory, Reason};
+use script_names::{Bytes, List, Memory, Reason};
 use shell_rules::{Conc, Leave, Trace};
+use utility_calls::acts::Act;
 
-/// A shell in the course of a run: its own state, the tree, the acts that were done, and of the command whose words
-/// are expanded whether its last command substitution succeeded.
+/// A shell in the course of a run: its own state, the tree, the marks of the acts that were done, these acts, and of
+/// the command whose words are expanded whether its last command substitution succeeded.
 #[derive(Drop)]
 pub(crate) struct Shell {
     pub conc: Conc,
     pub root: Root,
     pub trace: Trace,
+    pub acts: List<Act>,
     pub substituted: bool,
 }
 

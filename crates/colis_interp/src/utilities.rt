@@ -22,19 +22,19 @@ fn negated_if(negate: bool, yes: bool) -> bool
 }
 
 // Does what a call comes to.
-fn do_planned(alloc: Global, planned: &Planned, place: Place, shell: &mut Shell) -> Result<(), Halt>
-    requires { HasPerformedActs planned.now }
+fn do_planned(alloc: Global, planned: Planned, place: Place, shell: &mut Shell) -> Result<(), Halt>
+    requires { HasPerformedActs planned }
     ensures turns { shell.new.conc.turns ≤ shell.old.conc.turns }
-    ensures runs { Runs (do_planned planned.now (place_of place.entry) (state_of shell.old)) result shell.new }
+    ensures runs { Runs (do_planned planned (place_of place.entry) (state_of shell.old)) result shell.new }
 {
     match planned {
         Planned::Known(ok) => {
-            shell.conc.status = *ok;
+            shell.conc.status = ok;
             Ok(())
         }
         Planned::Ask { act, negate } => {
             let yes = do_act(alloc, act, place, shell)?;
-            shell.conc.status = negated_if(*negate, yes);
+            shell.conc.status = negated_if(negate, yes);
             Ok(())
         }
         Planned::Print(text) => {
@@ -43,11 +43,11 @@ fn do_planned(alloc: Global, planned: &Planned, place: Place, shell: &mut Shell)
             Ok(())
         }
         Planned::Change(operands) => {
-            let ok = do_operands(alloc, operands.as_slice(), place, shell)?;
+            let ok = do_operands(alloc, operands, place, shell)?;
             shell.conc.status = ok;
             Ok(())
         }
-        Planned::Unspecified(reason) => Err(place.stop(*reason)),
+        Planned::Unspecified(reason) => Err(place.stop(reason)),
     }
 }
 
@@ -76,5 +76,5 @@ pub(crate) fn call_utility(
         return Ok(());
     }
     let planned = planned(alloc, fields)?;
-    do_planned(alloc, &planned, place, shell)
+    do_planned(alloc, planned, place, shell)
 }

@@ -42,6 +42,7 @@ subshells_close at body p s =
       turns = refl;
       tree = refl;
       trace = refl;
+      acts = refl;
     })
 
 pub outputs_close : OutputsClose
@@ -56,6 +57,7 @@ outputs_close body p s =
       turns = refl;
       tree = refl;
       trace = refl;
+      acts = refl;
     })
 
 pub functions_close : FunctionsClose
@@ -71,6 +73,7 @@ functions_close body fields p s =
       turns = refl;
       tree = refl;
       trace = refl;
+      acts = refl;
     })
 
 pub quiets_close : QuietsClose
@@ -86,4 +89,5 @@ quiets_close body p s =
       turns = refl;
       tree = refl;
       trace = refl;
+      acts = refl;
     })

@@ -30,8 +30,10 @@ use Rattle.shell_rules.specs.Commands as c
 use Rattle.shell_rules.specs.Loops as l
 use Rattle.shell_rules.specs.Cases as k
 use Rattle.shell_rules.specs.Calls as u
-use Rattle.shell_rules.specs.Laws.{state_of, run_with_more, more_turns, is_bound, Keeps, Lawful, IsLawful, AllLawful}
-use Rattle.shell_rules.specs.Laws.{LinksLawful, ArmsLawful, PatternsLawful, CaseArmsLawful, SetsLawful}
+use Rattle.shell_rules.specs.Parts.{Each, EachLink, EachArm, EachPattern, EachCaseArm, EachSet}
+use Rattle.shell_rules.specs.Laws.{state_of, run_with_more, more_turns, is_bound, Keeps, Lawful, IsLawful}
+use Rattle.shell_rules.specs.Laws.{Lawfulness}
+use Rattle.shell_rules.specs.RuleLaws.{ExpansionsKeep, CommandsKeep, LoopsKeep, CallsKeep}
 use Rattle.shell_rules.proofs.Keeping.{stays, from_same, then_lawful, if_keeps, closed_keeps, turn_keeps}
 use Rattle.shell_rules.proofs.Keeping.{body_keeps, condition_keeps}
 
@@ -69,14 +71,14 @@ pub default_lawful : (string : Doing Text) (other : Text) → IsLawful string �
 default_lawful string other h p =
     then_lawful (string p) (λ text s. Go (w.unless_empty text other) s) (h p) (λ text n s. stays refl refl refl)
 
-join_lawful_behind : (strings : List (Doing Text)) → AllLawful strings → (before : Text)
+join_lawful_behind : (strings : List (Doing Text)) → Each Lawfulness strings → (before : Text)
     → IsLawful (w.join_behind before strings)
 join_lawful_behind [] h before p = λ n s. stays refl refl refl
 join_lawful_behind (string ∷ strings) h before p =
     then_lawful (string p) (λ text s. w.join_behind (before ++ text) strings p s) (h.0 p)
     (λ text. join_lawful_behind strings h.1 (before ++ text) p)
 
-pub join_lawful : (strings : List (Doing Text)) → AllLawful strings → IsLawful (w.do_join strings)
+pub join_lawful : (strings : List (Doing Text)) → Each Lawfulness strings → IsLawful (w.do_join strings)
 join_lawful strings h = join_lawful_behind strings h []
 
 pub short_lawful : (string : Doing Text) → IsLawful string → IsLawful (w.do_short string)
@@ -119,17 +121,17 @@ pub split_lawful : (string : Doing Text) → IsLawful string → IsLawful (w.do_
 split_lawful string h p =
     then_lawful (string p) (λ text s. Go (w.split_piece text) s) (h p) (λ text n s. stays refl refl refl)
 
-pieces_lawful_behind : (pieces : List (Doing PieceParts)) → AllLawful pieces → (before : List PieceParts)
+pieces_lawful_behind : (pieces : List (Doing PieceParts)) → Each Lawfulness pieces → (before : List PieceParts)
     → IsLawful (w.pieces_behind before pieces)
 pieces_lawful_behind [] h before p = λ n s. stays refl refl refl
 pieces_lawful_behind (piece ∷ pieces) h before p =
     then_lawful (piece p) (λ parts s. w.pieces_behind (before ++ parts ∷ []) pieces p s) (h.0 p)
     (λ parts. pieces_lawful_behind pieces h.1 (before ++ parts ∷ []) p)
 
-pub pieces_lawful : (pieces : List (Doing PieceParts)) → AllLawful pieces → IsLawful (w.do_pieces pieces)
+pub pieces_lawful : (pieces : List (Doing PieceParts)) → Each Lawfulness pieces → IsLawful (w.do_pieces pieces)
 pieces_lawful pieces h = pieces_lawful_behind pieces h []
 
-pub word_lawful : (pieces : List (Doing PieceParts)) → AllLawful pieces → IsLawful (w.do_word pieces)
+pub word_lawful : (pieces : List (Doing PieceParts)) → Each Lawfulness pieces → IsLawful (w.do_word pieces)
 word_lawful pieces h p =
     then_lawful (w.do_pieces pieces p) (λ parts s. w.given (fields_of (word parts)) p s) (pieces_lawful pieces h p)
     (λ parts. given_lawful (fields_of (word parts)) p)
@@ -137,14 +139,14 @@ word_lawful pieces h p =
 pub arguments_lawful : IsLawful w.do_arguments
 arguments_lawful p n s = stays refl refl refl
 
-fields_lawful_behind : (words : List (Doing (List Text))) → AllLawful words → (before : List Text)
+fields_lawful_behind : (words : List (Doing (List Text))) → Each Lawfulness words → (before : List Text)
     → IsLawful (w.fields_behind before words)
 fields_lawful_behind [] h before p = λ n s. stays refl refl refl
 fields_lawful_behind (words ∷ more) h before p =
     then_lawful (words p) (λ fields s. w.fields_behind (before ++ fields) more p s) (h.0 p)
     (λ fields. fields_lawful_behind more h.1 (before ++ fields) p)
 
-pub fields_lawful : (words : List (Doing (List Text))) → AllLawful words → IsLawful (w.do_fields words)
+pub fields_lawful : (words : List (Doing (List Text))) → Each Lawfulness words → IsLawful (w.do_fields words)
 fields_lawful words h = fields_lawful_behind words h []
 
 -- ---- lists, conditions, subshells and redirections
@@ -168,16 +170,16 @@ checked_lawful p n s =
     if_keeps (s.conc.strict && not s.conc.status && not p.excepted) left (Go tt s) other (Go tt (more_turns n s))
     (stays refl refl refl) (stays refl refl refl)
 
-pub rest_lawful : (commands : List Action) → AllLawful commands → IsLawful (c.do_rest commands)
+pub rest_lawful : (commands : List Action) → Each Lawfulness commands → IsLawful (c.do_rest commands)
 rest_lawful [] h p = λ n s. stays refl refl refl
 rest_lawful (command ∷ commands) h p =
     then_lawful (command p) (λ _ s. c.do_rest commands p s) (h.0 p) (λ _. rest_lawful commands h.1 p)
 
-pub all_lawful : (commands : List Action) → AllLawful commands → IsLawful (c.do_all commands)
+pub all_lawful : (commands : List Action) → Each Lawfulness commands → IsLawful (c.do_all commands)
 all_lawful [] h p n s = stays refl refl refl
 all_lawful (command ∷ commands) h p n s = rest_lawful (command ∷ commands) h p n s
 
-pub links_lawful : (links : List (Bool × Action)) → LinksLawful links → IsLawful (c.do_links links)
+pub links_lawful : (links : List (Bool × Action)) → EachLink Lawfulness links → IsLawful (c.do_links links)
 links_lawful [] h p n s = stays refl refl refl
 links_lawful ((and, command) ∷ []) h p n s =
     if_keeps (c.is_reached and s) (command p s) (Go tt s) (command p (more_turns n s)) (Go tt (more_turns n s))
@@ -189,7 +191,7 @@ links_lawful ((and, command) ∷ link ∷ links) h p n s =
     (then_lawful (command (except p)) (λ _ s. rest p s) (h.0 (except p)) (λ _. links_lawful (link ∷ links) h.1 p) n s)
     (links_lawful (link ∷ links) h.1 p n s)
 
-pub chain_lawful : (first : Action) (links : List (Bool × Action)) → IsLawful first → LinksLawful links
+pub chain_lawful : (first : Action) (links : List (Bool × Action)) → IsLawful first → EachLink Lawfulness links
     → IsLawful (c.do_chain first links)
 chain_lawful first [] h k p = h p
 chain_lawful first (link ∷ links) h k p =
@@ -201,7 +203,7 @@ not_lawful command h p =
     then_lawful (command (except p)) (λ _ s. Go tt (st.with_status (not s.conc.status) s)) (h (except p))
     (λ _ n s. stays refl refl refl)
 
-pub if_lawful : (arms : List (Action × Action)) (otherwise : Action) → ArmsLawful arms → IsLawful otherwise
+pub if_lawful : (arms : List (Action × Action)) (otherwise : Action) → EachArm Lawfulness arms → IsLawful otherwise
     → IsLawful (c.do_if arms otherwise)
 if_lawful [] otherwise h k p = k p
 if_lawful ((condition, body) ∷ arms) otherwise h k p =
@@ -259,7 +261,7 @@ some_fields_lawful : (name : Text) (body : Action) (fields : List Text) (p : Pla
 some_fields_lawful name body [] p h n s = stays refl refl refl
 some_fields_lawful name body (field ∷ fields) p h n s = each_lawful name body (field ∷ fields) h p n s
 
-pub for_lawful : (at : ℕ) (name : Text) (words : List (Doing (List Text))) (body : Action) → AllLawful words
+pub for_lawful : (at : ℕ) (name : Text) (words : List (Doing (List Text))) (body : Action) → Each Lawfulness words
     → IsLawful body → IsLawful (l.do_for at name words body)
 for_lawful at name words body hw hb p =
     let q : Place = at_command at p in
@@ -318,7 +320,7 @@ answer_lawful subject letters p n s =
     if_keeps (is_left_out letters) (st.stopped reason.Pattern p s) answer
     (st.stopped reason.Pattern p (more_turns n s)) other (stays refl refl refl) (stays refl refl refl)
 
-pub patterns_lawful : (subject : Text) (patterns : List (List (Doing PieceParts))) → PatternsLawful patterns
+pub patterns_lawful : (subject : Text) (patterns : List (List (Doing PieceParts))) → EachPattern Lawfulness patterns
     → IsLawful (k.some_pattern subject patterns)
 patterns_lawful subject [] h p = λ n s. stays refl refl refl
 patterns_lawful subject (pattern ∷ patterns) h p =
@@ -332,7 +334,7 @@ patterns_lawful subject (pattern ∷ patterns) h p =
     (k.some_pattern subject patterns p (more_turns n s)) (stays refl refl refl)
     (patterns_lawful subject patterns h.1 p n s)))
 
-case_arms_lawful : (subject : Text) (arms : List (List (List (Doing PieceParts)) × Action)) → CaseArmsLawful arms
+case_arms_lawful : (subject : Text) (arms : List (List (List (Doing PieceParts)) × Action)) → EachCaseArm Lawfulness arms
     → IsLawful (k.first_arm subject arms)
 case_arms_lawful subject [] h p = λ n s. stays refl refl refl
 case_arms_lawful subject ((patterns, body) ∷ arms) h p =
@@ -342,7 +344,7 @@ case_arms_lawful subject ((patterns, body) ∷ arms) h p =
     (k.first_arm subject arms p (more_turns n s)) (h.1 p n s) (case_arms_lawful subject arms h.2 p n s))
 
 pub case_lawful : (at : ℕ) (subject : Doing Text) (arms : List (List (List (Doing PieceParts)) × Action))
-    → IsLawful subject → CaseArmsLawful arms → IsLawful (k.do_case at subject arms)
+    → IsLawful subject → EachCaseArm Lawfulness arms → IsLawful (k.do_case at subject arms)
 case_lawful at subject arms h ha p =
     let q : Place = at_command at p in
     then_lawful (w.do_short subject q) (λ text s. k.first_arm text arms q s) (short_lawful subject h q)
@@ -387,7 +389,7 @@ pub call_of_lawful : (fields : List Text) → IsLawful (u.do_call_of fields)
 call_of_lawful [] = λ p n s. stays refl refl refl
 call_of_lawful (name ∷ words) = planned_lawful (call (name ∷ words))
 
-pub call_lawful : (at : ℕ) (words : List (Doing (List Text))) → AllLawful words → IsLawful (u.do_call at words)
+pub call_lawful : (at : ℕ) (words : List (Doing (List Text))) → Each Lawfulness words → IsLawful (u.do_call at words)
 call_lawful at words h p =
     let q : Place = at_command at p in
     then_lawful (λ s. w.do_fields words q (u.no_substitution s))
@@ -396,14 +398,14 @@ call_lawful at words h p =
     (λ fields. then_lawful (u.do_call_of fields q) (λ _ s. c.checked q s) (call_of_lawful fields q)
     (λ _. checked_lawful q))
 
-assignments_lawful : (sets : List (Text × Doing Text)) → SetsLawful sets → IsLawful (u.do_assignments sets)
+assignments_lawful : (sets : List (Text × Doing Text)) → EachSet Lawfulness sets → IsLawful (u.do_assignments sets)
 assignments_lawful [] h p = λ n s. stays refl refl refl
 assignments_lawful ((name, value) ∷ sets) h p =
     then_lawful (w.do_short value p) (λ text s. u.do_assignments sets p (l.assign name text s))
     (short_lawful value h.0 p)
     (λ text n s. from_same refl (omega arith) (assignments_lawful sets h.1 p n (l.assign name text s)))
 
-pub set_lawful : (at : ℕ) (sets : List (Text × Doing Text)) → SetsLawful sets → IsLawful (u.do_set at sets)
+pub set_lawful : (at : ℕ) (sets : List (Text × Doing Text)) → EachSet Lawfulness sets → IsLawful (u.do_set at sets)
 set_lawful at sets h p =
     let q : Place = at_command at p in
     then_lawful (λ s. u.do_assignments sets q (u.no_substitution s))
@@ -427,7 +429,7 @@ body_lawful (Some body) fields h p n s =
     (from_same refl (omega arith) (h body refl p n (st.with_arguments fields s)))
 
 pub function_lawful : (at : ℕ) (body : Option Action) (words : List (Doing (List Text)))
-    → ((a : Action) → body ≡ Some a → IsLawful a) → AllLawful words → IsLawful (u.do_function at body words)
+    → ((a : Action) → body ≡ Some a → IsLawful a) → Each Lawfulness words → IsLawful (u.do_function at body words)
 function_lawful at body words hb hw p =
     let q : Place = at_command at p in
     then_lawful (w.do_fields words q) (λ fields s. then_do (u.do_body body fields q s) (λ _ s. c.checked q s))
@@ -445,15 +447,15 @@ leave_with_lawful how (text ∷ []) p n s =
     (st.stopped reason.Status p (more_turns n s)) (stays refl refl refl) (stays refl refl refl)
 leave_with_lawful how (text ∷ other ∷ more) p n s = stays refl refl refl
 
-leave_lawful : (how : Leave) (words : List (Doing (List Text))) → AllLawful words → IsLawful (u.do_leave how words)
+leave_lawful : (how : Leave) (words : List (Doing (List Text))) → Each Lawfulness words → IsLawful (u.do_leave how words)
 leave_lawful how words h p =
     then_lawful (w.do_fields words p) (λ fields s. u.leave_with how fields p s) (fields_lawful words h p)
     (λ fields. leave_with_lawful how fields p)
 
-pub exit_lawful : (at : ℕ) (words : List (Doing (List Text))) → AllLawful words → IsLawful (u.do_exit at words)
+pub exit_lawful : (at : ℕ) (words : List (Doing (List Text))) → Each Lawfulness words → IsLawful (u.do_exit at words)
 exit_lawful at words h p = leave_lawful st.Exited words h (at_command at p)
 
-pub return_lawful : (at : ℕ) (words : List (Doing (List Text))) → AllLawful words → IsLawful (u.do_return at words)
+pub return_lawful : (at : ℕ) (words : List (Doing (List Text))) → Each Lawfulness words → IsLawful (u.do_return at words)
 return_lawful at words h p = leave_lawful st.Returned words h (at_command at p)
 
 assign_some_keeps : (n : ℕ) (s : State) (name : Text) (o : Option Text)
@@ -473,7 +475,7 @@ export_each_lawful (field ∷ fields) p =
     then_lawful (u.export_one (u.cut_at_equals field) p) (λ _ s. u.export_each fields p s)
     (export_one_lawful (u.cut_at_equals field) p) (λ _. export_each_lawful fields p)
 
-pub export_lawful : (at : ℕ) (words : List (Doing (List Text))) → AllLawful words → IsLawful (u.do_export at words)
+pub export_lawful : (at : ℕ) (words : List (Doing (List Text))) → Each Lawfulness words → IsLawful (u.do_export at words)
 export_lawful at words h p =
     let q : Place = at_command at p in
     then_lawful (w.do_fields words q)
@@ -493,10 +495,63 @@ unset_each_lawful (field ∷ fields) p =
     then_lawful (u.unset_one field p) (λ _ s. u.unset_each fields p s) (unset_one_lawful field p)
     (λ _. unset_each_lawful fields p)
 
-pub unset_lawful : (at : ℕ) (words : List (Doing (List Text))) → AllLawful words → IsLawful (u.do_unset at words)
+pub unset_lawful : (at : ℕ) (words : List (Doing (List Text))) → Each Lawfulness words → IsLawful (u.do_unset at words)
 unset_lawful at words h p =
     let q : Place = at_command at p in
     then_lawful (w.do_fields words q)
     (λ fields s. then_do (u.unset_each fields q s) (λ _ s. Go tt (st.with_status true s))) (fields_lawful words h q)
     (λ fields. then_lawful (u.unset_each fields q) (λ _ s. Go tt (st.with_status true s))
     (unset_each_lawful fields q) (λ _ n s. stays refl refl refl))
+
+-- ---- all rules
+
+pub expansions_lawful : ExpansionsKeep Lawfulness
+expansions_lawful = record {
+  literal = literal_lawful;
+  variable = variable_lawful;
+  argument = argument_lawful;
+  count = count_lawful;
+  default = default_lawful;
+  join = join_lawful;
+  output = output_lawful;
+  plain = plain_lawful;
+  quoted = quoted_lawful;
+  split = split_lawful;
+  fields = word_lawful;
+  arguments = arguments_lawful;
+}
+
+pub commands_lawful : CommandsKeep Lawfulness
+commands_lawful = record {
+  skip = skip_lawful;
+  stop = stop_lawful;
+  strict = strict_lawful;
+  lax = lax_lawful;
+  list = all_lawful;
+  chain = chain_lawful;
+  negation = not_lawful;
+  conditional = if_lawful;
+  subshell = subshell_lawful;
+  quiet = quiet_lawful;
+  error_joined = error_lawful;
+}
+
+pub loops_lawful : LoopsKeep Lawfulness
+loops_lawful = record {
+  breaks = break_lawful;
+  continues = continue_lawful;
+  for_loop = for_lawful;
+  while_loop = while_lawful;
+  cases = case_lawful;
+}
+
+pub calls_lawful : CallsKeep Lawfulness
+calls_lawful = record {
+  utility = call_lawful;
+  assignments = set_lawful;
+  function = function_lawful;
+  exits = exit_lawful;
+  returns = return_lawful;
+  exports = export_lawful;
+  unsets = unset_lawful;
+}

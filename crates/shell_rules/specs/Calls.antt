@@ -28,9 +28,10 @@ use Rattle.shell_rules.specs.Loops.{assign}
 abbrev pub mark_of : Act → Place → State → Mark
 mark_of act p s = record { site = site_of p; row = (row act s.tree).number }
 
--- an act adds its mark to the trace, and leaves its tree
+-- an act adds its mark to the trace and itself to the acts, and leaves its tree
 abbrev pub acted : Act → Place → State → State
-acted act p s = record s { tree = tree_after act s.tree; trace = s.trace ++ mark_of act p s ∷ [] }
+acted act p s =
+    record s { tree = tree_after act s.tree; trace = s.trace ++ mark_of act p s ∷ []; acts = s.acts ++ act ∷ [] }
 
 -- what an act answers; one that stops ends the run at the command
 abbrev pub answered : Done → Doing Bool

@@ -80,7 +80,7 @@ do_if ((condition, body) ∷ arms) otherwise p s =
 -- ---- subshells (XCU 2.9.4.1 Grouping Commands, 2.12 Shell Execution Environment)
 
 -- the state behind a subshell: the variables, the arguments and the strict flag are those before it; its status, the
--- output, the tree, the trace and the turns go on
+-- output, the tree, the trace, the acts and the turns go on
 abbrev pub after_subshell : State → State → State
 after_subshell outer s =
     record s { conc = record s.conc { vars = outer.conc.vars; args = outer.conc.args; strict = outer.conc.strict } }

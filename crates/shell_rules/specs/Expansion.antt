@@ -99,12 +99,13 @@ abbrev pub output_of : State → Text
 output_of s = trimmed (or_empty s.conc.captured)
 
 -- the state behind a substitution: the variables, the arguments, the strict flag, the status and the output are those
--- before it; the tree, the trace and the turns go on; and its own status is kept aside
+-- before it; the tree, the trace, the acts and the turns go on; and its own status is kept aside
 abbrev pub after_output : State → State → State
 after_output outer s = record {
   conc = record outer.conc { turns = s.conc.turns };
   tree = s.tree;
   trace = s.trace;
+  acts = s.acts;
   substituted = s.conc.status;
 }
 

@@ -1,15 +1,14 @@
 -- What every rule keeps: a run only adds to the trace; turns never rise; and a run that is not bound is, with more
 -- turns, the same run but for the turns that are left.
-use Rattle.std.specs.Prelude.{◌≡◌, ◌≤◌, ◌+◌, ◌⊎◌, ℕ, Bool, true, false, IsTrue, List, [], ◌∷◌, ◌++◌, Some}
+use Rattle.std.specs.Prelude.{◌≡◌, ◌≤◌, ◌+◌, ◌⊎◌, ℕ, Bool, true, false, IsTrue, List, ◌++◌}
 use Rattle.script_names.specs.declared.mark.Mark.{Mark}
 use Rattle.feature_trees.specs.declared.value.Value.{Value}
-use Rattle.shell_words.specs.Pieces.{PieceParts}
 use Rattle.shell_rules.specs.declared.state.Conc.{Conc}
 use Rattle.shell_rules.specs.declared.run.End.{End}
 use Rattle.shell_rules.specs.declared.run.End.TheVariants as end
 use Rattle.shell_rules.specs.State.{Text, State, Leave, Broke, Continued, Returned, Exited, Stopped, Bound}
-use Rattle.shell_rules.specs.State.{Run, Go, Left, Place, Doing, Action, Funs}
-use Rattle.shell_rules.specs.Calls.{found}
+use Rattle.shell_rules.specs.State.{Run, Go, Left, Place, Doing, Action}
+use Rattle.shell_rules.specs.Parts.{Property}
 use Rattle.shell_rules.specs.Whole.{Ended, whole_run}
 
 -- the state in which a run goes on or is left
@@ -59,39 +58,9 @@ Lawful run = (n : ℕ) (s : State) → Keeps n s (run s) (run (more_turns n s))
 abbrev pub IsLawful : {A : Type 0} → Doing A → Type 0
 IsLawful doing = (p : Place) → Lawful (doing p)
 
--- each of these
-abbrev pub AllLawful : {A : Type 0} → List (Doing A) → Type 0
-AllLawful [] = Unit {0}
-AllLawful (doing ∷ more) = IsLawful doing × AllLawful more
-
--- each function that is defined
-abbrev pub FunsLawful : Funs → Type 0
-FunsLawful f = (name : Text) (body : Action) → found name f ≡ Some body → IsLawful body
-
--- the members of an and-or list
-abbrev pub LinksLawful : List (Bool × Action) → Type 0
-LinksLawful [] = Unit {0}
-LinksLawful (link ∷ links) = IsLawful link.1 × LinksLawful links
-
--- the conditions and the bodies of an `if`
-abbrev pub ArmsLawful : List (Action × Action) → Type 0
-ArmsLawful [] = Unit {0}
-ArmsLawful (arm ∷ arms) = IsLawful arm.0 × IsLawful arm.1 × ArmsLawful arms
-
--- the patterns of an arm of `case`
-abbrev pub PatternsLawful : List (List (Doing PieceParts)) → Type 0
-PatternsLawful [] = Unit {0}
-PatternsLawful (pattern ∷ patterns) = AllLawful pattern × PatternsLawful patterns
-
--- the patterns and the bodies of a `case`
-abbrev pub CaseArmsLawful : List (List (List (Doing PieceParts)) × Action) → Type 0
-CaseArmsLawful [] = Unit {0}
-CaseArmsLawful (arm ∷ arms) = PatternsLawful arm.0 × IsLawful arm.1 × CaseArmsLawful arms
-
--- the values of assignments
-abbrev pub SetsLawful : List (Text × Doing Text) → Type 0
-SetsLawful [] = Unit {0}
-SetsLawful (set ∷ sets) = IsLawful set.1 × SetsLawful sets
+-- as a property
+abbrev pub Lawfulness : Property
+Lawfulness A doing = IsLawful doing
 
 -- ---- whole runs
 

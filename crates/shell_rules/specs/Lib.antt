@@ -3,6 +3,7 @@ pub mod Cases
 pub mod Commands
 pub mod Examples
 pub mod Expansion
+pub mod Parts
 pub mod Laws
 pub mod Loops
 pub mod OwnNames

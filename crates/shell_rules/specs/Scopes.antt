@@ -18,8 +18,10 @@ pub record IsBehindSubshell (before inner behind : State) : Type 0 where
   pub turns : behind.conc.turns ≡ inner.conc.turns
   pub tree : behind.tree ≡ inner.tree
   pub trace : behind.trace ≡ inner.trace
+  pub acts : behind.acts ≡ inner.acts
 
--- a state behind a substitution: the shell's state is as before, but for the turns; the tree and the trace go out
+-- a state behind a substitution: the shell's state is as before, but for the turns; the tree, the trace and the acts
+-- go out
 pub record IsBehindOutput (before inner behind : State) : Type 0 where
   pub variables : behind.conc.vars ≡ before.conc.vars
   pub arguments : behind.conc.args ≡ before.conc.args
@@ -29,6 +31,7 @@ pub record IsBehindOutput (before inner behind : State) : Type 0 where
   pub turns : behind.conc.turns ≡ inner.conc.turns
   pub tree : behind.tree ≡ inner.tree
   pub trace : behind.trace ≡ inner.trace
+  pub acts : behind.acts ≡ inner.acts
 
 -- a state behind a function: the arguments are as before, the rest goes out
 pub record IsBehindBody (before inner behind : State) : Type 0 where
@@ -40,6 +43,7 @@ pub record IsBehindBody (before inner behind : State) : Type 0 where
   pub turns : behind.conc.turns ≡ inner.conc.turns
   pub tree : behind.tree ≡ inner.tree
   pub trace : behind.trace ≡ inner.trace
+  pub acts : behind.acts ≡ inner.acts
 
 -- a state behind a command whose output is taken away: the output is as before, the rest goes out
 pub record IsBehindQuiet (before inner behind : State) : Type 0 where
@@ -51,6 +55,7 @@ pub record IsBehindQuiet (before inner behind : State) : Type 0 where
   pub turns : behind.conc.turns ≡ inner.conc.turns
   pub tree : behind.tree ≡ inner.tree
   pub trace : behind.trace ≡ inner.trace
+  pub acts : behind.acts ≡ inner.acts
 
 -- however they end
 abbrev pub SubshellsClose : Type 0

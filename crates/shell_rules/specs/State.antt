@@ -5,6 +5,7 @@ use Rattle.script_names.specs.declared.mark.Mark.{Mark}
 use Rattle.script_names.specs.declared.mark.Site.{Site}
 use Rattle.script_names.specs.declared.reason.Reason.{Reason}
 use Rattle.feature_trees.specs.declared.value.Value.{Value}
+use Rattle.utility_calls.specs.declared.acts.Act.{Act}
 use Rattle.shell_rules.specs.declared.state.Conc.{Conc}
 pub use Rattle.shell_rules.specs.declared.leave.Leave.{Leave}
 pub use Rattle.shell_rules.specs.declared.leave.Leave.TheVariants.{Broke, Continued, Returned, Exited, Stopped, Bound}
@@ -13,12 +14,13 @@ pub use Rattle.shell_rules.specs.declared.leave.Leave.TheVariants.{Broke, Contin
 abbrev pub Text : Type 0
 Text = List ℕ
 
--- The state: the shell's own, the tree, and the trace of the acts that were done. Besides, of the command whose words
--- are expanded, whether its last command substitution succeeded; true where there was none so far.
+-- The state: the shell's own, the tree, the trace of the acts that were done, and these acts in order. Besides, of the
+-- command whose words are expanded, whether its last command substitution succeeded; true where there was none so far.
 pub record State : Type 0 where
   pub conc : Conc
   pub tree : Value
   pub trace : List Mark
+  pub acts : List Act
   pub substituted : Bool
 
 -- a run goes on with a value and a state, or is left in a state

@@ -1,7 +1,8 @@
 -- A whole run of a script or a program: how it begins, and what it comes to.
-use Rattle.std.specs.Prelude.{ℕ, true, false, List}
+use Rattle.std.specs.Prelude.{ℕ, true, false, List, []}
 use Rattle.script_names.specs.declared.mark.Mark.{Mark}
 use Rattle.feature_trees.specs.declared.value.Value.{Value}
+use Rattle.utility_calls.specs.declared.acts.Act.{Act}
 use Rattle.shell_rules.specs.declared.state.Conc.{Conc}
 use Rattle.shell_rules.specs.declared.run.End.{End}
 use Rattle.shell_rules.specs.declared.run.End.TheVariants as end
@@ -12,20 +13,21 @@ use Rattle.shell_rules.specs.State.{Text}
 abbrev pub place_in : ℕ → List Text → st.Place
 place_in step functions = record { step = step; at = 0; functions = functions; excepted = false; inner = false }
 
--- the state in which a run begins
+-- the state in which a run begins; no act of it was done so far
 abbrev pub begun : Conc → Value → List Mark → st.State
-begun conc tree trace = record { conc = conc; tree = tree; trace = trace; substituted = true }
+begun conc tree trace = record { conc = conc; tree = tree; trace = trace; acts = []; substituted = true }
 
--- what a run comes to: how it ended, and the shell's state, the tree and the trace that it left
+-- what a run comes to: how it ended, the shell's state, the tree and the trace that it left, and the acts that it did
 pub record Ended : Type 0 where
   pub end : End
   pub conc : Conc
   pub tree : Value
   pub trace : List Mark
+  pub acts : List Act
 
 -- an end in a state
 abbrev pub ended : End → st.State → Ended
-ended e s = record { end = e; conc = s.conc; tree = s.tree; trace = s.trace }
+ended e s = record { end = e; conc = s.conc; tree = s.tree; trace = s.trace; acts = s.acts }
 
 -- the end that a way to leave comes to: the status that holds then, a stop, or a bound
 abbrev pub end_of : st.Leave → st.State → End

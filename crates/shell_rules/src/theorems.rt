@@ -1,5 +1,6 @@
 //! What holds of the rules, for the layers above.
 
+ghost use Rattle.shell_rules.specs.Laws.{Lawfulness};
 ghost use Rattle.shell_rules.specs.RuleLaws.{ExpansionsKeep, CommandsKeep, LoopsKeep, CallsKeep, WholeRunsKeep};
 ghost use Rattle.shell_rules.specs.RuleLaws.{TrimmedIsOne, MatchesDecides, SpecialNamesAreNoUtilities};
 ghost use Rattle.shell_rules.specs.Examples.{Hold, strict_examples, status_examples, loop_examples};
@@ -9,10 +10,10 @@ ghost use Rattle.shell_rules.specs.Scopes.{SubshellsClose, OutputsClose, Functio
 /// Each rule keeps three laws where its parts do: a run only adds to the trace, it has no more turns left than it
 /// began with, and one that is not bound is the same run with more turns, but for the turns that are left.
 pub fn rules_are_lawful()
-    ensures expansions { ExpansionsKeep }
-    ensures commands { CommandsKeep }
-    ensures loops { LoopsKeep }
-    ensures calls { CallsKeep }
+    ensures expansions { ExpansionsKeep Lawfulness }
+    ensures commands { CommandsKeep Lawfulness }
+    ensures loops { LoopsKeep Lawfulness }
+    ensures calls { CallsKeep Lawfulness }
     ensures whole { WholeRunsKeep }
 {}
 

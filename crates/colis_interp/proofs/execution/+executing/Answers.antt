@@ -1,4 +1,4 @@
-use Rattle.std.proofs.Common.{rules, arith, ◌≡◌, ◌<◌, ◌+◌, length, drop, [], true, Err, sym, subst, ◌∙◌, ap, length-drop}
+use Rattle.std.proofs.Common.{rules, arith, ◌<◌, ◌+◌, length, drop, [], true, Err, sym, subst, ◌∙◌, length-drop}
 use Rattle.std.proofs.lemmas.Result.{err_from_is_err_and}
 use Rattle.shell_rules.specs.State as st
 use Rattle.colis_meaning.specs.Meaning.{co_stmt, funs_of}

@@ -1,4 +1,4 @@
-use Rattle.std.proofs.Common.{◌≡◌, ◌≤◌, ℕ, ◌+◌, ◌*◌, drop, [], map, max, true, length}
+use Rattle.std.proofs.Common.{◌≡◌, ◌≤◌, ℕ, ◌+◌, ◌*◌, drop, [], map, max, length}
 use Rattle.colis_syntax.specs.declared.syntax.Stmt.{size-Stmt}
 use Rattle.shell_rules.specs.State.{at_command, with, success_if_none}
 use Rattle.shell_rules.specs.Expansion.{do_fields, fields_behind, do_pieces, pieces_behind, do_join, join_behind}

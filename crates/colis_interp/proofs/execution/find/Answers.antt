@@ -1,4 +1,4 @@
-use Rattle.std.proofs.Common.{rules, arith, refl, sym, ◌∙◌, true, false, ◌≡◌}
+use Rattle.std.proofs.Common.{arith, refl, ◌∙◌, true, false, ◌≡◌}
 use Rattle.colis_interp.proofs.Weight.{found_here, found_lower}
 use Rattle.colis_interp.proofs.execution.find.Goals as goal
 

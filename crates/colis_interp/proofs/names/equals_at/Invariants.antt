@@ -1,4 +1,4 @@
-use Rattle.std.proofs.Common.{◌≡◌, ◌≤◌, ◌++◌, drop, take}
+use Rattle.std.proofs.Common.{◌≡◌, ◌++◌, drop, take}
 use Rattle.shell_rules.specs.Calls.{cut_at_equals}
 use Rattle.colis_interp.proofs.names.equals_at.Given as goal
 

@@ -1,4 +1,4 @@
-use Rattle.std.proofs.Common.{◌≡◌, ap, sym, ◌∙◌}
+use Rattle.std.proofs.Common.{ap, sym, ◌∙◌}
 use Rattle.shell_rules.specs.Expansion.{or_empty}
 use Rattle.shell_rules.specs.Expansion.{trimmed}
 use Rattle.shell_rules.proofs.Trimming.{trimmed_is}

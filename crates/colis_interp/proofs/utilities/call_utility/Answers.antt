@@ -1,4 +1,4 @@
-use Rattle.std.proofs.Common.{◌≡◌, ◌<◌, length, arith}
+use Rattle.std.proofs.Common.{◌<◌, length, arith}
 use Rattle.colis_interp.specs.Places.{place_of}
 use Rattle.colis_interp.specs.Runs.{state_of}
 use Rattle.colis_interp.proofs.Answering.{called}
