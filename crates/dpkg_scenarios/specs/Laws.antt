@@ -1,0 +1,50 @@
+-- What holds of the tables as a whole.
+use Rattle.std.specs.Prelude.{◌≡◌, ℕ, ◌<◌, Bool, true, false, List, [], ◌∷◌, replicate, length, Option, Some, None}
+use Rattle.std.specs.Prelude.{if◌then◌else◌}
+use Rattle.dpkg_scenarios.specs.declared.scenario.Scenario.{Scenario}
+use Rattle.dpkg_scenarios.specs.declared.scenario.Scenario.TheVariants as scenario
+use Rattle.dpkg_scenarios.specs.declared.scenario.State.{State}
+use Rattle.dpkg_scenarios.specs.declared.scenario.State.TheVariants.{Installed, ConfigFiles, NotInstalled}
+use Rattle.dpkg_scenarios.specs.declared.scenario.Ending.TheVariants.{Done}
+use Rattle.dpkg_scenarios.specs.declared.scenario.StepNext.{StepNext}
+use Rattle.dpkg_scenarios.specs.declared.scenario.StepNext.TheVariants.{Go, Stop}
+use Rattle.dpkg_scenarios.specs.Scenarios.{table}
+use Rattle.dpkg_scenarios.specs.Steps.{IsStep, next_of}
+
+-- what follows a step is a later step of the scenario, or its end: so every walk ends
+abbrev pub GoesForward : Type 0
+GoesForward = (scenario : Scenario) (n m at : ℕ) (ok plain : Bool)
+    → next_of scenario n ok at plain ≡ Some (Go m) → (n < m) × IsStep scenario m
+
+-- what follows, where there is such a step
+abbrev pub or_stays : Option StepNext → StepNext → StepNext
+or_stays None here = here
+or_stays (Some next) here = next
+
+-- where a scenario is after its steps ended so, from a step or an end on: true is success
+abbrev pub walk : Scenario → Bool → StepNext → List Bool → StepNext
+walk scenario plain (Stop ending) oks = Stop ending
+walk scenario plain (Go n) [] = Go n
+walk scenario plain (Go n) (ok ∷ oks) = walk scenario plain (or_stays (next_of scenario n ok 0 plain) (Go n)) oks
+
+-- the state that a scenario is to bring a package to
+abbrev pub aim : Scenario → Bool → State
+aim scenario.Install plain = Installed
+aim scenario.InstallAgain plain = Installed
+aim scenario.Upgrade plain = Installed
+aim scenario.Remove plain = if plain then NotInstalled else ConfigFiles
+aim scenario.Purge plain = NotInstalled
+aim scenario.PurgeLater plain = NotInstalled
+
+-- where every step succeeds, the scenario is done, in that state
+abbrev pub Succeeds : Type 0
+Succeeds = (scenario : Scenario) (plain : Bool)
+    → walk scenario plain (Go 1) (replicate (length (table scenario)) true) ≡ Stop (Done (aim scenario plain))
+
+-- every step is reached from the first one
+abbrev pub IsReached : Scenario → ℕ → Type 0
+IsReached scenario n = (oks : List Bool) × (walk scenario false (Go 1) oks ≡ Go n)
+
+-- so of each step of each scenario
+abbrev pub ReachesEach : Type 0
+ReachesEach = (scenario : Scenario) (n : ℕ) → IsStep scenario n → IsReached scenario n

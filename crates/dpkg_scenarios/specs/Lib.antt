@@ -1,0 +1,4 @@
+pub mod Scenarios
+pub mod Steps
+pub mod Lines
+pub mod Laws

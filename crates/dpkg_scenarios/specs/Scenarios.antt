@@ -1,0 +1,168 @@
+-- The six scenarios as tables, a line for each step: its number, what is done, the words of the call, what follows on
+-- success and what on failure. To be read beside Debian Policy, 6.5 (the calls), 6.6 (unpacking, and its unwinding),
+-- 6.7 (configuring) and 6.8 (removing and purging).
+use Rattle.std.specs.Prelude.{ℕ, Bool, true, false, List, [], ◌∷◌, codes, if◌then◌else◌}
+use Rattle.script_names.specs.declared.reason.Reason.TheVariants.{Restore}
+use Rattle.dpkg_scenarios.specs.declared.scenario.Scenario.{Scenario}
+use Rattle.dpkg_scenarios.specs.declared.scenario.Scenario.TheVariants as scenario
+use Rattle.dpkg_scenarios.specs.declared.scenario.State.{State}
+use Rattle.dpkg_scenarios.specs.declared.scenario.State.TheVariants.{Installed, Unpacked, HalfConfigured, HalfInstalled}
+use Rattle.dpkg_scenarios.specs.declared.scenario.State.TheVariants.{ConfigFiles, NotInstalled}
+use Rattle.dpkg_scenarios.specs.declared.scenario.ScriptKind.{ScriptKind}
+use Rattle.dpkg_scenarios.specs.declared.scenario.ScriptKind.TheVariants.{Preinst, Postinst, Prerm, Postrm}
+use Rattle.dpkg_scenarios.specs.declared.scenario.Ending.TheVariants as ending
+use Rattle.dpkg_scenarios.specs.declared.scenario.StepWork.{StepWork}
+use Rattle.dpkg_scenarios.specs.declared.scenario.StepWork.TheVariants.{Script, Unpack, RemoveFiles}
+use Rattle.dpkg_scenarios.specs.declared.scenario.StepWork.TheVariants.{RemoveOld, RemoveConf}
+use Rattle.dpkg_scenarios.specs.declared.scenario.StepNext.{StepNext}
+use Rattle.dpkg_scenarios.specs.declared.scenario.StepNext.TheVariants.{Go, Stop}
+
+-- the words of a call, from the old package's version and the new one's
+abbrev pub Words : Type 0
+Words = List ℕ → List ℕ → List (List ℕ)
+
+-- what follows, by whether the package has neither a configuration file nor a postrm, and by the number of the file act
+-- that failed
+abbrev pub Follows : Type 0
+Follows = Bool → ℕ → StepNext
+
+-- a line of a table
+pub record Step : Type 0 where
+  pub number : ℕ
+  pub work : StepWork
+  pub words : Words
+  pub ok : Follows
+  pub failed : Follows
+
+-- a script of the new package is called
+abbrev pub new : ℕ → ScriptKind → Words → Follows → Follows → Step
+new n script words ok failed =
+    record { number = n; work = Script false script; words = words; ok = ok; failed = failed }
+
+-- a script of the old package is called
+abbrev pub old : ℕ → ScriptKind → Words → Follows → Follows → Step
+old n script words ok failed =
+    record { number = n; work = Script true script; words = words; ok = ok; failed = failed }
+
+-- files are placed, which can fail
+abbrev pub places : ℕ → StepWork → Follows → Follows → Step
+places n work ok failed = record { number = n; work = work; words = λ o n. []; ok = ok; failed = failed }
+
+-- files are taken away, which cannot fail: what is not there is passed over
+abbrev pub removes : ℕ → StepWork → Follows → Step
+removes n work ok = places n work ok ok
+
+-- a word alone
+abbrev pub alone : List ℕ → Words
+alone word o n = word ∷ []
+
+-- one and an empty one
+abbrev pub empty : List ℕ → Words
+empty word o n = word ∷ [] ∷ []
+
+-- one and the old version
+abbrev pub from_old : List ℕ → Words
+from_old word o n = word ∷ o ∷ []
+
+-- one and the new version
+abbrev pub to_new : List ℕ → Words
+to_new word o n = word ∷ n ∷ []
+
+-- one, the old version and the new one
+abbrev pub from_to : List ℕ → Words
+from_to word o n = word ∷ o ∷ n ∷ []
+
+-- a further step
+abbrev pub go : ℕ → Follows
+go n plain at = Go n
+
+-- the end with success
+abbrev pub done : State → Follows
+done state plain at = Stop (ending.Done state)
+
+-- the end with failure
+abbrev pub failed : State → Follows
+failed state plain at = Stop (ending.Failed state)
+
+-- the end of a removal: configuration files are left, and the postrm that a purge calls, unless there are none
+abbrev pub removed : Follows
+removed plain at = Stop (ending.Done (if plain then NotInstalled else ConfigFiles))
+
+-- the files of the package before would be put back, which has no specification here, at the act of this step that
+-- failed
+abbrev pub restore : ℕ → Follows
+restore n plain at = Stop (ending.Incomplete Restore (record { step = n; at = at }))
+
+-- the same where a call failed
+abbrev pub restore_call : ℕ → Follows
+restore_call n plain at = Stop (ending.Incomplete Restore (record { step = n; at = 0 }))
+
+-- Policy 6.6, where no version is there, and 6.7
+abbrev pub install : List Step
+install =
+    new 1 Preinst (alone (codes "install")) (go 2) (go 4)
+    ∷ places 2 Unpack (go 3) (restore 2)
+    ∷ new 3 Postinst (empty (codes "configure")) (done Installed) (failed HalfConfigured)
+    ∷ new 4 Postrm (alone (codes "abort-install")) (failed NotInstalled) (failed HalfInstalled)
+    ∷ []
+
+-- Policy 6.6, where the configuration files of a version are there, and 6.7
+abbrev pub install_again : List Step
+install_again =
+    new 1 Preinst (from_to (codes "install")) (go 2) (go 4)
+    ∷ places 2 Unpack (go 3) (restore 2)
+    ∷ new 3 Postinst (from_old (codes "configure")) (done Installed) (failed HalfConfigured)
+    ∷ new 4 Postrm (from_to (codes "abort-install")) (failed ConfigFiles) (failed HalfInstalled)
+    ∷ []
+
+-- Policy 6.6, where a version is installed, and 6.7
+abbrev pub upgrade : List Step
+upgrade =
+    old 1 Prerm (to_new (codes "upgrade")) (go 3) (go 2)
+    ∷ new 2 Prerm (from_to (codes "failed-upgrade")) (go 3) (go 9)
+    ∷ new 3 Preinst (from_to (codes "upgrade")) (go 4) (go 10)
+    ∷ places 4 Unpack (go 5) (restore 4)
+    ∷ old 5 Postrm (to_new (codes "upgrade")) (go 7) (go 6)
+    ∷ new 6 Postrm (from_to (codes "failed-upgrade")) (go 7) (restore_call 6)
+    ∷ removes 7 RemoveOld (go 8)
+    ∷ new 8 Postinst (from_old (codes "configure")) (done Installed) (failed HalfConfigured)
+    ∷ old 9 Postinst (to_new (codes "abort-upgrade")) (failed Installed) (failed HalfConfigured)
+    ∷ new 10 Postrm (from_to (codes "abort-upgrade")) (go 11) (failed HalfInstalled)
+    ∷ old 11 Postinst (to_new (codes "abort-upgrade")) (failed Installed) (failed Unpacked)
+    ∷ []
+
+-- Policy 6.8
+abbrev pub remove : List Step
+remove =
+    new 1 Prerm (alone (codes "remove")) (go 2) (go 4)
+    ∷ removes 2 RemoveFiles (go 3)
+    ∷ new 3 Postrm (alone (codes "remove")) removed (failed HalfInstalled)
+    ∷ new 4 Postinst (alone (codes "abort-remove")) (failed Installed) (failed HalfConfigured)
+    ∷ []
+
+-- Policy 6.8, with the purge behind the removal
+abbrev pub purge : List Step
+purge =
+    new 1 Prerm (alone (codes "remove")) (go 2) (go 6)
+    ∷ removes 2 RemoveFiles (go 3)
+    ∷ new 3 Postrm (alone (codes "remove")) (go 4) (failed HalfInstalled)
+    ∷ removes 4 RemoveConf (go 5)
+    ∷ new 5 Postrm (alone (codes "purge")) (done NotInstalled) (failed ConfigFiles)
+    ∷ new 6 Postinst (alone (codes "abort-remove")) (failed Installed) (failed HalfConfigured)
+    ∷ []
+
+-- Policy 6.8, the purge of what an earlier removal left
+abbrev pub purge_later : List Step
+purge_later =
+    removes 1 RemoveConf (go 2)
+    ∷ new 2 Postrm (alone (codes "purge")) (done NotInstalled) (failed ConfigFiles)
+    ∷ []
+
+-- the table of a scenario
+abbrev pub table : Scenario → List Step
+table scenario.Install = install
+table scenario.InstallAgain = install_again
+table scenario.Upgrade = upgrade
+table scenario.Remove = remove
+table scenario.Purge = purge
+table scenario.PurgeLater = purge_later

@@ -1,0 +1,15 @@
+//! What a package manager does with a package, step by step: six scenarios as tables, which script of which package is
+//! called in each step and with which words, and what follows on its success and on its failure (Debian Policy,
+//! chapter 6). It stands on script_names. Begin with specs/Scenarios.antt, which has a line for each step, and with
+//! `scenario`.
+#![tactic(auto)]
+
+mod call;
+mod scenario;
+mod steps;
+mod tables;
+pub mod theorems;
+
+pub use call::call_words;
+pub use scenario::{Ending, Scenario, ScriptKind, State, StepNext, StepWork};
+pub use steps::{next, work};

@@ -1,0 +1,276 @@
+// The tables, a function for each scenario and a line for each step.
+ghost use Rattle.std.specs.Prelude.{◌≡◌, ◌≤◌, ℕ, Bool, List, Some, true, false};
+ghost use Rattle.dpkg_scenarios.specs.Steps.{IsStep};
+ghost use Rattle.dpkg_scenarios.specs.Lines.{IsLine};
+
+use crate::scenario::ScriptKind::{Postinst, Postrm, Preinst, Prerm};
+use crate::scenario::State::{
+    ConfigFiles, HalfConfigured, HalfInstalled, Installed, NotInstalled, Unpacked,
+};
+use crate::scenario::{Scenario, ScriptKind, State, StepWork};
+use crate::tables::Then::{Done, Failed, Go, Removed, RestoreAct, RestoreCall};
+use crate::tables::Verb::{
+    AbortInstall, AbortRemove, AbortUpgrade, Configure, FailedUpgrade, Install, Purge, Remove,
+    Upgrade,
+};
+use crate::tables::Versions::{EmptyWord, FromOld, FromTo, NoWord, ToNew};
+
+// The first word of a call.
+#[derive(Clone, Copy)]
+pub enum Verb {
+    Install,
+    AbortInstall,
+    Configure,
+    Upgrade,
+    FailedUpgrade,
+    AbortUpgrade,
+    Remove,
+    AbortRemove,
+    Purge,
+}
+
+// The words behind the first one: none, an empty one, the old version, the new one, or the old one and the new one.
+#[derive(Clone, Copy)]
+pub enum Versions {
+    NoWord,
+    EmptyWord,
+    FromOld,
+    ToNew,
+    FromTo,
+}
+
+// The words of a step.
+#[derive(Clone, Copy)]
+pub enum Spoken {
+    NoCall,
+    Call(Verb, Versions),
+}
+
+// What follows: a step; the end, with success or with failure; after a removal the end by what is left; where files
+// would be put back an end without a state.
+#[derive(Clone, Copy)]
+pub enum Then {
+    Go(u16),
+    Done(State),
+    Failed(State),
+    Removed,
+    RestoreAct,
+    RestoreCall,
+}
+
+// A line of a table.
+#[derive(Clone, Copy)]
+pub struct Line {
+    pub work: StepWork,
+    pub spoken: Spoken,
+    pub ok: Then,
+    pub failed: Then,
+}
+
+// A script of the new package is called.
+fn new(script: ScriptKind, verb: Verb, versions: Versions, ok: Then, failed: Then) -> Line
+    ensures { let work = StepWork.Script false script in
+        result ≡ record { work = work; spoken = Spoken.Call verb versions; ok = ok; failed = failed } }
+{
+    Line {
+        work: StepWork::Script { old: false, script },
+        spoken: Spoken::Call(verb, versions),
+        ok,
+        failed,
+    }
+}
+
+// A script of the old package is called.
+fn old(script: ScriptKind, verb: Verb, versions: Versions, ok: Then, failed: Then) -> Line
+    ensures { let work = StepWork.Script true script in
+        result ≡ record { work = work; spoken = Spoken.Call verb versions; ok = ok; failed = failed } }
+{
+    Line {
+        work: StepWork::Script { old: true, script },
+        spoken: Spoken::Call(verb, versions),
+        ok,
+        failed,
+    }
+}
+
+// Files are placed or taken away.
+fn files(work: StepWork, ok: Then, failed: Then) -> Line
+    ensures { result ≡ record { work = work; spoken = Spoken.NoCall; ok = ok; failed = failed } }
+{
+    Line {
+        work,
+        spoken: Spoken::NoCall,
+        ok,
+        failed,
+    }
+}
+
+fn install(step: u16) -> Line
+    requires { IsStep Scenario.Install step }
+    ensures { IsLine Scenario.Install step result }
+{
+    match step {
+        1 => new(Preinst, Install, NoWord, Go(2), Go(4)),
+        2 => files(StepWork::Unpack, Go(3), RestoreAct),
+        3 => new(
+            Postinst,
+            Configure,
+            EmptyWord,
+            Done(Installed),
+            Failed(HalfConfigured),
+        ),
+        _ => new(
+            Postrm,
+            AbortInstall,
+            NoWord,
+            Failed(NotInstalled),
+            Failed(HalfInstalled),
+        ),
+    }
+}
+
+fn install_again(step: u16) -> Line
+    requires { IsStep Scenario.InstallAgain step }
+    ensures { IsLine Scenario.InstallAgain step result }
+{
+    match step {
+        1 => new(Preinst, Install, FromTo, Go(2), Go(4)),
+        2 => files(StepWork::Unpack, Go(3), RestoreAct),
+        3 => new(
+            Postinst,
+            Configure,
+            FromOld,
+            Done(Installed),
+            Failed(HalfConfigured),
+        ),
+        _ => new(
+            Postrm,
+            AbortInstall,
+            FromTo,
+            Failed(ConfigFiles),
+            Failed(HalfInstalled),
+        ),
+    }
+}
+
+fn upgrade(step: u16) -> Line
+    requires { IsStep Scenario.Upgrade step }
+    ensures { IsLine Scenario.Upgrade step result }
+{
+    match step {
+        1 => old(Prerm, Upgrade, ToNew, Go(3), Go(2)),
+        2 => new(Prerm, FailedUpgrade, FromTo, Go(3), Go(9)),
+        3 => new(Preinst, Upgrade, FromTo, Go(4), Go(10)),
+        4 => files(StepWork::Unpack, Go(5), RestoreAct),
+        5 => old(Postrm, Upgrade, ToNew, Go(7), Go(6)),
+        6 => new(Postrm, FailedUpgrade, FromTo, Go(7), RestoreCall),
+        7 => files(StepWork::RemoveOld, Go(8), Go(8)),
+        8 => new(
+            Postinst,
+            Configure,
+            FromOld,
+            Done(Installed),
+            Failed(HalfConfigured),
+        ),
+        _ => upgrade_undone(step),
+    }
+}
+
+// The steps that undo an upgrade.
+fn upgrade_undone(step: u16) -> Line
+    requires { IsStep Scenario.Upgrade step × (9 ≤ step) }
+    ensures { IsLine Scenario.Upgrade step result }
+{
+    match step {
+        9 => old(
+            Postinst,
+            AbortUpgrade,
+            ToNew,
+            Failed(Installed),
+            Failed(HalfConfigured),
+        ),
+        10 => new(Postrm, AbortUpgrade, FromTo, Go(11), Failed(HalfInstalled)),
+        _ => old(
+            Postinst,
+            AbortUpgrade,
+            ToNew,
+            Failed(Installed),
+            Failed(Unpacked),
+        ),
+    }
+}
+
+fn remove(step: u16) -> Line
+    requires { IsStep Scenario.Remove step }
+    ensures { IsLine Scenario.Remove step result }
+{
+    match step {
+        1 => new(Prerm, Remove, NoWord, Go(2), Go(4)),
+        2 => files(StepWork::RemoveFiles, Go(3), Go(3)),
+        3 => new(Postrm, Remove, NoWord, Removed, Failed(HalfInstalled)),
+        _ => new(
+            Postinst,
+            AbortRemove,
+            NoWord,
+            Failed(Installed),
+            Failed(HalfConfigured),
+        ),
+    }
+}
+
+fn purge(step: u16) -> Line
+    requires { IsStep Scenario.Purge step }
+    ensures { IsLine Scenario.Purge step result }
+{
+    match step {
+        1 => new(Prerm, Remove, NoWord, Go(2), Go(6)),
+        2 => files(StepWork::RemoveFiles, Go(3), Go(3)),
+        3 => new(Postrm, Remove, NoWord, Go(4), Failed(HalfInstalled)),
+        4 => files(StepWork::RemoveConf, Go(5), Go(5)),
+        5 => new(
+            Postrm,
+            Purge,
+            NoWord,
+            Done(NotInstalled),
+            Failed(ConfigFiles),
+        ),
+        _ => new(
+            Postinst,
+            AbortRemove,
+            NoWord,
+            Failed(Installed),
+            Failed(HalfConfigured),
+        ),
+    }
+}
+
+fn purge_later(step: u16) -> Line
+    requires { IsStep Scenario.PurgeLater step }
+    ensures { IsLine Scenario.PurgeLater step result }
+{
+    match step {
+        1 => files(StepWork::RemoveConf, Go(2), Go(2)),
+        _ => new(
+            Postrm,
+            Purge,
+            NoWord,
+            Done(NotInstalled),
+            Failed(ConfigFiles),
+        ),
+    }
+}
+
+// The line of a step.
+pub fn line_of(scenario: Scenario, step: u16) -> Line
+    requires { IsStep scenario step }
+    ensures { IsLine scenario step result }
+{
+    match scenario {
+        Scenario::Install => install(step),
+        Scenario::InstallAgain => install_again(step),
+        Scenario::Upgrade => upgrade(step),
+        Scenario::Remove => remove(step),
+        Scenario::Purge => purge(step),
+        Scenario::PurgeLater => purge_later(step),
+    }
+}
