@@ -1,0 +1,7 @@
+mod PathSets
+mod Endings
+mod Names
+mod Arrows
+mod Trims
+mod FileSteps
+mod Written

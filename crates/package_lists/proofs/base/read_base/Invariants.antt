@@ -1,0 +1,7 @@
+use Rattle.std.proofs.Common.{◌≡◌, ◌+◌, [], map, drop}
+use Rattle.package_lists.specs.Bases.{with_bases}
+use Rattle.package_lists.proofs.base.read_base.Given as goal
+
+abbrev pub invariant-loop-text : goal.invariant-loop-text
+invariant-loop-text l =
+    with_bases (l.number + 1) l.lines (map (λ line. line.now) (drop l.text-index l.text-items)) ≡ with_bases 1 [] (map (λ line. line.now) l.text-items)

@@ -1,0 +1,51 @@
+-- The version of a package, from its control file (Debian Policy, 5.6.12).
+use Rattle.std.specs.Prelude.{ℕ, ◌+◌, Bool, ◌&&◌, ◌||◌, ◌==◌, nat_eq, nat_le, List, [], ◌∷◌}
+use Rattle.std.specs.Prelude.{drop, codes, Result, Ok, Err, if◌then◌else◌}
+use Rattle.std.specs.List.{list_all, starts_with}
+use Rattle.script_names.specs.Paths.{is_filled}
+use Rattle.feature_trees.specs.TreeLines.{text_lines}
+use Rattle.package_lists.specs.declared.fault.LineFault.{LineFault}
+use Rattle.package_lists.specs.declared.fault.LineFault.TheVariants.{Line}
+
+-- a space or a tab
+abbrev pub is_blank : ℕ → Bool
+is_blank b = (b == 32) || (b == 9)
+
+-- bytes without the blanks at their beginning
+abbrev pub after_blanks : List ℕ → List ℕ
+after_blanks [] = []
+after_blanks (b ∷ bs) = if is_blank b then after_blanks bs else b ∷ bs
+
+-- bytes without the blanks at their end
+abbrev pub before_blanks : List ℕ → List ℕ
+before_blanks [] = []
+before_blanks (b ∷ bs) = if list_all is_blank (b ∷ bs) then [] else b ∷ before_blanks bs
+
+-- bytes without the blanks at both ends
+abbrev pub trimmed : List ℕ → List ℕ
+trimmed bytes = before_blanks (after_blanks bytes)
+
+-- a byte that a version may have: a letter, a digit, `.`, `+`, `-`, `:` or `~`
+abbrev pub is_version_byte : ℕ → Bool
+is_version_byte b =
+    (nat_le 97 b && nat_le b 122) || (nat_le 65 b && nat_le b 90) || (nat_le 48 b && nat_le b 57) || (b == 46)
+    || (b == 43) || (b == 45) || (b == 58) || (b == 126)
+
+-- a version: such bytes, at least one
+abbrev pub is_version : List ℕ → Bool
+is_version bytes = is_filled bytes && list_all is_version_byte bytes
+
+-- the version of line n, where the value is one
+abbrev pub version_of : ℕ → List ℕ → Result (List ℕ) LineFault
+version_of n value = if is_version value then Ok value else Err (Line n 1)
+
+-- the value of the first of these lines that begins with `Version:`, from line n on; without one the version is `0`
+abbrev pub first_version : ℕ → List (List ℕ) → Result (List ℕ) LineFault
+first_version n [] = Ok (codes "0")
+first_version n (line ∷ lines) =
+    if starts_with nat_eq line (codes "Version:") then version_of n (trimmed (drop 8 line))
+    else first_version (n + 1) lines
+
+-- the version of a control file, or its line at fault
+abbrev pub control_of : List ℕ → Result (List ℕ) LineFault
+control_of text = first_version 1 (text_lines text)

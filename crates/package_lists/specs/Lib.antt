@@ -1,0 +1,14 @@
+pub mod Paths
+pub mod Laws
+pub mod Entries
+pub mod PathSets
+pub mod EntrySets
+pub mod Faults
+pub mod Lists
+pub mod Indexes
+pub mod Control
+pub mod Conffiles
+pub mod Named
+pub mod Bases
+pub mod Based
+pub mod FileActs

@@ -1,0 +1,66 @@
+ghost use Rattle.std.specs.Prelude.{◌≡◌, ◌||◌, ℕ, List as ListOf, false, OnOk};
+ghost use Rattle.std.specs.List.{list_any};
+ghost use Rattle.std.specs.Str.{bytes_eq};
+ghost use Rattle.package_lists.specs.PathSets.{has};
+
+use script_names::{Bytes, Memory};
+use std::alloc::Global;
+use std::collections::BTreeSet;
+
+// A set of paths, as they are written.
+#[derive(Drop)]
+pub struct PathSet {
+    alloc: Global,
+    paths: BTreeSet<Vec<u8>>,
+}
+
+impl PathSet {
+    // No paths.
+    pub fn new(alloc: Global) -> PathSet
+        ensures { (path : ListOf ℕ) → has result path ≡ false }
+    {
+        PathSet {
+            alloc,
+            paths: BTreeSet::new(alloc),
+        }
+    }
+
+    // Whether a path is in the set.
+    pub fn has(&self, path: &[u8]) -> bool
+        ensures { result ≡ has self.now path.now }
+    {
+        self.paths.contains(path)
+    }
+
+    // One more path.
+    pub fn add(&mut self, path: &[u8]) -> Result<(), Memory>
+        ensures { OnOk result ((other : ListOf ℕ) → has self.new other ≡ (bytes_eq path.now other || has self.old other)) }
+    {
+        let key = Vec::from_slice(self.alloc, path)?;
+        self.paths.insert(key)?;
+        Ok(())
+    }
+}
+
+// Adds each of these paths.
+pub fn add_each(set: &mut PathSet, paths: &[Bytes]) -> Result<(), Memory>
+    ensures { OnOk result ((other : ListOf ℕ)
+        → has set.new other ≡ (list_any (λ path. bytes_eq path other) paths.now || has set.old other)) }
+{
+    for path in paths {
+        set.add(path.as_slice())?;
+    }
+    Ok(())
+}
+
+// Whether a set has any of these paths.
+pub fn has_any(set: &PathSet, paths: &[Bytes]) -> bool
+    ensures { result ≡ list_any (has set.now) paths.now }
+{
+    for path in paths {
+        if set.has(path.as_slice()) {
+            return true;
+        }
+    }
+    false
+}

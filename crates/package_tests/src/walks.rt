@@ -1,0 +1,315 @@
+//! Walks through the scenarios by hand, from Debian Policy, 6.5 to 6.8: every step is left once by its success and once
+//! by its failure. A row has the scenario, how the steps end in turn (`o` for success, `f` for failure), and what is
+//! done: `n` or `o` for the package, the script, its words with `-` for an empty one; the versions are 1 and 2. A plain
+//! package has neither a configuration file nor a postrm.
+
+ghost use Rattle.dpkg_scenarios.specs.Steps.{IsStep};
+
+use dpkg_scenarios::theorems::scenarios_end;
+use dpkg_scenarios::{
+    Ending, Scenario, ScriptKind, State, StepNext, StepWork, call_words, next, work,
+};
+use script_names::{Bytes, Memory};
+use std::alloc::Global;
+use std::test::Fail;
+
+const WALKS: &[(Scenario, &[u8], &[u8])] = &[
+    (
+        Scenario::Install,
+        b"ooo",
+        b"n preinst install;unpack;n postinst configure -;done Installed",
+    ),
+    (
+        Scenario::Install,
+        b"oof",
+        b"n preinst install;unpack;n postinst configure -;failed Half-Configured",
+    ),
+    (
+        Scenario::Install,
+        b"of",
+        b"n preinst install;unpack;restore",
+    ),
+    (
+        Scenario::Install,
+        b"fo",
+        b"n preinst install;n postrm abort-install;failed Not-Installed",
+    ),
+    (
+        Scenario::Install,
+        b"ff",
+        b"n preinst install;n postrm abort-install;failed Half-Installed",
+    ),
+    (
+        Scenario::InstallAgain,
+        b"ooo",
+        b"n preinst install 1 2;unpack;n postinst configure 1;done Installed",
+    ),
+    (
+        Scenario::InstallAgain,
+        b"oof",
+        b"n preinst install 1 2;unpack;n postinst configure 1;failed Half-Configured",
+    ),
+    (
+        Scenario::InstallAgain,
+        b"of",
+        b"n preinst install 1 2;unpack;restore",
+    ),
+    (
+        Scenario::InstallAgain,
+        b"fo",
+        b"n preinst install 1 2;n postrm abort-install 1 2;failed Config-Files",
+    ),
+    (
+        Scenario::InstallAgain,
+        b"ff",
+        b"n preinst install 1 2;n postrm abort-install 1 2;failed Half-Installed",
+    ),
+    (
+        Scenario::Remove,
+        b"ooo",
+        b"n prerm remove;remove files;n postrm remove;done Config-Files",
+    ),
+    (
+        Scenario::Remove,
+        b"oof",
+        b"n prerm remove;remove files;n postrm remove;failed Half-Installed",
+    ),
+    (
+        Scenario::Remove,
+        b"fo",
+        b"n prerm remove;n postinst abort-remove;failed Installed",
+    ),
+    (
+        Scenario::Remove,
+        b"ff",
+        b"n prerm remove;n postinst abort-remove;failed Half-Configured",
+    ),
+    (
+        Scenario::Purge,
+        b"ooooo",
+        b"n prerm remove;remove files;n postrm remove;remove conffiles;n postrm purge;done Not-Installed",
+    ),
+    (
+        Scenario::Purge,
+        b"oooof",
+        b"n prerm remove;remove files;n postrm remove;remove conffiles;n postrm purge;failed Config-Files",
+    ),
+    (
+        Scenario::Purge,
+        b"oof",
+        b"n prerm remove;remove files;n postrm remove;failed Half-Installed",
+    ),
+    (
+        Scenario::Purge,
+        b"fo",
+        b"n prerm remove;n postinst abort-remove;failed Installed",
+    ),
+    (
+        Scenario::Purge,
+        b"ff",
+        b"n prerm remove;n postinst abort-remove;failed Half-Configured",
+    ),
+    (
+        Scenario::PurgeLater,
+        b"oo",
+        b"remove conffiles;n postrm purge;done Not-Installed",
+    ),
+    (
+        Scenario::PurgeLater,
+        b"of",
+        b"remove conffiles;n postrm purge;failed Config-Files",
+    ),
+];
+
+// The walks through an upgrade.
+const UPGRADES: &[(Scenario, &[u8], &[u8])] = &[
+    (
+        Scenario::Upgrade,
+        b"oooooo",
+        b"o prerm upgrade 2;n preinst upgrade 1 2;unpack;o postrm upgrade 2;remove old;n postinst configure 1;done Installed",
+    ),
+    (
+        Scenario::Upgrade,
+        b"fooooof",
+        b"o prerm upgrade 2;n prerm failed-upgrade 1 2;n preinst upgrade 1 2;unpack;o postrm upgrade 2;remove old;n postinst configure 1;failed Half-Configured",
+    ),
+    (
+        Scenario::Upgrade,
+        b"ooofooo",
+        b"o prerm upgrade 2;n preinst upgrade 1 2;unpack;o postrm upgrade 2;n postrm failed-upgrade 1 2;remove old;n postinst configure 1;done Installed",
+    ),
+    (
+        Scenario::Upgrade,
+        b"oooff",
+        b"o prerm upgrade 2;n preinst upgrade 1 2;unpack;o postrm upgrade 2;n postrm failed-upgrade 1 2;restore call",
+    ),
+    (
+        Scenario::Upgrade,
+        b"oof",
+        b"o prerm upgrade 2;n preinst upgrade 1 2;unpack;restore",
+    ),
+    (
+        Scenario::Upgrade,
+        b"ffo",
+        b"o prerm upgrade 2;n prerm failed-upgrade 1 2;o postinst abort-upgrade 2;failed Installed",
+    ),
+    (
+        Scenario::Upgrade,
+        b"fff",
+        b"o prerm upgrade 2;n prerm failed-upgrade 1 2;o postinst abort-upgrade 2;failed Half-Configured",
+    ),
+    (
+        Scenario::Upgrade,
+        b"ofoo",
+        b"o prerm upgrade 2;n preinst upgrade 1 2;n postrm abort-upgrade 1 2;o postinst abort-upgrade 2;failed Installed",
+    ),
+    (
+        Scenario::Upgrade,
+        b"ofof",
+        b"o prerm upgrade 2;n preinst upgrade 1 2;n postrm abort-upgrade 1 2;o postinst abort-upgrade 2;failed Unpacked",
+    ),
+    (
+        Scenario::Upgrade,
+        b"off",
+        b"o prerm upgrade 2;n preinst upgrade 1 2;n postrm abort-upgrade 1 2;failed Half-Installed",
+    ),
+];
+
+// Walks of a plain package.
+const PLAIN: &[(Scenario, &[u8], &[u8])] = &[
+    (
+        Scenario::Remove,
+        b"ooo",
+        b"n prerm remove;remove files;n postrm remove;done Not-Installed",
+    ),
+    (
+        Scenario::Purge,
+        b"ooooo",
+        b"n prerm remove;remove files;n postrm remove;remove conffiles;n postrm purge;done Not-Installed",
+    ),
+];
+
+fn script_name(script: ScriptKind) -> &'static [u8] {
+    match script {
+        ScriptKind::Preinst => b"preinst",
+        ScriptKind::Postinst => b"postinst",
+        ScriptKind::Prerm => b"prerm",
+        ScriptKind::Postrm => b"postrm",
+    }
+}
+
+fn state_name(state: State) -> &'static [u8] {
+    match state {
+        State::Installed => b"Installed",
+        State::Unpacked => b"Unpacked",
+        State::HalfConfigured => b"Half-Configured",
+        State::HalfInstalled => b"Half-Installed",
+        State::ConfigFiles => b"Config-Files",
+        State::NotInstalled => b"Not-Installed",
+    }
+}
+
+fn work_name(work: StepWork) -> &'static [u8] {
+    match work {
+        StepWork::Script { old, script } => script_name(script),
+        StepWork::Unpack => b"unpack",
+        StepWork::RemoveFiles => b"remove files",
+        StepWork::RemoveOld => b"remove old",
+        StepWork::RemoveConf => b"remove conffiles",
+    }
+}
+
+// `n` or `o` for the package of a script; nothing for files.
+fn package_name(work: StepWork) -> &'static [u8] {
+    match work {
+        StepWork::Script { old, script } => { if old { b"o " } else { b"n " } }
+        StepWork::Unpack | StepWork::RemoveFiles | StepWork::RemoveOld | StepWork::RemoveConf =>
+            b"",
+    }
+}
+
+// What is done in a step.
+fn put_step(alloc: Global, text: &mut Bytes, scenario: Scenario, step: u16) -> Result<(), Memory>
+    requires { IsStep scenario step }
+{
+    let work = work(scenario, step);
+    text.extend(package_name(work))?;
+    text.extend(work_name(work))?;
+    let old = Bytes::from_slice(alloc, b"1")?;
+    let new = Bytes::from_slice(alloc, b"2")?;
+    let words = call_words(alloc, scenario, step, &old, &new)?;
+    for word in words.as_slice() {
+        text.extend(b" ")?;
+        text.extend(if word.len() == 0 {
+            b"-"
+        } else {
+            word.as_slice()
+        })?;
+    }
+    text.extend(b";")
+}
+
+// How a walk ends: 7 is the number of the act that failed.
+fn put_ending(text: &mut Bytes, ending: Ending) -> Result<(), Memory> {
+    match ending {
+        Ending::Done(state) => {
+            text.extend(b"done ")?;
+            text.extend(state_name(state))
+        }
+        Ending::Failed(state) => {
+            text.extend(b"failed ")?;
+            text.extend(state_name(state))
+        }
+        Ending::Incomplete(_, site) => text.extend(if site.at == 7 {
+            b"restore"
+        } else {
+            b"restore call"
+        }),
+        Ending::Bound(_) => text.extend(b"bound"),
+    }
+}
+
+// What is done where the steps end so.
+fn walked(alloc: Global, scenario: Scenario, plain: bool, ends: &[u8]) -> Result<Bytes, Memory> {
+    scenarios_end();
+    let mut text = Bytes::new(alloc);
+    let mut step = 1u16;
+    for end in ends {
+        put_step(alloc, &mut text, scenario, step)?;
+        match next(scenario, step, *end == b'o', 7, plain) {
+            StepNext::Go(more) => step = more,
+            StepNext::Stop(ending) => {
+                put_ending(&mut text, ending)?;
+                return Ok(text);
+            }
+        }
+    }
+    Ok(text)
+}
+
+#[test]
+fn steps_are_walked(rt: HostRuntime) -> Result<(), Fail> {
+    for row in WALKS {
+        let text = walked(rt.alloc(), row.0, false, row.1)?;
+        assert_eq!(rt; text.as_slice(), row.2);
+    }
+    Ok(())
+}
+
+#[test]
+fn upgrades_are_walked(rt: HostRuntime) -> Result<(), Fail> {
+    for row in UPGRADES {
+        let text = walked(rt.alloc(), row.0, false, row.1)?;
+        assert_eq!(rt; text.as_slice(), row.2);
+    }
+    Ok(())
+}
+
+#[test]
+fn plain_packages_are_walked(rt: HostRuntime) -> Result<(), Fail> {
+    for row in PLAIN {
+        let text = walked(rt.alloc(), row.0, true, row.1)?;
+        assert_eq!(rt; text.as_slice(), row.2);
+    }
+    Ok(())
+}
