@@ -1,0 +1,5 @@
+mod Lines
+mod Walking
+mod Taking
+mod Playing
+mod Deciding

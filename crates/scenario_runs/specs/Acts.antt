@@ -1,0 +1,13 @@
+-- The acts of a step that places or takes away files.
+use Rattle.std.specs.Prelude.{◌≤◌, List, length, All, Option, Some, None, nat_le, if◌then◌else◌}
+use Rattle.utility_calls.specs.declared.acts.Act.{Act}
+use Rattle.utility_calls.specs.Acts.{IsPerformed}
+
+-- each act can be done on every tree, and each has a number that a site can hold
+pub record AreFileActs (acts : List Act) : Type 0 where
+  pub performed : All IsPerformed acts
+  pub few : length acts ≤ 4294967295
+
+-- these acts, unless there are more of them than a site can number
+abbrev pub numbered : List Act → Option (List Act)
+numbered acts = if nat_le (length acts) 4294967295 then Some acts else None

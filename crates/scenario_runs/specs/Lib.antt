@@ -1,0 +1,5 @@
+pub mod Acts
+pub mod Performed
+pub mod Runs
+pub mod Later
+pub mod Laws

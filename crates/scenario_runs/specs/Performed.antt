@@ -1,0 +1,11 @@
+-- What holds of all acts on files of a job.
+use Rattle.std.specs.Prelude.{All}
+use Rattle.utility_calls.specs.Acts.{IsPerformed}
+use Rattle.scenario_runs.specs.declared.job.Files.{Files}
+
+-- each act on files can be done on every tree
+pub record ArePerformed (files : Files) : Type 0 where
+  pub unpack : All IsPerformed files.unpack
+  pub remove_files : All IsPerformed files.remove_files
+  pub remove_old : All IsPerformed files.remove_old
+  pub remove_conf : All IsPerformed files.remove_conf

@@ -1,0 +1,199 @@
+-- The run of a scenario from a tree: steps, one after another, each a script that is called, or files that are placed
+-- or taken away (Debian Policy, chapter 6).
+use Rattle.std.specs.Prelude.{ℕ, zero, suc, ◌+◌, Bool, true, false, List, [], ◌∷◌, ◌++◌, length, codes}
+use Rattle.std.specs.Prelude.{Option, Some, None, if◌then◌else◌}
+use Rattle.std.specs.FinMap as map
+use Rattle.script_names.specs.declared.mark.Site.{Site}
+use Rattle.script_names.specs.declared.reason.Done.{Done}
+use Rattle.script_names.specs.declared.reason.Done.TheVariants as done
+use Rattle.feature_trees.specs.declared.value.Value.{Value}
+use Rattle.utility_calls.specs.declared.acts.Act.{Act}
+use Rattle.utility_calls.specs.Acts.{row, tree_after}
+use Rattle.act_decisions.specs.Decisions.{mark_at}
+use Rattle.shell_rules.specs.declared.state.Conc.{Conc}
+use Rattle.shell_rules.specs.declared.run.End.{End}
+use Rattle.shell_rules.specs.declared.run.End.TheVariants as end
+use Rattle.shell_rules.specs.Whole.{Ended}
+use Rattle.colis_syntax.specs.WellFormed.{ProgramParts}
+use Rattle.colis_meaning.specs.Meaning.{co_program}
+use Rattle.dpkg_scenarios.specs.declared.scenario.ScriptKind.{ScriptKind}
+use Rattle.dpkg_scenarios.specs.declared.scenario.ScriptKind.TheVariants.{Preinst, Postinst, Prerm, Postrm}
+use Rattle.dpkg_scenarios.specs.declared.scenario.StepWork.{StepWork}
+use Rattle.dpkg_scenarios.specs.declared.scenario.StepWork.TheVariants as work
+use Rattle.dpkg_scenarios.specs.declared.scenario.StepNext.{StepNext}
+use Rattle.dpkg_scenarios.specs.declared.scenario.StepNext.TheVariants.{Go, Stop}
+use Rattle.dpkg_scenarios.specs.declared.scenario.Ending.TheVariants as ending
+use Rattle.dpkg_scenarios.specs.Scenarios.{Step, table}
+use Rattle.dpkg_scenarios.specs.Steps.{line, follows}
+use Rattle.scenario_runs.specs.declared.job.Scripts.{Scripts}
+use Rattle.scenario_runs.specs.declared.job.Package.{Package}
+use Rattle.scenario_runs.specs.declared.job.Job.{Job}
+use Rattle.scenario_runs.specs.declared.call.ScriptCall.{ScriptCall}
+use Rattle.scenario_runs.specs.declared.call.CallEnd.{CallEnd}
+use Rattle.scenario_runs.specs.declared.call.CallEnd.TheVariants as how
+use Rattle.scenario_runs.specs.declared.course.Course.{Course}
+use Rattle.scenario_runs.specs.declared.course.WorkEnd.{WorkEnd}
+use Rattle.scenario_runs.specs.declared.course.WorkEnd.TheVariants.{Succeeded, Failed, Over}
+use Rattle.scenario_runs.specs.declared.course.Worked.{Worked}
+use Rattle.scenario_runs.specs.declared.course.Reached.{Reached}
+use Rattle.scenario_runs.specs.declared.replayed.Replayed.{Replayed}
+
+-- ---- a step that calls a script
+
+-- the name of a script
+abbrev pub script_name : ScriptKind → List ℕ
+script_name Preinst = codes "preinst"
+script_name Postinst = codes "postinst"
+script_name Prerm = codes "prerm"
+script_name Postrm = codes "postrm"
+
+-- a script of a package, if it has that one
+abbrev pub script_of : ScriptKind → Scripts → Option ProgramParts
+script_of Preinst scripts = scripts.preinst
+script_of Postinst scripts = scripts.postinst
+script_of Prerm scripts = scripts.prerm
+script_of Postrm scripts = scripts.postrm
+
+-- the old package, or the new one
+abbrev pub package_of : Job → Bool → Package
+package_of job old = if old then job.old_package else job.new_package
+
+-- the shell in which a script is called: its name is the one variable, the words are the arguments, and as many turns
+-- are left as the run has left
+abbrev pub begun_shell : ScriptKind → List (List ℕ) → Bool → ℕ → Conc
+begun_shell script words strict turns = record {
+  vars = map.insert map.empty (codes "DPKG_MAINTSCRIPT_NAME") (script_name script);
+  args = words;
+  strict = strict;
+  status = true;
+  captured = None;
+  turns = turns;
+}
+
+-- how the call of a script is told that ended so
+abbrev pub call_end : End → CallEnd
+call_end (end.Status true) = how.Ok
+call_end (end.Status false) = how.Failed
+call_end (end.Stopped reason site) = how.Ended
+call_end (end.Bound site) = how.Ended
+
+-- how a step ends with its script: one that stops or is bound ends the run
+abbrev pub script_end : End → WorkEnd
+script_end (end.Status true) = Succeeded
+script_end (end.Status false) = Failed 0
+script_end (end.Stopped reason site) = Over (ending.Incomplete reason site)
+script_end (end.Bound site) = Over (ending.Bound site)
+
+-- what a script leaves
+abbrev pub called : Bool → ScriptKind → List (List ℕ) → Course → Ended → Worked
+called old script words c e =
+    let call : ScriptCall = record { old = old; script = script; words = words; how = call_end e.end } in
+    let course : Course = record {
+      tree = e.tree;
+      trace = e.trace;
+      acts = c.acts ++ e.acts;
+      calls = c.calls ++ call ∷ [];
+      turns = e.conc.turns;
+    } in record { end = script_end e.end; course = course }
+
+-- a script is called in step n; a missing one is a success, and no call
+abbrev pub call_script : ℕ → Bool → ScriptKind → List (List ℕ) → Option ProgramParts → Course → Worked
+call_script n old script words None c = record { end = Succeeded; course = c }
+call_script n old script words (Some program) c =
+    let shell : Conc = begun_shell script words program.strict c.turns in
+    called old script words c (co_program program n shell c.tree c.trace)
+
+-- ---- a step that places files, or takes them away
+
+-- the site of an act: the step, and the act's number in it
+abbrev pub site_at : ℕ → ℕ → Site
+site_at n at = record { step = n; at = at }
+
+-- what an act leaves
+abbrev pub acted : Site → Act → Course → Course
+acted site act c = record c {
+  tree = tree_after act c.tree;
+  trace = c.trace ++ mark_at site act c.tree ∷ [];
+  acts = c.acts ++ act ∷ [];
+}
+
+-- The end of a step behind an act that answers so, if it ends there: an act that stops ends the run at its site, and a
+-- failure ends the step where that step can fail.
+abbrev pub ended_behind : Bool → Site → Done → Option WorkEnd
+ended_behind can_fail site done.Ok = None
+ended_behind can_fail site done.Failed = if can_fail then Some (Failed site.at) else None
+ended_behind can_fail site (done.Stopped reason) = Some (Over (ending.Incomplete reason site))
+
+-- that end, or else what comes then
+abbrev pub or_more : Option WorkEnd → Course → (Course → Worked) → Worked
+or_more None c more = more c
+or_more (Some end) c more = record { end = end; course = c }
+
+-- acts in order, numbered from this number on
+abbrev pub do_files : Bool → ℕ → ℕ → List Act → Course → Worked
+do_files can_fail n at [] c = record { end = Succeeded; course = c }
+do_files can_fail n at (act ∷ acts) c =
+    or_more (ended_behind can_fail (site_at n at) (row act c.tree).answer) (acted (site_at n at) act c)
+    (do_files can_fail n (at + 1) acts)
+
+-- ---- steps
+
+-- the work of step n, whose call has these words; of the steps on files, the one that places them can fail
+abbrev pub do_work : Job → ℕ → StepWork → List (List ℕ) → Course → Worked
+do_work job n (work.Script old script) words c =
+    call_script n old script words (script_of script (package_of job old).scripts) c
+do_work job n work.Unpack words c = do_files true n 0 job.files.unpack c
+do_work job n work.RemoveFiles words c = do_files false n 0 job.files.remove_files c
+do_work job n work.RemoveOld words c = do_files false n 0 job.files.remove_old c
+do_work job n work.RemoveConf words c = do_files false n 0 job.files.remove_conf c
+
+-- the words of a step's call
+abbrev pub words_in : Job → Step → List (List ℕ)
+words_in job step = step.words job.old_package.version job.new_package.version
+
+-- what follows a step whose work ended so
+abbrev pub next_behind : Bool → Step → WorkEnd → StepNext
+next_behind plain step Succeeded = follows step true plain 0
+next_behind plain step (Failed at) = follows step false plain at
+next_behind plain step (Over ending) = Stop ending
+
+-- the same, with how far the run has come
+abbrev pub followed : Bool → Step → Worked → Reached
+followed plain step w = record { next = next_behind plain step w.end; course = w.course }
+
+-- the step with this line of the scenario's table
+abbrev pub do_step : Job → ℕ → Option Step → Course → Reached
+do_step job n None c = record { next = Go n; course = c }
+do_step job n (Some step) c = followed job.plain step (do_work job n step.work (words_in job step) c)
+
+-- what follows is done
+abbrev pub go_next : Job → StepNext → Course → Reached
+go_next job (Go n) c = do_step job n (line job.scenario n) c
+go_next job (Stop ending) c = record { next = Stop ending; course = c }
+
+-- a number of steps, one after another
+abbrev pub go_steps : ℕ → Job → Reached → Reached
+go_steps zero job r = r
+go_steps (suc left) job r = go_steps left job (go_next job r.next r.course)
+
+-- ---- the run
+
+-- before the first step nothing was done
+abbrev pub begun : Job → Value → Course
+begun job tree = record { tree = tree; trace = []; acts = []; calls = []; turns = job.turns }
+
+-- what a run comes to that has ended
+abbrev pub replayed_at : StepNext → Course → Option Replayed
+replayed_at (Go n) c = None
+replayed_at (Stop ending) c =
+    Some (record { ending = ending; trace = c.trace; after = c.tree; calls = c.calls; acts = c.acts })
+
+-- the same of where it is
+abbrev pub replayed : Reached → Option Replayed
+replayed r = replayed_at r.next r.course
+
+-- The run of a job's scenario from a tree. Each step is followed by a later one or by the end, so it has at most as
+-- many steps as the scenario's table.
+abbrev pub scenario_run : Job → Value → Option Replayed
+scenario_run job tree =
+    replayed (go_steps (length (table job.scenario)) job (record { next = Go 1; course = begun job tree }))

@@ -1,0 +1,82 @@
+ghost use Rattle.std.specs.Prelude.{◌≡◌};
+ghost use Rattle.scenario_runs.specs.Performed.{ArePerformed};
+ghost use Rattle.scenario_runs.specs.Runs.{script_of, package_of};
+
+use crate::file_acts::FileActs;
+use colis_syntax::Program;
+use dpkg_scenarios::{Scenario, ScriptKind};
+use script_names::Bytes;
+
+/// The maintainer scripts of a package, those that it has (Debian Policy, 6.1).
+#[derive(Drop)]
+pub struct Scripts {
+    pub preinst: Option<Program>,
+    pub postinst: Option<Program>,
+    pub prerm: Option<Program>,
+    pub postrm: Option<Program>,
+}
+
+impl Scripts {
+    /// The script of this kind, where there is one.
+    pub(crate) fn get(&self, script: ScriptKind) -> &Option<Program>
+        ensures { result.now ≡ script_of script self.now }
+    {
+        match script {
+            ScriptKind::Preinst => &self.preinst,
+            ScriptKind::Postinst => &self.postinst,
+            ScriptKind::Prerm => &self.prerm,
+            ScriptKind::Postrm => &self.postrm,
+        }
+    }
+}
+
+/// A package, as far as its scripts and their words go.
+#[derive(Drop)]
+pub struct Package {
+    pub version: Bytes,
+    pub scripts: Scripts,
+}
+
+/// What is done with files in the steps of a scenario, for each work of a step that is no script.
+#[derive(Drop)]
+pub struct Files {
+    pub unpack: FileActs,
+    pub remove_files: FileActs,
+    pub remove_old: FileActs,
+    pub remove_conf: FileActs,
+}
+
+/// What the run of a scenario needs: the scenario, whether the new package has neither a configuration file nor a
+/// postrm, both packages, what is done with files, and how many turns of loops its scripts have, together.
+#[derive(Drop)]
+pub struct Job {
+    pub scenario: Scenario,
+    pub plain: bool,
+    pub new_package: Package,
+    pub old_package: Package,
+    pub files: Files,
+    pub turns: u32,
+}
+
+impl Job {
+    /// The old package, or the new one.
+    pub(crate) fn package(&self, old: bool) -> &Package
+        ensures { result.now ≡ package_of self.now old }
+    {
+        if old {
+            &self.old_package
+        } else {
+            &self.new_package
+        }
+    }
+
+    /// Says of the acts on files that each can be done on every tree.
+    pub fn acts_are_performed(&self)
+        ensures { ArePerformed self.now.files }
+    {
+        let _unpack = self.files.unpack.as_slice();
+        let _remove_files = self.files.remove_files.as_slice();
+        let _remove_old = self.files.remove_old.as_slice();
+        let _remove_conf = self.files.remove_conf.as_slice();
+    }
+}

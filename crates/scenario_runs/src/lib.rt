@@ -1,0 +1,23 @@
+//! The run of a scenario on one concrete tree: its scripts, called one after another as dpkg_scenarios says, and the
+//! files that are placed and taken away between them (Debian Policy, chapter 6). It stands on dpkg_scenarios,
+//! colis_interp, concrete_utils and the crates below these. Begin with specs/Runs.antt, which says what a run is, and
+//! with `job` and `runs`; `theorems` has what holds of runs.
+#![tactic(auto)]
+
+mod call;
+mod course;
+mod file_acts;
+mod files;
+mod job;
+mod replayed;
+mod runs;
+mod scripts;
+mod steps;
+pub mod theorems;
+
+pub use call::{CallEnd, ScriptCall};
+pub use course::{Course, Reached, WorkEnd, Worked};
+pub use file_acts::FileActs;
+pub use job::{Files, Job, Package, Scripts};
+pub use replayed::Replayed;
+pub use runs::run;

@@ -1,0 +1,17 @@
+use crate::call::ScriptCall;
+use dpkg_scenarios::Ending;
+use feature_trees::Value;
+use script_names::List;
+use shell_rules::Trace;
+use utility_calls::acts::Act;
+
+/// The run of a scenario from one tree: its ending, the marks of the acts that were done, in order, the tree that it
+/// left, the calls of scripts, in order, and the acts.
+#[derive(Drop)]
+pub struct Replayed {
+    pub ending: Ending,
+    pub trace: Trace,
+    pub after: Value,
+    pub calls: List<ScriptCall>,
+    pub acts: List<Act>,
+}

@@ -1,0 +1,115 @@
+ghost use Rattle.std.specs.Prelude.{◌≡◌, ◌++◌, IfOk, OnOk, Some};
+ghost use Rattle.feature_trees.specs.declared.kind.Kind.TheVariants.{Dir};
+ghost use Rattle.feature_trees.specs.Tree.{kind_of};
+ghost use Rattle.scenario_runs.specs.Runs.{script_name, begun_shell, script_end, call_script};
+
+use crate::call::{ScriptCall, call_end};
+use crate::course::{Course, WorkEnd, Worked};
+use colis_interp::{Ran, run};
+use colis_syntax::Program;
+use dpkg_scenarios::{Ending, ScriptKind};
+use script_names::{Bytes, Copied, List, Memory};
+use shell_rules::{Conc, End};
+use shell_words::Env;
+use std::alloc::Global;
+use utility_calls::acts::Act;
+
+// The name of a script.
+fn script_name(script: ScriptKind) -> &'static [u8]
+    ensures { result.now ≡ script_name script }
+{
+    match script {
+        ScriptKind::Preinst => b"preinst",
+        ScriptKind::Postinst => b"postinst",
+        ScriptKind::Prerm => b"prerm",
+        ScriptKind::Postrm => b"postrm",
+    }
+}
+
+// The shell in which a script is called with these words.
+fn begun_shell(
+    alloc: Global,
+    script: ScriptKind,
+    words: &List<Bytes>,
+    strict: bool,
+    turns: u32,
+) -> Result<Conc, Memory>
+    ensures { IfOk result (λ shell. shell ≡ begun_shell script words.now strict turns) }
+{
+    let mut vars = Env::new(alloc);
+    let name = Bytes::from_slice(alloc, script_name(script))?;
+    vars.set(b"DPKG_MAINTSCRIPT_NAME", name)?;
+    let args = words.copy(alloc)?;
+    Ok(Conc {
+        vars,
+        args,
+        strict,
+        status: true,
+        captured: None,
+        turns,
+    })
+}
+
+// How a step ends with its script.
+fn script_end(end: End) -> WorkEnd
+    ensures { result ≡ script_end end }
+{
+    match end {
+        End::Status(true) => WorkEnd::Succeeded,
+        End::Status(false) => WorkEnd::Failed(0),
+        End::Stopped(reason, site) => WorkEnd::Over(Ending::Incomplete(reason, site)),
+        End::Bound(site) => WorkEnd::Over(Ending::Bound(site)),
+    }
+}
+
+// Adds acts to others.
+fn append(acts: &mut List<Act>, more: List<Act>) -> Result<(), Memory>
+    ensures { OnOk result (acts.new ≡ acts.old ++ more) }
+{
+    for a in more.into_vec() {
+        acts.add(a)?;
+    }
+    Ok(())
+}
+
+/// Calls a script of the old or of the new package with these words, in a step.
+pub(crate) fn call_script(
+    alloc: Global,
+    step: u16,
+    old: bool,
+    script: ScriptKind,
+    words: List<Bytes>,
+    program: &Program,
+    course: Course,
+) -> Result<Worked, Memory>
+    requires { kind_of course.tree ≡ Dir }
+    ensures call { IfOk result (λ worked. worked ≡ call_script step old script words (Some program.now) course) }
+    ensures dir { IfOk result (λ worked. kind_of worked.course.tree ≡ Dir) }
+{
+    let Course {
+        mut tree,
+        mut trace,
+        mut acts,
+        mut calls,
+        turns,
+    } = course;
+    let mut shell = begun_shell(alloc, script, &words, program.strict(), turns)?;
+    let Ran { end, acts: done } = run(alloc, program, step, &mut shell, &mut tree, &mut trace)?;
+    append(&mut acts, done)?;
+    calls.add(ScriptCall {
+        old,
+        script,
+        words,
+        how: call_end(end),
+    })?;
+    Ok(Worked {
+        end: script_end(end),
+        course: Course {
+            tree,
+            trace,
+            acts,
+            calls,
+            turns: shell.turns,
+        },
+    })
+}
