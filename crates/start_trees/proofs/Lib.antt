@@ -1,0 +1,2 @@
+pub mod NeedByNeed
+pub mod Walks

@@ -1,0 +1,12 @@
+//! The trees that a run may begin from: the trees of files that have what is needed at some paths, as a store of pairs.
+//! It stands on clause_solver, tree_clauses, feature_trees and script_names. Begin with specs/Needs.antt and
+//! `start_store`.
+#![tactic(auto)]
+
+mod need;
+mod starts;
+#[cfg(test)]
+mod tests;
+
+pub use need::Need;
+pub use starts::start_store;
