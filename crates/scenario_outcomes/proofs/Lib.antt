@@ -1,0 +1,4 @@
+mod Counting
+mod Exact
+mod Played
+mod Answering

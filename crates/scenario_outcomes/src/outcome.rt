@@ -1,0 +1,88 @@
+//! One way in which a scenario can end, made from a path.
+
+ghost use Rattle.std.specs.Prelude.{◌≡◌, ◌<◌, ◌≤◌, ◌+◌, ◌^◌, length, IfOk};
+ghost use Rattle.clause_solver.specs.Stands.{Alive};
+ghost use Rattle.case_paths.specs.Paths.{AllAlive, states};
+ghost use Rattle.scenario_outcomes.specs.OutcomeOf.{IsOutcomeOf, AreOutcomes};
+
+use case_paths::{Found, PathState, PathsFault};
+use clause_solver::Clause;
+use dpkg_scenarios::Ending;
+use feature_trees::Value;
+use scenario_runs::ScriptCall;
+use script_names::{List, Mark, Memory};
+use std::alloc::Global;
+
+/// One way in which a scenario can end: its number from 1, the ending of its runs and the marks of their acts, the
+/// clause that says which start trees they begin from and which trees they leave, and one such start tree.
+#[derive(Drop)]
+pub struct Outcome {
+    pub number: u32,
+    pub ending: Ending,
+    pub trace: List<Mark>,
+    pub clause: Clause,
+    pub shown: Value,
+}
+
+/// Why there is no list of outcomes: no tree has what is needed, or the runs from those that do have more different
+/// traces than the limit, or want of memory.
+#[derive(Clone, Copy, Debug, PartialEq, Eq)]
+pub enum OutcomesFault {
+    NoStart,
+    Over,
+    Memory,
+}
+
+impl From<Memory> for OutcomesFault {
+    ghost use Rattle.std.specs.Prelude.{◌≡◌};
+    ghost use Rattle.scenario_outcomes.specs.declared.outcome.OutcomesFault.TheVariants.{Memory as NoMemory};
+
+    ghost from_gives = { λ _ fault. fault ≡ NoMemory };
+
+    fn from(_refused: Memory) -> OutcomesFault {
+        OutcomesFault::Memory
+    }
+}
+
+// The outcome of a path, by its place in the list of paths.
+fn make_outcome(
+    alloc: Global,
+    place: u32,
+    path: Found<(Ending, List<ScriptCall>)>,
+) -> Result<Outcome, Memory>
+    requires alive { Alive path.state.store }
+    requires numbered { place + 1 < 2 ^ 32 }
+    ensures { IfOk result (IsOutcomeOf place path) }
+{
+    let Found { value, state } = path;
+    let (ending, _calls) = value;
+    let PathState { store, trace } = state;
+    let clause = store.clause()?;
+    let shown = store.start_tree(alloc)?;
+    Ok(Outcome {
+        number: place + 1,
+        ending,
+        trace,
+        clause,
+        shown,
+    })
+}
+
+/// The outcomes of paths, in their order.
+pub(crate) fn make_outcomes(
+    alloc: Global,
+    paths: List<Found<(Ending, List<ScriptCall>)>>,
+) -> Result<List<Outcome>, Memory>
+    requires alive { AllAlive (states paths) }
+    requires numbered { length paths < 2 ^ 32 }
+    ensures { IfOk result (AreOutcomes 0 paths) }
+{
+    let mut outcomes = List::new(alloc);
+    let mut place = 0u32;
+    for path in paths.into_vec() {
+        let outcome = make_outcome(alloc, place, path)?;
+        outcomes.add(outcome)?;
+        place += 1;
+    }
+    Ok(outcomes)
+}
