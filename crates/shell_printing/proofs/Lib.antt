@@ -1,0 +1,14 @@
+mod Levels
+mod Longest
+mod Nodes
+mod Offsets
+mod PhraseLayers
+mod Phrases
+mod Signs
+mod Spelled
+mod Texts
+mod Twice
+mod Words
+mod ZeroedLayers
+mod ZeroedTokens
+mod ZeroedTrees
