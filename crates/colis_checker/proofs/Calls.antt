@@ -6,13 +6,14 @@ use Rattle.checker_io.specs.Sink.{SinkState, Took, TookPrefix}
 use Rattle.colis_checker.specs.declared.faults.Refusal.{Refusal}
 use Rattle.colis_checker.specs.declared.faults.Refusal.TheVariants.{Usage}
 use Rattle.colis_checker.specs.declared.request.Request.{Request}
-use Rattle.package_files.specs.declared.package_files.Job.{Job}
+use Rattle.colis_checker.specs.declared.input.Task.{Task}
+use Rattle.colis_checker.specs.declared.input.Task.TheVariants.{Report, Program}
 use Rattle.colis_checker.specs.declared.deliver.Reply.{Reply}
 use Rattle.colis_checker.specs.declared.deliver.Reply.TheVariants.{Text, Refused, ReadFailed, NoMemory}
 use Rattle.colis_checker.specs.Input.{ComesOf, ComesOver, Inputs}
 use Rattle.colis_checker.specs.ErrorLines.{refusal_line, write_failed_line, no_memory_line}
 use Rattle.colis_checker.specs.Delivery.{LineEnds, Delivers}
-use Rattle.colis_checker.specs.Top.{IsReportText, IsRefusal, IsRefusalLine, Replies, Reported, SaidRefusal, SaidReadFailed, FailedToWrite, RanOut, NoneRose, Completes, Refuses}
+use Rattle.colis_checker.specs.Top.{IsTextOf, MayEnd, IsAnswerText, IsRefusal, IsRefusalLine, Replies, Reported, SaidRefusal, SaidReadFailed, FailedToWrite, RanOut, NoneRose, Completes, Refuses}
 use Rattle.colis_checker.proofs.OneAnswer.{comes_of_once}
 use Rattle.colis_checker.proofs.Took.{took_none}
 
@@ -23,8 +24,17 @@ usage_said given holds word line e is =
     let P : Result Request ℕ → Type 0 = λ r. IsRefusalLine r holds line in
     subst P (sym e) (record { refusal = Usage word; is_refusal = refl; line_is = is })
 
-text_small : {given : Result Request ℕ} {holds : Option Files} {text : List ℕ} {status : ℕ} → IsReportText given holds text status → status ≤ 2
-text_small is = is.of_job.small
+task_small : (task : Task) (text : List ℕ) (status : ℕ) → IsTextOf task text status → status ≤ 2
+task_small (Report job) text status is = is.small
+task_small (Program script) text status is = let none = is.status_is in omega arith
+
+text_small : {given : Result Request ℕ} {holds : Option Files} {text : List ℕ} {status : ℕ} → IsAnswerText given holds text status → status ≤ 2
+text_small is = task_small is.task _ _ is.of_task
+
+-- the status of a task's text is one with which the task may end
+task_ends : (task : Task) (text : List ℕ) (status : ℕ) → IsTextOf task text status → MayEnd task status
+task_ends (Report job) text status is = is.small
+task_ends (Program script) text status is = is.status_is
 
 same_none : (old new : SinkState) → new ≡ old → Took old.taken new.taken []
 same_none old new e = let P : SinkState → Type 0 = λ s. Took old.taken s.taken [] in subst P (sym e) (took_none old.taken)
@@ -78,53 +88,53 @@ said_failed old new line status (inr (inr ends)) is = absurd (omega arith)
 
 module _ (given : Result Request ℕ) (s0 s1 : ShelfState) (o0 o1 e0 e1 : SinkState) (status : ℕ) where
   pub call_statuses : (reply : Reply) → Replies given s0 s1 reply → Delivers reply o0 o1 e0 e1 status → status ≤ 6
-  call_statuses (Text text verdict) says (inl ends) = omega (arith, text_small says.1)
-  call_statuses (Text text verdict) says (inr (inl ends)) = (line_high e0 e1 write_failed_line 5 status ends.2 (omega arith) (omega arith)).1
-  call_statuses (Text text verdict) says (inr (inr ends)) = omega arith
+  call_statuses (Text text wanted) says (inl ends) = omega (arith, text_small says.1)
+  call_statuses (Text text wanted) says (inr (inl ends)) = (line_high e0 e1 write_failed_line 5 status ends.2 (omega arith) (omega arith)).1
+  call_statuses (Text text wanted) says (inr (inr ends)) = omega arith
   call_statuses (Refused line) says ends = (line_high e0 e1 line 3 status ends.1 (omega arith) (omega arith)).1
   call_statuses (ReadFailed line) says ends = (line_high e0 e1 line 4 status ends.1 (omega arith) (omega arith)).1
   call_statuses NoMemory says ends = omega arith
 
   pub call_reported : (reply : Reply) → Replies given s0 s1 reply → Delivers reply o0 o1 e0 e1 status → status ≤ 2 → Reported given s0 s1 o0 o1 e0 e1 status
-  call_reported (Text text verdict) says (inl ends) le =
-      let P : ℕ → Type 0 = λ n. IsReportText given s0.holds text n in
+  call_reported (Text text wanted) says (inl ends) le =
+      let P : ℕ → Type 0 = λ n. IsAnswerText given s0.holds text n in
       record { quiet = says.0; written = record { out = ends.1; err = same_count e0 e1 ends.3 }; text = text; is_text = subst P (sym ends.0) says.1; taken = ends.2; silent = same_none e0 e1 ends.3 }
-  call_reported (Text text verdict) says (inr (inl ends)) le = let high = line_high e0 e1 write_failed_line 5 status ends.2 (omega arith) (omega arith) in absurd (omega arith)
-  call_reported (Text text verdict) says (inr (inr ends)) le = absurd (omega arith)
+  call_reported (Text text wanted) says (inr (inl ends)) le = let high = line_high e0 e1 write_failed_line 5 status ends.2 (omega arith) (omega arith) in absurd (omega arith)
+  call_reported (Text text wanted) says (inr (inr ends)) le = absurd (omega arith)
   call_reported (Refused line) says ends le = let high = line_high e0 e1 line 3 status ends.1 (omega arith) (omega arith) in absurd (omega arith)
   call_reported (ReadFailed line) says ends le = let high = line_high e0 e1 line 4 status ends.1 (omega arith) (omega arith) in absurd (omega arith)
   call_reported NoMemory says ends le = absurd (omega arith)
 
-  -- a report's status is none of 3, 4, 5 and 6
-  not_reported : (n : ℕ) (text : List ℕ) (verdict : ℕ) → IsReportText given s0.holds text verdict → status ≡ verdict → status ≡ n → 2 < n → ⊥
-  not_reported n text verdict is e f lt = let small = text_small is in omega arith
+  -- a text's status is none of 3, 4, 5 and 6
+  not_reported : (n : ℕ) (text : List ℕ) (wanted : ℕ) → IsAnswerText given s0.holds text wanted → status ≡ wanted → status ≡ n → 2 < n → ⊥
+  not_reported n text wanted is e f lt = let small = text_small is in omega arith
 
   not_line : (n k : ℕ) (line : List ℕ) → LineEnds e0 e1 line k status → status ≡ n → n < 5 → (k ≡ n → ⊥) → ⊥
   not_line n k line ends is lt ne = elim (line_status e0 e1 line k status ends) [ inl a ↦ ne (sym a ∙ is) | inr b ↦ elim b [ inl c ↦ omega arith | inr d ↦ omega arith ] ]
 
   pub call_refused : (reply : Reply) → Replies given s0 s1 reply → Delivers reply o0 o1 e0 e1 status → status ≡ 3 → SaidRefusal given s0 s1 o0 o1 e0 e1
-  call_refused (Text text verdict) says (inl ends) is = absurd (not_reported 3 text verdict says.1 ends.0 is (omega arith))
-  call_refused (Text text verdict) says (inr (inl ends)) is = absurd (not_line 3 5 write_failed_line ends.2 is (omega arith) (λ e. omega arith))
-  call_refused (Text text verdict) says (inr (inr ends)) is = absurd (omega arith)
+  call_refused (Text text wanted) says (inl ends) is = absurd (not_reported 3 text wanted says.1 ends.0 is (omega arith))
+  call_refused (Text text wanted) says (inr (inl ends)) is = absurd (not_line 3 5 write_failed_line ends.2 is (omega arith) (λ e. omega arith))
+  call_refused (Text text wanted) says (inr (inr ends)) is = absurd (omega arith)
   call_refused (Refused line) says ends is =
       record { quiet = says.0; written = record { out = same_count o0 o1 ends.0; err = line_quiet e0 e1 line 3 status ends.1 (omega arith) }; line = line; is_line = says.1; nothing = same_none o0 o1 ends.0; taken = line_taken e0 e1 line 3 status ends.1 (omega arith) }
   call_refused (ReadFailed line) says ends is = absurd (not_line 3 4 line ends.1 is (omega arith) (λ e. omega arith))
   call_refused NoMemory says ends is = absurd (omega arith)
 
   pub call_read_failed : (reply : Reply) → Replies given s0 s1 reply → Delivers reply o0 o1 e0 e1 status → status ≡ 4 → SaidReadFailed given s0 s1 o0 o1 e0 e1
-  call_read_failed (Text text verdict) says (inl ends) is = absurd (not_reported 4 text verdict says.1 ends.0 is (omega arith))
-  call_read_failed (Text text verdict) says (inr (inl ends)) is = absurd (not_line 4 5 write_failed_line ends.2 is (omega arith) (λ e. omega arith))
-  call_read_failed (Text text verdict) says (inr (inr ends)) is = absurd (omega arith)
+  call_read_failed (Text text wanted) says (inl ends) is = absurd (not_reported 4 text wanted says.1 ends.0 is (omega arith))
+  call_read_failed (Text text wanted) says (inr (inl ends)) is = absurd (not_line 4 5 write_failed_line ends.2 is (omega arith) (λ e. omega arith))
+  call_read_failed (Text text wanted) says (inr (inr ends)) is = absurd (omega arith)
   call_read_failed (Refused line) says ends is = absurd (not_line 4 3 line ends.1 is (omega arith) (λ e. omega arith))
   call_read_failed (ReadFailed line) says ends is =
       record { rose = says.0; written = record { out = same_count o0 o1 ends.0; err = line_quiet e0 e1 line 4 status ends.1 (omega arith) }; line = line; is_line = says.1; nothing = same_none o0 o1 ends.0; taken = line_taken e0 e1 line 4 status ends.1 (omega arith) }
   call_read_failed NoMemory says ends is = absurd (omega arith)
 
   pub call_write_failed : (reply : Reply) → Replies given s0 s1 reply → Delivers reply o0 o1 e0 e1 status → status ≡ 5 → FailedToWrite given s0 s1 o0 o1 e0 e1
-  call_write_failed (Text text verdict) says (inl ends) is = absurd (not_reported 5 text verdict says.1 ends.0 is (omega arith))
-  call_write_failed (Text text verdict) says (inr (inl ends)) is =
-      inl (record { rose = ends.0; quiet = says.0; text = text; verdict = verdict; is_text = says.1; part = ends.1; said = said_failed e0 e1 _ status ends.2 is })
-  call_write_failed (Text text verdict) says (inr (inr ends)) is = absurd (omega arith)
+  call_write_failed (Text text wanted) says (inl ends) is = absurd (not_reported 5 text wanted says.1 ends.0 is (omega arith))
+  call_write_failed (Text text wanted) says (inr (inl ends)) is =
+      inl (record { rose = ends.0; quiet = says.0; text = text; wanted = wanted; is_text = says.1; part = ends.1; said = said_failed e0 e1 _ status ends.2 is })
+  call_write_failed (Text text wanted) says (inr (inr ends)) is = absurd (omega arith)
   call_write_failed (Refused line) says ends is =
       let failed = line_failed e0 e1 line 3 status ends.1 is (omega arith) in
       inr (record { rose = failed.0; line = line; is_line = inl (says.0, says.1); nothing = same_none o0 o1 ends.0; part = failed.1 })
@@ -134,15 +144,15 @@ module _ (given : Result Request ℕ) (s0 s1 : ShelfState) (o0 o1 e0 e1 : SinkSt
   call_write_failed NoMemory says ends is = absurd (omega arith)
 
   pub call_ran_out : (reply : Reply) → Replies given s0 s1 reply → Delivers reply o0 o1 e0 e1 status → status ≡ 6 → RanOut given s0 s1 o0 o1 e0 e1
-  call_ran_out (Text text verdict) says (inl ends) is = absurd (not_reported 6 text verdict says.1 ends.0 is (omega arith))
-  call_ran_out (Text text verdict) says (inr (inl ends)) is = record {
-    text_part = inr (record { quiet = says.0; text = text; verdict = verdict; is_text = says.1; part = ends.1 });
+  call_ran_out (Text text wanted) says (inl ends) is = absurd (not_reported 6 text wanted says.1 ends.0 is (omega arith))
+  call_ran_out (Text text wanted) says (inr (inl ends)) is = record {
+    text_part = inr (record { quiet = says.0; text = text; wanted = wanted; is_text = says.1; part = ends.1 });
     line = write_failed_line;
     is_line = inr (inl (ends.0, refl));
     line_part = line_part e0 e1 _ 5 status ends.2 is (omega arith);
   }
-  call_ran_out (Text text verdict) says (inr (inr ends)) is = record {
-    text_part = inr (record { quiet = says.0; text = text; verdict = verdict; is_text = says.1; part = ends.0 });
+  call_ran_out (Text text wanted) says (inr (inr ends)) is = record {
+    text_part = inr (record { quiet = says.0; text = text; wanted = wanted; is_text = says.1; part = ends.0 });
     line = no_memory_line;
     is_line = inr (inr refl);
     line_part = ends.1.1;
@@ -176,23 +186,12 @@ status_cases (suc (suc (suc (suc zero)))) le = inr (inr (inl refl))
 status_cases (suc (suc (suc (suc (suc zero))))) le = inr (inr (inr (inl refl)))
 status_cases (suc (suc (suc (suc (suc (suc n)))))) le = inr (inr (inr (inr (omega arith))))
 
--- a job is no refusal
-job_or_refusal : {job : Job} {refusal : Refusal} → ◌≡◌ {A = Result Job Refusal} (Ok job) (Err refusal) → ⊥
-job_or_refusal e = cc
-
--- what is refused comes to no job
-told_ok : (request : Request) (holds : Option Files) (job : Job) (refusal : Refusal) (Q : Type 0)
-    → Inputs request holds (Err refusal) → IfSome holds (λ files. ComesOver request files (Ok job) → Q)
-told_ok request None job refusal Q is = tt
-told_ok request (Some files) job refusal Q is = λ other.
-    absurd (job_or_refusal (comes_of_once is.found (Ok job) (Err refusal) (subst (λ r. ComesOf r (Ok job)) is.read.told other) is.comes))
-
--- what comes to a job is not refused
-told_err : (request : Request) (holds : Option Files) (job : Job) (refusal : Refusal) (Q : Type 0)
-    → Inputs request holds (Ok job) → IfSome holds (λ files. ComesOver request files (Err refusal) → Q)
-told_err request None job refusal Q is = tt
-told_err request (Some files) job refusal Q is = λ other.
-    absurd (job_or_refusal (comes_of_once is.found (Ok job) (Err refusal) is.comes (subst (λ r. ComesOf r (Err refusal)) is.read.told other)))
+-- where the shelf tells, what a request comes to is one
+told_once : (request : Request) (holds : Option Files) (one : Result Task Refusal) (P : Result Task Refusal → Type 0) (other : Result Task Refusal)
+    → Inputs request holds one → P one → IfSome holds (λ files. ComesOver request files other → P other)
+told_once request None one P other is p = tt
+told_once request (Some files) one P other is p = λ comes.
+    subst P (comes_of_once request is.found one other is.comes (subst (λ r. ComesOf request r other) is.read.told comes)) p
 
 told_any : (holds : Option Files) (P Q : Files → Type 0) → ((files : Files) → Q files) → IfSome holds (λ files. P files → Q files)
 told_any None P Q q = tt
@@ -219,29 +218,40 @@ module _ (given : Result Request ℕ) (s0 s1 : ShelfState) (o0 o1 e0 e1 : SinkSt
       → Inputs request s0.holds (Err refusal)
   by_files request refusal e is = let P : Result Request ℕ → Type 0 = λ r. IsRefusal r s0.holds refusal in subst P e is
 
+  -- what is wanted of a task, and of a refusal
+  abbrev CompletesWith : Result Task Refusal → Type 0
+  CompletesWith (Ok task) = MayEnd task status ⊎ (status ≡ 6)
+  CompletesWith (Err refusal) = Unit {0}
+
+  abbrev RefusesWith : Result Task Refusal → Type 0
+  RefusesWith (Ok task) = Unit {0}
+  RefusesWith (Err refusal) = (status ≡ 3) ⊎ (status ≡ 6)
+
+  -- a text is that of the request
+  by_text : (request : Request) (text : List ℕ) (wanted : ℕ) → given ≡ Ok request → (is : IsAnswerText given s0.holds text wanted)
+      → Inputs request s0.holds (Ok is.task)
+  by_text request text wanted e is = subst (λ (r : Request). Inputs r s0.holds (Ok is.task)) (same_request (sym is.spelled ∙ e)) is.read
+
   pub call_complete : Completes given s0 status
-  call_complete request job e = elim (status_cases status le) [
-    | inl a ↦ told_any s0.holds (λ _. _) (λ _. (status ≤ 2) ⊎ (status ≡ 6)) (λ _. inl a)
+  call_complete request task e = elim (status_cases status le) [
+    | inl a ↦ let said = (reported a).is_text in
+        told_once request s0.holds (Ok said.task) CompletesWith (Ok task) (by_text request (reported a).text status e said)
+        (inl (task_ends said.task _ _ said.of_task))
     | inr b ↦ elim b [
-      | inl c ↦ told_ok request s0.holds job (refused c).is_line.refusal _
-          (by_files request (refused c).is_line.refusal e (refused c).is_line.is_refusal)
+      | inl c ↦ told_once request s0.holds (Err (refused c).is_line.refusal) CompletesWith (Ok task)
+          (by_files request (refused c).is_line.refusal e (refused c).is_line.is_refusal) tt
       | inr d ↦ elim d [
         | inl f ↦ absurd (none.shelf (read_failed f).rose)
         | inr g ↦ elim g [
           | inl h ↦ absurd (not_failed (write_failed h))
-          | inr i ↦ told_any s0.holds (λ _. _) (λ _. (status ≤ 2) ⊎ (status ≡ 6)) (λ _. inr i)
+          | inr i ↦ told_any s0.holds (λ _. _) (λ _. MayEnd task status ⊎ (status ≡ 6)) (λ _. inr i)
         ]
       ]
     ]
   ]
 
-  -- a report is that of the request
-  by_report : (request : Request) (text : List ℕ) (verdict : ℕ) → given ≡ Ok request → (is : IsReportText given s0.holds text verdict)
-      → Inputs request s0.holds (Ok is.job)
-  by_report request text verdict e is = subst (λ (r : Request). Inputs r s0.holds (Ok is.job)) (same_request (sym is.spelled ∙ e)) is.read
-
-  no_word : (word : ℕ) (text : List ℕ) (verdict : ℕ) → given ≡ Err word → IsReportText given s0.holds text verdict → ⊥
-  no_word word text verdict e is = request_or_word (sym is.spelled ∙ e)
+  no_word : (word : ℕ) (text : List ℕ) (wanted : ℕ) → given ≡ Err word → IsAnswerText given s0.holds text wanted → ⊥
+  no_word word text wanted e is = request_or_word (sym is.spelled ∙ e)
 
   pub call_refuses : Refuses given s0 status
   call_refuses = (for_words, for_files)
@@ -264,8 +274,8 @@ module _ (given : Result Request ℕ) (s0 s1 : ShelfState) (o0 o1 e0 e1 : SinkSt
       for_files : (request : Request) (refusal : Refusal) → given ≡ Ok request
           → IfSome s0.holds (λ files. ComesOver request files (Err refusal) → (status ≡ 3) ⊎ (status ≡ 6))
       for_files request refusal e = elim (status_cases status le) [
-        | inl a ↦ told_err request s0.holds (reported a).is_text.job refusal _
-            (by_report request (reported a).text status e (reported a).is_text)
+        | inl a ↦ told_once request s0.holds (Ok (reported a).is_text.task) RefusesWith (Err refusal)
+            (by_text request (reported a).text status e (reported a).is_text) tt
         | inr b ↦ elim b [
           | inl c ↦ told_any s0.holds (λ _. _) (λ _. (status ≡ 3) ⊎ (status ≡ 6)) (λ _. inl c)
           | inr d ↦ elim d [

@@ -1,4 +1,4 @@
--- The text of a file comes to one job or to one refusal.
+-- The text of its file comes to one task of a request, or to one refusal.
 use Rattle.std.proofs.Common.{◌≡◌, ℕ, inl, inr, Bool, List, [], ◌∷◌, length, Option, Some, None, Result, Ok, Err, slice_index_or, refl, sym, ap, subst, ◌∙◌, arith}
 use Rattle.std.specs.List.{Contains}
 use Rattle.shell_syntax.specs.declared.form.Form.{Form as FormName}
@@ -19,12 +19,16 @@ use Rattle.shell_forms.specs.First.{rank, script_forms, NotBehind, IsFirst}
 use Rattle.shell_rules.specs.declared.command.Command.{Command as Executed}
 use Rattle.package_files.specs.declared.package_files.Job.{Job}
 use Rattle.colis_checker.specs.declared.faults.InputFile.{InputFile}
-use Rattle.colis_checker.specs.declared.faults.InputFile.TheVariants.{Postinst}
+use Rattle.colis_checker.specs.declared.faults.InputFile.TheVariants.{Postinst, Named}
 use Rattle.colis_checker.specs.declared.faults.Refusal.{Refusal}
-use Rattle.colis_checker.specs.declared.faults.Refusal.TheVariants.{Usage, TooLong, Lex, Parse, Form, Later}
+use Rattle.colis_checker.specs.declared.faults.Refusal.TheVariants.{Usage, Missing, TooLong, Lex, Parse, Form, Later}
+use Rattle.colis_checker.specs.declared.input.Task.{Task}
+use Rattle.colis_checker.specs.declared.input.Task.TheVariants.{Report, Program}
+use Rattle.colis_checker.specs.declared.request.Request.{Request}
+use Rattle.colis_checker.specs.declared.request.Request.TheVariants.{Check, Translate}
 use Rattle.colis_checker.specs.Commands.{script_commands}
-use Rattle.colis_checker.specs.Script.{IsScript, IsAccepted, IsExecuted, HasSyntaxFault, HasForm, IsRefused}
-use Rattle.colis_checker.specs.Input.{job_of, Comes, ComesOf}
+use Rattle.colis_checker.specs.Script.{IsScript, IsAccepted, IsExecuted, HasSyntaxFault, HasForm, IsUnaccepted, IsRefused}
+use Rattle.colis_checker.specs.Input.{job_of, ComesToJob, ComesToScript, Comes, ComesOf}
 
 -- ---- a text is one script
 
@@ -117,73 +121,135 @@ no_form text f m a x y =
     let same = one_script text x.script a x.is_script y.is_script in
     none_first (script_forms a.body) (f, m) y.none (subst (λ (s : Script). IsFirst (script_forms s.body) (f, m)) same x.first)
 
--- ---- why a text comes to commands or to a refusal
+-- ---- what a text comes to, and why
 
-abbrev refused_later : InputFile → Result (List Executed) ℕ → Result (List Executed) Refusal
-refused_later file (Ok commands) = Ok commands
-refused_later file (Err at) = Err (Later file at)
+-- A text comes to a refusal, or to what its script is said to come to.
+data Why {A : Type 0} (file : InputFile) (text : List ℕ) (of_script : Script → Result A Refusal) (r : Result A Refusal) : Type 0 where
+  by_tokens : (fault : LexFault) → Faulty text fault → r ≡ Err (Lex file fault) → Why file text of_script r
+  by_syntax : (fault : ParseFault) → HasSyntaxFault text fault → r ≡ Err (Parse file fault) → Why file text of_script r
+  by_form : (f : FormName) (at : ℕ) → HasForm text f at → r ≡ Err (Form file f at) → Why file text of_script r
+  by_script : (script : Script) → IsAccepted text script → r ≡ of_script script → Why file text of_script r
 
-data Why (file : InputFile) (text : List ℕ) (r : Result (List Executed) Refusal) : Type 0 where
-  by_tokens : (fault : LexFault) → Faulty text fault → r ≡ Err (Lex file fault) → Why file text r
-  by_syntax : (fault : ParseFault) → HasSyntaxFault text fault → r ≡ Err (Parse file fault) → Why file text r
-  by_form : (f : FormName) (at : ℕ) → HasForm text f at → r ≡ Err (Form file f at) → Why file text r
-  by_commands : (script : Script) → IsAccepted text script → r ≡ refused_later file (script_commands (length text) script) → Why file text r
-
-why_executed : (file : InputFile) (text : List ℕ) (commands : List Executed) → IsExecuted text commands → Why file text (Ok commands)
-why_executed file text commands e = by_commands e.script e.accepted (sym (ap (refused_later file) e.commands_are))
-
-why_refused : (file : InputFile) (text : List ℕ) (refusal : Refusal) → IsRefused file text refusal → Why file text (Err refusal)
-why_refused file text (Usage word) is = absurd is
-why_refused file text (TooLong other) is = absurd is
-why_refused file text (Lex other fault) is = by_tokens fault is.1 (ap (λ f. Err (Lex f fault)) is.0)
-why_refused file text (Parse other fault) is = by_syntax fault is.1 (ap (λ f. Err (Parse f fault)) is.0)
-why_refused file text (Form other f at) is = by_form f at is.1 (ap (λ i. Err (Form i f at)) is.0)
-why_refused file text (Later other at) is =
-    by_commands is.1.script is.1.accepted (ap (λ f. Err (Later f at)) is.0 ∙ sym (ap (refused_later file) is.1.later))
+why_unaccepted : {A : Type 0} (file : InputFile) (text : List ℕ) (of_script : Script → Result A Refusal) (refusal : Refusal)
+    → IsUnaccepted file text refusal → Why file text of_script (Err refusal)
+why_unaccepted file text of_script (Usage word) is = absurd is
+why_unaccepted file text of_script (Missing other) is = absurd is
+why_unaccepted file text of_script (TooLong other) is = absurd is
+why_unaccepted file text of_script (Lex other fault) is = by_tokens fault is.1 (ap (λ f. Err (Lex f fault)) is.0)
+why_unaccepted file text of_script (Parse other fault) is = by_syntax fault is.1 (ap (λ f. Err (Parse f fault)) is.0)
+why_unaccepted file text of_script (Form other f at) is = by_form f at is.1 (ap (λ i. Err (Form i f at)) is.0)
+why_unaccepted file text of_script (Later other at) is = absurd is
 
 -- a fault of tokens leaves no cut
 no_cut : (text : List ℕ) (fault : LexFault) (l : Lexed) → Faulty text fault → Cut text l → ⊥
 no_cut text fault l h c = fault_or_cut text fault l h c
 
-once : (file : InputFile) (text : List ℕ) (r s : Result (List Executed) Refusal) → Why file text r → Why file text s → r ≡ s
-once file text r s (by_tokens f h e) (by_tokens g i d) = e ∙ ap (λ x. Err (Lex file x)) (sym (fault_once text f g h i)) ∙ sym d
-once file text r s (by_tokens f h e) (by_syntax g i d) = absurd (no_cut text f i.lexed h i.cut)
-once file text r s (by_tokens f h e) (by_form g n i d) = absurd (no_cut text f i.is_script.lexed h i.is_script.cut)
-once file text r s (by_tokens f h e) (by_commands c i d) = absurd (no_cut text f i.is_script.lexed h i.is_script.cut)
-once file text r s (by_syntax f h e) (by_tokens g i d) = absurd (no_cut text g h.lexed i h.cut)
-once file text r s (by_syntax f h e) (by_syntax g i d) = e ∙ ap (λ x. Err (Parse file x)) (one_syntax_fault text f g h i) ∙ sym d
-once file text r s (by_syntax f h e) (by_form g n i d) = absurd (no_syntax_fault text i.script f i.is_script h)
-once file text r s (by_syntax f h e) (by_commands c i d) = absurd (no_syntax_fault text c f i.is_script h)
-once file text r s (by_form f m h e) (by_tokens g i d) = absurd (no_cut text g h.is_script.lexed i h.is_script.cut)
-once file text r s (by_form f m h e) (by_syntax g i d) = absurd (no_syntax_fault text h.script g h.is_script i)
-once file text r s (by_form f m h e) (by_form g n i d) = e ∙ ap (λ (x : Found). Err (Form file x.0 x.1)) (one_form text f g m n h i) ∙ sym d
-once file text r s (by_form f m h e) (by_commands c i d) = absurd (no_form text f m c h i)
-once file text r s (by_commands b h e) (by_tokens g i d) = absurd (no_cut text g h.is_script.lexed i h.is_script.cut)
-once file text r s (by_commands b h e) (by_syntax g i d) = absurd (no_syntax_fault text b g h.is_script i)
-once file text r s (by_commands b h e) (by_form g n i d) = absurd (no_form text g n b i h)
-once file text r s (by_commands b h e) (by_commands c i d) =
-    e ∙ ap (λ (x : Script). refused_later file (script_commands (length text) x)) (one_script text b c h.is_script i.is_script) ∙ sym d
+once : {A : Type 0} (file : InputFile) (text : List ℕ) (of_script : Script → Result A Refusal) (r s : Result A Refusal)
+    → Why file text of_script r → Why file text of_script s → r ≡ s
+once file text p r s (by_tokens f h e) (by_tokens g i d) = e ∙ ap (λ x. Err (Lex file x)) (sym (fault_once text f g h i)) ∙ sym d
+once file text p r s (by_tokens f h e) (by_syntax g i d) = absurd (no_cut text f i.lexed h i.cut)
+once file text p r s (by_tokens f h e) (by_form g n i d) = absurd (no_cut text f i.is_script.lexed h i.is_script.cut)
+once file text p r s (by_tokens f h e) (by_script c i d) = absurd (no_cut text f i.is_script.lexed h i.is_script.cut)
+once file text p r s (by_syntax f h e) (by_tokens g i d) = absurd (no_cut text g h.lexed i h.cut)
+once file text p r s (by_syntax f h e) (by_syntax g i d) = e ∙ ap (λ x. Err (Parse file x)) (one_syntax_fault text f g h i) ∙ sym d
+once file text p r s (by_syntax f h e) (by_form g n i d) = absurd (no_syntax_fault text i.script f i.is_script h)
+once file text p r s (by_syntax f h e) (by_script c i d) = absurd (no_syntax_fault text c f i.is_script h)
+once file text p r s (by_form f m h e) (by_tokens g i d) = absurd (no_cut text g h.is_script.lexed i h.is_script.cut)
+once file text p r s (by_form f m h e) (by_syntax g i d) = absurd (no_syntax_fault text h.script g h.is_script i)
+once file text p r s (by_form f m h e) (by_form g n i d) = e ∙ ap (λ (x : Found). Err (Form file x.0 x.1)) (one_form text f g m n h i) ∙ sym d
+once file text p r s (by_form f m h e) (by_script c i d) = absurd (no_form text f m c h i)
+once file text p r s (by_script b h e) (by_tokens g i d) = absurd (no_cut text g h.is_script.lexed i h.is_script.cut)
+once file text p r s (by_script b h e) (by_syntax g i d) = absurd (no_syntax_fault text b g h.is_script i)
+once file text p r s (by_script b h e) (by_form g n i d) = absurd (no_form text g n b i h)
+once file text p r s (by_script b h e) (by_script c i d) = e ∙ ap p (one_script text b c h.is_script i.is_script) ∙ sym d
 
 -- ---- jobs
+
+abbrev refused_later : InputFile → Result (List Executed) ℕ → Result (List Executed) Refusal
+refused_later file (Ok commands) = Ok commands
+refused_later file (Err at) = Err (Later file at)
+
+-- the commands of a script
+abbrev executed : InputFile → List ℕ → Script → Result (List Executed) Refusal
+executed file text script = refused_later file (script_commands (length text) script)
+
+why_executed : (file : InputFile) (text : List ℕ) (commands : List Executed) → IsExecuted text commands
+    → Why file text (executed file text) (Ok commands)
+why_executed file text commands e = by_script e.script e.accepted (sym (ap (refused_later file) e.commands_are))
+
+why_refused : (file : InputFile) (text : List ℕ) (refusal : Refusal) → IsRefused file text refusal
+    → Why file text (executed file text) (Err refusal)
+why_refused file text (Usage word) is = absurd is
+why_refused file text (Missing other) is = absurd is
+why_refused file text (TooLong other) is = absurd is
+why_refused file text (Lex other fault) is = why_unaccepted file text (executed file text) (Lex other fault) is
+why_refused file text (Parse other fault) is = why_unaccepted file text (executed file text) (Parse other fault) is
+why_refused file text (Form other f at) is = why_unaccepted file text (executed file text) (Form other f at) is
+why_refused file text (Later other at) is =
+    by_script is.1.script is.1.accepted (ap (λ f. Err (Later f at)) is.0 ∙ sym (ap (refused_later file) is.1.later))
 
 abbrev as_job : Result (List Executed) Refusal → Result Job Refusal
 as_job (Ok commands) = Ok (job_of commands)
 as_job (Err refusal) = Err refusal
 
-why_comes : (file : InputFile) (text : List ℕ) (r : Result Job Refusal) → Comes file (Some text) r
-    → (w : Result (List Executed) Refusal) × Why file text w × (r ≡ as_job w)
-why_comes file text (Ok job) h = (Ok h.commands, why_executed file text h.commands h.executed, ap Ok h.job_is)
-why_comes file text (Err refusal) h = (Err refusal, why_refused file text refusal h, refl)
+why_job : (file : InputFile) (text : List ℕ) (r : Result Job Refusal) → ComesToJob file (Some text) r
+    → (w : Result (List Executed) Refusal) × Why file text (executed file text) w × (r ≡ as_job w)
+why_job file text (Ok job) h = (Ok h.commands, why_executed file text h.commands h.executed, ap Ok h.job_is)
+why_job file text (Err refusal) h = (Err refusal, why_refused file text refusal h, refl)
 
--- what the text of a file comes to is one
-pub comes_once : (file : InputFile) (text : Option (List ℕ)) (r s : Result Job Refusal) → Comes file text r → Comes file text s → r ≡ s
-comes_once file None r s x y = x ∙ sym y
-comes_once file (Some text) r s x y =
-    let a = why_comes file text r x in
-    let b = why_comes file text s y in
-    a.2 ∙ ap as_job (once file text a.0 b.0 a.1 b.1) ∙ sym b.2
+job_once : (file : InputFile) (text : Option (List ℕ)) (r s : Result Job Refusal) → ComesToJob file text r → ComesToJob file text s → r ≡ s
+job_once file None r s x y = x ∙ sym y
+job_once file (Some text) r s x y =
+    let a = why_job file text r x in
+    let b = why_job file text s y in
+    a.2 ∙ ap as_job (once file text (executed file text) a.0 b.0 a.1 b.1) ∙ sym b.2
+
+-- ---- scripts
+
+why_script : (file : InputFile) (text : List ℕ) (r : Result Script Refusal) → ComesToScript file (Some text) r → Why file text Ok r
+why_script file text (Ok script) h = by_script script h refl
+why_script file text (Err refusal) h = why_unaccepted file text Ok refusal h
+
+script_once : (file : InputFile) (text : Option (List ℕ)) (r s : Result Script Refusal) → ComesToScript file text r → ComesToScript file text s
+    → r ≡ s
+script_once file None r s x y = x ∙ sym y
+script_once file (Some text) r s x y = once file text Ok r s (why_script file text r x) (why_script file text s y)
+
+-- ---- tasks
+
+abbrev as_report : Result Job Refusal → Result Task Refusal
+as_report (Ok job) = Ok (Report job)
+as_report (Err refusal) = Err refusal
+
+abbrev as_program : Result Script Refusal → Result Task Refusal
+as_program (Ok script) = Ok (Program script)
+as_program (Err refusal) = Err refusal
+
+by_job : (dir : List ℕ) (text : Option (List ℕ)) (r : Result Task Refusal) → Comes (Check dir) text r
+    → (w : Result Job Refusal) × ComesToJob Postinst text w × (r ≡ as_report w)
+by_job dir text (Ok (Report job)) h = (Ok job, h, refl)
+by_job dir text (Ok (Program script)) h = absurd h
+by_job dir text (Err refusal) h = (Err refusal, h, refl)
+
+by_program : (file : List ℕ) (text : Option (List ℕ)) (r : Result Task Refusal) → Comes (Translate file) text r
+    → (w : Result Script Refusal) × ComesToScript Named text w × (r ≡ as_program w)
+by_program file text (Ok (Report job)) h = absurd h
+by_program file text (Ok (Program script)) h = (Ok script, h, refl)
+by_program file text (Err refusal) h = (Err refusal, h, refl)
+
+-- what the text of a request's file comes to is one
+pub comes_once : (request : Request) (text : Option (List ℕ)) (r s : Result Task Refusal) → Comes request text r → Comes request text s → r ≡ s
+comes_once (Check dir) text r s x y =
+    let a = by_job dir text r x in
+    let b = by_job dir text s y in
+    a.2 ∙ ap as_report (job_once Postinst text a.0 b.0 a.1 b.1) ∙ sym b.2
+comes_once (Translate file) text r s x y =
+    let a = by_program file text r x in
+    let b = by_program file text s y in
+    a.2 ∙ ap as_program (script_once Named text a.0 b.0 a.1 b.1) ∙ sym b.2
 
 -- and what comes of what was read
-pub comes_of_once : (found : Result (Option (List ℕ)) Refusal) (r s : Result Job Refusal) → ComesOf found r → ComesOf found s → r ≡ s
-comes_of_once (Ok text) r s x y = comes_once Postinst text r s x y
-comes_of_once (Err refusal) r s x y = x ∙ sym y
+pub comes_of_once : (request : Request) (found : Result (Option (List ℕ)) Refusal) (r s : Result Task Refusal)
+    → ComesOf request found r → ComesOf request found s → r ≡ s
+comes_of_once request (Ok text) r s x y = comes_once request text r s x y
+comes_of_once request (Err refusal) r s x y = x ∙ sym y

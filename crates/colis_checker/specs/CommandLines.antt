@@ -1,13 +1,14 @@
 -- What the form of the command line says: which lines of words are valid, and where a line stops to be one.
 use Rattle.std.specs.Prelude.{◌≡◌, ◌↔◌, ℕ, ◌+◌, ◌<◌, ◌≤◌, ◌⊎◌, List, [], ◌∷◌, ◌++◌, take, length}
-use Rattle.std.specs.Prelude.{Ok, Err, codes, IsTrue}
+use Rattle.std.specs.Prelude.{Ok, Err, IsTrue}
 use Rattle.colis_checker.specs.declared.request.Request.{Request}
-use Rattle.colis_checker.specs.Words.{form, is_name}
+use Rattle.colis_checker.specs.Words.{form, is_name, command_of, named}
 
--- a valid line of words, and the request that it spells: `check`, and a word that may name a folder
+-- a valid line of words, and the request that it spells: `check` or `translate`, and a word that may name a folder or a
+-- file
 pub record IsLine (words : List (List ℕ)) (request : Request) : Type 0 where
-  pub is : words ≡ codes "check" ∷ request.dir ∷ []
-  pub named : IsTrue (is_name request.dir)
+  pub is : words ≡ command_of request ∷ named request ∷ []
+  pub is_named : IsTrue (is_name (named request))
 
 -- some valid line begins with these words
 pub record BeginsLine (words : List (List ℕ)) : Type 0 where

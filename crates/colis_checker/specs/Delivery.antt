@@ -20,8 +20,8 @@ NoMemoryEnds old new status = (status ≡ OUT_OF_MEMORY) × TookPrefix old.taken
 
 -- what each reply leaves in the two sinks
 abbrev pub Delivers : Reply → SinkState → SinkState → SinkState → SinkState → ℕ → Type 0
-Delivers (Text text verdict) out0 out1 err0 err1 status =
-    ((status ≡ verdict) × (out1.faults ≡ out0.faults) × Took out0.taken out1.taken text × (err1 ≡ err0))
+Delivers (Text text given) out0 out1 err0 err1 status =
+    ((status ≡ given) × (out1.faults ≡ out0.faults) × Took out0.taken out1.taken text × (err1 ≡ err0))
     ⊎ ((Rose out0.faults out1.faults × TookPrefix out0.taken out1.taken text
     × LineEnds err0 err1 write_failed_line WRITE_FAILED status)
     ⊎ (TookPrefix out0.taken out1.taken text × NoMemoryEnds err0 err1 status))

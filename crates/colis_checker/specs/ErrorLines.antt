@@ -9,7 +9,7 @@ use Rattle.shell_grammar.specs.declared.fault.ParseFault.{ParseFault}
 use Rattle.shell_grammar.specs.declared.fault.ParseFault.TheVariants as parsing
 use Rattle.colis_checker.specs.declared.faults.InputFile.{InputFile}
 use Rattle.colis_checker.specs.declared.faults.Refusal.{Refusal}
-use Rattle.colis_checker.specs.declared.faults.Refusal.TheVariants.{Usage, TooLong, Lex, Parse, Form, Later}
+use Rattle.colis_checker.specs.declared.faults.Refusal.TheVariants.{Usage, Missing, TooLong, Lex, Parse, Form, Later}
 use Rattle.shown_texts.specs.Lines.{line}
 
 -- the name of an unsupported form
@@ -79,6 +79,7 @@ parse_line name parsing.Memory = no_memory_line
 -- the line of a refusal, given the files' names
 abbrev pub refusal_line : (InputFile → List ℕ) → Refusal → List ℕ
 refusal_line name (Usage word) = line (codes "colis: usage: word " ++ decimal word)
+refusal_line name (Missing file) = file_line (name file) (codes ": missing")
 refusal_line name (TooLong file) = file_line (name file) (codes ": longer than 1048576 bytes")
 refusal_line name (Lex file fault) = lex_line (name file) fault
 refusal_line name (Parse file fault) = parse_line (name file) fault

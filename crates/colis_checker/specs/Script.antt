@@ -1,5 +1,5 @@
--- What the text of a script comes to: commands, or the first fault for which it is refused. A text is cut into tokens,
--- the tokens are read as a script, and the script is accepted if no unsupported form stands in it.
+-- What the text of a script comes to: a script and its commands, or the first fault for which it is refused. A text is
+-- cut into tokens, the tokens are read as a script, and the script is accepted if no unsupported form stands in it.
 use Rattle.std.specs.Prelude.{◌≡◌, ℕ, List, [], length, Result, Ok, Err}
 use Rattle.checker_io.specs.declared.stop.Stop.{Stop}
 use Rattle.checker_io.specs.declared.stop.Stop.TheVariants.{Refused, ReadFailed, NoMemory}
@@ -18,7 +18,8 @@ use Rattle.shell_forms.specs.First.{script_forms, IsFirst}
 use Rattle.shell_rules.specs.declared.command.Command.{Command as Executed}
 use Rattle.colis_checker.specs.declared.faults.InputFile.{InputFile}
 use Rattle.colis_checker.specs.declared.faults.Refusal.{Refusal}
-use Rattle.colis_checker.specs.declared.faults.Refusal.TheVariants.{Usage, TooLong, Lex, Parse, Form, Later}
+use Rattle.colis_checker.specs.declared.faults.Refusal.TheVariants.{Usage, Missing, TooLong, Lex, Parse, Form, Later}
+use Rattle.colis_checker.specs.declared.script.ReadScript.{ReadScript}
 use Rattle.colis_checker.specs.declared.commands.CommandsFault.{CommandsFault}
 use Rattle.colis_checker.specs.declared.commands.CommandsFault.TheVariants as executing
 use Rattle.colis_checker.specs.Commands.{script_commands}
@@ -63,16 +64,34 @@ pub record HasLater (text : List ℕ) (at : ℕ) : Type 0 where
   pub accepted : IsAccepted text script
   pub later : script_commands (length text) script ≡ Err at
 
--- the text of a file is refused so
+-- the text of a file is no accepted script, for this reason
+abbrev pub IsUnaccepted : InputFile → List ℕ → Refusal → Type 0
+IsUnaccepted file text (Usage word) = ⊥
+IsUnaccepted file text (Missing other) = ⊥
+IsUnaccepted file text (TooLong other) = ⊥
+IsUnaccepted file text (Lex other fault) = (other ≡ file) × Faulty text fault
+IsUnaccepted file text (Parse other fault) = (other ≡ file) × HasSyntaxFault text fault
+IsUnaccepted file text (Form other form at) = (other ≡ file) × HasForm text form at
+IsUnaccepted file text (Later other at) = ⊥
+
+-- the text of a file is no accepted script of commands that are executed so far, for this reason
 abbrev pub IsRefused : InputFile → List ℕ → Refusal → Type 0
 IsRefused file text (Usage word) = ⊥
+IsRefused file text (Missing other) = ⊥
 IsRefused file text (TooLong other) = ⊥
-IsRefused file text (Lex other fault) = (other ≡ file) × Faulty text fault
-IsRefused file text (Parse other fault) = (other ≡ file) × HasSyntaxFault text fault
-IsRefused file text (Form other form at) = (other ≡ file) × HasForm text form at
+IsRefused file text (Lex other fault) = IsUnaccepted file text (Lex other fault)
+IsRefused file text (Parse other fault) = IsUnaccepted file text (Parse other fault)
+IsRefused file text (Form other form at) = IsUnaccepted file text (Form other form at)
 IsRefused file text (Later other at) = (other ≡ file) × HasLater text at
 
 -- ---- what the code answers
+
+-- the script, and where its text ends; or the refusal, or want of memory
+abbrev pub AcceptedGives : InputFile → List ℕ → Result ReadScript (Stop InputFile Refusal) → Type 0
+AcceptedGives file text (Ok read) = IsAccepted text read.script × (read.end ≡ length text)
+AcceptedGives file text (Err (Refused refusal)) = IsUnaccepted file text refusal
+AcceptedGives file text (Err (ReadFailed other)) = ⊥
+AcceptedGives file text (Err NoMemory) = Unit {0}
 
 -- the commands, or the refusal, or want of memory
 abbrev pub ScriptGives : InputFile → List ℕ → Result (List Executed) (Stop InputFile Refusal) → Type 0

@@ -1,5 +1,6 @@
 -- What a call answers, by its words, the shelf and the two sinks.
 use Rattle.std.specs.Prelude.{◌≡◌, ◌⊎◌, ℕ, ◌≤◌, List, [], ◌∷◌, Option, Result, Ok, Err, IfSome}
+use Rattle.std.specs.Prelude.{IsTrue}
 use Rattle.script_names.specs.declared.memory.Memory.{Memory}
 use Rattle.checker_io.specs.Faults.{Rose}
 use Rattle.checker_io.specs.Shelf.{Files, ShelfState, IsQuiet}
@@ -7,7 +8,14 @@ use Rattle.checker_io.specs.Sink.{SinkState, Took, TookPrefix}
 use Rattle.colis_checker.specs.declared.faults.InputFile.{InputFile}
 use Rattle.colis_checker.specs.declared.faults.Refusal.{Refusal}
 use Rattle.colis_checker.specs.declared.faults.Refusal.TheVariants.{Usage}
+use Rattle.colis_checker.specs.declared.input.Task.{Task}
+use Rattle.colis_checker.specs.declared.input.Task.TheVariants as asked
 use Rattle.colis_checker.specs.declared.request.Request.{Request}
+use Rattle.shell_syntax.specs.declared.script.Script.{Script}
+use Rattle.colis_syntax.specs.ProgramText.{program_text}
+use Rattle.colis_syntax.specs.WellFormed.{ProgramParts, is_well_formed}
+use Rattle.shell_to_colis.specs.Laws.{DoesTheSame}
+use Rattle.shell_to_colis.specs.Translated.{program_of}
 use Rattle.package_files.specs.declared.package_files.Job.{Job}
 use Rattle.outcome_report.specs.declared.outcome_report.Report.{Report}
 use Rattle.colis_checker.specs.declared.deliver.TheConstants.{REFUSED, OUT_OF_MEMORY}
@@ -20,24 +28,49 @@ use Rattle.outcome_report.specs.OutcomeReport.{AllParts, verdict_of}
 use Rattle.outcome_report.specs.ReportText.{report_text}
 use Rattle.colis_checker.specs.ErrorLines.{refusal_line, read_failed_line, write_failed_line, no_memory_line}
 
+-- ---- the text of a task
+
 -- the text is that of a report that is exact for the job, and the status is its verdict
-pub record IsTextOf (job : Job) (text : List ℕ) (status : ℕ) : Type 0 where
+pub record IsReportOf (job : Job) (text : List ℕ) (status : ℕ) : Type 0 where
   pub report : Report
   pub parts : AllParts (job ∷ []) report.parts
   pub text_is : text ≡ report_text report
   pub status_is : status ≡ verdict_of report
   pub small : status ≤ 2
 
+-- the text is that of the script's program, which does what the script does and has the strict flag exactly where the
+-- script's first line has it; the status is 0
+pub record IsProgramOf (script : Script) (text : List ℕ) (status : ℕ) : Type 0 where
+  pub program : ProgramParts
+  pub program_is : program ≡ program_of script
+  pub same : DoesTheSame script program
+  pub flag : program.strict ≡ script.strict
+  pub well_formed : IsTrue (is_well_formed program.defs program.body)
+  pub text_is : text ≡ program_text program
+  pub status_is : status ≡ 0
+
+-- the text and the status of a task
+abbrev pub IsTextOf : Task → List ℕ → ℕ → Type 0
+IsTextOf (asked.Report job) text status = IsReportOf job text status
+IsTextOf (asked.Program script) text status = IsProgramOf script text status
+
+-- a status with which the text of a task is written
+abbrev pub MayEnd : Task → ℕ → Type 0
+MayEnd (asked.Report job) status = status ≤ 2
+MayEnd (asked.Program script) status = status ≡ 0
+
+-- ---- what is said
+
 -- In what follows the words were understood as given: a request, or the number of the word at which they are no
 -- command line.
 
--- the same of the job that the request comes to
-pub record IsReportText (given : Result Request ℕ) (holds : Option Files) (text : List ℕ) (status : ℕ) : Type 0 where
+-- the text and the status of the task that the request comes to
+pub record IsAnswerText (given : Result Request ℕ) (holds : Option Files) (text : List ℕ) (status : ℕ) : Type 0 where
   pub request : Request
   pub spelled : given ≡ Ok request
-  pub job : Job
-  pub read : Inputs request holds (Ok job)
-  pub of_job : IsTextOf job text status
+  pub task : Task
+  pub read : Inputs request holds (Ok task)
+  pub of_task : IsTextOf task text status
 
 -- the refusal that the words, or else the files, are answered with
 abbrev pub IsRefusal : Result Request ℕ → Option Files → Refusal → Type 0
@@ -66,7 +99,7 @@ pub record IsReadFailedLine (given : Result Request ℕ) (holds : Option Files) 
 
 -- what a call has to say
 abbrev pub Replies : Result Request ℕ → ShelfState → ShelfState → Reply → Type 0
-Replies given old new (Text text verdict) = IsQuiet old new × IsReportText given old.holds text verdict
+Replies given old new (Text text status) = IsQuiet old new × IsAnswerText given old.holds text status
 Replies given old new (Refused line) = IsQuiet old new × IsRefusalLine given old.holds line
 Replies given old new (ReadFailed line) = Rose old.faults new.faults × IsReadFailedLine given old.holds new.failed line
 Replies given old new NoMemory = Unit {0}
@@ -94,7 +127,7 @@ pub record Reported (given : Result Request ℕ) (shelf0 shelf1 : ShelfState)
   pub quiet : IsQuiet shelf0 shelf1
   pub written : NoneFailed out0 out1 err0 err1
   pub text : List ℕ
-  pub is_text : IsReportText given shelf0.holds text status
+  pub is_text : IsAnswerText given shelf0.holds text status
   pub taken : Took out0.taken out1.taken text
   pub silent : Took err0.taken err1.taken []
 
@@ -124,8 +157,8 @@ pub record TextFailed (given : Result Request ℕ) (shelf0 shelf1 : ShelfState)
   pub rose : Rose out0.faults out1.faults
   pub quiet : IsQuiet shelf0 shelf1
   pub text : List ℕ
-  pub verdict : ℕ
-  pub is_text : IsReportText given shelf0.holds text verdict
+  pub wanted : ℕ
+  pub is_text : IsAnswerText given shelf0.holds text wanted
   pub part : TookPrefix out0.taken out1.taken text
   pub said : Took err0.taken err1.taken write_failed_line
       ⊎ (Rose err0.faults err1.faults × TookPrefix err0.taken err1.taken write_failed_line)
@@ -145,13 +178,13 @@ abbrev pub FailedToWrite : Result Request ℕ → ShelfState → ShelfState → 
 FailedToWrite given shelf0 shelf1 out0 out1 err0 err1 =
     TextFailed given shelf0 shelf1 out0 out1 err0 err1 ⊎ LineFailed given shelf0 shelf1 out0 out1 err0 err1
 
--- part of the report's text was taken, and no read failed
+-- part of the text was taken, and no read failed
 pub record TookText (given : Result Request ℕ) (shelf0 shelf1 : ShelfState)
     (out0 out1 : SinkState) : Type 0 where
   pub quiet : IsQuiet shelf0 shelf1
   pub text : List ℕ
-  pub verdict : ℕ
-  pub is_text : IsReportText given shelf0.holds text verdict
+  pub wanted : ℕ
+  pub is_text : IsAnswerText given shelf0.holds text wanted
   pub part : TookPrefix out0.taken out1.taken text
 
 -- Status 6: parts of a text and of a line were taken, perhaps nothing.
@@ -168,10 +201,10 @@ pub record NoneRose (shelf0 shelf1 : ShelfState) (out0 out1 err0 err1 : SinkStat
   pub out : Rose out0.faults out1.faults → ⊥
   pub err : Rose err0.faults err1.faults → ⊥
 
--- Where no count rose and the words and the files give a job, the report is written, or memory is missing.
+-- Where no count rose and the words and the files give a task, its text is written, or memory is missing.
 abbrev pub Completes : Result Request ℕ → ShelfState → ℕ → Type 0
-Completes given shelf status = (request : Request) (job : Job) → given ≡ Ok request
-    → IfSome shelf.holds (λ files. ComesOver request files (Ok job) → (status ≤ 2) ⊎ (status ≡ OUT_OF_MEMORY))
+Completes given shelf status = (request : Request) (task : Task) → given ≡ Ok request
+    → IfSome shelf.holds (λ files. ComesOver request files (Ok task) → MayEnd task status ⊎ (status ≡ OUT_OF_MEMORY))
 
 -- Where no count rose and a refusal applies, it is answered, or memory is missing.
 abbrev pub Refuses : Result Request ℕ → ShelfState → ℕ → Type 0

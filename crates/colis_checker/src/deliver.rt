@@ -19,7 +19,7 @@ pub const OUT_OF_MEMORY: u8 = 6;
 /// What a call has to say.
 #[derive(Drop)]
 pub enum Reply {
-    Text { text: Bytes, verdict: u8 },
+    Text { text: Bytes, status: u8 },
     Refused { line: Bytes },
     ReadFailed { line: Bytes },
     NoMemory,
@@ -49,8 +49,8 @@ pub fn deliver<O: Sink, E: Sink>(reply: &Reply, out: &mut O, err: &mut E) -> u8
     ensures { Delivers reply.now (O.state out.old) (O.state out.new) (E.state err.old) (E.state err.new) result }
 {
     match reply {
-        Reply::Text { text, verdict } => match write_text(out, text.as_slice()) {
-            Ok(()) => *verdict,
+        Reply::Text { text, status } => match write_text(out, text.as_slice()) {
+            Ok(()) => *status,
             Err(SinkFault::Failed) => write_line(err, b"colis: write failed\n", WRITE_FAILED),
             Err(SinkFault::Memory) => write_no_memory(err),
         },

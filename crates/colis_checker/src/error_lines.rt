@@ -158,6 +158,7 @@ pub fn refusal_line(alloc: Global, request: &Request, refusal: Refusal) -> Resul
 {
     match refusal {
         Refusal::Usage { word } => usage_line(alloc, word),
+        Refusal::Missing { file } => file_line(alloc, request, file, b": missing\n"),
         Refusal::TooLong { file } => {
             let mut text = file_line(alloc, request, file, b": longer than 1048576 bytes")?;
             text.extend(b"\n")?;

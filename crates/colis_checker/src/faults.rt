@@ -5,7 +5,10 @@ use shell_syntax::Form;
 /// A file that a request reads.
 #[derive(Clone, Copy, Debug, PartialEq, Eq)]
 pub enum InputFile {
+    /// The script `postinst` of the package in the folder that the words name.
     Postinst,
+    /// The file that the words name.
+    Named,
 }
 
 /// Input that is refused; each offset is in bytes from the beginning of the file.
@@ -14,6 +17,10 @@ pub enum Refusal {
     /// The words are no command line; the number of the word at which that shows, counted from 1.
     Usage {
         word: u32,
+    },
+    /// The file is not there.
+    Missing {
+        file: InputFile,
     },
     /// The file has more than 1,048,576 bytes.
     TooLong {

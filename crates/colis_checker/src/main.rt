@@ -1,6 +1,6 @@
 //! Reads an unpacked Debian package and reports every way in which its maintainer scripts can end, over all file trees
-//! that meet stated start conditions. Begin with `top`: its `run_words` is all that the program does, and its
-//! `finish` ends the program with the status.
+//! that meet stated start conditions; or translates one script and prints its CoLiS program. Begin with `top`: its
+//! `run_words` is all that the program does, and its `finish` ends the program with the status.
 #![tactic(auto)]
 
 mod command_line;

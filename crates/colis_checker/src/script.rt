@@ -1,11 +1,12 @@
 ghost use Rattle.std.specs.Prelude.{◌≡◌};
-ghost use Rattle.colis_checker.specs.Script.{ScriptGives, lex_stop, parse_stop, form_stop, commands_stop};
+ghost use Rattle.colis_checker.specs.Script.{AcceptedGives, ScriptGives};
+ghost use Rattle.colis_checker.specs.Script.{lex_stop, parse_stop, form_stop, commands_stop};
 
 use crate::commands::{CommandsFault, read_commands};
 use crate::faults::{InputFile, Refusal};
 use checker_io::Stop;
 use script_names::List;
-use shell_forms::{FormFault, accept};
+use shell_forms::{Accepted, FormFault, accept};
 use shell_grammar::ParseFault;
 use shell_lexer::{LexFault, lex};
 use shell_parser::parse;
@@ -59,15 +60,21 @@ fn commands_stop(file: InputFile, fault: CommandsFault) -> Stop<InputFile, Refus
     }
 }
 
-/// The commands of a file's text, or its refusal: the text is cut into tokens, these are read as a script
-/// (POSIX.1-2017, XCU 2.3 Token Recognition, 2.10 Shell Grammar), no unsupported form stands in it, and its commands
-/// are executed so far.
-pub fn read_script(
+/// An accepted script, and the length of its text in bytes.
+#[derive(Drop)]
+pub struct ReadScript {
+    pub script: Accepted,
+    pub end: u32,
+}
+
+/// The script of a file's text, or its refusal: the text is cut into tokens, these are read as a script
+/// (POSIX.1-2017, XCU 2.3 Token Recognition, 2.10 Shell Grammar), and no unsupported form stands in it.
+pub fn read_accepted(
     alloc: Global,
     file: InputFile,
     text: &[u8],
-) -> Result<List<Command>, Stop<InputFile, Refusal>>
-    ensures { ScriptGives file text.now result }
+) -> Result<ReadScript, Stop<InputFile, Refusal>>
+    ensures { AcceptedGives file text.now result }
 {
     let lexed = match lex(alloc, text) {
         Ok(lexed) => lexed,
@@ -77,11 +84,28 @@ pub fn read_script(
         Ok(script) => script,
         Err(fault) => return Err(parse_stop(file, fault)),
     };
-    let accepted = match accept(alloc, script) {
-        Ok(accepted) => accepted,
-        Err(fault) => return Err(form_stop(file, fault)),
+    match accept(alloc, script) {
+        Ok(script) => Ok(ReadScript {
+            script,
+            end: lexed.end,
+        }),
+        Err(fault) => Err(form_stop(file, fault)),
+    }
+}
+
+/// The commands of a file's text, or its refusal: it is an accepted script, and its commands are executed so far.
+pub fn read_script(
+    alloc: Global,
+    file: InputFile,
+    text: &[u8],
+) -> Result<List<Command>, Stop<InputFile, Refusal>>
+    ensures { ScriptGives file text.now result }
+{
+    let read = match read_accepted(alloc, file, text) {
+        Ok(read) => read,
+        Err(stop) => return Err(stop),
     };
-    match read_commands(alloc, lexed.end, accepted.script()) {
+    match read_commands(alloc, read.end, read.script.script()) {
         Ok(commands) => Ok(commands),
         Err(fault) => Err(commands_stop(file, fault)),
     }

@@ -1,5 +1,6 @@
 mod paths;
 mod reports;
+mod translations;
 
 use crate::top::run_words;
 use checker_io::{MemShelf, MemSink};
@@ -90,6 +91,12 @@ const WORDS: &[(&[&str], &[u8])] = &[
     (&["check", "--"], b"colis: usage: word 2\n"),
     (&["check", "p", "q"], b"colis: usage: word 3\n"),
     (&["check", "p", "--json"], b"colis: usage: word 3\n"),
+    (&["Translate", "s"], b"colis: usage: word 1\n"),
+    (&["translate"], b"colis: usage: word 2\n"),
+    (&["translate", "-x"], b"colis: usage: word 2\n"),
+    (&["translate", "--", "s"], b"colis: usage: word 2\n"),
+    (&["translate", "s", "t"], b"colis: usage: word 3\n"),
+    (&["translate", "s", "--turns"], b"colis: usage: word 3\n"),
 ];
 
 // A script, and what the one line on standard error says of it; the status is 3.

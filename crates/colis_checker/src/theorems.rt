@@ -10,8 +10,8 @@ pub fn forms_are_lines()
     ensures least { FormIsLeast }
 {}
 
-/// The text of a file comes to one job, or to one refusal: where it is refused, no job and no other refusal comes of
-/// it.
+/// The text of its file comes to one task of a request, or to one refusal: where it is refused, no task and no other
+/// refusal comes of it.
 pub fn one_answer()
     ensures { OneAnswer }
 {}

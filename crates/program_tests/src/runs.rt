@@ -1,8 +1,11 @@
 //! Scripts of runs/rows.rt, run as step 3 of an installation, `postinst configure` with an empty word.
 
+mod programs;
 mod rows;
+mod wrong;
 
 use colis_interp::run;
+use colis_syntax::Program;
 use feature_trees::{print_tree, read_tree};
 use rows::{CALLS, CASES_AND_FUNCTIONS, LOOPS, STATUS, WORDS, WORKED};
 use script_names::{Bytes, List, Mark, Memory};
@@ -80,16 +83,21 @@ fn accepted(alloc: Global, text: &[u8]) -> Result<Accepted, Fail> {
     Ok(accepted)
 }
 
-// What a script comes to on a tree: the end, the trace, the turns that are left, and the tree after.
-fn answer(alloc: Global, turns: u32, tree_text: &[u8], script: &[u8]) -> Result<Bytes, Fail> {
+// The program of a script.
+fn translated(alloc: Global, script: &[u8]) -> Result<Program, Fail> {
     let accepted = accepted(alloc, script)?;
     let program = translate(alloc, &accepted)?;
+    Ok(program)
+}
+
+// What a program comes to on a tree: the end, the trace, the turns that are left, and the tree after.
+fn answer(alloc: Global, turns: u32, tree_text: &[u8], program: &Program) -> Result<Bytes, Fail> {
     let mut conc = begun(alloc, program.strict(), turns)?;
     let mut tree = read_tree(alloc, tree_text)?;
     let mut trace = List::new(alloc);
-    let end = run(alloc, &program, 3, &mut conc, &mut tree, &mut trace)?;
+    let ran = run(alloc, program, 3, &mut conc, &mut tree, &mut trace)?;
     let mut text = Bytes::new(alloc);
-    put_end(&mut text, end)?;
+    put_end(&mut text, ran.end)?;
     put_marks(&mut text, trace.as_slice())?;
     text.extend(b"turns ")?;
     push_number(&mut text, conc.turns as u64)?;
@@ -108,7 +116,8 @@ fn holds(alloc: Global, head: &str, script: &str, wanted: &str) -> Result<bool, 
             let tree = spelled(alloc, "", tree)?;
             let script = spelled(alloc, "#!/bin/sh\n", script)?;
             let wanted = spelled(alloc, "", wanted)?;
-            let found = answer(alloc, turns, tree.as_slice(), script.as_slice())?;
+            let program = translated(alloc, script.as_slice())?;
+            let found = answer(alloc, turns, tree.as_slice(), &program)?;
             Ok(found.as_slice() == wanted.as_slice())
         }
     }
