@@ -58,10 +58,10 @@ files_play can_fail n at [] calls turns performed =
 files_play can_fail n at (act ∷ acts) calls turns performed =
     let site : Site = r.site_at n at in
     let more = files_play can_fail n (at + 1) acts calls turns
-        (λ k d lt. performed (suc k) d (suc-lt_of_lt-pred {m = length (act ∷ acts)} lt)) in
+    (λ k d lt. performed (suc k) d (suc-lt_of_lt-pred {m = length (act ∷ acts)} lt)) in
     let behind : (answer : Done)
-        → Plays worked (λ tree trace before. r.or_more (r.ended_behind can_fail site answer)
-        (course_at calls turns tree trace before) (r.do_files can_fail n (at + 1) acts)) =
+    → Plays worked (λ tree trace before. r.or_more (r.ended_behind can_fail site answer)
+    (course_at calls turns tree trace before) (r.do_files can_fail n (at + 1) acts)) =
     λ answer. or_plays (r.ended_behind can_fail site answer) calls turns (r.do_files can_fail n (at + 1) acts) more in
     record {
       decision = Asks site act (λ answer. (behind answer).decision);
@@ -89,7 +89,7 @@ module _ (programs_decide : programs.RunsAreDecided) (n : ℕ) (old : Bool) (scr
       let d : programs.IsDecided program n shell = programs_decide program n shell in
       let next : End × Conc → Decision (Came WorkEnd) = λ v. Decided (after old script words calls v) in
       let over : Played (End × Conc) → Worked =
-          λ p. came worked (after old script words calls p.value) p.tree p.trace p.acts in
+      λ p. came worked (after old script words calls p.value) p.tree p.trace p.acts in
       record {
         decision = bind d.decision next;
         performed = bind_performed d.decision next d.performed (λ v. tt);

@@ -36,7 +36,13 @@ fn has_both(alloc: Global, row: &(&[u8], Kind, &[u8], Kind, bool)) -> Result<boo
 #[test]
 fn what_is_needed_together(rt: HostRuntime) -> Result<(), Fail> {
     for row in ROWS {
-        assert_eq!(rt; has_both(rt.alloc(), row)?, row.4, "{:?} {:?}", row.0, row.2);
+        assert_eq!(rt;
+            has_both(rt.alloc(), row)?,
+            row.4,
+            "{:?} {:?}",
+            row.0,
+            row.2
+        );
     }
     Ok(())
 }
