@@ -1,2 +1,1 @@
-pub mod Absences
 pub mod Puts
