@@ -1,0 +1,11 @@
+mod Results
+mod Numbers
+mod Cuts
+mod Fitting
+mod Looking
+mod Asking
+mod Advance
+mod ReadLines
+mod SpelledLines
+mod LeastFaults
+mod LeastWords

@@ -1,0 +1,162 @@
+-- What a valid command line is: a command, and behind it options and the folder or file that is named, in any order.
+use Rattle.std.specs.Prelude.{◌≡◌, ◌≢◌, ℕ, List, [], ◌∷◌, ◌++◌, map, codes, Option, Some, None, IsTrue}
+use Rattle.std.specs.Option.{option_map}
+use Rattle.dpkg_scenarios.specs.declared.scenario.Scenario.{Scenario}
+use Rattle.command_words.specs.declared.field.Field.{Field}
+use Rattle.command_words.specs.declared.field.Field.TheVariants as field
+use Rattle.command_words.specs.declared.setting.Setting.{Setting}
+use Rattle.command_words.specs.declared.request.Folders.{Folders}
+use Rattle.command_words.specs.declared.request.Layout.{Layout}
+use Rattle.command_words.specs.declared.request.Layout.TheVariants.{Plain, Brief, Json}
+use Rattle.command_words.specs.declared.request.Request.{Request}
+use Rattle.command_words.specs.declared.request.Request.TheVariants.{Check, Run, Translate}
+use Rattle.command_words.specs.Fields.{option_name, texts}
+use Rattle.command_words.specs.Values.{is_name, number_in, scenario_name}
+
+abbrev pub Texts : Type 0
+Texts = List (List ℕ)
+
+-- ---- how a line is spelled
+
+-- an option and its value, as two words or as one; an option without a value; or a word that stands by itself
+pub data Item : Type 0 where
+  apart : Field → List ℕ → Item
+  joined : Field → List ℕ → Item
+  json : Item
+  brief : Item
+  name : List ℕ → Item
+
+-- its words
+abbrev pub item_words : Item → Texts
+item_words (apart f text) = option_name f ∷ text ∷ []
+item_words (joined f text) = (option_name f ++ (codes "=" ++ text)) ∷ []
+item_words json = codes "--json" ∷ []
+item_words brief = codes "--brief" ∷ []
+item_words (name word) = word ∷ []
+
+-- what it says, of what
+abbrev pub item_setting : Item → Setting
+item_setting (apart f text) = record { field = f; text = text }
+item_setting (joined f text) = record { field = f; text = text }
+item_setting json = record { field = field.Layout; text = codes "--json" }
+item_setting brief = record { field = field.Layout; text = codes "--brief" }
+item_setting (name word) = record { field = field.Named; text = word }
+
+-- the field is an option that has a value
+abbrev pub HasValue : Field → Type 0
+HasValue f = option_name f ≢ []
+
+-- A value that is a word of its own, and a word that stands by itself, do not begin with a dash, unless they are a dash
+-- alone.
+abbrev pub IsItem : Item → Type 0
+IsItem (apart f text) = HasValue f × IsTrue (is_name text)
+IsItem (joined f text) = HasValue f
+IsItem json = Unit {0}
+IsItem brief = Unit {0}
+IsItem (name word) = IsTrue (is_name word)
+
+abbrev pub AreItems : List Item → Type 0
+AreItems [] = Unit {0}
+AreItems (item ∷ items) = IsItem item × AreItems items
+
+abbrev pub items_words : List Item → Texts
+items_words [] = []
+items_words (item ∷ items) = item_words item ++ items_words items
+
+-- what may stand behind `--`: words of any look, none of which is `--` again
+abbrev pub AreNames : Texts → Type 0
+AreNames [] = Unit {0}
+AreNames (word ∷ words) = (word ≢ codes "--") × AreNames words
+
+-- items, and perhaps `--` with words behind it
+pub record Line : Type 0 where
+  pub items : List Item
+  pub ended : Option Texts
+
+abbrev pub ended_words : Option Texts → Texts
+ended_words None = []
+ended_words (Some words) = codes "--" ∷ words
+
+abbrev pub ended_names : Option Texts → Texts
+ended_names None = []
+ended_names (Some words) = words
+
+abbrev pub line_words : Line → Texts
+line_words line = items_words line.items ++ ended_words line.ended
+
+-- what the line says, in order
+abbrev pub name_setting : List ℕ → Setting
+name_setting word = record { field = field.Named; text = word }
+
+abbrev pub line_settings : Line → List Setting
+line_settings line = map item_setting line.items ++ map name_setting (ended_names line.ended)
+
+-- ---- what a line asks for
+
+-- no text, or one
+abbrev pub listed : Option (List ℕ) → Texts
+listed None = []
+listed (Some text) = text ∷ []
+
+-- no text, and the usual number; or the text of a number of 1 to 6 decimal digits, from 1 to `most`
+abbrev pub IsNumberOr : ℕ → ℕ → Texts → ℕ → Type 0
+IsNumberOr most usual [] n = n ≡ usual
+IsNumberOr most usual (text ∷ []) n = number_in most text ≡ Some n
+IsNumberOr most usual (text ∷ other ∷ more) n = ⊥
+
+-- the words for a layout
+abbrev pub layout_words : Layout → Texts
+layout_words Plain = []
+layout_words Brief = codes "--brief" ∷ []
+layout_words Json = codes "--json" ∷ []
+
+-- the texts for each field name these folders
+pub record NamesFolders (said : Field → Texts) (folders : Folders) : Type 0 where
+  pub dir : said field.Named ≡ folders.dir ∷ []
+  pub old : said field.Old ≡ listed folders.old
+  pub base : said field.Base ≡ listed folders.base
+
+-- they ask for a check of these folders
+pub record AsksCheck (said : Field → Texts) (folders : Folders) (chosen : Option Scenario) (turns limit : ℕ)
+    (layout : Layout) : Type 0 where
+  pub of_folders : NamesFolders said folders
+  pub of_scenario : said field.Scenario ≡ listed (option_map scenario_name chosen)
+  pub of_turns : IsNumberOr 10000 100 (said field.Turns) turns
+  pub of_limit : IsNumberOr 100000 10000 (said field.Limit) limit
+  pub of_layout : said field.Layout ≡ layout_words layout
+  pub of_tree : said field.Tree ≡ []
+
+-- they ask for a run
+pub record AsksRun (said : Field → Texts) (folders : Folders) (tree : List ℕ) (chosen : Scenario) (turns : ℕ)
+    : Type 0 where
+  pub of_folders : NamesFolders said folders
+  pub of_tree : said field.Tree ≡ tree ∷ []
+  pub of_scenario : said field.Scenario ≡ scenario_name chosen ∷ []
+  pub of_turns : IsNumberOr 10000 100 (said field.Turns) turns
+  pub of_limit : said field.Limit ≡ []
+  pub of_layout : said field.Layout ≡ []
+
+-- they ask for a translation
+pub record AsksTranslate (said : Field → Texts) (file : List ℕ) : Type 0 where
+  pub of_file : said field.Named ≡ file ∷ []
+  pub of_others : (f : Field) → f ≢ field.Named → said f ≡ []
+
+abbrev pub Asks : (Field → Texts) → Request → Type 0
+Asks said (Check folders scenario turns limit layout) = AsksCheck said folders scenario turns limit layout
+Asks said (Run folders tree scenario turns) = AsksRun said folders tree scenario turns
+Asks said (Translate file) = AsksTranslate said file
+
+-- the command of a request
+abbrev pub command_of : Request → List ℕ
+command_of (Check folders scenario turns limit layout) = codes "check"
+command_of (Run folders tree scenario turns) = codes "run"
+command_of (Translate file) = codes "translate"
+
+-- The words are a valid line for a request: its command and a line that asks for it. So each option stands there once at
+-- most, and `--json` and `--brief` exclude each other.
+pub record IsLine (words : Texts) (request : Request) : Type 0 where
+  pub line : Line
+  pub is : words ≡ command_of request ∷ line_words line
+  pub items : AreItems line.items
+  pub names : AreNames (ended_names line.ended)
+  pub asks : Asks (λ f. texts f (line_settings line)) request

@@ -1,0 +1,64 @@
+-- The request that the settings of a line make.
+use Rattle.std.specs.Prelude.{ℕ, List, codes, Option, Some, None, if◌then◌else◌}
+use Rattle.std.specs.Option.{option_and_then, unwrap_or}
+use Rattle.std.specs.Str.{bytes_eq}
+use Rattle.dpkg_scenarios.specs.declared.scenario.Scenario.{Scenario}
+use Rattle.command_words.specs.declared.field.Command.{Command}
+use Rattle.command_words.specs.declared.field.Command.TheVariants as command
+use Rattle.command_words.specs.declared.field.Field.TheVariants as field
+use Rattle.command_words.specs.declared.setting.Setting.{Setting}
+use Rattle.command_words.specs.declared.request.Folders.{Folders}
+use Rattle.command_words.specs.declared.request.Layout.{Layout}
+use Rattle.command_words.specs.declared.request.Layout.TheVariants.{Plain, Brief, Json}
+use Rattle.command_words.specs.declared.request.Request.{Request}
+use Rattle.command_words.specs.declared.request.Request.TheVariants.{Check, Run, Translate}
+use Rattle.command_words.specs.Fields.{given}
+use Rattle.command_words.specs.Values.{number_in, scenario_named}
+
+-- the number that a text spells, or the usual one
+abbrev pub number_or : ℕ → ℕ → Option (List ℕ) → ℕ
+number_or most usual None = usual
+number_or most usual (Some text) = unwrap_or (number_in most text) usual
+
+-- the scenario that was said
+abbrev pub scenario_said : List Setting → Option Scenario
+scenario_said said = option_and_then scenario_named (given field.Scenario said)
+
+-- how the report is to be written
+abbrev pub layout_by : Option (List ℕ) → Layout
+layout_by None = Plain
+layout_by (Some word) = if bytes_eq word (codes "--json") then Json else Brief
+
+abbrev pub layout_said : List Setting → Layout
+layout_said said = layout_by (given field.Layout said)
+
+-- the folders
+abbrev pub folders_said : List ℕ → List Setting → Folders
+folders_said dir said = record { dir = dir; old = given field.Old said; base = given field.Base said }
+
+-- a check of the package in a folder
+abbrev pub check_of : List ℕ → List Setting → Request
+check_of dir said =
+    Check (folders_said dir said) (scenario_said said) (number_or 10000 100 (given field.Turns said))
+    (number_or 100000 10000 (given field.Limit said)) (layout_said said)
+
+-- a run of it, in a scenario, from a tree
+abbrev pub run_from : List ℕ → List Setting → Option Scenario → Option (List ℕ) → Option Request
+run_from dir said None tree = None
+run_from dir said (Some scenario) None = None
+run_from dir said (Some scenario) (Some tree) =
+    Some (Run (folders_said dir said) tree scenario (number_or 10000 100 (given field.Turns said)))
+
+abbrev pub run_of : List ℕ → List Setting → Option Request
+run_of dir said = run_from dir said (scenario_said said) (given field.Tree said)
+
+-- the request, by its command and by the folder or file that is named
+abbrev pub request_by : Command → List Setting → Option (List ℕ) → Option Request
+request_by command said None = None
+request_by command.Check said (Some name) = Some (check_of name said)
+request_by command.Run said (Some name) = run_of name said
+request_by command.Translate said (Some name) = Some (Translate name)
+
+-- the request that they make; None where something is missing
+abbrev pub request_of : Command → List Setting → Option Request
+request_of command said = request_by command said (given field.Named said)

@@ -1,0 +1,67 @@
+-- The words of a command line that may stand by themselves, and the values of options.
+use Rattle.std.specs.Prelude.{ℕ, Bool, true, not, ◌&&◌, ◌||◌, ◌==◌, nat_le, List, [], ◌∷◌, length, codes}
+use Rattle.std.specs.Prelude.{Option, Some, None, if◌then◌else◌}
+use Rattle.std.specs.List.{list_all}
+use Rattle.std.specs.Option.{is_some}
+use Rattle.std.specs.Str.{bytes_eq}
+use Rattle.std.specs.Str.Parse.{digits_value}
+use Rattle.dpkg_scenarios.specs.declared.scenario.Scenario.{Scenario}
+use Rattle.dpkg_scenarios.specs.declared.scenario.Scenario.TheVariants as scenario
+use Rattle.command_words.specs.declared.field.Field.{Field}
+use Rattle.command_words.specs.declared.field.Field.TheVariants as field
+
+-- a word that does not begin with a dash, or is a dash alone
+abbrev pub is_name : List ℕ → Bool
+is_name [] = true
+is_name (b ∷ []) = true
+is_name (b ∷ c ∷ bs) = not (b == 45)
+
+-- a decimal digit
+abbrev pub is_digit : ℕ → Bool
+is_digit b = nat_le 48 b && nat_le b 57
+
+-- from the one number to the other
+abbrev pub is_within : ℕ → ℕ → ℕ → Bool
+is_within least most n = nat_le least n && nat_le n most
+
+-- 1 to 6 decimal digits that spell a number from 1 to `most`
+abbrev pub is_number : ℕ → List ℕ → Bool
+is_number most text = list_all is_digit text && (is_within 1 6 (length text) && is_within 1 most (digits_value 10 text))
+
+-- that number
+abbrev pub number_in : ℕ → List ℕ → Option ℕ
+number_in most text = if is_number most text then Some (digits_value 10 text) else None
+
+-- the name of a scenario
+abbrev pub scenario_name : Scenario → List ℕ
+scenario_name scenario.Install = codes "install"
+scenario_name scenario.InstallAgain = codes "install-again"
+scenario_name scenario.Upgrade = codes "upgrade"
+scenario_name scenario.Remove = codes "remove"
+scenario_name scenario.Purge = codes "purge"
+scenario_name scenario.PurgeLater = codes "purge-later"
+
+-- the scenario of a name
+abbrev pub scenario_named : List ℕ → Option Scenario
+scenario_named name =
+    if bytes_eq name (codes "install") then Some scenario.Install
+    else (if bytes_eq name (codes "install-again") then Some scenario.InstallAgain
+    else (if bytes_eq name (codes "upgrade") then Some scenario.Upgrade
+    else (if bytes_eq name (codes "remove") then Some scenario.Remove
+    else (if bytes_eq name (codes "purge") then Some scenario.Purge
+    else (if bytes_eq name (codes "purge-later") then Some scenario.PurgeLater else None)))))
+
+-- a word that says how a report is written
+abbrev pub is_flag : List ℕ → Bool
+is_flag word = bytes_eq word (codes "--json") || bytes_eq word (codes "--brief")
+
+-- what may stand for a field
+abbrev pub is_value : Field → List ℕ → Bool
+is_value field.Named text = true
+is_value field.Old text = true
+is_value field.Base text = true
+is_value field.Scenario text = is_some (scenario_named text)
+is_value field.Tree text = true
+is_value field.Turns text = is_some (number_in 10000 text)
+is_value field.Limit text = is_some (number_in 100000 text)
+is_value field.Layout text = is_flag text

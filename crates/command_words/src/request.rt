@@ -1,0 +1,47 @@
+use dpkg_scenarios::Scenario;
+use script_names::Text;
+
+/// The folders of the packages, and the file that says what is known of the system. Without an old folder the old
+/// package is the new one; without a base it is the usual one.
+#[derive(Drop)]
+pub struct Folders {
+    pub dir: Text,
+    pub old: Option<Text>,
+    pub base: Option<Text>,
+}
+
+/// How a report is written.
+#[derive(Clone, Copy, Debug, PartialEq, Eq)]
+pub enum Layout {
+    /// Whole, for people.
+    Plain,
+    /// Endings and traces alone.
+    Brief,
+    /// Whole, as JSON (RFC 8259).
+    Json,
+}
+
+/// What the words of a command line ask for.
+#[derive(Drop)]
+pub enum Request {
+    /// The report on a package, in one scenario or in all six; `turns` is how many turns of loops a run has, `limit`
+    /// how many outcomes a scenario may have.
+    Check {
+        folders: Folders,
+        scenario: Option<Scenario>,
+        turns: u32,
+        limit: u32,
+        layout: Layout,
+    },
+    /// The run of a scenario from the tree in a file.
+    Run {
+        folders: Folders,
+        tree: Text,
+        scenario: Scenario,
+        turns: u32,
+    },
+    /// The program of the script in a file.
+    Translate {
+        file: Text,
+    },
+}

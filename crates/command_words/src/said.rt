@@ -1,0 +1,148 @@
+// What the words so far have said, and the request that they make.
+ghost use Rattle.std.specs.Prelude.{◌≡◌, IfOk};
+ghost use Rattle.std.specs.List.{find};
+ghost use Rattle.std.specs.Option.{option_copied};
+ghost use Rattle.command_words.specs.Fields.{is_field, given, is_given};
+ghost use Rattle.command_words.specs.Requests.{number_or, scenario_said, layout_said, folders_said, request_of, run_of};
+
+use crate::field::{Command, Field, is_field};
+use crate::request::{Folders, Layout, Request};
+use crate::setting::Setting;
+use crate::value::{read_number, scenario_named};
+use dpkg_scenarios::Scenario;
+use script_names::{Memory, Text};
+use std::alloc::Global;
+
+// The first setting of the field.
+fn found(said: &[Setting], field: Field) -> Option<&Setting>
+    ensures { option_copied result ≡ find (λ s. is_field field s.field) said.now }
+{
+    said.iter().find(|setting| is_field(field, setting.field))
+}
+
+// The text for the field.
+fn given(said: &[Setting], field: Field) -> Option<&str>
+    ensures { option_copied result ≡ given field said.now }
+{
+    match found(said, field) {
+        None => None,
+        Some(setting) => Some(setting.text.as_str()),
+    }
+}
+
+/// Whether something was said of the field.
+pub fn is_given(said: &[Setting], field: Field) -> bool
+    ensures { result ≡ is_given field said.now }
+{
+    given(said, field).is_some()
+}
+
+// The text for the field, copied.
+fn copied(alloc: Global, said: &[Setting], field: Field) -> Result<Option<Text>, Memory>
+    ensures { IfOk result (λ text. text ≡ given field said.now) }
+{
+    match given(said, field) {
+        None => Ok(None),
+        Some(text) => {
+            let text = Text::from_text(alloc, text)?;
+            Ok(Some(text))
+        }
+    }
+}
+
+// The scenario that was said.
+fn scenario_said(said: &[Setting]) -> Option<Scenario>
+    ensures { result ≡ scenario_said said.now }
+{
+    match given(said, Field::Scenario) {
+        None => None,
+        Some(name) => scenario_named(name),
+    }
+}
+
+// The number for the field, from 1 to `most`, or the usual one.
+fn number_or(said: &[Setting], field: Field, most: u32, usual: u32) -> u32
+    ensures { result ≡ number_or most usual (given field said.now) }
+{
+    match given(said, field) {
+        None => usual,
+        Some(text) => match read_number(text, most) {
+            None => usual,
+            Some(number) => number,
+        },
+    }
+}
+
+// How the report is to be written.
+fn layout_said(said: &[Setting]) -> Layout
+    ensures { result ≡ layout_said said.now }
+{
+    match given(said, Field::Layout) {
+        None => Layout::Plain,
+        Some(word) => {
+            if word == "--json" {
+                Layout::Json
+            } else {
+                Layout::Brief
+            }
+        }
+    }
+}
+
+// The folders that were said, beside the package's own.
+fn folders_said(alloc: Global, said: &[Setting], dir: Text) -> Result<Folders, Memory>
+    ensures { IfOk result (λ folders. folders ≡ folders_said dir said.now) }
+{
+    let old = copied(alloc, said, Field::Old)?;
+    let base = copied(alloc, said, Field::Base)?;
+    Ok(Folders { dir, old, base })
+}
+
+/// The request of the command that they make; None where something is missing.
+pub fn request_of(
+    alloc: Global,
+    command: Command,
+    said: &[Setting],
+) -> Result<Option<Request>, Memory>
+    ensures { IfOk result (λ request. request ≡ request_of command said.now) }
+{
+    let name = match copied(alloc, said, Field::Named)? {
+        None => return Ok(None),
+        Some(name) => name,
+    };
+    match command {
+        Command::Check => {
+            let folders = folders_said(alloc, said, name)?;
+            Ok(Some(Request::Check {
+                folders,
+                scenario: scenario_said(said),
+                turns: number_or(said, Field::Turns, 10_000, 100),
+                limit: number_or(said, Field::Limit, 100_000, 10_000),
+                layout: layout_said(said),
+            }))
+        }
+        Command::Run => run_request(alloc, said, name),
+        Command::Translate => Ok(Some(Request::Translate { file: name })),
+    }
+}
+
+// The request of a run, from the package's folder.
+fn run_request(alloc: Global, said: &[Setting], dir: Text) -> Result<Option<Request>, Memory>
+    ensures { IfOk result (λ request. request ≡ run_of dir said.now) }
+{
+    let scenario = match scenario_said(said) {
+        None => return Ok(None),
+        Some(scenario) => scenario,
+    };
+    let tree = match copied(alloc, said, Field::Tree)? {
+        None => return Ok(None),
+        Some(tree) => tree,
+    };
+    let folders = folders_said(alloc, said, dir)?;
+    Ok(Some(Request::Run {
+        folders,
+        tree,
+        scenario,
+        turns: number_or(said, Field::Turns, 10_000, 100),
+    }))
+}

@@ -1,0 +1,14 @@
+//! What holds of the form of the command line.
+
+ghost use Rattle.command_words.specs.Laws.{FormIsLine, FormIsLeast};
+
+/// The words spell a request exactly where they are a valid line for it.
+pub fn forms_are_lines()
+    ensures { FormIsLine }
+{}
+
+/// Where they spell none, the number that is named is the least one such that no valid line begins with the first so
+/// many words; and where all words begin one, their count and one more.
+pub fn forms_are_least()
+    ensures { FormIsLeast }
+{}

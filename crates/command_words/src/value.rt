@@ -1,0 +1,99 @@
+// The values of options.
+ghost use Rattle.std.specs.Prelude.{◌≡◌};
+ghost use Rattle.std.specs.List.{list_all};
+ghost use Rattle.command_words.specs.Values.{is_name, is_digit, number_in, scenario_named, is_flag, is_value};
+
+use crate::field::Field;
+use dpkg_scenarios::Scenario;
+
+/// Whether the word does not begin with a dash, or is a dash alone.
+pub fn is_name(word: &str) -> bool
+    ensures { result ≡ is_name word.now }
+{
+    match word.as_bytes() {
+        [] => true,
+        [first] => true,
+        [first, ..] => *first != b'-',
+    }
+}
+
+/// The number of 1 to 6 decimal digits that the text spells, from 1 to `most`.
+pub fn read_number(text: &str, most: u32) -> Option<u32>
+    ensures { result ≡ number_in most text.now }
+{
+    if !are_digits(text.as_bytes()) {
+        return None;
+    }
+    if text.is_empty() || text.len() > 6 {
+        return None;
+    }
+    match text.parse::<u32>() {
+        Ok(number) => {
+            if number >= 1 && number <= most {
+                Some(number)
+            } else {
+                None
+            }
+        }
+        Err(_) => None,
+    }
+}
+
+// Whether each byte is a decimal digit.
+fn are_digits(text: &[u8]) -> bool
+    ensures { result ≡ list_all is_digit text.now }
+{
+    text.iter().all(|byte| is_digit(*byte))
+}
+
+// Whether the byte is a decimal digit.
+fn is_digit(byte: u8) -> bool
+    ensures { result ≡ is_digit byte }
+{
+    byte >= b'0' && byte <= b'9'
+}
+
+/// The scenario of this name.
+pub fn scenario_named(name: &str) -> Option<Scenario>
+    ensures { result ≡ scenario_named name.now }
+{
+    if name == "install" {
+        return Some(Scenario::Install);
+    }
+    if name == "install-again" {
+        return Some(Scenario::InstallAgain);
+    }
+    if name == "upgrade" {
+        return Some(Scenario::Upgrade);
+    }
+    if name == "remove" {
+        return Some(Scenario::Remove);
+    }
+    if name == "purge" {
+        return Some(Scenario::Purge);
+    }
+    if name == "purge-later" {
+        return Some(Scenario::PurgeLater);
+    }
+    None
+}
+
+/// Whether the word says how a report is written.
+pub fn is_flag(word: &str) -> bool
+    ensures { result ≡ is_flag word.now }
+{
+    word == "--json" || word == "--brief"
+}
+
+/// Whether the text may stand for the field.
+pub fn is_value(field: Field, text: &str) -> bool
+    ensures { result ≡ is_value field text.now }
+{
+    match field {
+        Field::Named | Field::Old | Field::Base | Field::Tree => true,
+        Field::Scenario => scenario_named(text).is_some(),
+        Field::Turns => read_number(text, 10_000).is_some(),
+        Field::Limit => read_number(text, 100_000).is_some(),
+        Field::Layout => is_flag(text),
+    }
+}

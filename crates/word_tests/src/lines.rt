@@ -1,0 +1,138 @@
+// A row has the words of a line, with "" for an empty one, and behind an arrow the request that they spell, or the
+// number of the word at which they stop to be one.
+use command_words::{Folders, Layout, Request, WordsFault, read_words};
+use dpkg_scenarios::Scenario;
+use script_names::{List, Memory, Text};
+use std::alloc::{AllocError, Global};
+use std::process::Abort;
+use std::test::Fail;
+
+// The words of a row.
+fn words_of(alloc: Global, row: &str) -> Result<List<Text>, Memory> {
+    let mut words = List::new(alloc);
+    for shown in row.split(' ') {
+        if !shown.is_empty() {
+            let word = if shown == "\"\"" { "" } else { shown };
+            let text = Text::from_text(alloc, word)?;
+            words.add(text)?;
+        }
+    }
+    Ok(words)
+}
+
+// A word as a row has it.
+fn shown_word(word: &str) -> &str {
+    if word.is_empty() { "\"\"" } else { word }
+}
+
+fn scenario_name(scenario: Scenario) -> &'static str {
+    match scenario {
+        Scenario::Install => "install",
+        Scenario::InstallAgain => "install-again",
+        Scenario::Upgrade => "upgrade",
+        Scenario::Remove => "remove",
+        Scenario::Purge => "purge",
+        Scenario::PurgeLater => "purge-later",
+    }
+}
+
+fn layout_name(layout: Layout) -> &'static str {
+    match layout {
+        Layout::Plain => "plain",
+        Layout::Brief => "brief",
+        Layout::Json => "json",
+    }
+}
+
+fn put_option(text: &mut String, name: &str, value: &Option<Text>) -> Result<(), AllocError> {
+    match value {
+        None => Ok(()),
+        Some(value) => {
+            text.push_str(name)?;
+            text.push_str(shown_word(value.as_str()))
+        }
+    }
+}
+
+fn put_folders(text: &mut String, folders: &Folders) -> Result<(), AllocError> {
+    put_option(text, " old=", &folders.old)?;
+    put_option(text, " base=", &folders.base)
+}
+
+fn put_scenario(text: &mut String, scenario: Option<Scenario>) -> Result<(), AllocError> {
+    match scenario {
+        None => Ok(()),
+        Some(scenario) => {
+            text.push_str(" scenario=")?;
+            text.push_str(scenario_name(scenario))
+        }
+    }
+}
+
+// A check: the folder, the turns, the limit, the layout, and what else was said.
+fn shown_request(alloc: Global, request: &Request) -> Result<String, AllocError> {
+    match request {
+        Request::Check {
+            folders,
+            scenario,
+            turns,
+            limit,
+            layout,
+        } => {
+            let dir = shown_word(folders.dir.as_str());
+            let layout = layout_name(*layout);
+            let mut text = format!(in alloc; "check {dir} {turns} {limit} {layout}")?;
+            put_folders(&mut text, folders)?;
+            put_scenario(&mut text, *scenario)?;
+            Ok(text)
+        }
+        Request::Run {
+            folders,
+            tree,
+            scenario,
+            turns,
+        } => {
+            let dir = shown_word(folders.dir.as_str());
+            let tree = shown_word(tree.as_str());
+            let scenario = scenario_name(*scenario);
+            let mut text = format!(in alloc; "run {dir} {scenario} {tree} {turns}")?;
+            put_folders(&mut text, folders)?;
+            Ok(text)
+        }
+        Request::Translate { file } => {
+            let file = shown_word(file.as_str());
+            format!(in alloc; "translate {file}")
+        }
+    }
+}
+
+fn shown(alloc: Global, answer: &Result<Request, WordsFault>) -> Result<String, AllocError> {
+    match answer {
+        Ok(request) => shown_request(alloc, request),
+        Err(WordsFault::Usage { word }) => format!(in alloc; "usage {word}"),
+        Err(WordsFault::Memory) => String::from_str(alloc, "memory"),
+    }
+}
+
+fn check_row<R: Abort + AllocGlobal>(rt: &R, row: &str) -> Result<(), Fail> {
+    let alloc = rt.alloc();
+    let (line, wanted) = row.split_once("-> ").unwrap_or(("", ""));
+    let words = words_of(alloc, line)?;
+    let answer = read_words(alloc, &words);
+    let found = shown(alloc, &answer)?;
+    assert!(rt; found.as_str() == wanted, "{row}: {found}");
+    Ok(())
+}
+
+/// Each row's line is answered as the row says, and there are so many rows.
+pub fn check_rows<R: Abort + AllocGlobal>(rt: &R, rows: &str, count: usize) -> Result<(), Fail> {
+    let mut found = 0usize;
+    for row in rows.lines() {
+        if !row.is_empty() {
+            check_row(rt, row)?;
+            found = found.saturating_add(1);
+        }
+    }
+    assert_eq!(rt; found, count);
+    Ok(())
+}

@@ -1,0 +1,213 @@
+//! Lines that are none: the least number of words with which no valid line begins, or where all words begin one, their
+//! count and one.
+use crate::lines::check_rows;
+use std::test::Fail;
+
+const COMMANDS: &str = r#"
+-> usage 1
+"" -> usage 1
+- -> usage 1
+-- -> usage 1
+p -> usage 1
+Check p -> usage 1
+chec p -> usage 1
+checks p -> usage 1
+check=p -> usage 1
+-- check p -> usage 1
+--json check p -> usage 1
+load 5 -> usage 1
+predict r t -> usage 1
+pair p q -> usage 1
+Run p --scenario install --tree t -> usage 1
+Translate f -> usage 1
+translates f -> usage 1
+"#;
+
+#[test]
+fn wrong_commands(rt: HostRuntime) -> Result<(), Fail> {
+    check_rows(&rt, COMMANDS, 17)
+}
+
+const NAMES: &str = r#"
+check -> usage 2
+check -p -> usage 2
+check -json p -> usage 2
+check --x p -> usage 2
+check --- p -> usage 2
+check --= p -> usage 2
+check --=x p -> usage 2
+check -= p -> usage 2
+check -a=b p -> usage 2
+check --ol o p -> usage 2
+check --older o p -> usage 2
+check --OLD=o p -> usage 2
+check -old o p -> usage 2
+check p -x -> usage 3
+check -- -> usage 3
+check p q -> usage 3
+check p - -> usage 3
+check p "" -> usage 3
+check p -- q -> usage 4
+check p -- -q -> usage 4
+check -- p q -> usage 4
+check -- p -- -> usage 4
+check p -- -- -> usage 4
+check -- -- -> usage 3
+check -- -- p -> usage 3
+check -- p --json -> usage 4
+check -- p --old o -> usage 4
+check --json x y -> usage 4
+"#;
+
+#[test]
+fn wrong_names(rt: HostRuntime) -> Result<(), Fail> {
+    check_rows(&rt, NAMES, 28)
+}
+
+const OPTIONS: &str = r#"
+check --json -> usage 3
+check p --json --brief -> usage 4
+check --brief --json p -> usage 3
+check --json --json p -> usage 3
+check p --brief --brief -> usage 4
+check p --json= -> usage 3
+check p --json=x -> usage 3
+check p --brief=1 -> usage 3
+check --old -> usage 3
+check --old o -> usage 4
+check --old=o -> usage 3
+check --old o -- -> usage 5
+check p --old -> usage 4
+check p --old --base b -> usage 4
+check p --old -x -> usage 4
+check p --old -- -> usage 4
+check p --old --old -> usage 4
+check p --old --old=o -> usage 4
+check p --old o --old o -> usage 5
+check p --old=o --old=o -> usage 4
+check p --old o --old=o -> usage 5
+check p --old=o --old o -> usage 4
+check --old= --old= p -> usage 3
+check p --base b --base c -> usage 5
+check p --base= --base= -> usage 4
+check p --base --json -> usage 4
+check p --tree t -> usage 3
+check --tree=t p -> usage 2
+"#;
+
+#[test]
+fn wrong_options(rt: HostRuntime) -> Result<(), Fail> {
+    check_rows(&rt, OPTIONS, 28)
+}
+
+const VALUES: &str = r#"
+check p --scenario -> usage 4
+check p --scenario= -> usage 3
+check p --scenario nope -> usage 4
+check p --scenario Install -> usage 4
+check p --scenario install- -> usage 4
+check p --scenario=install-agai -> usage 3
+check p --scenario=purge-late -> usage 3
+check p --scenario - -> usage 4
+check p --scenario "" -> usage 4
+check p --scenario --json -> usage 4
+check p --scenario purge --scenario purge -> usage 5
+check p --scenario install upgrade -> usage 5
+check p --turns 0 -> usage 4
+check p --turns=0 -> usage 3
+check p --turns 000000 -> usage 4
+check p --turns 10001 -> usage 4
+check p --turns=10001 -> usage 3
+check p --turns 0000001 -> usage 4
+check p --turns 1000000 -> usage 4
+check p --turns "" -> usage 4
+check p --turns= -> usage 3
+check p --turns - -> usage 4
+check p --turns -1 -> usage 4
+check p --turns=-1 -> usage 3
+check p --turns +5 -> usage 4
+check p --turns=+5 -> usage 3
+check p --turns 5x -> usage 4
+check p --turns x5 -> usage 4
+check p --turns 1.0 -> usage 4
+check p --turns ٣ -> usage 4
+check p --turns / -> usage 4
+check p --turns : -> usage 4
+check p --turns 5 --turns 5 -> usage 5
+check --turns 5 -> usage 4
+check p --limit 0 -> usage 4
+check p --limit 100001 -> usage 4
+check p --limit=100001 -> usage 3
+check p --limit 999999 -> usage 4
+check p --limit 18446744073709551617 -> usage 4
+check p --limit= -> usage 3
+check p --limit 5 --limit=5 -> usage 5
+"#;
+
+#[test]
+fn wrong_values(rt: HostRuntime) -> Result<(), Fail> {
+    check_rows(&rt, VALUES, 41)
+}
+
+const RUNS: &str = r#"
+run -> usage 2
+run p -> usage 3
+run -p -> usage 2
+run p --tree t -> usage 5
+run p --tree -> usage 4
+run p --scenario install -> usage 5
+run p --scenario install --tree -> usage 6
+run --scenario install --tree t -> usage 6
+run --scenario install --tree t -- -> usage 7
+run p -- -> usage 3
+run -- -> usage 2
+run -- p -> usage 2
+run p --scenario install -- -> usage 5
+run p --tree t -- -> usage 5
+run --tree=t -- p -> usage 3
+run p --limit=5 -> usage 3
+run p --limit 5 -> usage 3
+run p --json -> usage 3
+run --brief p -> usage 2
+run p --scenario install --tree t --limit 5 -> usage 7
+run p --scenario install --tree t --json -> usage 7
+run p --scenario install --tree t q -> usage 7
+run p --scenario install --tree t -- q -> usage 8
+run p --scenario install --tree t -- -- -> usage 8
+run p q --tree t -> usage 3
+run p --tree t --tree u -> usage 5
+run p --tree=t --tree=t -> usage 4
+run p --scenario install --scenario install -> usage 5
+run p --scenario=x --tree t -> usage 3
+run p --scenario install --tree --turns 5 -> usage 6
+run p --scenario install --tree t --turns 0 -> usage 8
+run p --scenario install --tree t --turns=10001 -> usage 7
+"#;
+
+#[test]
+fn wrong_runs(rt: HostRuntime) -> Result<(), Fail> {
+    check_rows(&rt, RUNS, 32)
+}
+
+const TRANSLATIONS: &str = r#"
+translate -> usage 2
+translate -- -> usage 3
+translate f g -> usage 3
+translate -f -> usage 2
+translate f --turns 5 -> usage 3
+translate f --scenario -> usage 3
+translate f --old=o -> usage 3
+translate --json f -> usage 2
+translate --tree t -> usage 2
+translate --limit=5 f -> usage 2
+translate f -- g -> usage 4
+translate -- f g -> usage 4
+translate -- f -- -> usage 4
+translate f -- -- -> usage 4
+translate -- -- -> usage 3
+"#;
+
+#[test]
+fn wrong_translations(rt: HostRuntime) -> Result<(), Fail> {
+    check_rows(&rt, TRANSLATIONS, 15)
+}
