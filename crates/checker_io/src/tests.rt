@@ -1,8 +1,7 @@
 use crate::{
-    DirShelf, Following, MemShelf, MemSink, OutSink, PIECE, Shelf, ShelfFault, Sink, SinkFault,
-    Stop, read_content, readings_follow, write_text,
+    DirShelf, MemShelf, MemSink, OutSink, PIECE, Shelf, ShelfFault, Sink, SinkFault, Stop,
+    read_content, readings_follow, write_text,
 };
-use script_names::Bytes;
 use std::fs;
 use std::io::{self, ErrorKind, Write};
 use std::process::Abort;
@@ -119,21 +118,9 @@ fn pieces(rt: HostRuntime) -> Result<(), Fail> {
     Ok(())
 }
 
-// The content of a file, and then no further one.
-struct Nothing;
-
-impl Following<u8, u8, Option<Bytes>, u8> for Nothing {
-    ghost use Rattle.std.specs.Prelude.{Ok};
-    ghost use Rattle.checker_io.specs.Reading.{content, done};
-
-    ghost first = { content 7 5 9 };
-
-    ghost next = { λ _. done (Ok 1) };
-}
-
 #[test]
 fn contents(rt: HostRuntime) -> Result<(), Fail> {
-    readings_follow::<u8, u8, Option<Bytes>, u8, Nothing>();
+    readings_follow::<u8, u8, u8, u8>();
     let mut shelf = MemShelf::new(rt.alloc());
     shelf.put("p/postinst", b"true\n")?;
     shelf.fail_at(4)?;

@@ -1,9 +1,7 @@
+pub mod PlainWords
+pub mod CommandLists
 pub mod Took
-pub mod Refused
-pub mod Parts
-pub mod PartsSoFar
-pub mod OneRefusal
-pub mod Quiet
-pub mod Fitting
+pub mod OneAnswer
+pub mod Scripts
 pub mod Calls
-pub mod Failures
+pub mod CommandForms

@@ -1,6 +1,1 @@
-mod Entries
-mod PlaceEquality
-mod Counted
-mod Growing
-mod Briefs
-pub mod Carrying
+pub mod Entries

@@ -5,4 +5,3 @@ mod Arrows
 mod Trims
 mod FileSteps
 mod Written
-mod FilesPerformed

@@ -2,4 +2,3 @@ mod Counting
 mod Exact
 mod Played
 mod Answering
-pub mod Carrying

@@ -2,6 +2,4 @@ pub mod Acts
 pub mod Performed
 pub mod Runs
 pub mod Later
-pub mod Playing
-pub mod Deciding
 pub mod Laws

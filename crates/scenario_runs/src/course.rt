@@ -1,5 +1,6 @@
 ghost use Rattle.std.specs.Prelude.{◌≡◌, ◌++◌, ◌∷◌, []};
 ghost use Rattle.scenario_runs.specs.Runs.{begun};
+ghost use Rattle.scenario_runs.specs.declared.job.Job.{Job as JobRecord};
 
 use crate::call::ScriptCall;
 use dpkg_scenarios::{Ending, StepNext};
@@ -51,7 +52,7 @@ pub struct Reached {
 
 /// A run in which nothing was done.
 pub(crate) fn begun(alloc: Global, tree: Value, turns: u32) -> Course
-    ensures { result ≡ begun turns tree }
+    ensures { (job : JobRecord) → job.turns ≡ turns → result ≡ begun job tree }
 {
     Course {
         tree,

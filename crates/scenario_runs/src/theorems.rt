@@ -1,25 +1,16 @@
-//! What holds of the runs of scenarios, for the layers above.
+//! That the runs of a scenario are decisions, for the layers above.
 
-ghost use Rattle.scenario_runs.specs.Laws.{RunsAreDecided, DecisionsArePlayed, MoreTurns, MoreTurnsOfPlans};
+ghost use Rattle.scenario_runs.specs.Laws.{RunsAreDecided};
 
-use colis_meaning::theorems::runs_are_lawful;
+use colis_decisions::theorems::runs_are_decided;
 use dpkg_scenarios::theorems::scenarios_end;
 
 /// The runs of a job are one decision, played from each tree: the ending, the calls of scripts, the tree that is left,
 /// the trace and the acts are those of the play. Each act of the decision can be done on every tree, and each run has
-/// an end. The decision that specs/Deciding.antt makes of a job is such a one.
+/// an end.
 pub fn scenario_runs_are_decided()
-    ensures decided { RunsAreDecided }
-    ensures played { DecisionsArePlayed }
+    ensures { RunsAreDecided }
 {
     scenarios_end();
-}
-
-/// A run of a job that is not bound is, with more turns of loops, the same run in ending, trace, tree, calls and acts.
-/// So is the run of any plan whose scripts have this property themselves.
-pub fn more_turns_change_nothing()
-    ensures plans { MoreTurnsOfPlans }
-    ensures jobs { MoreTurns }
-{
-    runs_are_lawful();
+    runs_are_decided();
 }

@@ -5,7 +5,7 @@
 #[cfg(test)]
 mod all_acts;
 #[cfg(test)]
-mod deep_paths;
+mod four_acts;
 #[cfg(test)]
 mod plans;
 #[cfg(test)]

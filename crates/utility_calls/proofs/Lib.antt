@@ -1,4 +1,5 @@
-pub mod Ways
+pub mod OneRow
+pub mod Changes
 pub mod Lasts
 pub mod Plans
 pub mod ActRow

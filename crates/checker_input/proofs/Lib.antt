@@ -1,6 +1,0 @@
-mod Files
-mod Texts
-mod Plans
-mod Requests
-mod OneScript
-mod OneAnswer

@@ -1,4 +1,0 @@
-pub mod Script
-pub mod Lines
-pub mod Input
-pub mod Laws

@@ -1,0 +1,2 @@
+pub mod PackageFiles
+pub mod JobRun

@@ -1,3 +1,0 @@
-mod NeedByNeed
-mod Plans
-mod WrittenTurns

@@ -1,0 +1,2 @@
+pub mod ScenarioPaths
+pub mod OutcomeOf

@@ -1,0 +1,4 @@
+pub mod Taken
+pub mod Ways
+pub mod Effects
+pub mod Looking
