@@ -6,12 +6,12 @@ use Rattle.feature_trees.specs.declared.value.Value.{Value}
 use Rattle.feature_trees.specs.Tree.{at, kind_of}
 use Rattle.utility_calls.specs.declared.acts.Act.{Act}
 use Rattle.utility_calls.specs.declared.sights.Row.{Row}
-use Rattle.utility_calls.specs.Rows.{link_on_way}
-use Rattle.utility_calls.specs.Applies.{kind_at, NoLinkOnWay}
+use Rattle.utility_calls.specs.Ways.{link_on_way}
+use Rattle.utility_calls.specs.Ways.{kind_at, NoLinkOnWay}
 use Rattle.utility_calls.specs.Table.{Rule, rules, rule_holds, row_of}
 use Rattle.utility_calls.specs.Acts.{path_of, place_of, source_of, is_below, is_there, second_link, by_way, by_slash, slash_row, sight_on, own_row, row, IsPerformed}
 use Rattle.utility_calls.specs.ActRows.{IsAmong, Reaches, LooksAtWay, Applies, on_way, at_slash, on_second_way, own}
-use Rattle.utility_calls.proofs.OneRow.{counted}
+use Rattle.utility_calls.proofs.Ways.{counted}
 use Rattle.utility_calls.proofs.ActRow.{none_on, only_row, one_holds, row_applies}
 use Rattle.act_cases.specs.Cases.{link_row}
 

@@ -18,8 +18,8 @@ use Rattle.utility_calls.specs.declared.sights.Row.{Row}
 use Rattle.utility_calls.specs.declared.sights.Sight.{Sight}
 use Rattle.utility_calls.specs.declared.sights.Effect.{Effect}
 use Rattle.utility_calls.specs.declared.sights.Effect.TheVariants.{Nothing, MakesDir, KeepsDir, MakesFile, MakesLink, LinksInside, TakesAway, Moves, MovesInside}
-use Rattle.utility_calls.specs.Rows.{in_dir}
-use Rattle.utility_calls.specs.Applies.{kind_at, NoLinkOnWay}
+use Rattle.utility_calls.specs.Ways.{in_dir}
+use Rattle.utility_calls.specs.Ways.{kind_at, NoLinkOnWay}
 use Rattle.utility_calls.specs.Sights.{Where, anything, is as of_kinds, within, inside, outside, empty, full, into, into_empty, into_full, holds, sight_of, three, but}
 use Rattle.utility_calls.specs.Table.{Rule, rules, is_source, rule_holds, row_of, move_by}
 use Rattle.utility_calls.specs.Acts.{path_of, place_of, inner_name, inner_at, last_name, with_name, is_prefix, is_there, slash_row, source_of, sight_on, row, effect_on, IsPerformed}

@@ -5,8 +5,8 @@ use Rattle.feature_trees.specs.declared.kind.Kind.TheVariants.{Absent, Link, Dir
 use Rattle.feature_trees.specs.declared.value.Value.{Value}
 use Rattle.feature_trees.specs.Tree.{at, kind_of}
 use Rattle.utility_calls.specs.declared.acts.Act.{Act}
-use Rattle.utility_calls.specs.Rows.{in_dir}
-use Rattle.utility_calls.specs.Applies.{kind_at, NoLinkOnWay}
+use Rattle.utility_calls.specs.Ways.{in_dir}
+use Rattle.utility_calls.specs.Ways.{kind_at, NoLinkOnWay}
 use Rattle.utility_calls.specs.Sights.{sight_of, holds}
 use Rattle.utility_calls.specs.Table.{Rule, rules, is_source, rule_holds, row_of}
 use Rattle.utility_calls.specs.Acts.{path_of, place_of, inner_name, inner_at, kind_at_path, source_of, begins, is_below, is_there, sight_on, row, IsPerformed}

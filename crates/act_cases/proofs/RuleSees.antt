@@ -9,11 +9,11 @@ use Rattle.feature_trees.specs.Kinds.{has, of, all}
 use Rattle.feature_trees.specs.Tree.{entry, at, kind_of, is_dir, has_parents}
 use Rattle.feature_trees.proofs.Laws.{and_parts, and_made}
 use Rattle.utility_calls.specs.declared.sights.Sight.{Sight}
-use Rattle.utility_calls.specs.Rows.{in_dir}
-use Rattle.utility_calls.specs.Applies.{NoLinkOnWay}
+use Rattle.utility_calls.specs.Ways.{in_dir}
+use Rattle.utility_calls.specs.Ways.{NoLinkOnWay}
 use Rattle.utility_calls.specs.Sights.{Where, anything, is, within, inside, outside, empty, full, into, into_empty, into_full, holds, sight_of, has_entry}
 use Rattle.utility_calls.specs.Acts.{with_name, inner_at}
-use Rattle.utility_calls.proofs.Changes.{parents}
+use Rattle.utility_calls.proofs.Ways.{parents}
 use Rattle.act_cases.specs.Looks.{Sees}
 use Rattle.act_cases.specs.Plans.{EndMet}
 use Rattle.act_cases.specs.Tables.{fitting, free, through, beside, ways_of, end_of_place, is_inner, names_at}

@@ -10,8 +10,8 @@ use Rattle.feature_trees.specs.Tree.{entry, at, kind_of, is_dir, has_parents}
 use Rattle.feature_trees.proofs.Found.{at_Absent}
 use Rattle.feature_trees.proofs.Laws.{and_parts, and_made}
 use Rattle.act_cases.proofs.KindSets.{has_both}
-use Rattle.utility_calls.specs.Rows.{in_dir}
-use Rattle.utility_calls.specs.Applies.{kind_at, NoLinkOnWay}
+use Rattle.utility_calls.specs.Ways.{in_dir}
+use Rattle.utility_calls.specs.Ways.{kind_at, NoLinkOnWay}
 use Rattle.utility_calls.specs.Sights.{but, two, three}
 use Rattle.act_cases.specs.declared.looks.Ways.{Ways}
 use Rattle.act_cases.specs.Looks.{kinds_from, Sees}

@@ -22,7 +22,7 @@ pub use mem_shelf::MemShelf;
 pub use mem_sink::MemSink;
 pub use out_sink::OutSink;
 pub use pieces::{PIECE, write_text};
-pub use reading::readings_follow;
+pub use reading::{Following, readings_follow};
 pub use shelf::{Shelf, ShelfFault};
 pub use sink::{Sink, SinkFault};
 pub use stop::Stop;

@@ -1,7 +1,8 @@
 use crate::{
-    DirShelf, MemShelf, MemSink, OutSink, PIECE, Shelf, ShelfFault, Sink, SinkFault, Stop,
-    read_content, readings_follow, write_text,
+    DirShelf, Following, MemShelf, MemSink, OutSink, PIECE, Shelf, ShelfFault, Sink, SinkFault,
+    Stop, read_content, readings_follow, write_text,
 };
+use script_names::Bytes;
 use std::fs;
 use std::io::{self, ErrorKind, Write};
 use std::process::Abort;
@@ -118,9 +119,21 @@ fn pieces(rt: HostRuntime) -> Result<(), Fail> {
     Ok(())
 }
 
+// The content of a file, and then no further one.
+struct Nothing;
+
+impl Following<u8, u8, Option<Bytes>, u8> for Nothing {
+    ghost use Rattle.std.specs.Prelude.{Ok};
+    ghost use Rattle.checker_io.specs.Reading.{content, done};
+
+    ghost first = { content 7 5 9 };
+
+    ghost next = { λ _. done (Ok 1) };
+}
+
 #[test]
 fn contents(rt: HostRuntime) -> Result<(), Fail> {
-    readings_follow::<u8, u8, u8, u8>();
+    readings_follow::<u8, u8, Option<Bytes>, u8, Nothing>();
     let mut shelf = MemShelf::new(rt.alloc());
     shelf.put("p/postinst", b"true\n")?;
     shelf.fail_at(4)?;

@@ -1,5 +1,5 @@
 -- The cases of a variable that has an entry, and one more variable that gets its greatest kind.
-use Rattle.std.proofs.Common.{◌≡◌, ◌≢◌, ℕ, zero, suc, ◌+◌, ◌<◌, ◌≤◌, ◌⊎◌, inl, inr, ◌||◌, ◌&&◌, ◌↔◌, Bool, true, false, IsTrue, List, [], ◌∷◌, length, set, get_or, refl, sym, ap, ◌∙◌, arith, get_or-set_other, get_or-set_same, below_more}
+use Rattle.std.proofs.Common.{◌≡◌, ◌≢◌, ℕ, zero, suc, ◌+◌, ◌<◌, ◌≤◌, ◌⊎◌, inl, inr, ◌||◌, ◌&&◌, ◌↔◌, Bool, true, false, IsTrue, List, [], ◌∷◌, length, set, get_or, refl, sym, ap, subst, ◌∙◌, arith, get_or-set_other, get_or-set_same, below_more}
 use Rattle.feature_trees.specs.declared.kind.Kind.{Kind}
 use Rattle.feature_trees.specs.declared.kind.Kind.TheVariants.{Absent, Dir}
 use Rattle.feature_trees.specs.Kinds.{has}
@@ -88,6 +88,13 @@ node_iff vars best open_at n ds a b node ia ib = (
   ],
 )
 
+-- where it is open, nothing else is asked; else whether an entry is there is all
+pub node_open : (vars : List Variable) (best : List Kind) (open_at : ℕ → Bool) (n : ℕ) (ds : List (List ℕ)) (a : Bool) → a ≡ true → IsTrue (is_node (var_at vars n).definition) → (IsTrue a ↔ IsOpen best open_at n) → IsTrue true ↔ HasEntryOutside vars best open_at n ds
+node_open vars best open_at n ds a e node ia = (λ t. let q = ia.0 e in free node q.0 q.1, λ l. refl)
+
+pub node_closed : (vars : List Variable) (best : List Kind) (open_at : ℕ → Bool) (n : ℕ) (ds : List (List ℕ)) (a b : Bool) → a ≡ false → IsTrue (is_node (var_at vars n).definition) → (IsTrue a ↔ IsOpen best open_at n) → (IsTrue b ↔ ((m : ℕ) × (m < length vars) × IsPresentChild vars best n ds m)) → IsTrue b ↔ HasEntryOutside vars best open_at n ds
+node_closed vars best open_at n ds a b e node ia ib = subst (λ (x : Bool). IsTrue (x || b) ↔ HasEntryOutside vars best open_at n ds) e (node_iff vars best open_at n ds a b node ia ib)
+
 pub derived_iff : (vars : List Variable) (best : List Kind) (open_at : ℕ → Bool) → Ordered vars → (n x : ℕ) (f : List ℕ) (y : ℕ) (ds : List (List ℕ)) (a b : Bool) → (var_at vars n).definition ≡ Derived x f y → (IsTrue a ↔ ((kind_at best y ≢ Absent) × (¬ (Listed f ds)))) → (IsTrue b ↔ HasEntryOutside vars best open_at x (f ∷ ds)) → IsTrue (a || b) ↔ HasEntryOutside vars best open_at n ds
 derived_iff vars best open_at order n x f y ds a b e ia ib = (
   λ t. elim (or_cases a b t) [
@@ -99,6 +106,12 @@ derived_iff vars best open_at order n x f y ds a b e ia ib = (
     | inr q ↦ or_right a b (ib.1 q)
   ],
 )
+
+pub derived_shown : (vars : List Variable) (best : List Kind) (open_at : ℕ → Bool) (n x : ℕ) (f : List ℕ) (y : ℕ) (ds : List (List ℕ)) (a : Bool) → a ≡ true → (var_at vars n).definition ≡ Derived x f y → (IsTrue a ↔ ((kind_at best y ≢ Absent) × (¬ (Listed f ds)))) → IsTrue true ↔ HasEntryOutside vars best open_at n ds
+derived_shown vars best open_at n x f y ds a is e ia = (λ t. let q = ia.0 is in here x f y e q.0 q.1, λ l. refl)
+
+pub derived_hidden : (vars : List Variable) (best : List Kind) (open_at : ℕ → Bool) → Ordered vars → (n x : ℕ) (f : List ℕ) (y : ℕ) (ds : List (List ℕ)) (a b : Bool) → a ≡ false → (var_at vars n).definition ≡ Derived x f y → (IsTrue a ↔ ((kind_at best y ≢ Absent) × (¬ (Listed f ds)))) → (IsTrue b ↔ HasEntryOutside vars best open_at x (f ∷ ds)) → IsTrue b ↔ HasEntryOutside vars best open_at n ds
+derived_hidden vars best open_at order n x f y ds a b is e ia ib = subst (λ (c : Bool). IsTrue (c || b) ↔ HasEntryOutside vars best open_at n ds) is (derived_iff vars best open_at order n x f y ds a b e ia ib)
 
 pub replaced_also : (f : _) (p : _) → names (Also f p) ≡ f.now ∷ names p.now
 replaced_also f p = ap names (sym (rolls-Also f p)) ∙ fold-roll-ReplacedNames (List (List ℕ)) layer (an_also f p)

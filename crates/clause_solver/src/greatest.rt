@@ -235,9 +235,10 @@ fn node_has_entry(
     requires node { IsTrue (is_node (var_at vars.now x).definition) }
     ensures { IsTrue result ↔ HasEntryOutside vars.now best.now (unfenced_if vars.now counted) x (names replaced.now) }
 {
-    let open = is_open(vars, best, counted, x);
-    let present = some_present_child(vars, best, x, &*replaced);
-    open | present
+    if is_open(vars, best, counted, x) {
+        return true;
+    }
+    some_present_child(vars, best, x, &*replaced)
 }
 
 // Whether the entry f, which is y's value, is outside the replaced names and is there.
@@ -267,10 +268,11 @@ pub(crate) fn has_entry_outside(
         Definition::Child(_, _) => node_has_entry(vars, best, counted, x, &*replaced),
         Definition::Derived(of, f, y) => {
             let of = *of as usize;
-            let first = is_shown(best, *y as usize, &*replaced, f);
+            if is_shown(best, *y as usize, &*replaced, f) {
+                return true;
+            }
             let deeper = ReplacedNames::Also(f, &*replaced);
-            let second = has_entry_outside(vars, best, counted, of, &deeper);
-            first | second
+            has_entry_outside(vars, best, counted, of, &deeper)
         }
         Definition::Ensured(of) => has_entry_outside(vars, best, counted, *of as usize, &*replaced),
         Definition::Made(_) => false,

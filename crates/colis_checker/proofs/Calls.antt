@@ -3,18 +3,20 @@ use Rattle.std.proofs.Common.{◌≡◌, ◌⊎◌, ℕ, zero, suc, ◌<◌, ◌
 use Rattle.checker_io.specs.Faults.{Rose}
 use Rattle.checker_io.specs.Shelf.{Files, ShelfState}
 use Rattle.checker_io.specs.Sink.{SinkState, Took, TookPrefix}
+use Rattle.command_words.specs.declared.request.Request.{Request}
+use Rattle.checker_input.specs.declared.faults.InputRefusal.{InputRefusal}
+use Rattle.checker_input.specs.declared.task.Task.{Task}
+use Rattle.checker_input.specs.Input.{file_name}
+use Rattle.checker_input.specs.Laws.{OneAnswer}
 use Rattle.colis_checker.specs.declared.faults.Refusal.{Refusal}
 use Rattle.colis_checker.specs.declared.faults.Refusal.TheVariants.{Usage}
-use Rattle.colis_checker.specs.declared.request.Request.{Request}
-use Rattle.colis_checker.specs.declared.input.Task.{Task}
-use Rattle.colis_checker.specs.declared.input.Task.TheVariants.{Report, Program}
 use Rattle.colis_checker.specs.declared.deliver.Reply.{Reply}
 use Rattle.colis_checker.specs.declared.deliver.Reply.TheVariants.{Text, Refused, ReadFailed, NoMemory}
-use Rattle.colis_checker.specs.Input.{ComesOf, ComesOver, Inputs}
 use Rattle.colis_checker.specs.ErrorLines.{refusal_line, write_failed_line, no_memory_line}
 use Rattle.colis_checker.specs.Delivery.{LineEnds, Delivers}
-use Rattle.colis_checker.specs.Top.{IsTextOf, MayEnd, IsAnswerText, IsRefusal, IsRefusalLine, Replies, Reported, SaidRefusal, SaidReadFailed, FailedToWrite, RanOut, NoneRose, Completes, Refuses}
-use Rattle.colis_checker.proofs.OneAnswer.{comes_of_once}
+use Rattle.colis_checker.specs.Tasks.{IsTextOf, IsTaskRefusal, CanComplete, MayEnd}
+use Rattle.colis_checker.specs.Top.{FilesGive, FilesGiveOver, IsRequestRefusal, IsAnswerText, IsRefusal, IsRefusalLine, Replies, Reported, SaidRefusal, SaidReadFailed, FailedToWrite, RanOut, NoneRose, Completes, Refuses}
+use Rattle.colis_checker.proofs.Refused.{text_small, text_ends, text_or_refusal, refusal_or_complete}
 use Rattle.colis_checker.proofs.Took.{took_none}
 
 -- words that fit no form
@@ -24,17 +26,8 @@ usage_said given holds word line e is =
     let P : Result Request ℕ → Type 0 = λ r. IsRefusalLine r holds line in
     subst P (sym e) (record { refusal = Usage word; is_refusal = refl; line_is = is })
 
-task_small : (task : Task) (text : List ℕ) (status : ℕ) → IsTextOf task text status → status ≤ 2
-task_small (Report job) text status is = is.small
-task_small (Program script) text status is = let none = is.status_is in omega arith
-
-text_small : {given : Result Request ℕ} {holds : Option Files} {text : List ℕ} {status : ℕ} → IsAnswerText given holds text status → status ≤ 2
-text_small is = task_small is.task _ _ is.of_task
-
--- the status of a task's text is one with which the task may end
-task_ends : (task : Task) (text : List ℕ) (status : ℕ) → IsTextOf task text status → MayEnd task status
-task_ends (Report job) text status is = is.small
-task_ends (Program script) text status is = is.status_is
+answer_small : {given : Result Request ℕ} {holds : Option Files} {text : List ℕ} {status : ℕ} → IsAnswerText given holds text status → status ≤ 2
+answer_small is = text_small is.request is.task _ _ is.of_task
 
 same_none : (old new : SinkState) → new ≡ old → Took old.taken new.taken []
 same_none old new e = let P : SinkState → Type 0 = λ s. Took old.taken s.taken [] in subst P (sym e) (took_none old.taken)
@@ -88,7 +81,7 @@ said_failed old new line status (inr (inr ends)) is = absurd (omega arith)
 
 module _ (given : Result Request ℕ) (s0 s1 : ShelfState) (o0 o1 e0 e1 : SinkState) (status : ℕ) where
   pub call_statuses : (reply : Reply) → Replies given s0 s1 reply → Delivers reply o0 o1 e0 e1 status → status ≤ 6
-  call_statuses (Text text wanted) says (inl ends) = omega (arith, text_small says.1)
+  call_statuses (Text text wanted) says (inl ends) = omega (arith, answer_small says.1)
   call_statuses (Text text wanted) says (inr (inl ends)) = (line_high e0 e1 write_failed_line 5 status ends.2 (omega arith) (omega arith)).1
   call_statuses (Text text wanted) says (inr (inr ends)) = omega arith
   call_statuses (Refused line) says ends = (line_high e0 e1 line 3 status ends.1 (omega arith) (omega arith)).1
@@ -107,7 +100,7 @@ module _ (given : Result Request ℕ) (s0 s1 : ShelfState) (o0 o1 e0 e1 : SinkSt
 
   -- a text's status is none of 3, 4, 5 and 6
   not_reported : (n : ℕ) (text : List ℕ) (wanted : ℕ) → IsAnswerText given s0.holds text wanted → status ≡ wanted → status ≡ n → 2 < n → ⊥
-  not_reported n text wanted is e f lt = let small = text_small is in omega arith
+  not_reported n text wanted is e f lt = let small = answer_small is in omega arith
 
   not_line : (n k : ℕ) (line : List ℕ) → LineEnds e0 e1 line k status → status ≡ n → n < 5 → (k ≡ n → ⊥) → ⊥
   not_line n k line ends is lt ne = elim (line_status e0 e1 line k status ends) [ inl a ↦ ne (sym a ∙ is) | inr b ↦ elim b [ inl c ↦ omega arith | inr d ↦ omega arith ] ]
@@ -186,16 +179,32 @@ status_cases (suc (suc (suc (suc zero)))) le = inr (inr (inl refl))
 status_cases (suc (suc (suc (suc (suc zero))))) le = inr (inr (inr (inl refl)))
 status_cases (suc (suc (suc (suc (suc (suc n)))))) le = inr (inr (inr (inr (omega arith))))
 
--- where the shelf tells, what a request comes to is one
-told_once : (request : Request) (holds : Option Files) (one : Result Task Refusal) (P : Result Task Refusal → Type 0) (other : Result Task Refusal)
-    → Inputs request holds one → P one → IfSome holds (λ files. ComesOver request files other → P other)
-told_once request None one P other is p = tt
-told_once request (Some files) one P other is p = λ comes.
-    subst P (comes_of_once request is.found one other is.comes (subst (λ r. ComesOf request r other) is.read.told comes)) p
+-- where the shelf tells, the files of a request come to one task or refusal
+told_once : OneAnswer → (request : Request) (holds : Option Files) (one : Result Task InputRefusal) (P : Result Task InputRefusal → Type 0) (other : Result Task InputRefusal)
+    → FilesGive request holds one → P one → IfSome holds (λ files. FilesGiveOver request files other → P other)
+told_once once request None one P other is p = tt
+told_once once request (Some files) one P other is p = λ gives. subst P (once request (λ file. files (file_name request file)) one other is.told gives) p
 
 told_any : (holds : Option Files) (P Q : Files → Type 0) → ((files : Files) → Q files) → IfSome holds (λ files. P files → Q files)
 told_any None P Q q = tt
 told_any (Some files) P Q q = λ _. q files
+
+same_task : {a b : Task} → ◌≡◌ {A = Result Task InputRefusal} (Ok a) (Ok b) → a ≡ b
+same_task e = cc
+
+task_or_fault : {a : Task} {fault : InputRefusal} → ◌≡◌ {A = Result Task InputRefusal} (Ok a) (Err fault) → ⊥
+task_or_fault e = cc
+
+-- a request whose text was written is not refused
+told_text : OneAnswer → (request : Request) (holds : Option Files) (task : Task) (text : List ℕ) (status : ℕ) (refusal : Refusal) (A : Type 0)
+    → FilesGive request holds (Ok task) → IsTextOf request task text status
+    → IfSome holds (λ files. IsRequestRefusal request (FilesGiveOver request files) refusal → A)
+told_text once request None task text status refusal A is of_task = tt
+told_text once request (Some files) task text status refusal A is of_task = λ refused. elim refused [
+  | inl a ↦ absurd (task_or_fault (once request (λ file. files (file_name request file)) (Ok task) (Err a.0) is.told a.2))
+  | inr b ↦ let same = same_task (once request (λ file. files (file_name request file)) (Ok b.0) (Ok task) b.1 is.told) in
+      absurd (text_or_refusal request task text status refusal of_task (subst (λ (t : Task). IsTaskRefusal request t refusal) same b.2))
+]
 
 same_request : {a b : Request} → ◌≡◌ {A = Result Request ℕ} (Ok a) (Ok b) → a ≡ b
 same_request e = cc
@@ -203,7 +212,7 @@ same_request e = cc
 request_or_word : {a : Request} {word : ℕ} → ◌≡◌ {A = Result Request ℕ} (Ok a) (Err word) → ⊥
 request_or_word e = cc
 
-module _ (given : Result Request ℕ) (s0 s1 : ShelfState) (o0 o1 e0 e1 : SinkState) (status : ℕ)
+module _ (once : OneAnswer) (given : Result Request ℕ) (s0 s1 : ShelfState) (o0 o1 e0 e1 : SinkState) (status : ℕ)
     (none : NoneRose s0 s1 o0 o1 e0 e1) (le : status ≤ 6)
     (reported : status ≤ 2 → Reported given s0 s1 o0 o1 e0 e1 status)
     (refused : status ≡ 3 → SaidRefusal given s0 s1 o0 o1 e0 e1)
@@ -213,38 +222,42 @@ module _ (given : Result Request ℕ) (s0 s1 : ShelfState) (o0 o1 e0 e1 : SinkSt
   not_failed (inl text) = none.out text.rose
   not_failed (inr line) = none.err line.rose
 
-  -- a refusal of a request was by its files
-  by_files : (request : Request) (refusal : Refusal) → given ≡ Ok request → IsRefusal given s0.holds refusal
-      → Inputs request s0.holds (Err refusal)
-  by_files request refusal e is = let P : Result Request ℕ → Type 0 = λ r. IsRefusal r s0.holds refusal in subst P e is
-
-  -- what is wanted of a task, and of a refusal
-  abbrev CompletesWith : Result Task Refusal → Type 0
-  CompletesWith (Ok task) = MayEnd task status ⊎ (status ≡ 6)
-  CompletesWith (Err refusal) = Unit {0}
-
-  abbrev RefusesWith : Result Task Refusal → Type 0
-  RefusesWith (Ok task) = Unit {0}
-  RefusesWith (Err refusal) = (status ≡ 3) ⊎ (status ≡ 6)
+  -- what is wanted where a request comes to a task
+  abbrev CompletesWith : Request → Result Task InputRefusal → Type 0
+  CompletesWith request (Ok task) = CanComplete request task → MayEnd task status ⊎ (status ≡ 6)
+  CompletesWith request (Err fault) = Unit {0}
 
   -- a text is that of the request
   by_text : (request : Request) (text : List ℕ) (wanted : ℕ) → given ≡ Ok request → (is : IsAnswerText given s0.holds text wanted)
-      → Inputs request s0.holds (Ok is.task)
-  by_text request text wanted e is = subst (λ (r : Request). Inputs r s0.holds (Ok is.task)) (same_request (sym is.spelled ∙ e)) is.read
+      → FilesGive request s0.holds (Ok is.task) × IsTextOf request is.task text wanted
+  by_text request text wanted e is =
+      subst (λ (r : Request). FilesGive r s0.holds (Ok is.task) × IsTextOf r is.task text wanted) (same_request (sym is.spelled ∙ e)) (is.read, is.of_task)
+
+  -- a refusal is that of the request
+  by_refusal : (request : Request) (refusal : Refusal) → given ≡ Ok request → IsRefusal given s0.holds refusal
+      → IsRequestRefusal request (FilesGive request s0.holds) refusal
+  by_refusal request refusal e is = let P : Result Request ℕ → Type 0 = λ r. IsRefusal r s0.holds refusal in subst P e is
+
+  -- what was refused does not come to a task that can be completed
+  refused_completes : (request : Request) (task : Task) (refusal : Refusal) → IsRequestRefusal request (FilesGive request s0.holds) refusal
+      → IfSome s0.holds (λ files. FilesGiveOver request files (Ok task) → CanComplete request task → MayEnd task status ⊎ (status ≡ 6))
+  refused_completes request task refusal (inl a) = told_once once request s0.holds (Err a.0) (CompletesWith request) (Ok task) a.2 tt
+  refused_completes request task refusal (inr b) =
+      told_once once request s0.holds (Ok b.0) (CompletesWith request) (Ok task) b.1
+      (λ can. absurd (refusal_or_complete request b.0 refusal b.2 can))
 
   pub call_complete : Completes given s0 status
   call_complete request task e = elim (status_cases status le) [
     | inl a ↦ let said = (reported a).is_text in
-        told_once request s0.holds (Ok said.task) CompletesWith (Ok task) (by_text request (reported a).text status e said)
-        (inl (task_ends said.task _ _ said.of_task))
+        told_once once request s0.holds (Ok said.task) (CompletesWith request) (Ok task) (by_text request (reported a).text status e said).0
+        (λ can. inl (text_ends said.request said.task _ _ said.of_task))
     | inr b ↦ elim b [
-      | inl c ↦ told_once request s0.holds (Err (refused c).is_line.refusal) CompletesWith (Ok task)
-          (by_files request (refused c).is_line.refusal e (refused c).is_line.is_refusal) tt
+      | inl c ↦ refused_completes request task (refused c).is_line.refusal (by_refusal request (refused c).is_line.refusal e (refused c).is_line.is_refusal)
       | inr d ↦ elim d [
         | inl f ↦ absurd (none.shelf (read_failed f).rose)
         | inr g ↦ elim g [
           | inl h ↦ absurd (not_failed (write_failed h))
-          | inr i ↦ told_any s0.holds (λ _. _) (λ _. MayEnd task status ⊎ (status ≡ 6)) (λ _. inr i)
+          | inr i ↦ told_any s0.holds (λ _. _) (λ _. CanComplete request task → MayEnd task status ⊎ (status ≡ 6)) (λ _ can. inr i)
         ]
       ]
     ]
@@ -254,7 +267,7 @@ module _ (given : Result Request ℕ) (s0 s1 : ShelfState) (o0 o1 e0 e1 : SinkSt
   no_word word text wanted e is = request_or_word (sym is.spelled ∙ e)
 
   pub call_refuses : Refuses given s0 status
-  call_refuses = (for_words, for_files)
+  call_refuses = (for_words, for_requests)
     where
       for_words : (word : ℕ) → given ≡ Err word → (status ≡ 3) ⊎ (status ≡ 6)
       for_words word e = elim (status_cases status le) [
@@ -271,11 +284,11 @@ module _ (given : Result Request ℕ) (s0 s1 : ShelfState) (o0 o1 e0 e1 : SinkSt
         ]
       ]
 
-      for_files : (request : Request) (refusal : Refusal) → given ≡ Ok request
-          → IfSome s0.holds (λ files. ComesOver request files (Err refusal) → (status ≡ 3) ⊎ (status ≡ 6))
-      for_files request refusal e = elim (status_cases status le) [
-        | inl a ↦ told_once request s0.holds (Ok (reported a).is_text.task) RefusesWith (Err refusal)
-            (by_text request (reported a).text status e (reported a).is_text) tt
+      for_requests : (request : Request) (refusal : Refusal) → given ≡ Ok request
+          → IfSome s0.holds (λ files. IsRequestRefusal request (FilesGiveOver request files) refusal → (status ≡ 3) ⊎ (status ≡ 6))
+      for_requests request refusal e = elim (status_cases status le) [
+        | inl a ↦ let said = (reported a).is_text in let text = by_text request (reported a).text status e said in
+            told_text once request s0.holds said.task (reported a).text status refusal ((status ≡ 3) ⊎ (status ≡ 6)) text.0 text.1
         | inr b ↦ elim b [
           | inl c ↦ told_any s0.holds (λ _. _) (λ _. (status ≡ 3) ⊎ (status ≡ 6)) (λ _. inl c)
           | inr d ↦ elim d [

@@ -1,7 +1,10 @@
-pub mod PlainWords
-pub mod CommandLists
 pub mod Took
-pub mod OneAnswer
-pub mod Scripts
+pub mod Refused
+pub mod Parts
+pub mod PartsSoFar
+pub mod OneRefusal
+pub mod Quiet
+pub mod Fitting
 pub mod Calls
-pub mod CommandForms
+pub mod Failures
+pub mod Runs

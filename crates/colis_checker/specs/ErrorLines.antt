@@ -7,9 +7,13 @@ use Rattle.shell_lexer.specs.declared.fault.LexFault.{LexFault}
 use Rattle.shell_lexer.specs.declared.fault.LexFault.TheVariants as lexing
 use Rattle.shell_grammar.specs.declared.fault.ParseFault.{ParseFault}
 use Rattle.shell_grammar.specs.declared.fault.ParseFault.TheVariants as parsing
-use Rattle.colis_checker.specs.declared.faults.InputFile.{InputFile}
+use Rattle.checker_input.specs.declared.faults.InputFile.{InputFile}
+use Rattle.checker_input.specs.declared.faults.InputRefusal.{InputRefusal}
+use Rattle.checker_input.specs.declared.faults.InputRefusal.TheVariants.{Missing, TooLong, Lex, Parse, Form, Control}
+use Rattle.checker_input.specs.declared.faults.InputRefusal.TheVariants.{List as BadList, Conf, Base, Tree}
+use Rattle.outcome_report.specs.ReportNames.{scenario_name}
 use Rattle.colis_checker.specs.declared.faults.Refusal.{Refusal}
-use Rattle.colis_checker.specs.declared.faults.Refusal.TheVariants.{Usage, Missing, TooLong, Lex, Parse, Form, Later}
+use Rattle.colis_checker.specs.declared.faults.Refusal.TheVariants.{Usage, Input, NoStart, Limit}
 use Rattle.shown_texts.specs.Lines.{line}
 
 -- the name of an unsupported form
@@ -34,10 +38,6 @@ form_name form.FunctionPlace = codes "function-place"
 form_name form.FunctionTwice = codes "function-twice"
 form_name form.FunctionName = codes "function-name"
 form_name form.CallOrder = codes "call-order"
-
--- the name of the form of what is not executed so far
-abbrev pub later_name : List ℕ
-later_name = codes "later"
 
 -- a line on a file: the program, the file's name, and what is wrong with the file
 abbrev pub file_line : List ℕ → List ℕ → List ℕ
@@ -76,15 +76,30 @@ parse_line name (parsing.Syntax at) = place_line name (codes ": syntax at ") at
 parse_line name (parsing.Deep at) = place_line name (codes ": nested too deep at ") at
 parse_line name parsing.Memory = no_memory_line
 
--- the line of a refusal, given the files' names
+-- the line of a file whose line of this number is at fault for this reason
+abbrev pub fault_line : List ℕ → ℕ → ℕ → List ℕ
+fault_line name number why = file_line name (codes ": line " ++ decimal number ++ codes ": fault " ++ decimal why)
+
+-- the line of a file that is refused
+abbrev pub input_line : (InputFile → List ℕ) → InputRefusal → List ℕ
+input_line name (Missing file) = file_line (name file) (codes ": missing")
+input_line name (TooLong file) = file_line (name file) (codes ": longer than 1048576 bytes")
+input_line name (Lex file fault) = lex_line (name file) fault
+input_line name (Parse file fault) = parse_line (name file) fault
+input_line name (Form file form at) = form_line (name file) (form_name form) at
+input_line name (Control file number) = place_line (name file) (codes ": bad version in line ") number
+input_line name (BadList file number why) = fault_line (name file) number why
+input_line name (Conf file number why) = fault_line (name file) number why
+input_line name (Base file number why) = fault_line (name file) number why
+input_line name (Tree file number why) = fault_line (name file) number why
+
+-- the line of a refusal
 abbrev pub refusal_line : (InputFile → List ℕ) → Refusal → List ℕ
 refusal_line name (Usage word) = line (codes "colis: usage: word " ++ decimal word)
-refusal_line name (Missing file) = file_line (name file) (codes ": missing")
-refusal_line name (TooLong file) = file_line (name file) (codes ": longer than 1048576 bytes")
-refusal_line name (Lex file fault) = lex_line (name file) fault
-refusal_line name (Parse file fault) = parse_line (name file) fault
-refusal_line name (Form file form at) = form_line (name file) (form_name form) at
-refusal_line name (Later file at) = form_line (name file) later_name at
+refusal_line name (Input fault) = input_line name fault
+refusal_line name (NoStart scenario) = line (codes "colis: no start tree for " ++ scenario_name scenario)
+refusal_line name (Limit scenario limit) =
+    line (codes "colis: more than " ++ decimal limit ++ codes " outcomes in " ++ scenario_name scenario)
 
 -- the line of a read that failed
 abbrev pub read_failed_line : (InputFile → List ℕ) → InputFile → List ℕ

@@ -1,11 +1,7 @@
-pub mod Words
-pub mod CommandLines
-pub mod PlainPaths
-pub mod PlainCalls
-pub mod Commands
-pub mod Script
-pub mod Input
-pub mod Laws
+pub mod CommandLine
+pub mod Reports
+pub mod Tasks
 pub mod ErrorLines
 pub mod Delivery
 pub mod Top
+pub mod Laws

@@ -1,63 +1,39 @@
 -- What a call answers, by its words, the shelf and the two sinks.
-use Rattle.std.specs.Prelude.{◌≡◌, ◌⊎◌, ℕ, ◌≤◌, List, [], ◌∷◌, Option, Result, Ok, Err, IfSome}
-use Rattle.std.specs.Prelude.{IsTrue}
+use Rattle.std.specs.Prelude.{◌≡◌, ◌⊎◌, ℕ, List, [], Option, Result, Ok, Err, IfSome}
 use Rattle.script_names.specs.declared.memory.Memory.{Memory}
 use Rattle.checker_io.specs.Faults.{Rose}
 use Rattle.checker_io.specs.Shelf.{Files, ShelfState, IsQuiet}
 use Rattle.checker_io.specs.Sink.{SinkState, Took, TookPrefix}
-use Rattle.colis_checker.specs.declared.faults.InputFile.{InputFile}
+use Rattle.checker_io.specs.Reading.{Answers, Asks, IsAnswer}
+use Rattle.command_words.specs.declared.request.Request.{Request}
+use Rattle.command_words.specs.Words.{form}
+use Rattle.checker_input.specs.declared.faults.InputFile.{InputFile}
+use Rattle.checker_input.specs.declared.faults.InputRefusal.{InputRefusal}
+use Rattle.checker_input.specs.declared.task.Task.{Task}
+use Rattle.checker_input.specs.Input.{input, file_name}
 use Rattle.colis_checker.specs.declared.faults.Refusal.{Refusal}
-use Rattle.colis_checker.specs.declared.faults.Refusal.TheVariants.{Usage}
-use Rattle.colis_checker.specs.declared.input.Task.{Task}
-use Rattle.colis_checker.specs.declared.input.Task.TheVariants as asked
-use Rattle.colis_checker.specs.declared.request.Request.{Request}
-use Rattle.shell_syntax.specs.declared.script.Script.{Script}
-use Rattle.colis_syntax.specs.ProgramText.{program_text}
-use Rattle.colis_syntax.specs.WellFormed.{ProgramParts, is_well_formed}
-use Rattle.shell_to_colis.specs.Laws.{DoesTheSame}
-use Rattle.shell_to_colis.specs.Translated.{program_of}
-use Rattle.package_files.specs.declared.package_files.Job.{Job}
-use Rattle.outcome_report.specs.declared.outcome_report.Report.{Report}
+use Rattle.colis_checker.specs.declared.faults.Refusal.TheVariants.{Usage, Input}
 use Rattle.colis_checker.specs.declared.deliver.TheConstants.{REFUSED, OUT_OF_MEMORY}
 use Rattle.colis_checker.specs.declared.deliver.Reply.{Reply}
 use Rattle.colis_checker.specs.declared.deliver.Reply.TheVariants.{Text, Refused, ReadFailed, NoMemory}
-use Rattle.checker_io.specs.Reading.{Asks}
-use Rattle.colis_checker.specs.Words.{form}
-use Rattle.colis_checker.specs.Input.{input, file_name, Inputs, ComesOver}
-use Rattle.outcome_report.specs.OutcomeReport.{AllParts, verdict_of}
-use Rattle.outcome_report.specs.ReportText.{report_text}
+use Rattle.colis_checker.specs.Tasks.{IsTextOf, IsTaskRefusal, CanComplete, MayEnd}
 use Rattle.colis_checker.specs.ErrorLines.{refusal_line, read_failed_line, write_failed_line, no_memory_line}
 
--- ---- the text of a task
+-- ---- what the files come to
 
--- the text is that of a report that is exact for the job, and the status is its verdict
-pub record IsReportOf (job : Job) (text : List ℕ) (status : ℕ) : Type 0 where
-  pub report : Report
-  pub parts : AllParts (job ∷ []) report.parts
-  pub text_is : text ≡ report_text report
-  pub status_is : status ≡ verdict_of report
-  pub small : status ≤ 2
+-- where the shelf tells, the files of a request come to this task, or to this refusal; elsewhere they may
+abbrev pub FilesGive : Request → Option Files → Result Task InputRefusal → Type 0
+FilesGive request holds result = Answers (file_name request) holds (input request) result
 
--- the text is that of the script's program, which does what the script does and has the strict flag exactly where the
--- script's first line has it; the status is 0
-pub record IsProgramOf (script : Script) (text : List ℕ) (status : ℕ) : Type 0 where
-  pub program : ProgramParts
-  pub program_is : program ≡ program_of script
-  pub same : DoesTheSame script program
-  pub flag : program.strict ≡ script.strict
-  pub well_formed : IsTrue (is_well_formed program.defs program.body)
-  pub text_is : text ≡ program_text program
-  pub status_is : status ≡ 0
+-- files of these contents, by their names, do
+abbrev pub FilesGiveOver : Request → Files → Result Task InputRefusal → Type 0
+FilesGiveOver request files result = IsAnswer (λ file. files (file_name request file)) (input request) result
 
--- the text and the status of a task
-abbrev pub IsTextOf : Task → List ℕ → ℕ → Type 0
-IsTextOf (asked.Report job) text status = IsReportOf job text status
-IsTextOf (asked.Program script) text status = IsProgramOf script text status
-
--- a status with which the text of a task is written
-abbrev pub MayEnd : Task → ℕ → Type 0
-MayEnd (asked.Report job) status = status ≤ 2
-MayEnd (asked.Program script) status = status ≡ 0
+-- The refusal of a request, by what its files come to: one of them is refused; or else the task is that they come to.
+abbrev pub IsRequestRefusal : Request → (Result Task InputRefusal → Type 0) → Refusal → Type 0
+IsRequestRefusal request Gives refusal =
+    ((fault : InputRefusal) × (refusal ≡ Input fault) × Gives (Err fault))
+    ⊎ ((task : Task) × Gives (Ok task) × IsTaskRefusal request task refusal)
 
 -- ---- what is said
 
@@ -69,20 +45,20 @@ pub record IsAnswerText (given : Result Request ℕ) (holds : Option Files) (tex
   pub request : Request
   pub spelled : given ≡ Ok request
   pub task : Task
-  pub read : Inputs request holds (Ok task)
-  pub of_task : IsTextOf task text status
+  pub read : FilesGive request holds (Ok task)
+  pub of_task : IsTextOf request task text status
 
--- the refusal that the words, or else the files, are answered with
+-- the refusal that the words, or else the request, are answered with
 abbrev pub IsRefusal : Result Request ℕ → Option Files → Refusal → Type 0
 IsRefusal (Err word) holds refusal = refusal ≡ Usage word
-IsRefusal (Ok request) holds refusal = Inputs request holds (Err refusal)
+IsRefusal (Ok request) holds refusal = IsRequestRefusal request (FilesGive request holds) refusal
 
 -- the names of the files that are read
 abbrev pub names_of : Result Request ℕ → InputFile → List ℕ
 names_of (Err word) file = []
 names_of (Ok request) file = file_name request file
 
--- the line says why the words or the files are refused
+-- the line says why the words or the request are refused
 pub record IsRefusalLine (given : Result Request ℕ) (holds : Option Files) (line : List ℕ) : Type 0 where
   pub refusal : Refusal
   pub is_refusal : IsRefusal given holds refusal
@@ -201,17 +177,19 @@ pub record NoneRose (shelf0 shelf1 : ShelfState) (out0 out1 err0 err1 : SinkStat
   pub out : Rose out0.faults out1.faults → ⊥
   pub err : Rose err0.faults err1.faults → ⊥
 
--- Where no count rose and the words and the files give a task, its text is written, or memory is missing.
+-- Where no count rose, and the words and the files give a task that is not refused, its text is written, or memory is
+-- missing.
 abbrev pub Completes : Result Request ℕ → ShelfState → ℕ → Type 0
 Completes given shelf status = (request : Request) (task : Task) → given ≡ Ok request
-    → IfSome shelf.holds (λ files. ComesOver request files (Ok task) → MayEnd task status ⊎ (status ≡ OUT_OF_MEMORY))
+    → IfSome shelf.holds (λ files. FilesGiveOver request files (Ok task) → CanComplete request task
+    → MayEnd task status ⊎ (status ≡ OUT_OF_MEMORY))
 
 -- Where no count rose and a refusal applies, it is answered, or memory is missing.
 abbrev pub Refuses : Result Request ℕ → ShelfState → ℕ → Type 0
 Refuses given shelf status =
     ((word : ℕ) → given ≡ Err word → (status ≡ REFUSED) ⊎ (status ≡ OUT_OF_MEMORY))
     × ((request : Request) (refusal : Refusal) → given ≡ Ok request
-    → IfSome shelf.holds (λ files. ComesOver request files (Err refusal)
+    → IfSome shelf.holds (λ files. IsRequestRefusal request (FilesGiveOver request files) refusal
     → (status ≡ REFUSED) ⊎ (status ≡ OUT_OF_MEMORY)))
 
 -- the words were had, and this holds of what they spell

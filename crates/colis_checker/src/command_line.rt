@@ -1,5 +1,5 @@
 ghost use Rattle.std.specs.Prelude.{◌≡◌};
-ghost use Rattle.colis_checker.specs.Words.{WordsOf};
+ghost use Rattle.colis_checker.specs.CommandLine.{WordsOf};
 
 use script_names::{List, Memory, Text};
 use std::alloc::Global;

@@ -1,13 +1,16 @@
 ghost use Rattle.std.specs.Prelude.{◌≡◌, ◌++◌, [], IfOk, codes};
 ghost use Rattle.colis_checker.specs.ErrorLines.{form_name, place_line, unsupported, form_line, lex_line, parse_line};
+ghost use Rattle.colis_checker.specs.ErrorLines.{fault_line, input_line};
 ghost use Rattle.colis_checker.specs.ErrorLines.{refusal_line as line_of_refusal};
 ghost use Rattle.colis_checker.specs.ErrorLines.{read_failed_line as line_of_failure};
-ghost use Rattle.colis_checker.specs.declared.faults.Refusal.TheVariants.{Usage};
-ghost use Rattle.colis_checker.specs.Input.{file_name};
+ghost use Rattle.colis_checker.specs.declared.faults.Refusal.TheVariants.{Usage, NoStart, Limit};
+ghost use Rattle.checker_input.specs.Input.{file_name};
 
-use crate::faults::{InputFile, Refusal};
-use crate::input::make_name;
-use crate::request::Request;
+use crate::faults::Refusal;
+use checker_input::{InputFile, InputRefusal, make_name};
+use command_words::Request;
+use dpkg_scenarios::Scenario;
+use outcome_report::scenario_name;
 use script_names::{Bytes, Memory};
 use shell_grammar::ParseFault;
 use shell_lexer::LexFault;
@@ -141,33 +144,94 @@ fn parse_line(
     }
 }
 
-/// The line of words that are no command line; `word` is the number of the word at which that shows, from 1.
-pub fn usage_line(alloc: Global, word: u32) -> Result<Bytes, Memory>
-    ensures { IfOk result (λ text. text ≡ line_of_refusal (λ _. []) (Usage word)) }
+// The line of a file whose line of this number is at fault, for this reason.
+fn fault_line(
+    alloc: Global,
+    request: &Request,
+    file: InputFile,
+    number: u32,
+    why: u8,
+) -> Result<Bytes, Memory>
+    ensures { IfOk result (λ text. text ≡ fault_line (file_name request.now file) number why) }
 {
-    let mut text = Bytes::new(alloc);
-    text.extend(b"colis: usage: word ")?;
-    push_number(&mut text, u64::from(word))?;
+    let mut text = file_line(alloc, request, file, b": line ")?;
+    push_number(&mut text, u64::from(number))?;
+    text.extend(b": fault ")?;
+    push_number(&mut text, u64::from(why))?;
     text.extend(b"\n")?;
     Ok(text)
 }
 
-/// The line of a refusal.
+// The line of a file that is refused.
+fn input_line(alloc: Global, request: &Request, refusal: InputRefusal) -> Result<Bytes, Memory>
+    ensures { IfOk result (λ text. text ≡ input_line (file_name request.now) refusal) }
+{
+    match refusal {
+        InputRefusal::Missing { file } => file_line(alloc, request, file, b": missing\n"),
+        InputRefusal::TooLong { file } => {
+            let mut text = file_line(alloc, request, file, b": longer than 1048576 bytes")?;
+            text.extend(b"\n")?;
+            Ok(text)
+        }
+        InputRefusal::Lex { file, fault } => lex_line(alloc, request, file, fault),
+        InputRefusal::Parse { file, fault } => parse_line(alloc, request, file, fault),
+        InputRefusal::Form { file, form, at } => {
+            form_line(alloc, request, file, form_name(form), at)
+        }
+        InputRefusal::Control { file, line } => {
+            place_line(alloc, request, file, b": bad version in line ", line)
+        }
+        InputRefusal::List { file, line, why } => fault_line(alloc, request, file, line, why),
+        InputRefusal::Conf { file, line, why } => fault_line(alloc, request, file, line, why),
+        InputRefusal::Base { file, line, why } => fault_line(alloc, request, file, line, why),
+        InputRefusal::Tree { file, line, why } => fault_line(alloc, request, file, line, why),
+    }
+}
+
+// The line of a scenario for which there is no tree to begin with.
+fn no_start_line(alloc: Global, scenario: Scenario) -> Result<Bytes, Memory>
+    ensures { IfOk result (λ text. text ≡ line_of_refusal (λ _. []) (NoStart scenario)) }
+{
+    let mut text = Bytes::new(alloc);
+    text.extend(b"colis: no start tree for ")?;
+    text.extend(scenario_name(scenario))?;
+    text.extend(b"\n")?;
+    Ok(text)
+}
+
+// The line of a scenario whose runs have more different traces than the limit.
+fn limit_line(alloc: Global, scenario: Scenario, limit: u32) -> Result<Bytes, Memory>
+    ensures { IfOk result (λ text. text ≡ line_of_refusal (λ _. []) (Limit scenario limit)) }
+{
+    let mut text = Bytes::new(alloc);
+    text.extend(b"colis: more than ")?;
+    push_number(&mut text, u64::from(limit))?;
+    text.extend(b" outcomes in ")?;
+    text.extend(scenario_name(scenario))?;
+    text.extend(b"\n")?;
+    Ok(text)
+}
+
+/// The line of words that are no command line; `word` is the number of the word at which that shows, from 1.
+pub fn usage_line(alloc: Global, word: u64) -> Result<Bytes, Memory>
+    ensures { IfOk result (λ text. text ≡ line_of_refusal (λ _. []) (Usage word)) }
+{
+    let mut text = Bytes::new(alloc);
+    text.extend(b"colis: usage: word ")?;
+    push_number(&mut text, word)?;
+    text.extend(b"\n")?;
+    Ok(text)
+}
+
+/// The line of a refusal of a request.
 pub fn refusal_line(alloc: Global, request: &Request, refusal: Refusal) -> Result<Bytes, Memory>
     ensures { IfOk result (λ text. text ≡ line_of_refusal (file_name request.now) refusal) }
 {
     match refusal {
         Refusal::Usage { word } => usage_line(alloc, word),
-        Refusal::Missing { file } => file_line(alloc, request, file, b": missing\n"),
-        Refusal::TooLong { file } => {
-            let mut text = file_line(alloc, request, file, b": longer than 1048576 bytes")?;
-            text.extend(b"\n")?;
-            Ok(text)
-        }
-        Refusal::Lex { file, fault } => lex_line(alloc, request, file, fault),
-        Refusal::Parse { file, fault } => parse_line(alloc, request, file, fault),
-        Refusal::Form { file, form, at } => form_line(alloc, request, file, form_name(form), at),
-        Refusal::Later { file, at } => form_line(alloc, request, file, b"later", at),
+        Refusal::Input(fault) => input_line(alloc, request, fault),
+        Refusal::NoStart { scenario } => no_start_line(alloc, scenario),
+        Refusal::Limit { scenario, limit } => limit_line(alloc, scenario, limit),
     }
 }
 

@@ -1,50 +1,34 @@
-use shell_grammar::ParseFault;
-use shell_lexer::LexFault;
-use shell_syntax::Form;
+use checker_input::InputRefusal;
+use dpkg_scenarios::Scenario;
+use script_names::Memory;
 
-/// A file that a request reads.
-#[derive(Clone, Copy, Debug, PartialEq, Eq)]
-pub enum InputFile {
-    /// The script `postinst` of the package in the folder that the words name.
-    Postinst,
-    /// The file that the words name.
-    Named,
-}
-
-/// Input that is refused; each offset is in bytes from the beginning of the file.
+/// Input that is refused.
 #[derive(Clone, Copy, Debug, PartialEq, Eq)]
 pub enum Refusal {
     /// The words are no command line; the number of the word at which that shows, counted from 1.
-    Usage {
-        word: u32,
-    },
-    /// The file is not there.
-    Missing {
-        file: InputFile,
-    },
-    /// The file has more than 1,048,576 bytes.
-    TooLong {
-        file: InputFile,
-    },
-    /// The file's text is not cut into tokens; its first fault.
-    Lex {
-        file: InputFile,
-        fault: LexFault,
-    },
-    /// The file's tokens spell no script within 64 levels; the fault with which their reading stops.
-    Parse {
-        file: InputFile,
-        fault: ParseFault,
-    },
-    /// The first unsupported form of the file's script.
-    Form {
-        file: InputFile,
-        form: Form,
-        at: u32,
-    },
-    /// The file's script is accepted, and what stands at the offset is not executed so far.
-    Later {
-        file: InputFile,
-        at: u32,
-    },
+    Usage { word: u64 },
+    /// A file is refused.
+    Input(InputRefusal),
+    /// No tree of files has what the scenario needs to begin.
+    NoStart { scenario: Scenario },
+    /// The runs of the scenario have more different traces than the limit.
+    Limit { scenario: Scenario, limit: u32 },
+}
+
+/// Why a task, whose files are as they should be, has no text.
+#[derive(Clone, Copy, Debug, PartialEq, Eq)]
+pub enum TaskFault {
+    Refused(Refusal),
+    Memory,
+}
+
+impl From<Memory> for TaskFault {
+    ghost use Rattle.std.specs.Prelude.{◌≡◌};
+    ghost use Rattle.colis_checker.specs.declared.faults.TaskFault.TheVariants.{Memory as NoMemory};
+
+    ghost from_gives = { λ _ fault. fault ≡ NoMemory };
+
+    fn from(_refused: Memory) -> TaskFault {
+        TaskFault::Memory
+    }
 }

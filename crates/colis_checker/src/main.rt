@@ -1,22 +1,20 @@
-//! Reads an unpacked Debian package and reports every way in which its maintainer scripts can end, over all file trees
-//! that meet stated start conditions; or translates one script and prints its CoLiS program. Begin with `top`: its
-//! `run_words` is all that the program does, and its `finish` ends the program with the status.
+//! Reads unpacked Debian packages and reports every way in which their maintainer scripts can end, scenario by scenario,
+//! over all file trees that meet stated start conditions; or runs one scenario from one tree; or translates one script
+//! and prints its CoLiS program. Begin with `top`: its `run_words` is all that the program does, and its `finish` ends
+//! the program with the status. What a report says is in specs/Reports.antt, and what it means in `theorems`.
 #![tactic(auto)]
 
 mod command_line;
-mod commands;
 mod deliver;
 mod error_lines;
 mod faults;
-mod input;
-mod plain_calls;
-mod plain_paths;
-mod request;
-mod script;
+mod reports;
+mod tasks;
 #[cfg(test)]
 mod tests;
 pub mod theorems;
 mod top;
+mod written;
 
 use checker_io::{DirShelf, OutSink};
 use std::env;

@@ -1,17 +1,34 @@
-//! What holds of the command line's form, and of what a request reads.
+//! What a report means for those who read it, and what holds of refusals.
 
-ghost use Rattle.colis_checker.specs.CommandLines.{FormIsLine, FormIsLeast};
-ghost use Rattle.colis_checker.specs.Laws.{OneAnswer};
+ghost use Rattle.colis_checker.specs.Laws.{QuietScenario, QuietReport, FailedScenario, FailedReport, OneRefusal};
 
-/// The words spell a request exactly where they are a valid line; else the number that is named is the least one such
-/// that no valid line begins with the first so many words, and where all words begin one, their count and one more.
-pub fn forms_are_lines()
-    ensures line { FormIsLine }
-    ensures least { FormIsLeast }
-{}
+use checker_input::theorems::one_answer;
+use package_jobs::theorems::more_turns_change_no_written_run;
 
-/// The text of its file comes to one task of a request, or to one refusal: where it is refused, no task and no other
-/// refusal comes of it.
-pub fn one_answer()
-    ensures { OneAnswer }
-{}
+/// Of a scenario that is reported with outcomes that are all done, the run from each start tree is done: it fails from
+/// none, and from none does it end where nothing is specified or no turn is left. With more turns of loops than it was
+/// reported with it is the same run. So it is with each chosen scenario where the report's status is 0.
+pub fn a_quiet_scenario_fails_nowhere()
+    ensures scenario { QuietScenario }
+    ensures report { QuietReport }
+{
+    more_turns_change_no_written_run();
+}
+
+/// Of a scenario that is reported with a failed outcome, the run from the tree that is shown, which is a start tree, is
+/// the replay that is reported, and it fails, with more turns of loops too. Where the report's status is 1, a chosen
+/// scenario fails from some start tree.
+pub fn a_failure_is_real()
+    ensures scenario { FailedScenario }
+    ensures report { FailedReport }
+{
+    more_turns_change_no_written_run();
+}
+
+/// A request is refused for one reason: the first file that is at fault, or else the first scenario that cannot be
+/// reported.
+pub fn one_refusal()
+    ensures { OneRefusal }
+{
+    one_answer();
+}

@@ -1,59 +1,22 @@
 ghost use Rattle.std.specs.Prelude.{◌≡◌, ◌≤◌, IfOk, IfErr, Ok};
 ghost use Rattle.std.specs.Process.{exit_status};
-ghost use Rattle.colis_checker.specs.Words.{form};
-ghost use Rattle.colis_checker.specs.Top.{IsReportOf, IsProgramOf, IsTextOf, Replies, Reported, SaidRefusal};
+ghost use Rattle.command_words.specs.Words.{form};
+ghost use Rattle.colis_checker.specs.Top.{Replies, Reported, SaidRefusal};
 ghost use Rattle.colis_checker.specs.Top.{SaidReadFailed, FailedToWrite, RanOut, NoneRose, Completes, Refuses};
 ghost use Rattle.colis_checker.specs.Top.{OfWords};
 
 use crate::deliver::{OUT_OF_MEMORY, Reply, deliver};
 use crate::error_lines::{read_failed_line, refusal_line, usage_line};
-use crate::input::{Task, read_task};
-use crate::request::{Request, WordsFault, read_words};
+use crate::faults::{Refusal, TaskFault};
+use crate::tasks::carry_out;
+use crate::written::Written;
+use checker_input::read_task;
+use checker_input::theorems::one_answer;
 use checker_io::{Shelf, Sink, Stop};
-use colis_syntax::print_program;
-use outcome_report::{make_report, render_text, verdict};
-use package_files::Job;
-use script_names::{Bytes, List, Memory, Text};
-use shell_forms::Accepted;
-use shell_to_colis::translate;
+use command_words::{Request, WordsFault, read_words};
+use script_names::{List, Memory, Text};
 use std::alloc::Global;
 use std::process::ExitCode;
-
-#[derive(Drop)]
-struct Written {
-    text: Bytes,
-    status: u8,
-}
-
-// The report for a job, and its verdict.
-fn write_report(alloc: Global, job: &Job) -> Result<Written, Memory>
-    ensures { IfOk result (λ written. IsReportOf job.now written.text written.status) }
-{
-    let report = make_report(alloc, job)?;
-    let text = render_text(alloc, &report)?;
-    let status = verdict(&report);
-    Ok(Written { text, status })
-}
-
-// The program of a script.
-fn write_program(alloc: Global, script: &Accepted) -> Result<Written, Memory>
-    ensures { IfOk result (λ written. IsProgramOf script.now written.text written.status) }
-{
-    let program = translate(alloc, script)?;
-    program.is_sound();
-    let text = print_program(alloc, &program)?;
-    Ok(Written { text, status: 0 })
-}
-
-// The text of what is to be done, and the status that goes with it.
-fn write_task(alloc: Global, task: &Task) -> Result<Written, Memory>
-    ensures { IfOk result (λ written. IsTextOf task.now written.text written.status) }
-{
-    match task {
-        Task::Report(job) => write_report(alloc, job),
-        Task::Program(script) => write_program(alloc, script),
-    }
-}
 
 // What the request has to say.
 fn reply<S: Shelf>(alloc: Global, request: &Request, shelf: &mut S) -> Reply
@@ -61,11 +24,15 @@ fn reply<S: Shelf>(alloc: Global, request: &Request, shelf: &mut S) -> Reply
     ensures replies { Replies (Ok request.now) (S.state shelf.old) (S.state shelf.new) result }
 {
     match read_task(alloc, request, shelf) {
-        Ok(task) => match write_task(alloc, &task) {
+        Ok(task) => match carry_out(alloc, request, task) {
             Ok(Written { text, status }) => Reply::Text { text, status },
-            Err(_) => Reply::NoMemory,
+            Err(TaskFault::Refused(refusal)) => match refusal_line(alloc, request, refusal) {
+                Ok(line) => Reply::Refused { line },
+                Err(_) => Reply::NoMemory,
+            },
+            Err(TaskFault::Memory) => Reply::NoMemory,
         },
-        Err(Stop::Refused(refusal)) => match refusal_line(alloc, request, refusal) {
+        Err(Stop::Refused(fault)) => match refusal_line(alloc, request, Refusal::Input(fault)) {
             Ok(line) => Reply::Refused { line },
             Err(_) => Reply::NoMemory,
         },
@@ -103,9 +70,9 @@ pub fn run_words<S: Shelf, O: Sink, E: Sink>(
     ensures statuses { result ≤ 6 }
     ensures kept { (S.state shelf.new).holds ≡ (S.state shelf.old).holds }
 
-    // 0, 1, 2: no read and no write failed, and the text of what the words ask for was written: a report that is
-    // exact for the job, and the status is its verdict; or a program that does what the script does, and the status
-    // is 0.
+    // 0, 1, 2: no read and no write failed, and the text of what the words ask for was written: a report that has, for
+    // each chosen scenario, all ways in which it can end, and the status is its verdict; or a run, and the status says
+    // how it ended; or a program that does what the script does, and the status is 0.
     ensures reported { result ≤ 2 → Reported (form words.now) (S.state shelf.old) (S.state shelf.new)
         (O.state out.old) (O.state out.new) (E.state err.old) (E.state err.new) result }
 
@@ -125,7 +92,8 @@ pub fn run_words<S: Shelf, O: Sink, E: Sink>(
     ensures ran_out { result ≡ 6 → RanOut (form words.now) (S.state shelf.old) (S.state shelf.new)
         (O.state out.old) (O.state out.new) (E.state err.old) (E.state err.new) }
 
-    // Where no count rose, a job is reported, a script translated and a refusal named, unless memory is missing.
+    // Where no count rose, packages are reported or run, a script is translated, and a refusal is named, unless memory
+    // is missing.
     ensures complete { NoneRose (S.state shelf.old) (S.state shelf.new)
         (O.state out.old) (O.state out.new) (E.state err.old) (E.state err.new)
         → Completes (form words.now) (S.state shelf.old) result }
@@ -133,6 +101,7 @@ pub fn run_words<S: Shelf, O: Sink, E: Sink>(
         (O.state out.old) (O.state out.new) (E.state err.old) (E.state err.new)
         → Refuses (form words.now) (S.state shelf.old) result }
 {
+    one_answer();
     let reply = answer(alloc, words, shelf);
     deliver(&reply, out, err)
 }

@@ -1,2 +1,2 @@
-pub mod Absences
 pub mod Puts
+pub mod Kept

@@ -5,7 +5,7 @@ use Rattle.feature_trees.specs.declared.value.Value.TheVariants as value
 use Rattle.feature_trees.specs.declared.kind.Kind.{Kind}
 use Rattle.feature_trees.specs.declared.kind.Kind.TheVariants as kind
 use Rattle.feature_trees.specs.Tree.{entry, at, put, update, entries_of, kind_of}
-use Rattle.utility_calls.specs.Rows.{in_dir}
+use Rattle.utility_calls.specs.Ways.{in_dir}
 use Rattle.concrete_utils.specs.Ways.{is_link}
 
 -- a put below a path puts what stands there with it

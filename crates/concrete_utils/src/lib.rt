@@ -1,10 +1,7 @@
 //! Acts on a concrete file tree: which row one takes, what it answers, and the tree that it leaves.
-//! It stands on utility_calls, feature_trees and script_names. Begin with `act`, and with utility_calls'
-//! specs/Rows.antt.
+//! It stands on utility_calls, feature_trees and script_names. Begin with `steps::act`, and with
+//! utility_calls' specs/Acts.antt.
 #![tactic(auto)]
 
-mod acts;
 pub mod steps;
 mod walks;
-
-pub use acts::act;

@@ -1,7 +1,7 @@
 ghost use Rattle.std.specs.Prelude.{◌≡◌, ◌≢◌, ◌||◌, if◌then◌else◌, None, [], ◌∷◌, ◌++◌, IfOk, OnOk, OnErr};
 ghost use Rattle.feature_trees.specs.declared.value.Value.{Value};
 ghost use Rattle.feature_trees.specs.declared.value.Value.TheVariants.{Absent, Dir, Link};
-ghost use Rattle.feature_trees.specs.Tree.{at, kind_of, put, update, entries_of};
+ghost use Rattle.feature_trees.specs.Tree.{at, is_dir, kind_of, put, update, entries_of};
 ghost use Rattle.utility_calls.specs.declared.sights.Effect.TheVariants.{Nothing, Moves, MovesInside};
 ghost use Rattle.utility_calls.specs.Acts.{path_of, place_of, target_of, source_of, inner_name, inner_at, second_link};
 ghost use Rattle.utility_calls.specs.Acts.{own_row, by_way, by_slash, slash_row, is_there, row as row_of, effect_on};
@@ -173,17 +173,28 @@ fn copy_at(alloc: Global, tree: &Value, path: &Path) -> Result<Value, Memory>
     }
 }
 
-// A directory with the entries of a value.
-fn as_dir(alloc: Global, value: Value) -> Value
-    ensures { result ≡ Dir (entries_of value) }
+// Whether a directory stands at a path.
+fn has_dir(tree: &Value, path: &Path) -> bool
+    ensures { result ≡ is_dir (at tree.now path.now.names) }
 {
-    match value {
-        Value::Dir(entries) => Value::Dir(entries),
-        Value::Absent => Value::Dir(Entries::new(alloc)),
-        Value::Reg => Value::Dir(Entries::new(alloc)),
-        Value::Link(_) => Value::Dir(Entries::new(alloc)),
-        Value::Other => Value::Dir(Entries::new(alloc)),
+    match tree.at(path) {
+        Some(Value::Dir(_)) => true,
+        Some(_) => false,
+        None => false,
     }
+}
+
+// Leaves a directory at a path as it is, and puts one without entries where none stands.
+fn keep_dir(alloc: Global, path: &Path, tree: &mut Value) -> Result<(), Memory>
+    requires { path.now.names ≢ [] }
+    ensures ok { let names = path.now.names in
+        OnOk result (tree.new ≡ put tree.old names (Dir (entries_of (at tree.old names)))) }
+    ensures kept { OnErr result (tree.new ≡ tree.old) }
+{
+    if has_dir(tree, path) {
+        return Ok(());
+    }
+    put_at(path, Value::Dir(Entries::new(alloc)), tree)
 }
 
 // A directory with the entries of a value, and this value under a name.
@@ -299,10 +310,7 @@ fn change(alloc: Global, a: &Act, effect: Effect, tree: &mut Value) -> Result<()
     match effect {
         Effect::Nothing => Ok(()),
         Effect::MakesDir => put_at(path, Value::Dir(Entries::new(alloc)), tree),
-        Effect::KeepsDir => {
-            let old = copy_at(alloc, tree, path)?;
-            put_at(path, as_dir(alloc, old), tree)
-        }
+        Effect::KeepsDir => keep_dir(alloc, path, tree),
         Effect::MakesFile => put_at(path, Value::Reg, tree),
         Effect::MakesLink => {
             let made = link(alloc, a)?;

@@ -1,7 +1,7 @@
 ghost use Rattle.std.specs.Prelude.{◌≡◌, ◌<◌, ◌+◌, length};
 ghost use Rattle.feature_trees.specs.declared.value.Value.TheVariants.{Absent};
 ghost use Rattle.feature_trees.specs.Tree.{entry, at, is_dir, kind_of};
-ghost use Rattle.utility_calls.specs.Rows.{in_dir, link_on_way};
+ghost use Rattle.utility_calls.specs.Ways.{in_dir, link_on_way};
 ghost use Rattle.utility_calls.specs.Sights.{has_entry};
 ghost use Rattle.concrete_utils.specs.Ways.{is_link};
 

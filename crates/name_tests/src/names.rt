@@ -1,6 +1,6 @@
 use script_names::{
     Boxed, Bytes, Copied, Done, List, MAX_NAMES, Mark, Memory, Name, NameFault, Path, PathFault,
-    Reason, Site, Text,
+    Reason, Site, Slot, Text,
 };
 use std::alloc::Global;
 use std::cmp::Ordering;
@@ -143,6 +143,17 @@ fn owned_values_are_copied(rt: HostRuntime) {
     assert_eq!(rt; box_is_copied(alloc), Ok(true));
     assert_eq!(rt; name_is_copied(alloc), Ok(true));
     assert_eq!(rt; path_is_copied(alloc), Ok(true));
+}
+
+fn slots_have_what_was_put(alloc: Global) -> Result<bool, Memory> {
+    let none: Slot<u8> = Slot::empty(alloc);
+    let one = Slot::new(alloc, 7u8)?;
+    Ok(none.is_none() && none.get().is_none() && !one.is_none() && one.get() == Some(&7))
+}
+
+#[test]
+fn a_slot_has_one_value_or_none(rt: HostRuntime) {
+    assert_eq!(rt; slots_have_what_was_put(rt.alloc()), Ok(true));
 }
 
 #[test]

@@ -1,1 +1,6 @@
-pub mod Entries
+mod Entries
+mod PlaceEquality
+mod Counted
+mod Growing
+mod Briefs
+pub mod Carrying

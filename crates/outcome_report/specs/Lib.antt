@@ -1,3 +1,10 @@
 pub mod OutcomeReport
+pub mod Replays
+pub mod Laws
 pub mod ReportNames
+pub mod Places
+pub mod Counting
+pub mod PlaceText
 pub mod ReportText
+pub mod BriefText
+pub mod RunText

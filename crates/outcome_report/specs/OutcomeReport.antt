@@ -1,16 +1,19 @@
--- What it is for a report to be the job's, and the verdict of a report.
-use Rattle.std.specs.Prelude.{◌≡◌, ℕ, List, [], ◌∷◌, map, Bool, true, ◌==◌, if◌then◌else◌}
+-- What it is for a part of a report to be a scenario's, and the verdict of a report.
+use Rattle.std.specs.Prelude.{◌≡◌, ℕ, List, [], ◌∷◌, map, Bool, true, ◌==◌, if◌then◌else◌, Option, Some}
+use Rattle.std.specs.Prelude.{Result, Ok, Err}
 use Rattle.std.specs.List.{list_any}
-use Rattle.package_files.specs.declared.dpkg_scenarios.Ending.{Ending}
-use Rattle.package_files.specs.declared.dpkg_scenarios.Ending.TheVariants.{Done, Failed, Incomplete, Bound}
-use Rattle.package_files.specs.declared.dpkg_scenarios.Scenario.TheVariants.{Install}
-use Rattle.package_files.specs.declared.package_files.Job.{Job}
-use Rattle.scenario_paths.specs.declared.scenario_paths.Outcome.{Outcome}
+use Rattle.feature_trees.specs.declared.value.Value.{Value}
+use Rattle.dpkg_scenarios.specs.declared.scenario.Ending.{Ending}
+use Rattle.dpkg_scenarios.specs.declared.scenario.Ending.TheVariants.{Done, Failed, Incomplete, Bound}
+use Rattle.scenario_runs.specs.declared.replayed.Replayed.{Replayed}
+use Rattle.scenario_outcomes.specs.declared.outcome.Outcome.{Outcome}
+use Rattle.scenario_outcomes.specs.declared.outcome.OutcomesFault.{OutcomesFault}
+use Rattle.scenario_outcomes.specs.Outcomes.{IsExact, SomeStarts, AreFew, Answers}
 use Rattle.outcome_report.specs.declared.outcome_report.ReportEntry.{ReportEntry}
 use Rattle.outcome_report.specs.declared.outcome_report.ReportPart.{ReportPart}
 use Rattle.outcome_report.specs.declared.outcome_report.Report.{Report}
-use Rattle.package_files.specs.JobRun.{run}
-use Rattle.scenario_paths.specs.ScenarioPaths.{IsExact}
+
+-- ---- entries
 
 -- the replay ends as the outcome says, with its acts
 pub record Agrees (entry : ReportEntry) : Type 0 where
@@ -18,32 +21,35 @@ pub record Agrees (entry : ReportEntry) : Type 0 where
   pub trace : entry.replayed.trace ≡ entry.outcome.trace
 
 -- the entry has the run from the tree that its outcome shows, that run ends as the outcome says, and the entry says so
-pub record IsEntryOf (job : Job) (entry : ReportEntry) : Type 0 where
-  pub replayed : entry.replayed ≡ run job entry.outcome.shown
+pub record IsEntryOf (run : Value → Option Replayed) (entry : ReportEntry) : Type 0 where
+  pub replayed : run entry.outcome.shown ≡ Some entry.replayed
   pub agrees : Agrees entry
   pub confirmed : entry.confirmed ≡ true
 
--- each of them is an entry of the job
-abbrev pub AllEntries : Job → List ReportEntry → Type 0
-AllEntries job [] = Unit {0}
-AllEntries job (entry ∷ entries) = IsEntryOf job entry × AllEntries job entries
+-- each of them is an entry of these runs
+abbrev pub AllEntries : (Value → Option Replayed) → List ReportEntry → Type 0
+AllEntries run [] = Unit {0}
+AllEntries run (entry ∷ entries) = IsEntryOf run entry × AllEntries run entries
+
+-- ---- parts
 
 -- the outcomes of a part of the report
 abbrev pub outcomes_of : ReportPart → List Outcome
 outcomes_of part = map (λ entry. entry.outcome) part.entries
 
--- the part is exact for the job, and each of its entries has its replay
-pub record IsPartOf (job : Job) (part : ReportPart) : Type 0 where
-  pub scenario : part.scenario ≡ Install
-  pub exact : IsExact job (outcomes_of part)
-  pub entries : AllEntries job part.entries
+-- the part is exact for the runs from the start trees, and each of its entries has its replay
+pub record IsPart (run : Value → Option Replayed) (start : Value → Type 0) (part : ReportPart) : Type 0 where
+  pub exact : IsExact run start (outcomes_of part)
+  pub entries : AllEntries run part.entries
 
--- the report has one part for each job, in order
-abbrev pub AllParts : List Job → List ReportPart → Type 0
-AllParts [] [] = Unit {0}
-AllParts [] (part ∷ parts) = ⊥
-AllParts (job ∷ jobs) [] = ⊥
-AllParts (job ∷ jobs) (part ∷ parts) = IsPartOf job part × AllParts jobs parts
+-- The answer: the part, where there is a start tree and there are no more traces than the limit; and a fault exactly as
+-- for the outcomes alone.
+abbrev pub PartAnswers :
+    (Value → Option Replayed) → (Value → Type 0) → ℕ → Result ReportPart OutcomesFault → Type 0
+PartAnswers run start limit (Ok part) = IsPart run start part × SomeStarts start × AreFew run start limit
+PartAnswers run start limit (Err fault) = Answers run start limit (Err fault)
+
+-- ---- the verdict
 
 -- what an ending alone makes of the verdict: 1 where the scenario failed, 2 where it ended without a state, else 0
 abbrev pub ending_verdict : Ending → ℕ

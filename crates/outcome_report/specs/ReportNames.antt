@@ -1,15 +1,15 @@
 -- The names of scenarios, states, scripts and answers, as a report has them.
 use Rattle.std.specs.Prelude.{ℕ, List, Bool, true, false, codes}
-use Rattle.package_files.specs.declared.dpkg_scenarios.Scenario.{Scenario}
-use Rattle.package_files.specs.declared.dpkg_scenarios.Scenario.TheVariants.{Install, InstallAgain, Upgrade, Remove}
-use Rattle.package_files.specs.declared.dpkg_scenarios.Scenario.TheVariants.{Purge, PurgeLater}
-use Rattle.package_files.specs.declared.dpkg_scenarios.State.{State}
-use Rattle.package_files.specs.declared.dpkg_scenarios.State.TheVariants.{Installed, Unpacked, HalfConfigured}
-use Rattle.package_files.specs.declared.dpkg_scenarios.State.TheVariants.{HalfInstalled, ConfigFiles, NotInstalled}
-use Rattle.package_files.specs.declared.dpkg_scenarios.ScriptKind.{ScriptKind}
-use Rattle.package_files.specs.declared.dpkg_scenarios.ScriptKind.TheVariants.{Preinst, Postinst, Prerm, Postrm}
-use Rattle.package_files.specs.declared.job_run.CallEnd.{CallEnd}
-use Rattle.package_files.specs.declared.job_run.CallEnd.TheVariants as how
+use Rattle.dpkg_scenarios.specs.declared.scenario.Scenario.{Scenario}
+use Rattle.dpkg_scenarios.specs.declared.scenario.Scenario.TheVariants.{Install, InstallAgain, Upgrade, Remove}
+use Rattle.dpkg_scenarios.specs.declared.scenario.Scenario.TheVariants.{Purge, PurgeLater}
+use Rattle.dpkg_scenarios.specs.declared.scenario.State.{State}
+use Rattle.dpkg_scenarios.specs.declared.scenario.State.TheVariants.{Installed, Unpacked, HalfConfigured}
+use Rattle.dpkg_scenarios.specs.declared.scenario.State.TheVariants.{HalfInstalled, ConfigFiles, NotInstalled}
+use Rattle.dpkg_scenarios.specs.declared.scenario.ScriptKind.{ScriptKind}
+use Rattle.dpkg_scenarios.specs.declared.scenario.ScriptKind.TheVariants.{Preinst, Postinst, Prerm, Postrm}
+use Rattle.scenario_runs.specs.declared.call.CallEnd.{CallEnd}
+use Rattle.scenario_runs.specs.declared.call.CallEnd.TheVariants as how
 
 -- the name of a scenario
 abbrev pub scenario_name : Scenario → List ℕ

@@ -10,13 +10,14 @@ use Rattle.shown_texts.specs.Marks.{site_text, mark_text, reason_name}
 use Rattle.shown_texts.specs.Show.{show}
 use Rattle.feature_trees.specs.TreeText.{tree_text}
 use Rattle.tree_clauses.specs.ClauseText.{clause_text}
-use Rattle.package_files.specs.declared.dpkg_scenarios.Ending.{Ending}
-use Rattle.package_files.specs.declared.dpkg_scenarios.Ending.TheVariants.{Done, Failed, Incomplete, Bound}
-use Rattle.package_files.specs.declared.job_run.ScriptCall.{ScriptCall}
+use Rattle.dpkg_scenarios.specs.declared.scenario.Ending.{Ending}
+use Rattle.dpkg_scenarios.specs.declared.scenario.Ending.TheVariants.{Done, Failed, Incomplete, Bound}
+use Rattle.scenario_runs.specs.declared.call.ScriptCall.{ScriptCall}
 use Rattle.outcome_report.specs.declared.outcome_report.ReportEntry.{ReportEntry}
 use Rattle.outcome_report.specs.declared.outcome_report.ReportPart.{ReportPart}
 use Rattle.outcome_report.specs.declared.outcome_report.Report.{Report}
 use Rattle.outcome_report.specs.OutcomeReport.{verdict_of}
+use Rattle.outcome_report.specs.PlaceText.{places_text}
 use Rattle.outcome_report.specs.ReportNames.{scenario_name, state_name, script_name, confirmed_name, side_name}
 use Rattle.outcome_report.specs.ReportNames.{call_end_name}
 
@@ -73,15 +74,19 @@ entry_text entry =
     ++ clause_text entry.outcome.clause
     ++ trees_text entry
 
--- the lines of a scenario
-unfoldable pub part_text : ReportPart → List ℕ
-part_text part =
+-- the name of a scenario, and how many outcomes it has
+unfoldable pub scenario_line : ReportPart → List ℕ
+scenario_line part =
     line (codes "scenario " ++ scenario_name part.scenario ++ codes " outcomes " ++ decimal (length part.entries))
-    ++ flat_map entry_text part.entries
+
+-- the lines of a scenario: its outcomes, and behind them the places where those end that aren't done
+unfoldable pub part_text : ReportPart → List ℕ
+part_text part = scenario_line part ++ flat_map entry_text part.entries ++ places_text part.entries
+
+-- the verdict
+unfoldable pub verdict_line : Report → List ℕ
+verdict_line report = line (codes "verdict " ++ decimal (verdict_of report))
 
 -- the text of a report
 unfoldable pub report_text : Report → List ℕ
-report_text report =
-    line (codes "colis report 1")
-    ++ flat_map part_text report.parts
-    ++ line (codes "verdict " ++ decimal (verdict_of report))
+report_text report = line (codes "colis report 1") ++ flat_map part_text report.parts ++ verdict_line report

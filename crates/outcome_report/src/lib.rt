@@ -1,15 +1,23 @@
-//! The report of a job: each outcome with the run from the tree that it shows, the verdict, and the text.
-//! It stands on scenario_paths, tree_replay and shown_texts. Begin with `make_report`, and with
-//! specs/OutcomeReport.antt for what it is for a report to be the job's; then `render_text` and
-//! specs/ReportText.antt.
+//! The report of scenarios: each outcome with the run from the tree that it shows, the verdict, and the texts.
+//! It stands on scenario_outcomes, scenario_runs and shown_texts. Begin with `make_part`, and with
+//! specs/OutcomeReport.antt for what it is for a part of a report to be a scenario's; then `render_text`,
+//! `render_brief`, `render_run` and specs/ReportText.antt.
 #![tactic(auto)]
 
+mod brief_text;
 mod outcome_report;
+mod place_text;
+mod places;
 mod report_names;
 mod report_text;
+mod run_text;
+pub mod theorems;
+mod verdicts;
 
-pub use outcome_report::{Report, ReportEntry, ReportPart, make_entry, make_report, verdict};
-pub use report_text::render_text;
-
-#[cfg(test)]
-mod tests;
+pub use brief_text::render_brief;
+pub use outcome_report::{Report, ReportEntry, ReportPart, make_entry, make_part};
+pub use places::{EndKind, EndPlace};
+pub use report_names::scenario_name;
+pub use report_text::{put_calls, put_result, render_text};
+pub use run_text::render_run;
+pub use verdicts::{run_status, verdict};

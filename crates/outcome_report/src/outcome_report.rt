@@ -1,13 +1,15 @@
-ghost use Rattle.std.specs.Prelude.{◌≡◌, ◌↔◌, ◌∷◌, [], map, IsTrue, IfOk};
-ghost use Rattle.scenario_paths.specs.ScenarioPaths.{IsExact};
-ghost use Rattle.outcome_report.specs.OutcomeReport.{Agrees, AllEntries, AllParts, ending_verdict, part_has};
-ghost use Rattle.outcome_report.specs.OutcomeReport.{report_has, verdict_of};
+ghost use Rattle.std.specs.Prelude.{◌≡◌, ◌↔◌, map, IsTrue, IfOk};
+ghost use Rattle.scenario_runs.specs.Runs.{scenario_run};
+ghost use Rattle.start_trees.specs.Needs.{IsStart};
+ghost use Rattle.outcome_report.specs.OutcomeReport.{Agrees, AllEntries, PartAnswers};
+ghost use Rattle.outcome_report.specs.Replays.{AllReplay};
 
-use package_files::{Ending, Job, Replayed, Scenario};
-use scenario_paths::{Outcome, outcomes};
+use dpkg_scenarios::{Ending, Scenario};
+use scenario_outcomes::{Outcome, OutcomesFault, outcomes};
+use scenario_runs::{Job, Replayed, run};
 use script_names::{List, Mark, Memory};
+use start_trees::Need;
 use std::alloc::Global;
-use tree_replay::replay;
 
 /// An outcome, the run from the tree that it shows, and whether that run ends as the outcome says.
 #[derive(Drop)]
@@ -59,79 +61,43 @@ pub fn make_entry(outcome: Outcome, replayed: Replayed) -> ReportEntry
     }
 }
 
-// The entries of outcomes that are exact for the job.
+// The entries of outcomes that the job's runs end as.
 fn make_entries(
     alloc: Global,
     job: &Job,
     outcomes: List<Outcome>,
 ) -> Result<List<ReportEntry>, Memory>
-    requires { IsExact job.now outcomes }
+    requires { AllReplay (scenario_run job.now) outcomes }
     ensures outcomes { IfOk result (λ entries. map (λ entry. entry.outcome) entries ≡ outcomes) }
-    ensures entries { IfOk result (AllEntries job.now) }
+    ensures entries { IfOk result (AllEntries (scenario_run job.now)) }
 {
     let mut entries = List::new(alloc);
     for outcome in outcomes.into_vec() {
-        let replayed = replay(alloc, job, &outcome.shown)?;
+        let replayed = run(alloc, job, &outcome.shown)?;
         entries.add(make_entry(outcome, replayed))?;
     }
     Ok(entries)
 }
 
-/// The report of a job.
-pub fn make_report(alloc: Global, job: &Job) -> Result<Report, Memory>
-    ensures { IfOk result (λ report. AllParts (job.now ∷ []) report.parts) }
+/// The part of a report on a job's scenario, over all trees of files that have what is needed. `NoStart` exactly where
+/// there is no such tree, and `Over` exactly where the runs from them have more than `limit` different traces.
+pub fn make_part(
+    alloc: Global,
+    job: &Job,
+    needs: &List<Need>,
+    limit: u32,
+) -> Result<ReportPart, OutcomesFault>
+    ensures answers { PartAnswers (scenario_run job.now) (IsStart needs.now) limit result }
+    ensures scenario { IfOk result (λ part. part.scenario ≡ job.now.scenario) }
 {
-    let outcomes = outcomes(alloc, job)?;
-    let entries = make_entries(alloc, job, outcomes)?;
-    let mut parts = List::new(alloc);
-    parts.add(ReportPart {
-        scenario: Scenario::Install,
-        entries,
-    })?;
-    Ok(Report { parts })
-}
-
-// What an ending alone makes of the verdict.
-fn ending_verdict(ending: Ending) -> u8
-    ensures { result ≡ ending_verdict ending }
-{
-    match ending {
-        Ending::Done(_) => 0,
-        Ending::Failed(_) => 1,
-        Ending::Incomplete(_, _) | Ending::Bound(_) => 2,
-    }
-}
-
-// Whether an outcome of the part makes this of the verdict.
-fn part_has(part: &ReportPart, verdict: u8) -> bool
-    ensures { result ≡ part_has verdict part.now }
-{
-    part.entries
-        .as_slice()
-        .iter()
-        .any(|entry| ending_verdict(entry.outcome.ending) == verdict)
-}
-
-// Whether an outcome of the report does.
-fn report_has(report: &Report, verdict: u8) -> bool
-    ensures { result ≡ report_has verdict report.now }
-{
-    report
-        .parts
-        .as_slice()
-        .iter()
-        .any(|part| part_has(part, verdict))
-}
-
-/// The verdict of a report: 1 where some outcome is failed, else 2 where some is incomplete or bound, else 0.
-pub fn verdict(report: &Report) -> u8
-    ensures { result ≡ verdict_of report.now }
-{
-    if report_has(report, 1) {
-        1
-    } else if report_has(report, 2) {
-        2
-    } else {
-        0
+    match outcomes(alloc, job, needs, limit) {
+        Ok(outcomes) => {
+            let entries = make_entries(alloc, job, outcomes)?;
+            Ok(ReportPart {
+                scenario: job.scenario,
+                entries,
+            })
+        }
+        Err(fault) => Err(fault),
     }
 }

@@ -3,10 +3,11 @@ ghost use Rattle.std.specs.Prelude.{◌≡◌};
 ghost use Rattle.outcome_report.specs.ReportNames.{scenario_name, state_name, script_name, side_name, call_end_name};
 ghost use Rattle.outcome_report.specs.ReportNames.{confirmed_name};
 
-use package_files::{CallEnd, Scenario, ScriptKind, State};
+use dpkg_scenarios::{Scenario, ScriptKind, State};
+use scenario_runs::CallEnd;
 
-// The name of a scenario.
-pub(crate) fn scenario_name(scenario: Scenario) -> &'static [u8]
+/// The name of a scenario.
+pub fn scenario_name(scenario: Scenario) -> &'static [u8]
     ensures { result.now ≡ scenario_name scenario }
 {
     match scenario {

@@ -2,21 +2,25 @@ ghost use Rattle.std.specs.Prelude.{◌≡◌, ◌++◌, IfOk, OnOk};
 ghost use Rattle.std.specs.List.{flat_map};
 ghost use Rattle.outcome_report.specs.ReportText.{stop_text, result_text, outcome_line, trace_mark, trace_line};
 ghost use Rattle.outcome_report.specs.ReportText.{confirmed_line, call_word, call_line, trees_text, entry_text};
-ghost use Rattle.outcome_report.specs.ReportText.{part_text, report_text};
+ghost use Rattle.outcome_report.specs.ReportText.{scenario_line, part_text, verdict_line, report_text};
 
-use crate::outcome_report::{Report, ReportEntry, ReportPart, verdict};
+use crate::outcome_report::{Report, ReportEntry, ReportPart};
+use crate::place_text::put_places;
 use crate::report_names::{
     call_end_name, confirmed_name, scenario_name, script_name, side_name, state_name,
 };
-use clause_solver::put_clause;
+use crate::verdicts::verdict;
+use dpkg_scenarios::Ending;
 use feature_trees::put_tree;
-use package_files::{Ending, ScriptCall};
+use scenario_runs::ScriptCall;
 use script_names::{Bytes, Mark, Memory, Reason, Site};
 use shown_texts::{push_line, push_mark, push_number, push_reason, push_shown, push_site};
 use std::alloc::Global;
+use tree_clauses::put_clause;
 
+/// Adds the line of a trace.
 #[tactic(auto, unfolding(crate::specs::ReportText::trace_line))]
-fn put_trace(text: &mut Bytes, trace: &[Mark]) -> Result<(), Memory>
+pub(crate) fn put_trace(text: &mut Bytes, trace: &[Mark]) -> Result<(), Memory>
     ensures { OnOk result (text.new ≡ text.old ++ trace_line trace.now) }
 {
     text.extend(b"trace")?;
@@ -35,7 +39,8 @@ fn put_stop(text: &mut Bytes, reason: Reason, site: Site) -> Result<(), Memory>
     push_site(text, site)
 }
 
-fn put_result(text: &mut Bytes, ending: Ending) -> Result<(), Memory>
+/// Adds how a scenario ended.
+pub fn put_result(text: &mut Bytes, ending: Ending) -> Result<(), Memory>
     ensures { OnOk result (text.new ≡ text.old ++ result_text ending) }
 {
     match ending {
@@ -81,7 +86,8 @@ fn put_call(text: &mut Bytes, call: &ScriptCall) -> Result<(), Memory>
     push_line(text, call_end_name(call.how))
 }
 
-fn put_calls(text: &mut Bytes, calls: &[ScriptCall]) -> Result<(), Memory>
+/// Adds the lines of calls of scripts.
+pub fn put_calls(text: &mut Bytes, calls: &[ScriptCall]) -> Result<(), Memory>
     ensures { OnOk result (text.new ≡ text.old ++ flat_map call_line calls.now) }
 {
     for call in calls {
@@ -90,8 +96,9 @@ fn put_calls(text: &mut Bytes, calls: &[ScriptCall]) -> Result<(), Memory>
     Ok(())
 }
 
+/// Adds the line of an outcome's number and ending.
 #[tactic(auto, unfolding(crate::specs::ReportText::outcome_line))]
-fn put_outcome(text: &mut Bytes, entry: &ReportEntry) -> Result<(), Memory>
+pub(crate) fn put_outcome(text: &mut Bytes, entry: &ReportEntry) -> Result<(), Memory>
     ensures { OnOk result (text.new ≡ text.old ++ outcome_line entry.now) }
 {
     text.extend(b"outcome ")?;
@@ -140,25 +147,45 @@ fn put_entries(alloc: Global, text: &mut Bytes, entries: &[ReportEntry]) -> Resu
     Ok(())
 }
 
-#[tactic(auto, unfolding(crate::specs::ReportText::part_text))]
-fn put_part(alloc: Global, text: &mut Bytes, part: &ReportPart) -> Result<(), Memory>
-    ensures { OnOk result (text.new ≡ text.old ++ part_text part.now) }
+/// Adds the line of a scenario's name and how many outcomes it has.
+#[tactic(auto, unfolding(crate::specs::ReportText::scenario_line))]
+pub(crate) fn put_scenario(text: &mut Bytes, part: &ReportPart) -> Result<(), Memory>
+    ensures { OnOk result (text.new ≡ text.old ++ scenario_line part.now) }
 {
     text.extend(b"scenario ")?;
     text.extend(scenario_name(part.scenario))?;
     text.extend(b" outcomes ")?;
     push_number(text, part.entries.len() as u64)?;
-    text.extend(b"\n")?;
-    put_entries(alloc, text, part.entries.as_slice())
+    text.extend(b"\n")
 }
 
-fn put_parts(alloc: Global, text: &mut Bytes, parts: &[ReportPart]) -> Result<(), Memory>
+#[tactic(auto, unfolding(crate::specs::ReportText::part_text))]
+fn put_part(alloc: Global, text: &mut Bytes, part: &ReportPart) -> Result<(), Memory>
+    ensures { OnOk result (text.new ≡ text.old ++ part_text part.now) }
+{
+    put_scenario(text, part)?;
+    put_entries(alloc, text, part.entries.as_slice())?;
+    put_places(alloc, text, part.entries.as_slice())
+}
+
+/// Adds the lines of scenarios, one after another.
+pub(crate) fn put_parts(alloc: Global, text: &mut Bytes, parts: &[ReportPart]) -> Result<(), Memory>
     ensures { OnOk result (text.new ≡ text.old ++ flat_map part_text parts.now) }
 {
     for part in parts {
         put_part(alloc, text, part)?;
     }
     Ok(())
+}
+
+/// Adds the line of the verdict.
+#[tactic(auto, unfolding(crate::specs::ReportText::verdict_line))]
+pub(crate) fn put_verdict(text: &mut Bytes, report: &Report) -> Result<(), Memory>
+    ensures { OnOk result (text.new ≡ text.old ++ verdict_line report.now) }
+{
+    text.extend(b"verdict ")?;
+    push_number(text, u64::from(verdict(report)))?;
+    text.extend(b"\n")
 }
 
 /// The text of a report.
@@ -169,8 +196,6 @@ pub fn render_text(alloc: Global, report: &Report) -> Result<Bytes, Memory>
     let mut text = Bytes::new(alloc);
     push_line(&mut text, b"colis report 1")?;
     put_parts(alloc, &mut text, report.parts.as_slice())?;
-    text.extend(b"verdict ")?;
-    push_number(&mut text, u64::from(verdict(report)))?;
-    text.extend(b"\n")?;
+    put_verdict(&mut text, report)?;
     Ok(text)
 }

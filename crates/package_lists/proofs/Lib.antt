@@ -5,3 +5,4 @@ mod Arrows
 mod Trims
 mod FileSteps
 mod Written
+mod FilesPerformed

@@ -1,5 +1,5 @@
 -- What a package lists: a path and what is to stand there.
-use Rattle.std.specs.Prelude.{ℕ, Bool, true, false, ◌&&◌, List, Option, Some, None}
+use Rattle.std.specs.Prelude.{ℕ, ◌<◌, Bool, true, false, ◌&&◌, List, length, Option, Some, None}
 use Rattle.std.specs.List.{list_any}
 use Rattle.std.specs.Str.{bytes_eq}
 use Rattle.package_lists.specs.declared.kind.EntryKind.{EntryKind}
@@ -10,6 +10,10 @@ use Rattle.package_lists.specs.Paths.{path_names, path_text, folders}
 pub record EntryParts : Type 0 where
   pub names : List (List ℕ)
   pub kind : EntryKind
+
+-- its path has a name
+abbrev pub HasName : EntryParts → Type 0
+HasName entry = 0 < length entry.names
 
 -- the entry at the path that is written so, where there is one
 abbrev pub entry_if : EntryKind → Option (List (List ℕ)) → Option EntryParts

@@ -1,6 +1,6 @@
-ghost use Rattle.std.specs.Prelude.{◌≡◌, ◌<◌, length, false, IfOk};
+ghost use Rattle.std.specs.Prelude.{◌≡◌, ◌<◌, length, false, All, IfOk};
 ghost use Rattle.package_lists.specs.Paths.{plain_path};
-ghost use Rattle.package_lists.specs.Entries.{entry_at};
+ghost use Rattle.package_lists.specs.Entries.{entry_at, HasName};
 
 use crate::kind::EntryKind;
 use crate::paths::read_path;
@@ -62,6 +62,15 @@ impl Entry {
     {
         let path = self.path.copy(alloc)?;
         Ok(Entry { path, kind })
+    }
+}
+
+// Says of entries that the path of each has a name.
+pub fn entries_are_named(entries: &[Entry])
+    ensures { All HasName entries.now }
+{
+    for entry in entries {
+        let _path = entry.path();
     }
 }
 

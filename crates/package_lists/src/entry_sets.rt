@@ -13,7 +13,7 @@ use crate::paths::path_text;
 use script_names::Memory;
 use std::alloc::Global;
 
-// Which entries are looked for.
+/// Which entries are looked for: all, the files that are no configuration files, the configuration files, or the links.
 #[derive(Clone, Copy)]
 pub enum Which {
     All,
@@ -22,7 +22,7 @@ pub enum Which {
     Links,
 }
 
-// The paths of the entries of that kind.
+/// The paths of the entries of that kind.
 pub fn paths_of(alloc: Global, which: Which, entries: &[Entry]) -> Result<PathSet, Memory>
     ensures { IfOk result (λ set. (path : ListOf ℕ) → has set path ≡ has_at (is_which which) entries.now path) }
 {
@@ -62,7 +62,7 @@ fn is_which(which: Which, kind: &EntryKind) -> bool
     }
 }
 
-// Whether an entry's path is in a set.
+/// Whether an entry's path is in a set.
 pub fn has_entry(alloc: Global, set: &PathSet, entry: &Entry) -> Result<bool, Memory>
     ensures { IfOk result (λ answer. answer ≡ has set.now (path_text_of entry.now.names)) }
 {

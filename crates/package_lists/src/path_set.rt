@@ -7,7 +7,7 @@ use script_names::{Bytes, Memory};
 use std::alloc::Global;
 use std::collections::BTreeSet;
 
-// A set of paths, as they are written.
+/// A set of paths, as they are written.
 #[derive(Drop)]
 pub struct PathSet {
     alloc: Global,
@@ -15,7 +15,7 @@ pub struct PathSet {
 }
 
 impl PathSet {
-    // No paths.
+    /// No paths.
     pub fn new(alloc: Global) -> PathSet
         ensures { (path : ListOf ℕ) → has result path ≡ false }
     {
@@ -25,14 +25,14 @@ impl PathSet {
         }
     }
 
-    // Whether a path is in the set.
+    /// Whether a path is in the set.
     pub fn has(&self, path: &[u8]) -> bool
         ensures { result ≡ has self.now path.now }
     {
         self.paths.contains(path)
     }
 
-    // One more path.
+    /// One more path.
     pub fn add(&mut self, path: &[u8]) -> Result<(), Memory>
         ensures { OnOk result ((other : ListOf ℕ) → has self.new other ≡ (bytes_eq path.now other || has self.old other)) }
     {

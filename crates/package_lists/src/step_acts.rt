@@ -1,5 +1,6 @@
-ghost use Rattle.std.specs.Prelude.{◌≡◌, ◌++◌, map, reverse, IfOk, OnOk};
+ghost use Rattle.std.specs.Prelude.{◌≡◌, ◌++◌, map, reverse, All, IfOk, OnOk};
 ghost use Rattle.std.specs.List.{flat_map};
+ghost use Rattle.utility_calls.specs.Acts.{IsPerformed};
 ghost use Rattle.package_lists.specs.FileActs.{places_conf, unpacked, folder_gone, removed};
 ghost use Rattle.package_lists.specs.FileActs.{removed_old, conf_gone, dir_gone, acts_of};
 ghost use Rattle.package_lists.specs.Paths.{path_text as path_text_of};
@@ -7,7 +8,7 @@ ghost use Rattle.package_lists.specs.PathSets.{has};
 
 use crate::base::Base;
 use crate::base_sets::base_paths;
-use crate::entry::Entry;
+use crate::entry::{Entry, entries_are_named};
 use crate::entry_sets::{Which, has_entry, paths_of};
 use crate::kind::EntryKind;
 use crate::path_set::PathSet;
@@ -20,8 +21,26 @@ use utility_calls::acts::Act;
 /// The acts of a step of a scenario that places or takes away files, in order, from the entries of the new and of the
 /// old package and from the base (Debian Policy, 6.6 and 6.8). Entries are placed in the order of the list, and taken
 /// away from the last one to the first; a directory of the base is not taken away. A step that calls a script has no
-/// acts.
+/// acts. Each act can be done on every tree.
 pub fn file_acts(
+    alloc: Global,
+    scenario: Scenario,
+    work: StepWork,
+    new: &List<Entry>,
+    old: &List<Entry>,
+    base: &Base,
+) -> Result<List<Act>, Memory>
+    ensures acts { IfOk result (λ acts. acts ≡ acts_of scenario work new.now old.now base.now.lines) }
+    ensures performed { IfOk result (λ acts. All IsPerformed acts) }
+{
+    entries_are_named(new.as_slice());
+    entries_are_named(old.as_slice());
+    let acts = acts_of_step(alloc, scenario, work, new, old, base)?;
+    Ok(acts)
+}
+
+// The acts of a step of a scenario that places or takes away files.
+fn acts_of_step(
     alloc: Global,
     scenario: Scenario,
     work: StepWork,

@@ -1,5 +1,5 @@
 -- From the paths of a scenario to its outcomes.
-use Rattle.std.proofs.Common.{◌≡◌, ◌≢◌, ◌↔◌, ◌+◌, ◌<◌, ◌≤◌, ℕ, zero, suc, List, [], ◌∷◌, ◌++◌, Some, slice_get, length, refl, sym, ◌∙◌, ap, subst, inl, inr, arith, append_assoc, length-append}
+use Rattle.std.proofs.Common.{◌≡◌, ◌≢◌, ◌↔◌, ◌+◌, ◌<◌, ◌≤◌, ℕ, zero, suc, List, [], ◌∷◌, ◌++◌, Option, Some, slice_get, length, refl, sym, ◌∙◌, ap, subst, inl, inr, arith, append_assoc, length-append}
 use Rattle.script_names.specs.declared.mark.Mark.{Mark}
 use Rattle.feature_trees.specs.declared.value.Value.{Value}
 use Rattle.tree_clauses.specs.Literals.{Covers}
@@ -11,12 +11,8 @@ use Rattle.case_paths.specs.Paths as paths_of
 use Rattle.case_paths.specs.Paths.{IsAt, AreThePaths, AllAlive, states, traces, AllPlayed}
 use Rattle.dpkg_scenarios.specs.declared.scenario.Ending.{Ending}
 use Rattle.scenario_runs.specs.declared.call.ScriptCall.{ScriptCall}
-use Rattle.scenario_runs.specs.declared.job.Job.{Job}
 use Rattle.scenario_runs.specs.declared.replayed.Replayed.{Replayed}
-use Rattle.scenario_runs.specs.Runs.{scenario_run}
 use Rattle.scenario_runs.specs.Laws.{replayed_of}
-use Rattle.start_trees.specs.declared.need.Need.{Need}
-use Rattle.start_trees.specs.Needs.{IsStart}
 use Rattle.scenario_outcomes.specs.declared.outcome.Outcome.{Outcome}
 use Rattle.scenario_outcomes.specs.OutcomeOf.{Path, IsOutcomeOf, AreOutcomes}
 use Rattle.scenario_outcomes.specs.Outcomes.{CoversOnce, EndsAs, IsExact, TraceBelow, Rising, IsTrace, AreTraces, IsNone, Differ, AreTooMany, AreFew}
@@ -145,47 +141,47 @@ as_many (x ∷ xs) = ap suc (as_many xs)
 some_same : (a b : Replayed) → Some a ≡ Some b → a ≡ b
 some_same a b e = cc
 
-module _ (job : Job) (needs : List Need) (d : Decision (Ending × List ScriptCall)) (s : Seen)
-    (played : (tree : Value) → scenario_run job tree ≡ Some (replayed_of (play d tree [] [])))
-    (starts : (t u : Value) → HasPair s t u ↔ (IsStart needs t × (u ≡ t))) where
+module _ (run : Value → Option Replayed) (start : Value → Type 0) (d : Decision (Ending × List ScriptCall)) (s : Seen)
+    (played : (tree : Value) → run tree ≡ Some (replayed_of (play d tree [] [])))
+    (starts : (t u : Value) → HasPair s t u ↔ (start t × (u ≡ t))) where
   -- what is played from a start tree
   abbrev from : Value → Played (Ending × List ScriptCall)
   from tree = play d tree [] []
 
   module _ (paths : List Path) (outcomes : List Outcome) (are : AreThePaths d s [] paths) (made : AreOutcomes 0 paths outcomes) where
-    covers_once : (start : Value) → IsStart needs start → CoversOnce outcomes start
-    covers_once start is =
-        let one = are.once start start ((starts start start).1 (is, refl)) in
+    covers_once : (tree : Value) → start tree → CoversOnce outcomes tree
+    covers_once tree is =
+        let one = are.once tree tree ((starts tree tree).1 (is, refl)) in
         let found = outcome_at 0 one.place paths outcomes one.path made one.is_there in
         record {
           place = one.place;
-          covers = record { outcome = found.outcome; at = found.there; covers = ((from start).tree, (found.is.covers start (from start).tree).1 one.has) };
+          covers = record { outcome = found.outcome; at = found.there; covers = ((from tree).tree, (found.is.covers tree (from tree).tree).1 one.has) };
           alone = λ place covers.
               let back = path_at 0 place paths outcomes covers.outcome made covers.at in
-              one.alone place back.path covers.covers.0 back.there ((back.is.covers start covers.covers.0).0 covers.covers.1);
+              one.alone place back.path covers.covers.0 back.there ((back.is.covers tree covers.covers.0).0 covers.covers.1);
         }
 
     -- the run from a start tree, given the path that it is on
-    ends_as : (start u now : Value) (path : Path) (outcome : Outcome) (place : ℕ) → IsOutcomeOf place path outcome → u ≡ start
-        → paths_of.EndsAs (from u) path now → EndsAs job outcome start now
-    ends_as start u now path outcome place is e ends =
-        let here : from u ≡ from start = ap from e in
+    ends_as : (tree u now : Value) (path : Path) (outcome : Outcome) (place : ℕ) → IsOutcomeOf place path outcome → u ≡ tree
+        → paths_of.EndsAs (from u) path now → EndsAs run outcome tree now
+    ends_as tree u now path outcome place is e ends =
+        let here : from u ≡ from tree = ap from e in
         record {
-          run = replayed_of (from start);
-          is_run = played start;
+          replayed = replayed_of (from tree);
+          is_run = played tree;
           ending = ap (λ (p : Played (Ending × List ScriptCall)). p.value.0) (sym here) ∙ ap (λ (v : Ending × List ScriptCall). v.0) (sym ends.value) ∙ sym is.ending;
           trace = ap (λ (p : Played (Ending × List ScriptCall)). p.trace) (sym here) ∙ sym ends.trace ∙ sym is.trace;
           after = ap (λ (p : Played (Ending × List ScriptCall)). p.tree) (sym here) ∙ sym ends.tree;
         }
 
-    covered_runs : (place : ℕ) (outcome : Outcome) (start now : Value) → slice_get outcomes place ≡ Some outcome → Covers outcome.clause start now → IsStart needs start × EndsAs job outcome start now
-    covered_runs place outcome start now at covers =
+    covered_runs : (place : ℕ) (outcome : Outcome) (tree now : Value) → slice_get outcomes place ≡ Some outcome → Covers outcome.clause tree now → start tree × EndsAs run outcome tree now
+    covered_runs place outcome tree now at covers =
         let back = path_at 0 place paths outcomes outcome made at in
-        let before = are.none_else place back.path start now back.there ((back.is.covers start now).0 covers) in
-        let pair = (starts start before.0).0 before.1 in
-        (pair.0, ends_as start before.0 now back.path outcome (0 + place) back.is pair.1 before.2)
+        let before = are.none_else place back.path tree now back.there ((back.is.covers tree now).0 covers) in
+        let pair = (starts tree before.0).0 before.1 in
+        (pair.0, ends_as tree before.0 now back.path outcome (0 + place) back.is pair.1 before.2)
 
-    pub exact : IsExact job needs outcomes
+    pub exact : IsExact run start outcomes
     exact = record {
       once = covers_once;
       runs = covered_runs;
@@ -201,37 +197,37 @@ module _ (job : Job) (needs : List Need) (d : Decision (Ending × List ScriptCal
   -- ---- how many traces there are
 
   module _ (paths : List Path) (are : AreThePaths d s [] paths) where
-    trace_found : (trace : List Mark) → IsTrace job needs trace → In trace (traces (states paths))
+    trace_found : (trace : List Mark) → IsTrace run start trace → In trace (traces (states paths))
     trace_found trace is =
-        let one = are.once is.start is.start ((starts is.start is.start).1 (is.is_start, refl)) in
-        let same : is.run ≡ replayed_of (from is.start) = some_same is.run (replayed_of (from is.start)) (sym is.is_run ∙ played is.start) in
+        let one = are.once is.tree is.tree ((starts is.tree is.tree).1 (is.is_start, refl)) in
+        let same : is.replayed ≡ replayed_of (from is.tree) = some_same is.replayed (replayed_of (from is.tree)) (sym is.is_run ∙ played is.tree) in
         trace_in paths one.place one.path trace one.is_there (sym is.is_trace ∙ ap (λ (r : Replayed). r.trace) same ∙ sym one.ends.trace)
 
-    all_found : (ts : List (List Mark)) → AreTraces job needs ts → AllIn ts (traces (states paths))
+    all_found : (ts : List (List Mark)) → AreTraces run start ts → AllIn ts (traces (states paths))
     all_found [] h = tt
     all_found (t ∷ ts) h = (trace_found t h.0, all_found ts h.1)
 
-    pub few : (limit : ℕ) → length paths ≤ limit → AreFew job needs limit
+    pub few : (limit : ℕ) → length paths ≤ limit → AreFew run start limit
     few limit le ts is differ =
         let n = no_more ts (traces (states paths)) differ (all_found ts is) in
         let m = as_many paths in
         omega (arith, n, m, le)
 
-  are_traces : (ts : List (List Mark)) → AllPlayed d s [] ts → AreTraces job needs ts
+  are_traces : (ts : List (List Mark)) → AllPlayed d s [] ts → AreTraces run start ts
   are_traces [] h = tt
   are_traces (t ∷ ts) h =
       let pair = (starts h.0.0 h.0.1).0 h.0.2 in (
         record {
-          start = h.0.0;
+          tree = h.0.0;
           is_start = pair.0;
-          run = replayed_of (from h.0.0);
+          replayed = replayed_of (from h.0.0);
           is_run = played h.0.0;
           is_trace = ap (λ (u : Value). (from u).trace) (sym pair.1) ∙ h.0.3;
         },
         are_traces ts h.1,
       )
 
-  pub too_many : (limit : ℕ) → paths_of.AreTooMany d s [] limit → AreTooMany job needs limit
+  pub too_many : (limit : ℕ) → paths_of.AreTooMany d s [] limit → AreTooMany run start limit
   too_many limit h = record { traces = h.traces; are = are_traces h.traces h.played; differ = differ h.traces h.rising; count = h.count }
 
 -- ---- the outcomes so far

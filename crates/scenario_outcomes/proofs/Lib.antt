@@ -2,3 +2,4 @@ mod Counting
 mod Exact
 mod Played
 mod Answering
+pub mod Carrying

@@ -1,5 +1,4 @@
-pub mod Playing
-pub mod Deciding
 pub mod PerformedOnce
 pub mod Outcomes
 pub mod OutcomeOf
+pub mod Laws

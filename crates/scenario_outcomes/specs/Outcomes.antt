@@ -1,14 +1,11 @@
--- What it is for a list of outcomes to be exact for a job, and when there is none.
+-- What it is for a list of outcomes to be exact for the runs from the start trees, and when there is none. What is said
+-- here is of any runs, where `run` gives each tree its run, and of any start trees, those of which `start` holds.
 use Rattle.std.specs.Prelude.{◌≡◌, ◌≢◌, ◌⊎◌, ℕ, ◌+◌, ◌<◌, ◌≤◌, List, [], ◌∷◌, length, Some, slice_get}
-use Rattle.std.specs.Prelude.{Result, Ok, Err}
+use Rattle.std.specs.Prelude.{Option, Result, Ok, Err}
 use Rattle.script_names.specs.declared.mark.Mark.{Mark}
 use Rattle.feature_trees.specs.declared.value.Value.{Value}
 use Rattle.tree_clauses.specs.Literals.{CoversTree, Covers}
-use Rattle.scenario_runs.specs.declared.job.Job.{Job}
 use Rattle.scenario_runs.specs.declared.replayed.Replayed.{Replayed}
-use Rattle.scenario_runs.specs.Runs.{scenario_run}
-use Rattle.start_trees.specs.declared.need.Need.{Need}
-use Rattle.start_trees.specs.Needs.{IsStart}
 use Rattle.scenario_outcomes.specs.declared.outcome.Outcome.{Outcome}
 use Rattle.scenario_outcomes.specs.declared.outcome.OutcomesFault.{OutcomesFault}
 use Rattle.scenario_outcomes.specs.declared.outcome.OutcomesFault.TheVariants.{NoStart, Over, Memory}
@@ -16,24 +13,24 @@ use Rattle.scenario_outcomes.specs.declared.outcome.OutcomesFault.TheVariants.{N
 -- ---- what is covered
 
 -- the outcome at a place of the list covers a start tree
-pub record CoversAt (outcomes : List Outcome) (place : ℕ) (start : Value) : Type 0 where
+pub record CoversAt (outcomes : List Outcome) (place : ℕ) (tree : Value) : Type 0 where
   pub outcome : Outcome
   pub at : slice_get outcomes place ≡ Some outcome
-  pub covers : CoversTree outcome.clause start
+  pub covers : CoversTree outcome.clause tree
 
 -- exactly one outcome covers a start tree
-pub record CoversOnce (outcomes : List Outcome) (start : Value) : Type 0 where
+pub record CoversOnce (outcomes : List Outcome) (tree : Value) : Type 0 where
   pub place : ℕ
-  pub covers : CoversAt outcomes place start
-  pub alone : (other : ℕ) → CoversAt outcomes other start → other ≡ place
+  pub covers : CoversAt outcomes place tree
+  pub alone : (other : ℕ) → CoversAt outcomes other tree → other ≡ place
 
--- the scenario's run from the start tree ends as the outcome says, with its acts, and leaves the tree now
-pub record EndsAs (job : Job) (outcome : Outcome) (start now : Value) : Type 0 where
-  pub run : Replayed
-  pub is_run : scenario_run job start ≡ Some run
-  pub ending : run.ending ≡ outcome.ending
-  pub trace : run.trace ≡ outcome.trace
-  pub after : run.after ≡ now
+-- the run from the start tree ends as the outcome says, with its acts, and leaves the tree now
+pub record EndsAs (run : Value → Option Replayed) (outcome : Outcome) (tree now : Value) : Type 0 where
+  pub replayed : Replayed
+  pub is_run : run tree ≡ Some replayed
+  pub ending : replayed.ending ≡ outcome.ending
+  pub trace : replayed.trace ≡ outcome.trace
+  pub after : replayed.after ≡ now
 
 -- ---- the order of traces
 
@@ -58,15 +55,15 @@ Rising (outcome ∷ next ∷ rest) = TraceBelow outcome.trace next.trace × Risi
 
 -- ---- exact
 
--- the outcomes are exact for the job, over the trees that have what is needed
-pub record IsExact (job : Job) (needs : List Need) (outcomes : List Outcome) : Type 0 where
+-- the outcomes are exact for the runs from the start trees
+pub record IsExact (run : Value → Option Replayed) (start : Value → Type 0) (outcomes : List Outcome) : Type 0 where
   -- each start tree is covered by one of them alone
-  pub once : (start : Value) → IsStart needs start → CoversOnce outcomes start
+  pub once : (tree : Value) → start tree → CoversOnce outcomes tree
   -- whatever one covers is a start tree, with the one tree that the run from it leaves; and that run ends as the
   -- outcome says
-  pub runs : (place : ℕ) (outcome : Outcome) (start now : Value) → slice_get outcomes place ≡ Some outcome
-      → Covers outcome.clause start now
-      → IsStart needs start × EndsAs job outcome start now
+  pub runs : (place : ℕ) (outcome : Outcome) (tree now : Value) → slice_get outcomes place ≡ Some outcome
+      → Covers outcome.clause tree now
+      → start tree × EndsAs run outcome tree now
   -- each covers the tree that it shows
   pub shown : (place : ℕ) (outcome : Outcome) → slice_get outcomes place ≡ Some outcome
       → CoversTree outcome.clause outcome.shown
@@ -78,17 +75,17 @@ pub record IsExact (job : Job) (needs : List Need) (outcomes : List Outcome) : T
 -- ---- how many traces there are
 
 -- the run from some start tree has this trace
-pub record IsTrace (job : Job) (needs : List Need) (trace : List Mark) : Type 0 where
-  pub start : Value
-  pub is_start : IsStart needs start
-  pub run : Replayed
-  pub is_run : scenario_run job start ≡ Some run
-  pub is_trace : run.trace ≡ trace
+pub record IsTrace (run : Value → Option Replayed) (start : Value → Type 0) (trace : List Mark) : Type 0 where
+  pub tree : Value
+  pub is_start : start tree
+  pub replayed : Replayed
+  pub is_run : run tree ≡ Some replayed
+  pub is_trace : replayed.trace ≡ trace
 
 -- each of these is one
-abbrev pub AreTraces : Job → List Need → List (List Mark) → Type 0
-AreTraces job needs [] = Unit {0}
-AreTraces job needs (trace ∷ traces) = IsTrace job needs trace × AreTraces job needs traces
+abbrev pub AreTraces : (Value → Option Replayed) → (Value → Type 0) → List (List Mark) → Type 0
+AreTraces run start [] = Unit {0}
+AreTraces run start (trace ∷ traces) = IsTrace run start trace × AreTraces run start traces
 
 -- the trace is none of these
 abbrev pub IsNone : List Mark → List (List Mark) → Type 0
@@ -101,27 +98,28 @@ Differ [] = Unit {0}
 Differ (trace ∷ traces) = IsNone trace traces × Differ traces
 
 -- the runs from the start trees have more different traces than the limit
-pub record AreTooMany (job : Job) (needs : List Need) (limit : ℕ) : Type 0 where
+pub record AreTooMany (run : Value → Option Replayed) (start : Value → Type 0) (limit : ℕ) : Type 0 where
   pub traces : List (List Mark)
-  pub are : AreTraces job needs traces
+  pub are : AreTraces run start traces
   pub differ : Differ traces
   pub count : limit < length traces
 
 -- they have no more than that
-abbrev pub AreFew : Job → List Need → ℕ → Type 0
-AreFew job needs limit = (traces : List (List Mark)) → AreTraces job needs traces → Differ traces
+abbrev pub AreFew : (Value → Option Replayed) → (Value → Type 0) → ℕ → Type 0
+AreFew run start limit = (traces : List (List Mark)) → AreTraces run start traces → Differ traces
     → length traces ≤ limit
 
 -- ---- the answer
 
--- some tree has what is needed
-abbrev pub SomeStarts : List Need → Type 0
-SomeStarts needs = (start : Value) × IsStart needs start
+-- there is a start tree
+abbrev pub SomeStarts : (Value → Type 0) → Type 0
+SomeStarts start = (tree : Value) × start tree
 
--- The answer: the outcomes, where some tree has what is needed and there are no more traces than the limit; `NoStart`
--- where none has; `Over` where there are more traces; or there is no memory.
-abbrev pub Answers : Job → List Need → ℕ → Result (List Outcome) OutcomesFault → Type 0
-Answers job needs limit (Ok outcomes) = IsExact job needs outcomes × SomeStarts needs × AreFew job needs limit
-Answers job needs limit (Err NoStart) = ¬ (SomeStarts needs)
-Answers job needs limit (Err Over) = AreTooMany job needs limit
-Answers job needs limit (Err Memory) = Unit {0}
+-- The answer: the outcomes, where there is a start tree and there are no more traces than the limit; `NoStart` where
+-- there is no start tree; `Over` where there are more traces; or there is no memory.
+abbrev pub Answers :
+    (Value → Option Replayed) → (Value → Type 0) → ℕ → Result (List Outcome) OutcomesFault → Type 0
+Answers run start limit (Ok outcomes) = IsExact run start outcomes × SomeStarts start × AreFew run start limit
+Answers run start limit (Err NoStart) = ¬ (SomeStarts start)
+Answers run start limit (Err Over) = AreTooMany run start limit
+Answers run start limit (Err Memory) = Unit {0}

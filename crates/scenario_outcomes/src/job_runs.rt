@@ -3,12 +3,13 @@
 ghost use Rattle.std.specs.Prelude.{◌≡◌, ◌++◌, OnOk};
 ghost use Rattle.scenario_runs.specs.Performed.{ArePerformed};
 ghost use Rattle.scenario_outcomes.specs.PerformedOnce.{files_once};
-ghost use Rattle.scenario_outcomes.specs.Deciding.{decision_of, decision_performed};
+ghost use Rattle.scenario_runs.specs.Deciding.{decision_of, decision_performed};
 
 use act_decisions::theorems::decisions_play_behind;
 use case_paths::{Machine, Ran};
 use dpkg_scenarios::Ending;
 use feature_trees::Value;
+use scenario_runs::theorems::scenario_runs_are_decided;
 use scenario_runs::{Job, Replayed, ScriptCall, run};
 use script_names::{Copied, List, Mark, Memory};
 use std::alloc::Global;
@@ -54,6 +55,7 @@ impl<'a> Machine for JobRuns<'a> {
         trace: &List<Mark>,
     ) -> Result<Ran<(Ending, List<ScriptCall>)>, Memory> {
         decisions_play_behind::<(Ending, List<ScriptCall>)>();
+        scenario_runs_are_decided();
         let Replayed {
             ending,
             trace: marks,

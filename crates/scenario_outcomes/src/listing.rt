@@ -1,3 +1,5 @@
+ghost use Rattle.scenario_runs.specs.Runs.{scenario_run};
+ghost use Rattle.start_trees.specs.Needs.{IsStart};
 ghost use Rattle.scenario_outcomes.specs.Outcomes.{Answers};
 
 use crate::job_runs::JobRuns;
@@ -18,7 +20,7 @@ pub fn outcomes(
     needs: &List<Need>,
     limit: u32,
 ) -> Result<List<Outcome>, OutcomesFault>
-    ensures { Answers job.now needs.now limit result }
+    ensures { Answers (scenario_run job.now) (IsStart needs.now) limit result }
 {
     scenario_runs_are_decided();
     let store = match start_store(alloc, needs)? {

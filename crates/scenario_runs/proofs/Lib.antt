@@ -1,5 +1,5 @@
 mod Lines
 mod Walking
 mod Taking
-mod Playing
 mod Deciding
+mod Turning

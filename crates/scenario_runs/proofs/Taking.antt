@@ -10,49 +10,49 @@ use Rattle.dpkg_scenarios.specs.declared.scenario.StepWork.{StepWork}
 use Rattle.dpkg_scenarios.specs.declared.scenario.StepWork.TheVariants as work
 use Rattle.dpkg_scenarios.specs.declared.scenario.StepNext.TheVariants.{Go, Stop}
 use Rattle.dpkg_scenarios.specs.Steps.{IsStep, line, work_of, words_of}
-use Rattle.scenario_runs.specs.declared.job.Job.{Job}
 use Rattle.scenario_runs.specs.declared.course.Course.{Course}
 use Rattle.scenario_runs.specs.declared.course.Worked.{Worked}
 use Rattle.scenario_runs.specs.declared.course.Reached.{Reached}
-use Rattle.scenario_runs.specs.Runs.{words_in, script_of, package_of, call_script, do_work, go_next, replayed_at, scenario_run}
+use Rattle.scenario_runs.specs.Runs.{Plan, words_in, call_script, do_work, go_next, replayed_at, run_of}
 use Rattle.scenario_runs.specs.Later.{IsLater, Works}
 use Rattle.scenario_runs.proofs.Lines.{IsTold, is_told}
-use Rattle.scenario_runs.proofs.Walking.{reached, Comes, goes_on, ends}
+use Rattle.scenario_runs.specs.Deciding.{reached}
+use Rattle.scenario_runs.proofs.Walking.{Comes, goes_on, ends}
 
 -- the call of a step's script is the work of its line
-pub script_works : (job : Job) (n : ℕ) (c : Course) (old : Bool) (script : ScriptKind) (r : Result Worked Memory) (what : StepWork)
-    → work_of job.scenario n ≡ Some what → what ≡ work.Script old script
-    → ((words : List (List ℕ)) → words_of job.scenario n job.old_package.version job.new_package.version ≡ Some words
-    → IfOk r (λ worked. worked ≡ call_script n old script words (script_of script (package_of job old).scripts) c))
-    → IfOk r (λ worked. Works job n c worked)
-script_works job n c old script r what told is calls =
-    let t : IsTold (λ step. step.work) (line job.scenario n) what = is_told (λ step. step.work) (line job.scenario n) what told in
-    let words : List (List ℕ) = words_in job t.step in
-    let spoken : words_of job.scenario n job.old_package.version job.new_package.version ≡ Some words =
-    ap (option_map (λ step. step.words job.old_package.version job.new_package.version)) t.is_line in
-    IfOk-weaker r (λ worked. worked ≡ call_script n old script words (script_of script (package_of job old).scripts) c) (λ worked. Works job n c worked)
+pub script_works : (plan : Plan) (n : ℕ) (c : Course) (old : Bool) (script : ScriptKind) (r : Result Worked Memory) (what : StepWork)
+    → work_of plan.scenario n ≡ Some what → what ≡ work.Script old script
+    → ((words : List (List ℕ)) → words_of plan.scenario n plan.old_version plan.new_version ≡ Some words
+    → IfOk r (λ worked. worked ≡ call_script n old script words (plan.scripts old script) c))
+    → IfOk r (λ worked. Works plan n c worked)
+script_works plan n c old script r what told is calls =
+    let t : IsTold (λ step. step.work) (line plan.scenario n) what = is_told (λ step. step.work) (line plan.scenario n) what told in
+    let words : List (List ℕ) = words_in plan t.step in
+    let spoken : words_of plan.scenario n plan.old_version plan.new_version ≡ Some words =
+    ap (option_map (λ step. step.words plan.old_version plan.new_version)) t.is_line in
+    IfOk-weaker r (λ worked. worked ≡ call_script n old script words (plan.scripts old script) c) (λ worked. Works plan n c worked)
     (λ worked e. record {
       step = t.step;
       is_line = t.is_line;
-      is_work = e ∙ ap (λ x. do_work job n x words c) (sym (t.told ∙ is));
+      is_work = e ∙ ap (λ x. do_work plan n x words c) (sym (t.told ∙ is));
     })
     (calls words spoken)
 
 -- what a step leads to that goes on
-pub record GoesOn (job : Job) (tree : Value) (m : ℕ) (c : Course) : Type 0 where
-  pub step : IsStep job.scenario m
-  pub comes : Comes job tree m c
+pub record GoesOn (plan : Plan) (tree : Value) (m : ℕ) (c : Course) : Type 0 where
+  pub step : IsStep plan.scenario m
+  pub comes : Comes plan tree m c
 
-pub went_on : (job : Job) (tree : Value) (n m : ℕ) (c : Course) (r : Reached) → IsStep job.scenario n → Comes job tree n c
-    → r ≡ go_next job (Go n) c → r.next ≡ Go m → IsLater job.scenario n r.next → GoesOn job tree m r.course
-went_on job tree n m c r step comes taken is later =
-    let l : (n < m) × IsStep job.scenario m = subst (IsLater job.scenario n) is later in
+pub went_on : (plan : Plan) (tree : Value) (n m : ℕ) (c : Course) (r : Reached) → IsStep plan.scenario n → Comes plan tree n c
+    → r ≡ go_next plan (Go n) c → r.next ≡ Go m → IsLater plan.scenario n r.next → GoesOn plan tree m r.course
+went_on plan tree n m c r step comes taken is later =
+    let l : (n < m) × IsStep plan.scenario m = subst (IsLater plan.scenario n) is later in
     record {
       step = l.1;
-      comes = goes_on job tree n m c r.course step comes (ap (λ x. reached x r.course) (sym is) ∙ taken) l.0;
+      comes = goes_on plan tree n m c r.course step comes (ap (λ x. reached x r.course) (sym is) ∙ taken) l.0;
     }
 
-pub ended : (job : Job) (tree : Value) (n : ℕ) (ending : Ending) (c : Course) (r : Reached) → IsStep job.scenario n → Comes job tree n c
-    → r ≡ go_next job (Go n) c → r.next ≡ Stop ending → scenario_run job tree ≡ replayed_at (Stop ending) r.course
-ended job tree n ending c r step comes taken is =
-    ends job tree n ending c r.course step comes (ap (λ x. reached x r.course) (sym is) ∙ taken)
+pub ended : (plan : Plan) (tree : Value) (n : ℕ) (ending : Ending) (c : Course) (r : Reached) → IsStep plan.scenario n → Comes plan tree n c
+    → r ≡ go_next plan (Go n) c → r.next ≡ Stop ending → run_of plan tree ≡ replayed_at (Stop ending) r.course
+ended plan tree n ending c r step comes taken is =
+    ends plan tree n ending c r.course step comes (ap (λ x. reached x r.course) (sym is) ∙ taken)

@@ -5,10 +5,9 @@ use Rattle.dpkg_scenarios.specs.declared.scenario.StepNext.{StepNext}
 use Rattle.dpkg_scenarios.specs.declared.scenario.StepNext.TheVariants.{Go, Stop}
 use Rattle.dpkg_scenarios.specs.Scenarios.{Step}
 use Rattle.dpkg_scenarios.specs.Steps.{IsStep, line}
-use Rattle.scenario_runs.specs.declared.job.Job.{Job}
 use Rattle.scenario_runs.specs.declared.course.Course.{Course}
 use Rattle.scenario_runs.specs.declared.course.Worked.{Worked}
-use Rattle.scenario_runs.specs.Runs.{words_in, do_work}
+use Rattle.scenario_runs.specs.Runs.{Plan, words_in, do_work}
 
 -- a later step of the scenario, or the end
 abbrev pub IsLater : Scenario → ℕ → StepNext → Type 0
@@ -16,7 +15,7 @@ IsLater scenario n (Go m) = (n < m) × IsStep scenario m
 IsLater scenario n (Stop ending) = Unit {0}
 
 -- what the work of a step comes to, by the step's line
-pub record Works (job : Job) (n : ℕ) (course : Course) (worked : Worked) : Type 0 where
+pub record Works (plan : Plan) (n : ℕ) (course : Course) (worked : Worked) : Type 0 where
   pub step : Step
-  pub is_line : line job.scenario n ≡ Some step
-  pub is_work : worked ≡ do_work job n step.work (words_in job step) course
+  pub is_line : line plan.scenario n ≡ Some step
+  pub is_work : worked ≡ do_work plan n step.work (words_in plan step) course

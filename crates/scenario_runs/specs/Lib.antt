@@ -2,4 +2,6 @@ pub mod Acts
 pub mod Performed
 pub mod Runs
 pub mod Later
+pub mod Playing
+pub mod Deciding
 pub mod Laws

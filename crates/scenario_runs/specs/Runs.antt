@@ -2,7 +2,9 @@
 -- or taken away (Debian Policy, chapter 6).
 use Rattle.std.specs.Prelude.{ℕ, zero, suc, ◌+◌, Bool, true, false, List, [], ◌∷◌, ◌++◌, length, codes}
 use Rattle.std.specs.Prelude.{Option, Some, None, if◌then◌else◌}
+use Rattle.std.specs.Option.{option_map}
 use Rattle.std.specs.FinMap as map
+use Rattle.script_names.specs.declared.mark.Mark.{Mark}
 use Rattle.script_names.specs.declared.mark.Site.{Site}
 use Rattle.script_names.specs.declared.reason.Done.{Done}
 use Rattle.script_names.specs.declared.reason.Done.TheVariants as done
@@ -16,6 +18,7 @@ use Rattle.shell_rules.specs.declared.run.End.TheVariants as end
 use Rattle.shell_rules.specs.Whole.{Ended}
 use Rattle.colis_syntax.specs.WellFormed.{ProgramParts}
 use Rattle.colis_meaning.specs.Meaning.{co_program}
+use Rattle.dpkg_scenarios.specs.declared.scenario.Scenario.{Scenario}
 use Rattle.dpkg_scenarios.specs.declared.scenario.ScriptKind.{ScriptKind}
 use Rattle.dpkg_scenarios.specs.declared.scenario.ScriptKind.TheVariants.{Preinst, Postinst, Prerm, Postrm}
 use Rattle.dpkg_scenarios.specs.declared.scenario.StepWork.{StepWork}
@@ -27,6 +30,7 @@ use Rattle.dpkg_scenarios.specs.Scenarios.{Step, table}
 use Rattle.dpkg_scenarios.specs.Steps.{line, follows}
 use Rattle.scenario_runs.specs.declared.job.Scripts.{Scripts}
 use Rattle.scenario_runs.specs.declared.job.Package.{Package}
+use Rattle.scenario_runs.specs.declared.job.Files.{Files}
 use Rattle.scenario_runs.specs.declared.job.Job.{Job}
 use Rattle.scenario_runs.specs.declared.call.ScriptCall.{ScriptCall}
 use Rattle.scenario_runs.specs.declared.call.CallEnd.{CallEnd}
@@ -38,6 +42,26 @@ use Rattle.scenario_runs.specs.declared.course.Worked.{Worked}
 use Rattle.scenario_runs.specs.declared.course.Reached.{Reached}
 use Rattle.scenario_runs.specs.declared.replayed.Replayed.{Replayed}
 
+-- ---- what is run
+
+-- What a script does, in whatever language it is written: whether it begins strict, and what it comes to in a step,
+-- from a state of the shell, a tree and a trace.
+pub record Meaning : Type 0 where
+  pub strict : Bool
+  pub ends : ℕ → Conc → Value → List Mark → Ended
+
+-- What the run of a scenario needs: the scenario, whether the new package has neither a configuration file nor a
+-- postrm, the versions of both packages, what each script of the old package (true) and of the new one does, where it
+-- has that one, what is done with files, and how many turns of loops the scripts have, together.
+pub record Plan : Type 0 where
+  pub scenario : Scenario
+  pub plain : Bool
+  pub old_version : List ℕ
+  pub new_version : List ℕ
+  pub scripts : Bool → ScriptKind → Option Meaning
+  pub files : Files
+  pub turns : ℕ
+
 -- ---- a step that calls a script
 
 -- the name of a script
@@ -46,17 +70,6 @@ script_name Preinst = codes "preinst"
 script_name Postinst = codes "postinst"
 script_name Prerm = codes "prerm"
 script_name Postrm = codes "postrm"
-
--- a script of a package, if it has that one
-abbrev pub script_of : ScriptKind → Scripts → Option ProgramParts
-script_of Preinst scripts = scripts.preinst
-script_of Postinst scripts = scripts.postinst
-script_of Prerm scripts = scripts.prerm
-script_of Postrm scripts = scripts.postrm
-
--- the old package, or the new one
-abbrev pub package_of : Job → Bool → Package
-package_of job old = if old then job.old_package else job.new_package
 
 -- the shell in which a script is called: its name is the one variable, the words are the arguments, and as many turns
 -- are left as the run has left
@@ -97,11 +110,11 @@ called old script words c e =
     } in record { end = script_end e.end; course = course }
 
 -- a script is called in step n; a missing one is a success, and no call
-abbrev pub call_script : ℕ → Bool → ScriptKind → List (List ℕ) → Option ProgramParts → Course → Worked
+abbrev pub call_script : ℕ → Bool → ScriptKind → List (List ℕ) → Option Meaning → Course → Worked
 call_script n old script words None c = record { end = Succeeded; course = c }
-call_script n old script words (Some program) c =
-    let shell : Conc = begun_shell script words program.strict c.turns in
-    called old script words c (co_program program n shell c.tree c.trace)
+call_script n old script words (Some meaning) c =
+    let shell : Conc = begun_shell script words meaning.strict c.turns in
+    called old script words c (meaning.ends n shell c.tree c.trace)
 
 -- ---- a step that places files, or takes them away
 
@@ -139,17 +152,16 @@ do_files can_fail n at (act ∷ acts) c =
 -- ---- steps
 
 -- the work of step n, whose call has these words; of the steps on files, the one that places them can fail
-abbrev pub do_work : Job → ℕ → StepWork → List (List ℕ) → Course → Worked
-do_work job n (work.Script old script) words c =
-    call_script n old script words (script_of script (package_of job old).scripts) c
-do_work job n work.Unpack words c = do_files true n 0 job.files.unpack c
-do_work job n work.RemoveFiles words c = do_files false n 0 job.files.remove_files c
-do_work job n work.RemoveOld words c = do_files false n 0 job.files.remove_old c
-do_work job n work.RemoveConf words c = do_files false n 0 job.files.remove_conf c
+abbrev pub do_work : Plan → ℕ → StepWork → List (List ℕ) → Course → Worked
+do_work plan n (work.Script old script) words c = call_script n old script words (plan.scripts old script) c
+do_work plan n work.Unpack words c = do_files true n 0 plan.files.unpack c
+do_work plan n work.RemoveFiles words c = do_files false n 0 plan.files.remove_files c
+do_work plan n work.RemoveOld words c = do_files false n 0 plan.files.remove_old c
+do_work plan n work.RemoveConf words c = do_files false n 0 plan.files.remove_conf c
 
 -- the words of a step's call
-abbrev pub words_in : Job → Step → List (List ℕ)
-words_in job step = step.words job.old_package.version job.new_package.version
+abbrev pub words_in : Plan → Step → List (List ℕ)
+words_in plan step = step.words plan.old_version plan.new_version
 
 -- what follows a step whose work ended so
 abbrev pub next_behind : Bool → Step → WorkEnd → StepNext
@@ -162,25 +174,25 @@ abbrev pub followed : Bool → Step → Worked → Reached
 followed plain step w = record { next = next_behind plain step w.end; course = w.course }
 
 -- the step with this line of the scenario's table
-abbrev pub do_step : Job → ℕ → Option Step → Course → Reached
-do_step job n None c = record { next = Go n; course = c }
-do_step job n (Some step) c = followed job.plain step (do_work job n step.work (words_in job step) c)
+abbrev pub do_step : Plan → ℕ → Option Step → Course → Reached
+do_step plan n None c = record { next = Go n; course = c }
+do_step plan n (Some step) c = followed plan.plain step (do_work plan n step.work (words_in plan step) c)
 
 -- what follows is done
-abbrev pub go_next : Job → StepNext → Course → Reached
-go_next job (Go n) c = do_step job n (line job.scenario n) c
-go_next job (Stop ending) c = record { next = Stop ending; course = c }
+abbrev pub go_next : Plan → StepNext → Course → Reached
+go_next plan (Go n) c = do_step plan n (line plan.scenario n) c
+go_next plan (Stop ending) c = record { next = Stop ending; course = c }
 
 -- a number of steps, one after another
-abbrev pub go_steps : ℕ → Job → Reached → Reached
-go_steps zero job r = r
-go_steps (suc left) job r = go_steps left job (go_next job r.next r.course)
+abbrev pub go_steps : ℕ → Plan → Reached → Reached
+go_steps zero plan r = r
+go_steps (suc left) plan r = go_steps left plan (go_next plan r.next r.course)
 
 -- ---- the run
 
--- before the first step nothing was done
-abbrev pub begun : Job → Value → Course
-begun job tree = record { tree = tree; trace = []; acts = []; calls = []; turns = job.turns }
+-- before the first step nothing was done, and all turns are left
+abbrev pub begun : ℕ → Value → Course
+begun turns tree = record { tree = tree; trace = []; acts = []; calls = []; turns = turns }
 
 -- what a run comes to that has ended
 abbrev pub replayed_at : StepNext → Course → Option Replayed
@@ -192,8 +204,42 @@ replayed_at (Stop ending) c =
 abbrev pub replayed : Reached → Option Replayed
 replayed r = replayed_at r.next r.course
 
--- The run of a job's scenario from a tree. Each step is followed by a later one or by the end, so it has at most as
+-- The run of a plan's scenario from a tree. Each step is followed by a later one or by the end, so it has at most as
 -- many steps as the scenario's table.
+abbrev pub run_of : Plan → Value → Option Replayed
+run_of plan tree =
+    let first : Reached = record { next = Go 1; course = begun plan.turns tree } in
+    replayed (go_steps (length (table plan.scenario)) plan first)
+
+-- ---- the run of a job, whose scripts are programs
+
+-- a script of a package, if it has that one
+abbrev pub script_of : ScriptKind → Scripts → Option ProgramParts
+script_of Preinst scripts = scripts.preinst
+script_of Postinst scripts = scripts.postinst
+script_of Prerm scripts = scripts.prerm
+script_of Postrm scripts = scripts.postrm
+
+-- the old package, or the new one
+abbrev pub package_of : Job → Bool → Package
+package_of job old = if old then job.old_package else job.new_package
+
+-- what a program does
+abbrev pub program_meaning : ProgramParts → Meaning
+program_meaning program = record { strict = program.strict; ends = co_program program }
+
+-- what is run of a job
+abbrev pub plan_of : Job → Plan
+plan_of job = record {
+  scenario = job.scenario;
+  plain = job.plain;
+  old_version = job.old_package.version;
+  new_version = job.new_package.version;
+  scripts = λ old script. option_map program_meaning (script_of script (package_of job old).scripts);
+  files = job.files;
+  turns = job.turns;
+}
+
+-- the run of a job's scenario from a tree
 abbrev pub scenario_run : Job → Value → Option Replayed
-scenario_run job tree =
-    replayed (go_steps (length (table job.scenario)) job (record { next = Go 1; course = begun job tree }))
+scenario_run job tree = run_of (plan_of job) tree

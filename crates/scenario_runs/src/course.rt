@@ -1,6 +1,5 @@
 ghost use Rattle.std.specs.Prelude.{◌≡◌, ◌++◌, ◌∷◌, []};
 ghost use Rattle.scenario_runs.specs.Runs.{begun};
-ghost use Rattle.scenario_runs.specs.declared.job.Job.{Job as JobRecord};
 
 use crate::call::ScriptCall;
 use dpkg_scenarios::{Ending, StepNext};
@@ -52,7 +51,7 @@ pub struct Reached {
 
 /// A run in which nothing was done.
 pub(crate) fn begun(alloc: Global, tree: Value, turns: u32) -> Course
-    ensures { (job : JobRecord) → job.turns ≡ turns → result ≡ begun job tree }
+    ensures { result ≡ begun turns tree }
 {
     Course {
         tree,

@@ -1,31 +1,32 @@
 ghost use Rattle.std.specs.Prelude.{◌≡◌};
+ghost use Rattle.std.specs.Option.{option_copied};
 ghost use Rattle.scenario_runs.specs.Performed.{ArePerformed};
 ghost use Rattle.scenario_runs.specs.Runs.{script_of, package_of};
 
 use crate::file_acts::FileActs;
 use colis_syntax::Program;
 use dpkg_scenarios::{Scenario, ScriptKind};
-use script_names::Bytes;
+use script_names::{Bytes, Slot};
 
 /// The maintainer scripts of a package, those that it has (Debian Policy, 6.1).
 #[derive(Drop)]
 pub struct Scripts {
-    pub preinst: Option<Program>,
-    pub postinst: Option<Program>,
-    pub prerm: Option<Program>,
-    pub postrm: Option<Program>,
+    pub preinst: Slot<Program>,
+    pub postinst: Slot<Program>,
+    pub prerm: Slot<Program>,
+    pub postrm: Slot<Program>,
 }
 
 impl Scripts {
     /// The script of this kind, where there is one.
-    pub(crate) fn get(&self, script: ScriptKind) -> &Option<Program>
-        ensures { result.now ≡ script_of script self.now }
+    pub(crate) fn get(&self, script: ScriptKind) -> Option<&Program>
+        ensures { option_copied result ≡ script_of script self.now }
     {
         match script {
-            ScriptKind::Preinst => &self.preinst,
-            ScriptKind::Postinst => &self.postinst,
-            ScriptKind::Prerm => &self.prerm,
-            ScriptKind::Postrm => &self.postrm,
+            ScriptKind::Preinst => self.preinst.get(),
+            ScriptKind::Postinst => self.postinst.get(),
+            ScriptKind::Prerm => self.prerm.get(),
+            ScriptKind::Postrm => self.postrm.get(),
         }
     }
 }

@@ -1,7 +1,7 @@
 ghost use Rattle.std.specs.Prelude.{◌≡◌, ◌++◌, IfOk, OnOk, Some};
 ghost use Rattle.feature_trees.specs.declared.kind.Kind.TheVariants.{Dir};
 ghost use Rattle.feature_trees.specs.Tree.{kind_of};
-ghost use Rattle.scenario_runs.specs.Runs.{script_name, begun_shell, script_end, call_script};
+ghost use Rattle.scenario_runs.specs.Runs.{script_name, begun_shell, script_end, call_script, program_meaning};
 
 use crate::call::{ScriptCall, call_end};
 use crate::course::{Course, WorkEnd, Worked};
@@ -83,7 +83,8 @@ pub(crate) fn call_script(
     course: Course,
 ) -> Result<Worked, Memory>
     requires { kind_of course.tree ≡ Dir }
-    ensures call { IfOk result (λ worked. worked ≡ call_script step old script words (Some program.now) course) }
+    ensures call { let meaning = program_meaning program.now in
+        IfOk result (λ worked. worked ≡ call_script step old script words (Some meaning) course) }
     ensures dir { IfOk result (λ worked. kind_of worked.course.tree ≡ Dir) }
 {
     let Course {

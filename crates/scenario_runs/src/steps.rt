@@ -4,7 +4,7 @@ ghost use Rattle.feature_trees.specs.Tree.{kind_of};
 ghost use Rattle.dpkg_scenarios.specs.Scenarios.{Step};
 ghost use Rattle.dpkg_scenarios.specs.Steps.{IsStep, line, words_of};
 ghost use Rattle.dpkg_scenarios.specs.declared.scenario.StepNext.TheVariants.{Go};
-ghost use Rattle.scenario_runs.specs.Runs.{script_of, package_of, call_script, next_behind, go_next};
+ghost use Rattle.scenario_runs.specs.Runs.{plan_of, call_script, next_behind, go_next};
 ghost use Rattle.scenario_runs.specs.Later.{IsLater, Works};
 
 use crate::course::{Course, Reached, WorkEnd, Worked};
@@ -30,9 +30,9 @@ fn call_step(
     ensures call { (words : List (List ℕ))
         → let o = job.now.old_package.version in
         let n = job.now.new_package.version in
-        let program = script_of script (package_of job.now old).scripts in
+        let meaning = (plan_of job.now).scripts old script in
         words_of job.now.scenario step o n ≡ Some words
-        → IfOk result (λ worked. worked ≡ call_script step old script words program course) }
+        → IfOk result (λ worked. worked ≡ call_script step old script words meaning course) }
     ensures dir { IfOk result (λ worked. kind_of worked.course.tree ≡ Dir) }
 {
     match job.package(old).scripts.get(script) {
@@ -53,7 +53,7 @@ fn call_step(
 fn do_work(alloc: Global, job: &Job, step: u16, course: Course) -> Result<Worked, Memory>
     requires step { IsStep job.now.scenario step }
     requires dir { kind_of course.tree ≡ Dir }
-    ensures work { IfOk result (λ worked. Works job.now step course worked) }
+    ensures work { IfOk result (λ worked. Works (plan_of job.now) step course worked) }
     ensures dir { IfOk result (λ worked. kind_of worked.course.tree ≡ Dir) }
 {
     match work(job.scenario, step) {
@@ -86,7 +86,7 @@ pub(crate) fn take_step(
 ) -> Result<Reached, Memory>
     requires step { IsStep job.now.scenario step }
     requires dir { kind_of course.tree ≡ Dir }
-    ensures step { IfOk result (λ reached. reached ≡ go_next job.now (Go step) course) }
+    ensures step { IfOk result (λ reached. reached ≡ go_next (plan_of job.now) (Go step) course) }
     ensures later { IfOk result (λ reached. IsLater job.now.scenario step reached.next) }
     ensures dir { IfOk result (λ reached. kind_of reached.course.tree ≡ Dir) }
 {

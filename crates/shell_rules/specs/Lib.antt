@@ -10,5 +10,4 @@ pub mod OwnNames
 pub mod RuleLaws
 pub mod Scopes
 pub mod State
-pub mod Strict
 pub mod Whole

@@ -5,7 +5,7 @@
 #[cfg(test)]
 mod all_acts;
 #[cfg(test)]
-mod four_acts;
+mod deep_paths;
 #[cfg(test)]
 mod plans;
 #[cfg(test)]

@@ -1,21 +1,26 @@
 -- The effects of the rows of acts.
-use Rattle.std.proofs.Common.{◌≡◌, ◌≢◌, ℕ, Bool, true, false, ◌&&◌, ◌||◌, if◌then◌else◌, Option, Some, None, List, [], ◌∷◌, ◌++◌, refl, sym, ap, ◌∙◌}
+use Rattle.std.proofs.Common.{◌≡◌, ◌≢◌, ℕ, zero, suc, IsTrue, IfSome, arith, Bool, true, false, ◌&&◌, ◌||◌, if◌then◌else◌, Option, Some, None, List, [], ◌∷◌, ◌++◌, refl}
+use Rattle.script_names.specs.Names.{is_name}
 use Rattle.script_names.specs.declared.reason.Done.{Done}
 use Rattle.script_names.specs.declared.reason.Done.TheVariants as done
 use Rattle.feature_trees.specs.declared.value.Value.{Value}
 use Rattle.feature_trees.specs.declared.value.Value.TheVariants as value
 use Rattle.feature_trees.specs.declared.kind.Kind.{Kind}
 use Rattle.feature_trees.specs.declared.kind.Kind.TheVariants.{Absent, Reg, Link, Other, Dir}
-use Rattle.feature_trees.specs.Tree.{at, entries_of, kind_of, put}
+use Rattle.feature_trees.specs.Sound.{sound}
+use Rattle.feature_trees.specs.Tree.{entry, at, entries_of, kind_of, put}
+use Rattle.feature_trees.specs.Laws.{PutsStaySound}
+use Rattle.feature_trees.proofs.Laws.{sound-entry}
 use Rattle.utility_calls.specs.declared.acts.Act.{Act}
 use Rattle.utility_calls.specs.declared.acts.Act.TheVariants.{Exists, IsReg, IsDir, IsLink, CanRun, MakeDir, EnsureDir, RemoveDir, Remove, Touch, Symlink, Move, PlaceFile, PlaceLink, PlaceConf, Discard, DiscardDir}
 use Rattle.utility_calls.specs.declared.sights.Sight.{Sight}
 use Rattle.utility_calls.specs.declared.sights.Row.{Row}
 use Rattle.utility_calls.specs.declared.sights.Effect.{Effect}
 use Rattle.utility_calls.specs.declared.sights.Effect.TheVariants.{Nothing, MakesDir, KeepsDir, MakesFile, MakesLink, LinksInside, TakesAway, Moves, MovesInside}
-use Rattle.utility_calls.specs.Rows.{link_on_way}
+use Rattle.utility_calls.specs.Ways.{link_on_way}
 use Rattle.utility_calls.specs.Table.{Rule, rules, rule_holds, row_of, first_row, stop, remove_by, symlink_by, move_by}
 use Rattle.utility_calls.specs.Acts.{path_of, place_of, inner_name, target_of, with_name, source_of, is_below, second_link, by_way, by_slash, slash_row, sight_on, own_row, row, effect_on, is_question, tree_after, IsPerformed}
+use Rattle.utility_calls.specs.ActChanges.{AreNames, HasNames}
 
 -- ---- what holds of all rows of a table holds of the one that applies
 
@@ -197,3 +202,52 @@ named act tree performed ne = by (is_question act) refl
 
 pub dir_stays : (act : Act) (tree : Value) → IsPerformed act → kind_of tree ≡ Dir → kind_of (tree_after act tree) ≡ Dir
 dir_stays act tree performed t = effect_dir (row act tree).effect act tree (named act tree performed) t
+
+-- ---- a sound tree stays sound
+
+at_sound : (names : List (List ℕ)) (v : Value) → IsTrue (sound v) → IsTrue (sound (at v names))
+at_sound [] v s = s
+at_sound (f ∷ rest) v s = at_sound rest (entry v f) (sound-entry v f s)
+
+-- the directory with the entries of a sound value
+entries_sound : (v : Value) → IsTrue (sound v) → IsTrue (sound (value.Dir (entries_of v)))
+entries_sound value.Absent s = refl
+entries_sound value.Reg s = refl
+entries_sound (value.Link b) s = refl
+entries_sound value.Other s = refl
+entries_sound (value.Dir es) s = s
+
+-- names with one more behind them
+one_name : (f : List ℕ) → IsTrue (is_name f) → AreNames (f ∷ [])
+one_name f is zero d lt = is
+one_name f is (suc k) d lt = absurd (omega (arith, lt))
+
+more_names : (names : List (List ℕ)) (f : List ℕ) → AreNames names → IsTrue (is_name f) → AreNames (names ++ f ∷ [])
+more_names [] f n is k d lt = one_name f is k d lt
+more_names (g ∷ names) f n is zero d lt = n 0 d (omega arith)
+more_names (g ∷ names) f n is (suc k) d lt =
+    more_names names f (λ j e l. n (suc j) e (omega (arith, l))) is k d (omega (arith, lt))
+
+with_names : (names : List (List ℕ)) (o : Option (List ℕ)) → AreNames names → IfSome o (λ f. IsTrue (is_name f)) → AreNames (with_name names o)
+with_names names None n h = n
+with_names names (Some f) n h = more_names names f n h
+
+effect_sound : PutsStaySound → (e : Effect) (act : Act) (tree : Value) → HasNames act → IsTrue (sound tree) → IsTrue (sound (effect_on e act tree))
+effect_sound puts Nothing act tree n s = s
+effect_sound puts MakesDir act tree n s = puts tree (value.Dir []) (path_of act).names s refl n.path
+effect_sound puts KeepsDir act tree n s =
+    puts tree (value.Dir (entries_of (at tree (path_of act).names))) (path_of act).names s (entries_sound (at tree (path_of act).names) (at_sound (path_of act).names tree s)) n.path
+effect_sound puts MakesFile act tree n s = puts tree value.Reg (path_of act).names s refl n.path
+effect_sound puts MakesLink act tree n s = puts tree (value.Link (target_of act)) (path_of act).names s refl n.path
+effect_sound puts LinksInside act tree n s =
+    puts tree (value.Link (target_of act)) (with_name (path_of act).names (inner_name act)) s refl (with_names (path_of act).names (inner_name act) n.path n.inner)
+effect_sound puts TakesAway act tree n s = puts tree value.Absent (path_of act).names s refl n.path
+effect_sound puts Moves act tree n s =
+    puts (put tree (path_of act).names value.Absent) (at tree (path_of act).names) (place_of act)
+    (puts tree value.Absent (path_of act).names s refl n.path) (at_sound (path_of act).names tree s) n.place
+effect_sound puts MovesInside act tree n s =
+    puts (put tree (path_of act).names value.Absent) (at tree (path_of act).names) (with_name (place_of act) (inner_name act))
+    (puts tree value.Absent (path_of act).names s refl n.path) (at_sound (path_of act).names tree s) (with_names (place_of act) (inner_name act) n.place n.inner)
+
+pub sound_stays : PutsStaySound → (act : Act) (tree : Value) → HasNames act → IsTrue (sound tree) → IsTrue (sound (tree_after act tree))
+sound_stays puts act tree n s = effect_sound puts (row act tree).effect act tree n s

@@ -1,7 +1,6 @@
 -- Exactly one row of an act applies to a tree.
-use Rattle.std.proofs.Common.{◌≡◌, ◌≢◌, ℕ, zero, suc, ◌+◌, ◌<◌, ◌≤◌, ◌⊎◌, inl, inr, Bool, true, false, not, ◌&&◌, ◌||◌, nat_eq, IsTrue, if◌then◌else◌, Option, Some, None, List, [], ◌∷◌, length, take, refl, sym, ap, subst, ◌∙◌, arith}
+use Rattle.std.proofs.Common.{◌≡◌, ◌≢◌, ℕ, zero, suc, ◌+◌, ◌<◌, ◌≤◌, ◌⊎◌, inl, inr, Bool, true, false, not, ◌&&◌, ◌||◌, nat_eq, IsTrue, if◌then◌else◌, Option, Some, None, List, [], ◌∷◌, length, refl, sym, ap, subst, ◌∙◌, arith}
 use Rattle.std.proofs.lemmas.Bool.{eqb-true}
-use Rattle.script_names.specs.Paths.{PathParts}
 use Rattle.feature_trees.specs.declared.value.Value.{Value}
 use Rattle.feature_trees.specs.declared.value.Value.TheVariants as value
 use Rattle.feature_trees.specs.declared.kind.Kind.{Kind}
@@ -12,13 +11,12 @@ use Rattle.utility_calls.specs.declared.acts.Act.{Act}
 use Rattle.utility_calls.specs.declared.acts.Act.TheVariants.{Exists, IsReg, IsDir, IsLink, CanRun, MakeDir, EnsureDir, RemoveDir, Remove, Touch, Symlink, Move, PlaceFile, PlaceLink, PlaceConf, Discard, DiscardDir}
 use Rattle.utility_calls.specs.declared.sights.Sight.{Sight}
 use Rattle.utility_calls.specs.declared.sights.Row.{Row}
-use Rattle.utility_calls.specs.Rows.{link_on_way, in_dir}
-use Rattle.utility_calls.specs.Applies.{kind_at, NoLinkOnWay}
+use Rattle.utility_calls.specs.Ways.{link_on_way, in_dir, kind_at, NoLinkOnWay}
 use Rattle.utility_calls.specs.Sights.{sight, sight_of}
 use Rattle.utility_calls.specs.Table.{Rule, rules, rule_holds, row_of, first_row, exists_rules, is_reg_rules, is_dir_rules, is_link_rules, can_run_rules, make_dir_rules, ensure_dir_rules, remove_dir_rules, remove_rules, remove_deep_rules, remove_force_rules, remove_force_deep_rules, remove_by, touch_rules, place_file_rules, place_link_rules, place_conf_rules, discard_rules, discard_dir_rules, symlink_rules, symlink_force_rules, symlink_by, move_below_rules, move_rules, move_by}
 use Rattle.utility_calls.specs.Acts.{path_of, place_of, inner_of, source_of, is_prefix, is_below, is_there, second_link, by_way, by_slash, slash_row, sight_on, own_row, row, IsPerformed}
 use Rattle.utility_calls.specs.ActRows.{IsAmong, FitsSlash, Reaches, LooksAtWay, Applies, on_way, at_slash, on_second_way, own}
-use Rattle.utility_calls.proofs.OneRow.{Found, IsFirstLink, found, counted}
+use Rattle.utility_calls.proofs.Ways.{Found, IsFirstLink, found, counted}
 
 -- ---- how many rows of a table hold
 

@@ -1,5 +1,5 @@
 -- Each act that a call comes to meets its conditions.
-use Rattle.std.proofs.Common.{◌≡◌, ◌≢◌, ℕ, zero, suc, ◌-◌, Bool, true, false, not, ◌&&◌, ◌||◌, if◌then◌else◌, Option, Some, None, List, [], ◌∷◌, ◌++◌, length, take, map, All, refl, sym, ap, ◌∙◌}
+use Rattle.std.proofs.Common.{◌≡◌, ◌≢◌, ℕ, zero, suc, ◌-◌, Bool, true, false, not, ◌&&◌, ◌||◌, if◌then◌else◌, Option, Some, None, List, [], ◌∷◌, length, take, All, refl, sym, ap, ◌∙◌}
 use Rattle.std.specs.Prelude.{codes}
 use Rattle.std.specs.Str.{bytes_eq}
 use Rattle.std.proofs.lemmas.List.Elements.{All-nil, All-cons, All-append}
@@ -18,12 +18,12 @@ use Rattle.utility_calls.specs.declared.questions.Question.{Question}
 use Rattle.utility_calls.specs.declared.questions.Question.TheVariants as question
 use Rattle.utility_calls.specs.declared.calls.Utility.{Utility}
 use Rattle.utility_calls.specs.declared.calls.Utility.TheVariants as utility
-use Rattle.utility_calls.specs.Acts.{IsPerformed, IsMove}
-use Rattle.utility_calls.specs.Options.{is_option, options, behind, is_ended, unended, options_fit, has_option}
+use Rattle.utility_calls.specs.Acts.{IsPerformed}
+use Rattle.utility_calls.specs.Options.{is_option, options, behind, is_ended, unended, has_option}
 use Rattle.utility_calls.specs.Operands.{first_of, path_reason, operand_reason, slash_reason, file_reason, each_reason, first_reason, ensured, each_acts, all_acts}
 use Rattle.utility_calls.specs.Pairs.{same_names, is_parent, still_reason, full_reason, end_reason, target_reason, place_reason, link_reason, ln_reason, ln_act, to_reason, mv_reason, mv_act}
-use Rattle.utility_calls.specs.Questions.{negated, question_of, asking, ask_path, ask, is_not, is_other_operator, test_one, test_two, test_three, test_four, test_call, is_bracket, bracket_call}
-use Rattle.utility_calls.specs.Calls.{unless, some_reason, each_call, each_behind, act_call, with_options, mkdir_each, is_deep, ln_behind, mv_behind, echo_call, echo_text, begins_with_dash, has_backslash, utility_call, utility_named, call}
+use Rattle.utility_calls.specs.Questions.{negated, question_of, asking, ask_path, ask, is_not, is_other_operator, test_two, test_three, test_four, test_call, bracket_call}
+use Rattle.utility_calls.specs.Calls.{unless, some_reason, each_behind, act_call, mkdir_each, is_deep, echo_call, echo_text, begins_with_dash, has_backslash, utility_call, utility_named, call}
 use Rattle.utility_calls.specs.Performed.{HasPerformedActs}
 use Rattle.std.specs.List.{list_any}
 

@@ -1,5 +1,5 @@
 -- Parts of a call that are read one after another.
-use Rattle.std.proofs.Common.{◌≡◌, ℕ, zero, suc, ◌+◌, ◌-◌, ◌≤◌, List, [], ◌∷◌, ◌++◌, length, take, Option, Some, None, Result, Ok, Err, refl, ap, sym, ◌∙◌, arith, append_assoc, Bool, false, true, ◌<◌, ◌&&◌, if◌then◌else◌, subst}
+use Rattle.std.proofs.Common.{◌≡◌, ℕ, zero, suc, ◌+◌, ◌-◌, ◌≤◌, List, [], ◌∷◌, ◌++◌, length, take, Option, Some, None, Result, Err, refl, ap, sym, ◌∙◌, arith, Bool, false, true, ◌<◌, ◌&&◌, if◌then◌else◌, subst}
 use Rattle.std.specs.Prelude.{nat_le}
 use Rattle.std.proofs.lemmas.Bool.{leb-true}
 use Rattle.std.specs.Str.{bytes_eq}
@@ -13,9 +13,8 @@ use Rattle.utility_calls.specs.declared.fault.CallFault.{CallFault}
 use Rattle.utility_calls.specs.declared.fault.CallFault.TheVariants as fault
 use Rattle.utility_calls.specs.declared.acts.Act.{Act}
 use Rattle.utility_calls.specs.declared.acts.Act.TheVariants.{EnsureDir}
-use Rattle.utility_calls.specs.declared.operands.Each.{Each}
 use Rattle.utility_calls.specs.Gives.{Gives}
-use Rattle.utility_calls.specs.Operands.{first_of, path_reason, fault_reason, call_fault, ensured, each_reason, first_reason, each_acts, all_acts}
+use Rattle.utility_calls.specs.Operands.{first_of, path_reason, call_fault, ensured}
 
 -- the first part has a fault
 pub wrong_first : {A B : Type 0} (why later : Option Reason) (v : A) (w : B) (f : CallFault) → Gives why v (Err f) → Gives (first_of why later) w (Err f)

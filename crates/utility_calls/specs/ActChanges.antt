@@ -1,12 +1,14 @@
 -- What holds of the tree that an act leaves.
-use Rattle.std.specs.Prelude.{◌≡◌, ◌≢◌, true, []}
+use Rattle.std.specs.Prelude.{◌≡◌, ◌≢◌, ℕ, true, List, [], All, IsTrue, IfSome}
+use Rattle.script_names.specs.Names.{is_name}
 use Rattle.script_names.specs.declared.reason.Done.TheVariants as done
 use Rattle.feature_trees.specs.declared.value.Value.{Value}
 use Rattle.feature_trees.specs.declared.kind.Kind.TheVariants as kind
+use Rattle.feature_trees.specs.Sound.{sound}
 use Rattle.feature_trees.specs.Tree.{kind_of}
 use Rattle.utility_calls.specs.declared.acts.Act.{Act}
 use Rattle.utility_calls.specs.declared.sights.Effect.TheVariants.{Nothing}
-use Rattle.utility_calls.specs.Acts.{path_of, place_of, is_question, IsPerformed, row, tree_after}
+use Rattle.utility_calls.specs.Acts.{path_of, place_of, inner_name, is_question, IsPerformed, row, tree_after}
 
 -- a question has no effect
 abbrev pub QuestionsChangeNothing : Type 0
@@ -20,6 +22,20 @@ OnlySuccessesChange = (act : Act) (tree : Value) → (row act tree).answer ≢ d
 abbrev pub ActsKeepDirs : Type 0
 ActsKeepDirs =
     (act : Act) (tree : Value) → IsPerformed act → kind_of tree ≡ kind.Dir → kind_of (tree_after act tree) ≡ kind.Dir
+
+-- each of these is a name
+abbrev pub AreNames : List (List ℕ) → Type 0
+AreNames names = All (λ f. IsTrue (is_name f)) names
+
+-- an act of names: those of its path and of its place, and the one under which it puts something in a directory
+pub record HasNames (act : Act) : Type 0 where
+  pub path : AreNames (path_of act).names
+  pub place : AreNames (place_of act)
+  pub inner : IfSome (inner_name act) (λ f. IsTrue (is_name f))
+
+-- such an act leaves a sound tree sound
+abbrev pub ActsKeepSound : Type 0
+ActsKeepSound = (act : Act) (tree : Value) → HasNames act → IsTrue (sound tree) → IsTrue (sound (tree_after act tree))
 
 -- the paths of an act that has an effect have names
 abbrev pub ChangesHaveNames : Type 0

@@ -1,12 +1,11 @@
 -- Where each row of an act applies on a tree, and that exactly one does.
 use Rattle.std.specs.Prelude.{◌≡◌, ◌≢◌, ℕ, ◌+◌, ◌<◌, ◌≤◌, ◌⊎◌, IsTrue, List, [], ◌∷◌, length, ◌||◌}
 use Rattle.feature_trees.specs.declared.value.Value.{Value}
-use Rattle.feature_trees.specs.declared.kind.Kind.{Kind}
 use Rattle.feature_trees.specs.declared.kind.Kind.TheVariants.{Absent, Link, Dir}
 use Rattle.feature_trees.specs.Sound.{IsTree}
 use Rattle.feature_trees.specs.Tree.{at, kind_of}
 use Rattle.utility_calls.specs.declared.acts.Act.{Act}
-use Rattle.utility_calls.specs.Applies.{kind_at, NoLinkOnWay}
+use Rattle.utility_calls.specs.Ways.{kind_at, NoLinkOnWay}
 use Rattle.utility_calls.specs.Table.{Rule, rules, rule_holds}
 use Rattle.utility_calls.specs.Acts.{path_of, place_of, is_below, is_there, source_of, sight_on, IsPerformed, row}
 

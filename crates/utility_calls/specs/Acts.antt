@@ -20,7 +20,7 @@ use Rattle.utility_calls.specs.declared.sights.Effect.{Effect}
 use Rattle.utility_calls.specs.declared.sights.Effect.TheVariants.{Nothing, MakesDir, KeepsDir, MakesFile, MakesLink}
 use Rattle.utility_calls.specs.declared.sights.Effect.TheVariants.{LinksInside, TakesAway, Moves, MovesInside}
 use Rattle.utility_calls.specs.declared.sights.Row.{Row}
-use Rattle.utility_calls.specs.Rows.{link_on_way, in_dir}
+use Rattle.utility_calls.specs.Ways.{link_on_way, in_dir}
 use Rattle.utility_calls.specs.Sights.{sight_of, but}
 use Rattle.utility_calls.specs.Table.{rules, first_row, stop}
 

@@ -1,5 +1,5 @@
 -- `test` and `[` (POSIX.1-2017, XCU `test`).
-use Rattle.std.specs.Prelude.{◌≡◌, ℕ, Bool, true, false, not, ◌||◌, ◌-◌, List, [], ◌∷◌, length, take, slice_get}
+use Rattle.std.specs.Prelude.{◌≡◌, ℕ, Bool, false, not, ◌||◌, ◌-◌, List, [], ◌∷◌, length, take, slice_get}
 use Rattle.std.specs.Prelude.{Option, Some, None, if◌then◌else◌, codes}
 use Rattle.std.specs.Str.{bytes_eq}
 use Rattle.std.specs.List.{list_any}

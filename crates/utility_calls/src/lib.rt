@@ -1,10 +1,8 @@
 //! Calls of utilities: the acts that they come to, and what each act is on a tree, row by row.
 //! It stands on feature_trees and script_names. Begin with `calls` and specs/Calls.antt for what a call comes to, and
-//! with `acts`, specs/Table.antt and specs/Acts.antt for what each act does. Today's commands come to the four acts of
-//! `act`, whose rows are in specs/Rows.antt.
+//! with `acts`, specs/Table.antt and specs/Acts.antt for what each act does.
 #![tactic(auto)]
 
-mod act;
 pub mod acts;
 pub mod calls;
 mod fault;
@@ -17,5 +15,3 @@ mod questions;
 pub mod sights;
 mod table;
 pub mod theorems;
-
-pub use act::{Act, Planned};

@@ -1,7 +1,14 @@
 use Rattle.clause_solver.specs.ReplacedNames.{names}
 use Rattle.clause_solver.specs.Greatest.{unfenced_if}
-use Rattle.clause_solver.proofs.HasEntries.{node_iff}
+use Rattle.clause_solver.proofs.HasEntries.{node_open, node_closed}
 use Rattle.clause_solver.proofs.greatest.node_has_entry.Goals as goal
 
+pub returns-then-is_open : goal.returns-then-is_open
+returns-then-is_open c =
+    node_open c.args.vars.now c.args.best.now (unfenced_if c.args.vars.now c.args.counted) c.args.x (names c.args.replaced.now)
+    c.is_open.result c.if-is_open.true c.requires.node c.is_open.ensures
+
 pub returns : goal.returns
-returns c = node_iff c.args.vars.now c.args.best.now (unfenced_if c.args.vars.now c.args.counted) c.args.x (names c.args.replaced.now) c.is_open-open.result c.some_present_child-present.result c.requires.node c.is_open-open.ensures c.some_present_child-present.ensures
+returns c =
+    node_closed c.args.vars.now c.args.best.now (unfenced_if c.args.vars.now c.args.counted) c.args.x (names c.args.replaced.now)
+    c.is_open.result c.some_present_child.result c.if-is_open.false c.requires.node c.is_open.ensures c.some_present_child.ensures

@@ -1,6 +1,6 @@
 use Rattle.std.proofs.Common.{◌≡◌, ◌+◌, length}
 use Rattle.feature_trees.specs.Tree.{at}
-use Rattle.utility_calls.specs.Rows.{in_dir, link_on_way}
+use Rattle.utility_calls.specs.Ways.{in_dir, link_on_way}
 use Rattle.concrete_utils.proofs.walks.walk.Given as goal
 
 abbrev pub invariant-loop-left : goal.invariant-loop-left

@@ -5,7 +5,7 @@ use Rattle.case_paths.specs.declared.state.PathsFault.{PathsFault}
 use Rattle.case_paths.specs.declared.state.PathsFault.TheVariants as over
 use Rattle.case_paths.specs.Paths.{Explored}
 use Rattle.start_trees.specs.Needs.{AreStarts}
-use Rattle.scenario_outcomes.specs.Deciding.{decision_of}
+use Rattle.scenario_runs.specs.Deciding.{decision_of}
 use Rattle.scenario_outcomes.proofs.Answering.{whole_answer, over_answer}
 use Rattle.scenario_outcomes.proofs.listing.outcomes.Goals as goal
 
@@ -22,7 +22,7 @@ returns-in-Ok c =
     let of = c.of-runs.result.job.now in
     let files = c.of-runs.result.performed in
     let Q : List Mark → Type 0 = λ trace. Explored (decision_of of files) c.in-Some.store trace c.args.limit (Ok c.in-Ok.paths) in
-    whole_answer c.args.job.now of c.of-runs.ensures files c.scenario_runs_are_decided.ensures c.args.needs.now c.args.limit
+    whole_answer c.args.job.now of c.of-runs.ensures files c.scenario_runs_are_decided.ensures.played c.args.needs.now c.args.limit
     c.in-Some.store starts c.in-Ok.paths c.in_ok-outcomes-in-Ok.outcomes (subst Q c.new-none.ensures c.in-Ok.ensures)
     c.in_ok-outcomes-in-Ok.ensures
 
@@ -34,5 +34,5 @@ returns-in-Err-Over c =
     let files = c.of-runs.result.performed in
     let R : PathsFault → Type 0 = λ fault. Explored (decision_of of files) c.in-Some.store c.new-none.result c.args.limit (Err fault) in
     let Q : List Mark → Type 0 = λ trace. Explored (decision_of of files) c.in-Some.store trace c.args.limit (Err over.Over) in
-    over_answer c.args.job.now of c.of-runs.ensures files c.scenario_runs_are_decided.ensures c.args.needs.now c.args.limit
+    over_answer c.args.job.now of c.of-runs.ensures files c.scenario_runs_are_decided.ensures.played c.args.needs.now c.args.limit
     c.in-Some.store starts (subst Q c.new-none.ensures (subst R c.in-Err-Over.field-0-is c.in-Err-Over.ensures))

@@ -3,6 +3,7 @@ use Rattle.feature_trees.specs.declared.kind.Kind.TheVariants.{Dir}
 use Rattle.feature_trees.specs.Tree.{kind_of}
 use Rattle.dpkg_scenarios.specs.Scenarios.{table}
 use Rattle.dpkg_scenarios.specs.Steps.{IsStep}
+use Rattle.scenario_runs.specs.Runs.{plan_of}
 use Rattle.scenario_runs.proofs.Walking.{Comes}
 use Rattle.scenario_runs.proofs.runs.run.Given as goal
 
@@ -10,7 +11,7 @@ abbrev pub invariant-steps : goal.invariant-steps
 invariant-steps l = record {
   step : IsStep l.job.scenario l.step;
   dir : kind_of l.course.tree ≡ Dir;
-  comes : Comes l.job l.tree l.step l.course;
+  comes : Comes (plan_of l.job) l.tree l.step l.course;
 }
 
 abbrev pub decreases-steps : goal.decreases-steps

@@ -1,7 +1,8 @@
+use Rattle.scenario_runs.specs.Runs.{plan_of}
 use Rattle.scenario_runs.proofs.Taking.{script_works}
 use Rattle.scenario_runs.proofs.steps.do_work.Goals as goal
 
 pub returns-in-Script-clause-work : goal.returns-in-Script-clause-work
 returns-in-Script-clause-work c =
-    script_works c.args.job.now c.args.step c.args.course c.in-Script.old c.in-Script.script c.call_step.result c.work.result
+    script_works (plan_of c.args.job.now) c.args.step c.args.course c.in-Script.old c.in-Script.script c.call_step.result c.work.result
     c.work.ensures c.in-Script.is c.call_step.ensures.call

@@ -1,5 +1,8 @@
-use Rattle.scenario_runs.proofs.Deciding.{runs_decide}
+use Rattle.scenario_runs.proofs.Deciding.{runs_decide, decisions_played}
 use Rattle.scenario_runs.proofs.theorems.scenario_runs_are_decided.Goals as goal
 
-pub returns : goal.returns
-returns c = runs_decide c.scenarios_end.ensures.forward c.runs_are_decided.ensures
+pub returns-clause-decided : goal.returns-clause-decided
+returns-clause-decided c = runs_decide c.scenarios_end.ensures.forward
+
+pub returns-clause-played : goal.returns-clause-played
+returns-clause-played c = decisions_played c.scenarios_end.ensures.forward

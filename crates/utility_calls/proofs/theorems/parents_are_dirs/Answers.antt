@@ -1,4 +1,4 @@
-use Rattle.utility_calls.proofs.Changes.{parents}
+use Rattle.utility_calls.proofs.Ways.{parents}
 use Rattle.utility_calls.proofs.theorems.parents_are_dirs.Goals as goal
 
 pub returns : goal.returns

@@ -1,0 +1,6 @@
+mod Files
+mod Texts
+mod Plans
+mod Requests
+mod OneScript
+mod OneAnswer

@@ -1,0 +1,160 @@
+-- A text comes to one accepted script, or to one refusal.
+use Rattle.std.proofs.Common.{◌≡◌, ℕ, inl, inr, Bool, List, [], ◌∷◌, Result, Ok, Err, slice_index_or, refl, sym, ap, subst, ◌∙◌, arith}
+use Rattle.std.specs.List.{Contains}
+use Rattle.shell_syntax.specs.declared.form.Form.{Form as FormName}
+use Rattle.shell_syntax.specs.declared.form.Form.TheVariants as form
+use Rattle.shell_syntax.specs.declared.syntax.Command.{Command}
+use Rattle.shell_syntax.specs.declared.script.Script.{Script}
+use Rattle.shell_lexer.specs.declared.fault.LexFault.{LexFault}
+use Rattle.shell_lexer.specs.declared.token.Lexed.{Lexed}
+use Rattle.shell_lexer.specs.Lexed.{Cut, Faulty}
+use Rattle.shell_lexer.proofs.CutOnce.{cut_once, fault_once, fault_or_cut}
+use Rattle.shell_grammar.specs.declared.fault.ParseFault.{ParseFault}
+use Rattle.shell_grammar.specs.Look.{Tokens}
+use Rattle.shell_grammar.specs.Spelling.{deep_64, SpellsWithin, Stopped}
+use Rattle.shell_grammar.proofs.Unique.{wholes, same_rule}
+use Rattle.shell_grammar.proofs.Limits.{not_stopped, one_fault}
+use Rattle.shell_forms.specs.Forms.{Found}
+use Rattle.shell_forms.specs.First.{rank, script_forms, NotBehind, IsFirst}
+use Rattle.checker_input.specs.declared.faults.InputFile.{InputFile}
+use Rattle.checker_input.specs.declared.faults.InputRefusal.{InputRefusal}
+use Rattle.checker_input.specs.declared.faults.InputRefusal.TheVariants as refusal
+use Rattle.checker_input.specs.Script.{IsScript, IsAccepted, HasSyntaxFault, HasForm, TextComes}
+
+-- ---- a text is one script
+
+same_parts : {a b : Bool} {x y : Command} → a ≡ b → x ≡ y → ◌≡◌ {A = Script} (record { strict = a; body = x }) (record { strict = b; body = y })
+same_parts e f = rw (e, f) refl
+
+one_body : (end : ℕ) (ts : Tokens) (a b : Command) → SpellsWithin end ts a → SpellsWithin end ts b → a ≡ b
+one_body end ts a b x y = (wholes (same_rule deep_64 x.reads y.reads)).0
+
+one_script : (text : List ℕ) (a b : Script) → IsScript text a → IsScript text b → a ≡ b
+one_script text a b x y =
+    let same = cut_once text x.lexed y.lexed x.cut y.cut in
+    let spells = subst (λ (l : Lexed). SpellsWithin l.end l.tokens a.body) same x.spells in
+    same_parts (x.strict ∙ ap (λ (l : Lexed). l.strict) same ∙ sym y.strict) (one_body y.lexed.end y.lexed.tokens a.body b.body spells y.spells)
+
+-- a script has no fault of syntax
+no_syntax_fault : (text : List ℕ) (a : Script) (fault : ParseFault) → IsScript text a → HasSyntaxFault text fault → ⊥
+no_syntax_fault text a fault x y =
+    let same = cut_once text y.lexed x.lexed y.cut x.cut in
+    not_stopped x.lexed.end x.lexed.tokens a.body x.spells.rest x.spells.reads fault (subst (λ (l : Lexed). Stopped l.end l.tokens fault) same y.stops)
+
+one_syntax_fault : (text : List ℕ) (f g : ParseFault) → HasSyntaxFault text f → HasSyntaxFault text g → f ≡ g
+one_syntax_fault text f g x y =
+    let same = cut_once text x.lexed y.lexed x.cut y.cut in
+    one_fault y.lexed.end y.lexed.tokens f g (subst (λ (l : Lexed). Stopped l.end l.tokens f) same x.stops) y.stops
+
+-- ---- of forms one is the first
+
+-- the forms by their rank
+abbrev forms : List FormName
+forms =
+    form.Heredoc ∷ form.Arith ∷ form.Background ∷ form.Backquote ∷ form.Param ∷ form.AllArgs ∷ form.Redirect ∷ form.Tilde ∷ form.Brace
+    ∷ form.SubstCase ∷ form.Option ∷ form.Ifs ∷ form.Prefix ∷ form.Export ∷ form.LoopExit ∷ form.Return ∷ form.FunctionPlace
+    ∷ form.FunctionTwice ∷ form.FunctionName ∷ form.CallOrder ∷ []
+
+abbrev ranked : ℕ → FormName
+ranked n = slice_index_or forms n form.Heredoc
+
+ranked_back : (f : FormName) → ranked (rank f) ≡ f
+ranked_back form.Heredoc = refl
+ranked_back form.Arith = refl
+ranked_back form.Background = refl
+ranked_back form.Backquote = refl
+ranked_back form.Param = refl
+ranked_back form.AllArgs = refl
+ranked_back form.Redirect = refl
+ranked_back form.Tilde = refl
+ranked_back form.Brace = refl
+ranked_back form.SubstCase = refl
+ranked_back form.Option = refl
+ranked_back form.Ifs = refl
+ranked_back form.Prefix = refl
+ranked_back form.Export = refl
+ranked_back form.LoopExit = refl
+ranked_back form.Return = refl
+ranked_back form.FunctionPlace = refl
+ranked_back form.FunctionTwice = refl
+ranked_back form.FunctionName = refl
+ranked_back form.CallOrder = refl
+
+one_rank : (f g : FormName) → rank f ≡ rank g → f ≡ g
+one_rank f g e = sym (ranked_back f) ∙ ap ranked e ∙ ranked_back g
+
+same_found : {f g : FormName} {m n : ℕ} → f ≡ g → m ≡ n → ◌≡◌ {A = Found} (f, m) (g, n)
+same_found e d = rw (e, d) refl
+
+both_ways : (x y : Found) → NotBehind x y → NotBehind y x → x ≡ y
+both_ways x y (inl a) (inl b) = absurd (omega (arith, a, b))
+both_ways x y (inl a) (inr b) = absurd (omega (arith, a, b.0))
+both_ways x y (inr a) (inl b) = absurd (omega (arith, a.0, b))
+both_ways x y (inr a) (inr b) = same_found (one_rank x.0 y.0 (omega (arith, a.1, b.1))) a.0
+
+one_first : (all : List Found) (x y : Found) → IsFirst all x → IsFirst all y → x ≡ y
+one_first all x y f g =
+    both_ways x y
+    (subst (NotBehind x) g.stands.2 (f.first g.stands.0 y g.stands.1))
+    (subst (NotBehind y) f.stands.2 (g.first f.stands.0 x f.stands.1))
+
+-- of no forms none is the first
+none_first : (all : List Found) (x : Found) → all ≡ [] → IsFirst all x → ⊥
+none_first all x e f = let some = (subst (λ (xs : List Found). Contains xs x) e f.stands).1 in omega (arith, some)
+
+one_form : (text : List ℕ) (f g : FormName) (m n : ℕ) → HasForm text f m → HasForm text g n → ◌≡◌ {A = Found} (f, m) (g, n)
+one_form text f g m n x y =
+    let same = one_script text x.script y.script x.is_script y.is_script in
+    one_first (script_forms y.script.body) (f, m) (g, n) (subst (λ (s : Script). IsFirst (script_forms s.body) (f, m)) same x.first) y.first
+
+no_form : (text : List ℕ) (f : FormName) (m : ℕ) (a : Script) → HasForm text f m → IsAccepted text a → ⊥
+no_form text f m a x y =
+    let same = one_script text x.script a x.is_script y.is_script in
+    none_first (script_forms a.body) (f, m) y.none (subst (λ (s : Script). IsFirst (script_forms s.body) (f, m)) same x.first)
+
+-- ---- what a text comes to, and why
+
+-- a text is no accepted script for a reason, or it is one
+data Why (file : InputFile) (text : List ℕ) (r : Result Script InputRefusal) : Type 0 where
+  by_tokens : (fault : LexFault) → Faulty text fault → r ≡ Err (refusal.Lex file fault) → Why file text r
+  by_syntax : (fault : ParseFault) → HasSyntaxFault text fault → r ≡ Err (refusal.Parse file fault) → Why file text r
+  by_form : (f : FormName) (at : ℕ) → HasForm text f at → r ≡ Err (refusal.Form file f at) → Why file text r
+  by_script : (script : Script) → IsAccepted text script → r ≡ Ok script → Why file text r
+
+why : (file : InputFile) (text : List ℕ) (r : Result Script InputRefusal) → TextComes file text r → Why file text r
+why file text (Ok script) is = by_script script is refl
+why file text (Err (refusal.Missing other)) is = absurd is
+why file text (Err (refusal.TooLong other)) is = absurd is
+why file text (Err (refusal.Lex other fault)) is = by_tokens fault is.1 (ap (λ f. Err (refusal.Lex f fault)) is.0)
+why file text (Err (refusal.Parse other fault)) is = by_syntax fault is.1 (ap (λ f. Err (refusal.Parse f fault)) is.0)
+why file text (Err (refusal.Form other f at)) is = by_form f at is.1 (ap (λ i. Err (refusal.Form i f at)) is.0)
+why file text (Err (refusal.Control other line)) is = absurd is
+why file text (Err (refusal.List other line reason)) is = absurd is
+why file text (Err (refusal.Conf other line reason)) is = absurd is
+why file text (Err (refusal.Base other line reason)) is = absurd is
+why file text (Err (refusal.Tree other line reason)) is = absurd is
+
+-- a fault of tokens leaves no cut
+no_cut : (text : List ℕ) (fault : LexFault) (l : Lexed) → Faulty text fault → Cut text l → ⊥
+no_cut text fault l h c = fault_or_cut text fault l h c
+
+once : (file : InputFile) (text : List ℕ) (r s : Result Script InputRefusal) → Why file text r → Why file text s → r ≡ s
+once file text r s (by_tokens f h e) (by_tokens g i d) = e ∙ ap (λ x. Err (refusal.Lex file x)) (sym (fault_once text f g h i)) ∙ sym d
+once file text r s (by_tokens f h e) (by_syntax g i d) = absurd (no_cut text f i.lexed h i.cut)
+once file text r s (by_tokens f h e) (by_form g n i d) = absurd (no_cut text f i.is_script.lexed h i.is_script.cut)
+once file text r s (by_tokens f h e) (by_script c i d) = absurd (no_cut text f i.is_script.lexed h i.is_script.cut)
+once file text r s (by_syntax f h e) (by_tokens g i d) = absurd (no_cut text g h.lexed i h.cut)
+once file text r s (by_syntax f h e) (by_syntax g i d) = e ∙ ap (λ x. Err (refusal.Parse file x)) (one_syntax_fault text f g h i) ∙ sym d
+once file text r s (by_syntax f h e) (by_form g n i d) = absurd (no_syntax_fault text i.script f i.is_script h)
+once file text r s (by_syntax f h e) (by_script c i d) = absurd (no_syntax_fault text c f i.is_script h)
+once file text r s (by_form f m h e) (by_tokens g i d) = absurd (no_cut text g h.is_script.lexed i h.is_script.cut)
+once file text r s (by_form f m h e) (by_syntax g i d) = absurd (no_syntax_fault text h.script g h.is_script i)
+once file text r s (by_form f m h e) (by_form g n i d) = e ∙ ap (λ (x : Found). Err (refusal.Form file x.0 x.1)) (one_form text f g m n h i) ∙ sym d
+once file text r s (by_form f m h e) (by_script c i d) = absurd (no_form text f m c h i)
+once file text r s (by_script b h e) (by_tokens g i d) = absurd (no_cut text g h.is_script.lexed i h.is_script.cut)
+once file text r s (by_script b h e) (by_syntax g i d) = absurd (no_syntax_fault text b g h.is_script i)
+once file text r s (by_script b h e) (by_form g n i d) = absurd (no_form text g n b i h)
+once file text r s (by_script b h e) (by_script c i d) = e ∙ ap Ok (one_script text b c h.is_script i.is_script) ∙ sym d
+
+pub text_once : (file : InputFile) (text : List ℕ) (r s : Result Script InputRefusal) → TextComes file text r → TextComes file text s → r ≡ s
+text_once file text r s x y = once file text r s (why file text r x) (why file text s y)

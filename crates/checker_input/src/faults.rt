@@ -1,0 +1,93 @@
+use dpkg_scenarios::ScriptKind;
+use shell_grammar::ParseFault;
+use shell_lexer::LexFault;
+use shell_syntax::Form;
+
+/// A file of a package's folder.
+#[derive(Clone, Copy, Debug, PartialEq, Eq)]
+pub enum PackageFile {
+    Control,
+    List,
+    Conffiles,
+    Script(ScriptKind),
+}
+
+/// Whose a file is.
+#[derive(Clone, Copy, Debug, PartialEq, Eq)]
+pub enum Whose {
+    Old,
+    New,
+}
+
+/// A file that a request reads.
+#[derive(Clone, Copy, Debug, PartialEq, Eq)]
+pub enum InputFile {
+    /// What is known of the system.
+    Base,
+    /// A file of the old package.
+    Old(PackageFile),
+    /// A file of the new package.
+    New(PackageFile),
+    /// The tree of a run.
+    Tree,
+    /// The script that is translated.
+    Script,
+}
+
+/// A file that is refused. Each offset is in bytes from the beginning of the file, lines are counted from 1.
+#[derive(Clone, Copy, Debug, PartialEq, Eq)]
+pub enum InputRefusal {
+    /// The file is not there.
+    Missing {
+        file: InputFile,
+    },
+    /// The file has more than 1,048,576 bytes.
+    TooLong {
+        file: InputFile,
+    },
+    /// The file's text is not cut into tokens; its first fault.
+    Lex {
+        file: InputFile,
+        fault: LexFault,
+    },
+    /// The file's tokens spell no script within 64 levels; the fault with which their reading stops.
+    Parse {
+        file: InputFile,
+        fault: ParseFault,
+    },
+    /// The first unsupported form of the file's script.
+    Form {
+        file: InputFile,
+        form: Form,
+        at: u32,
+    },
+    /// The version of a control file is none.
+    Control {
+        file: InputFile,
+        line: u32,
+    },
+    /// A line of a list of files is at fault, and why.
+    List {
+        file: InputFile,
+        line: u32,
+        why: u8,
+    },
+    /// A line of a list of configuration files is at fault, and why.
+    Conf {
+        file: InputFile,
+        line: u32,
+        why: u8,
+    },
+    /// A line of the base is at fault, and why.
+    Base {
+        file: InputFile,
+        line: u32,
+        why: u8,
+    },
+    /// A line of the tree is at fault, and why.
+    Tree {
+        file: InputFile,
+        line: u32,
+        why: u8,
+    },
+}

@@ -1,0 +1,20 @@
+//! The files that a request reads: which, in which order, what each comes to, and why one is refused. It stands on
+//! command_words, package_lists, shell_forms and checker_io.
+#![tactic(auto)]
+
+mod faults;
+mod input;
+mod names;
+mod package;
+mod read_file;
+mod read_package;
+mod script;
+mod task;
+pub mod theorems;
+mod understand;
+
+pub use faults::{InputFile, InputRefusal, PackageFile, Whose};
+pub use input::read_task;
+pub use names::make_name;
+pub use package::{Package, Packages, Scripts};
+pub use task::Task;

@@ -1,0 +1,35 @@
+-- The files of a request come to a task that fits it.
+use Rattle.std.proofs.Common.{◌≡◌, Result, Ok, Err, inl, inr, subst, sym}
+use Rattle.checker_io.specs.Reading.{Asking, done, ask, and_then, MayAnswer}
+use Rattle.command_words.specs.declared.request.Request.{Request}
+use Rattle.command_words.specs.declared.request.Request.TheVariants as words
+use Rattle.checker_input.specs.declared.faults.InputRefusal.{InputRefusal}
+use Rattle.checker_input.specs.declared.task.Task.{Task}
+use Rattle.checker_input.specs.declared.task.Task.TheVariants as read
+use Rattle.checker_input.specs.Input.{input, packages_in, start_in, translated_in, HasTree}
+use Rattle.colis_checker.specs.Tasks.{Fits}
+
+-- an answer of readings one after another is one of the last
+may_then : {F R A B : Type 0} (plan : Asking F R A) (more : A → Asking F R B) (value : B)
+    → MayAnswer (Ok value) (and_then plan more) → (given : A) × MayAnswer (Ok value) (more given)
+may_then (done (Ok given)) more value may = (given, may)
+may_then (done (Err refusal)) more value may = absurd (cc may)
+may_then (ask file comes next) more value (found, inl came) = may_then (next came.0) more value came.2
+may_then (ask file comes next) more value (found, inr refused) = absurd (cc refused.2)
+
+same_task : {a b : Task} → ◌≡◌ {A = Result Task InputRefusal} (Ok a) (Ok b) → a ≡ b
+same_task e = cc
+
+pub fits : (request : Request) (task : Task) → MayAnswer (Ok task) (input request) → HasTree task → Fits request task
+unfolding input
+fits (words.Check folders scenario turns limit layout) task may tree =
+    let packages = may_then (packages_in folders) (λ packages. done (Ok (read.Check packages))) task may in
+    subst (Fits (words.Check folders scenario turns limit layout)) (same_task packages.1) tt
+fits (words.Run folders file scenario turns) task may tree =
+    let packages = may_then (packages_in folders) (λ packages. and_then start_in (λ start. done (Ok (read.Run packages start)))) task may in
+    let start = may_then start_in (λ start. done (Ok (read.Run packages.0 start))) task packages.1 in
+    let same = same_task start.1 in
+    subst (Fits (words.Run folders file scenario turns)) same (subst HasTree (sym same) tree)
+fits (words.Translate file) task may tree =
+    let script = may_then translated_in (λ script. done (Ok (read.Translate script))) task may in
+    subst (Fits (words.Translate file)) (same_task script.1) tt

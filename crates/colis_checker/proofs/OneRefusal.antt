@@ -1,0 +1,114 @@
+-- A request is refused for one reason.
+use Rattle.std.proofs.Common.{◌≡◌, ℕ, ◌<◌, List, [], ◌∷◌, ◌++◌, length, Option, Result, Ok, Err, inl, inr, sym, ap, subst, ◌∙◌, arith}
+use Rattle.script_names.specs.declared.mark.Mark.{Mark}
+use Rattle.feature_trees.specs.declared.value.Value.{Value}
+use Rattle.dpkg_scenarios.specs.declared.scenario.Scenario.{Scenario}
+use Rattle.command_words.specs.declared.request.Request.{Request}
+use Rattle.command_words.specs.declared.request.Request.TheVariants as words
+use Rattle.checker_input.specs.declared.faults.InputRefusal.{InputRefusal}
+use Rattle.checker_input.specs.declared.package.Packages.{Packages}
+use Rattle.checker_input.specs.declared.task.Task.{Task}
+use Rattle.checker_input.specs.declared.task.Task.TheVariants as read
+use Rattle.checker_input.specs.Input.{file_name}
+use Rattle.checker_input.specs.Laws.{OneAnswer}
+use Rattle.scenario_runs.specs.declared.replayed.Replayed.{Replayed}
+use Rattle.package_jobs.specs.Written.{written_run}
+use Rattle.package_jobs.specs.StartTrees.{IsStartTree}
+use Rattle.scenario_outcomes.specs.Outcomes.{AreTraces, AreTooMany, SomeStarts}
+use Rattle.colis_checker.specs.declared.faults.Refusal.{Refusal}
+use Rattle.colis_checker.specs.declared.faults.Refusal.TheVariants.{Usage, Input, NoStart, Limit}
+use Rattle.colis_checker.specs.Reports.{chosen, CanReport, CanReportAll, IsRefused, IsFirstRefused}
+use Rattle.colis_checker.specs.Tasks.{IsTaskRefusal}
+use Rattle.colis_checker.specs.Laws.{OneRefusal}
+use Rattle.colis_checker.proofs.Refused.{can_or_refused}
+
+-- ---- a scenario
+
+-- where there are more traces than a limit, there is a start tree
+trace_start : (run : Value → Option Replayed) (start : Value → Type 0) (limit : ℕ) (traces : List (List Mark))
+    → AreTraces run start traces → limit < length traces → SomeStarts start
+trace_start run start limit [] are count = absurd (omega arith)
+trace_start run start limit (trace ∷ traces) are count = (are.0.tree, are.0.is_start)
+
+same_limit : {a b : Scenario} {m n : ℕ} → a ≡ b → m ≡ n → ◌≡◌ {A = Refusal} (Limit a m) (Limit b n)
+same_limit e f = cc
+
+module _ (packages : Packages) (turns limit : ℕ) where
+  started : (scenario : Scenario)
+      → AreTooMany (written_run scenario packages turns) (IsStartTree scenario packages) limit
+      → SomeStarts (IsStartTree scenario packages)
+  started scenario many =
+      trace_start (written_run scenario packages turns) (IsStartTree scenario packages) limit many.traces many.are many.count
+
+  refused_once : (scenario : Scenario) (one other : Refusal) → IsRefused packages turns limit scenario one
+      → IsRefused packages turns limit scenario other → one ≡ other
+  refused_once scenario (Usage word) other x y = absurd x
+  refused_once scenario (Input fault) other x y = absurd x
+  refused_once scenario (NoStart which) (Usage word) x y = absurd y
+  refused_once scenario (NoStart which) (Input fault) x y = absurd y
+  refused_once scenario (NoStart which) (NoStart that) x y = ap NoStart (x.0 ∙ sym y.0)
+  refused_once scenario (NoStart which) (Limit that most) x y = absurd (x.1 (started scenario y.2))
+  refused_once scenario (Limit which most) (Usage word) x y = absurd y
+  refused_once scenario (Limit which most) (Input fault) x y = absurd y
+  refused_once scenario (Limit which most) (NoStart that) x y = absurd (y.1 (started scenario x.2))
+  refused_once scenario (Limit which most) (Limit that least) x y = same_limit (x.0 ∙ sym y.0) (x.1 ∙ sym y.1)
+
+  -- ---- the first of scenarios
+
+  same_head : {a b : Scenario} {xs ys : List Scenario} → a ∷ xs ≡ b ∷ ys → a ≡ b
+  same_head e = cc
+
+  same_tail : {a b : Scenario} {xs ys : List Scenario} → a ∷ xs ≡ b ∷ ys → xs ≡ ys
+  same_tail e = cc
+
+  same_first : (before others : List Scenario) (one other : Scenario) (behind rest : List Scenario)
+      → before ++ one ∷ behind ≡ others ++ other ∷ rest
+      → CanReportAll packages turns limit before → CanReportAll packages turns limit others
+      → (CanReport packages turns limit one → ⊥) → (CanReport packages turns limit other → ⊥) → one ≡ other
+  same_first [] [] one other behind rest e can could one_not other_not = same_head e
+  same_first [] (b ∷ others) one other behind rest e can could one_not other_not =
+      absurd (one_not (subst (CanReport packages turns limit) (sym (same_head e)) could.0))
+  same_first (a ∷ before) [] one other behind rest e can could one_not other_not =
+      absurd (other_not (subst (CanReport packages turns limit) (same_head e) can.0))
+  same_first (a ∷ before) (b ∷ others) one other behind rest e can could one_not other_not =
+      same_first before others one other behind rest (same_tail e) can.1 could.1 one_not other_not
+
+  pub first_once : (scenarios : List Scenario) (one other : Refusal) → IsFirstRefused packages turns limit scenarios one
+      → IsFirstRefused packages turns limit scenarios other → one ≡ other
+  first_once scenarios one other x y =
+      let same = same_first x.before y.before x.scenario y.scenario x.behind y.behind (sym x.are ∙ y.are) x.earlier y.earlier
+      (λ can. can_or_refused packages turns limit x.scenario one can x.refused)
+      (λ can. can_or_refused packages turns limit y.scenario other can y.refused) in
+      refused_once y.scenario one other (subst (λ (s : Scenario). IsRefused packages turns limit s one) same x.refused) y.refused
+
+-- ---- a request
+
+task_refused_once : (request : Request) (task : Task) (one other : Refusal) → IsTaskRefusal request task one
+    → IsTaskRefusal request task other → one ≡ other
+task_refused_once (words.Check folders scenario turns limit layout) (read.Check packages) one other x y =
+    first_once packages turns limit (chosen scenario) one other x y
+task_refused_once (words.Check folders scenario turns limit layout) (read.Run packages tree) one other x y = absurd x
+task_refused_once (words.Check folders scenario turns limit layout) (read.Translate script) one other x y = absurd x
+task_refused_once (words.Run folders file scenario turns) task one other x y = absurd x
+task_refused_once (words.Translate file) task one other x y = absurd x
+
+same_task : {a b : Task} → ◌≡◌ {A = Result Task InputRefusal} (Ok a) (Ok b) → a ≡ b
+same_task e = cc
+
+same_fault : {a b : InputRefusal} → ◌≡◌ {A = Result Task InputRefusal} (Err a) (Err b) → a ≡ b
+same_fault e = cc
+
+task_or_fault : {a : Task} {fault : InputRefusal} → ◌≡◌ {A = Result Task InputRefusal} (Ok a) (Err fault) → ⊥
+task_or_fault e = cc
+
+pub one_refusal : OneAnswer → OneRefusal
+one_refusal once request files one other (inl x) (inl y) =
+    let same = same_fault (once request (λ file. files (file_name request file)) (Err x.0) (Err y.0) x.2 y.2) in
+    x.1 ∙ ap Input same ∙ sym y.1
+one_refusal once request files one other (inl x) (inr y) =
+    absurd (task_or_fault (once request (λ file. files (file_name request file)) (Ok y.0) (Err x.0) y.1 x.2))
+one_refusal once request files one other (inr x) (inl y) =
+    absurd (task_or_fault (once request (λ file. files (file_name request file)) (Ok x.0) (Err y.0) x.1 y.2))
+one_refusal once request files one other (inr x) (inr y) =
+    let same = same_task (once request (λ file. files (file_name request file)) (Ok x.0) (Ok y.0) x.1 y.1) in
+    task_refused_once request y.0 one other (subst (λ (t : Task). IsTaskRefusal request t one) same x.2) y.2

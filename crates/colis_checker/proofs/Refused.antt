@@ -1,0 +1,85 @@
+-- What is reported is not refused.
+use Rattle.std.proofs.Common.{ℕ, ◌≤◌, List, [], ◌∷◌, ◌++◌, subst, arith}
+use Rattle.dpkg_scenarios.specs.declared.scenario.Scenario.{Scenario}
+use Rattle.command_words.specs.declared.request.Request.{Request}
+use Rattle.command_words.specs.declared.request.Request.TheVariants as words
+use Rattle.checker_input.specs.declared.package.Packages.{Packages}
+use Rattle.checker_input.specs.declared.task.Task.{Task}
+use Rattle.checker_input.specs.declared.task.Task.TheVariants as read
+use Rattle.outcome_report.specs.declared.outcome_report.ReportPart.{ReportPart}
+use Rattle.colis_checker.specs.declared.faults.Refusal.{Refusal}
+use Rattle.colis_checker.specs.declared.faults.Refusal.TheVariants.{Usage, Input, NoStart, Limit}
+use Rattle.colis_checker.specs.Reports.{chosen, CanReport, CanReportAll, IsRefused, AreParts, IsFirstRefused}
+use Rattle.colis_checker.specs.Tasks.{IsTextOf, IsTaskRefusal, CanComplete, MayEnd}
+
+module _ (packages : Packages) (turns limit : ℕ) where
+  -- a scenario that can be reported is not refused
+  pub can_or_refused : (scenario : Scenario) (refusal : Refusal) → CanReport packages turns limit scenario
+      → IsRefused packages turns limit scenario refusal → ⊥
+  can_or_refused scenario (Usage word) can against = against
+  can_or_refused scenario (Input fault) can against = against
+  can_or_refused scenario (NoStart which) can against = against.1 can.starts
+  can_or_refused scenario (Limit which most) can against =
+      let many = against.2 in let few = can.few many.traces many.are many.differ in let more = many.count in omega arith
+
+  can_at : (before : List Scenario) (scenario : Scenario) (behind : List Scenario)
+      → CanReportAll packages turns limit (before ++ scenario ∷ behind) → CanReport packages turns limit scenario
+  can_at [] scenario behind can = can.0
+  can_at (first ∷ before) scenario behind can = can_at before scenario behind can.1
+
+  -- of scenarios that can be reported none is the first that is refused
+  pub none_refused : (scenarios : List Scenario) (refusal : Refusal) → CanReportAll packages turns limit scenarios
+      → IsFirstRefused packages turns limit scenarios refusal → ⊥
+  none_refused scenarios refusal can against =
+      can_or_refused against.scenario refusal (can_at against.before against.scenario against.behind (subst (CanReportAll packages turns limit) against.are can)) against.refused
+
+  -- what has its part can be reported
+  pub parts_can : (scenarios : List Scenario) (parts : List ReportPart) → AreParts packages turns limit scenarios parts
+      → CanReportAll packages turns limit scenarios
+  parts_can [] [] are = tt
+  parts_can [] (part ∷ parts) are = absurd are
+  parts_can (scenario ∷ scenarios) [] are = absurd are
+  parts_can (scenario ∷ scenarios) (part ∷ parts) are = (are.0.bounded, parts_can scenarios parts are.1)
+
+-- a task whose text was written is not refused
+pub text_or_refusal : (request : Request) (task : Task) (text : List ℕ) (status : ℕ) (refusal : Refusal)
+    → IsTextOf request task text status → IsTaskRefusal request task refusal → ⊥
+text_or_refusal (words.Check folders scenario turns limit layout) (read.Check packages) text status refusal is against =
+    none_refused packages turns limit (chosen scenario) refusal (parts_can packages turns limit (chosen scenario) is.report.parts is.parts) against
+text_or_refusal (words.Check folders scenario turns limit layout) (read.Run packages tree) text status refusal is against = against
+text_or_refusal (words.Check folders scenario turns limit layout) (read.Translate script) text status refusal is against = against
+text_or_refusal (words.Run folders file scenario turns) task text status refusal is against = against
+text_or_refusal (words.Translate file) task text status refusal is against = against
+
+-- nor is one that can be completed
+pub refusal_or_complete : (request : Request) (task : Task) (refusal : Refusal)
+    → IsTaskRefusal request task refusal → CanComplete request task → ⊥
+refusal_or_complete (words.Check folders scenario turns limit layout) (read.Check packages) refusal against can =
+    none_refused packages turns limit (chosen scenario) refusal can against
+refusal_or_complete (words.Check folders scenario turns limit layout) (read.Run packages tree) refusal against can = against
+refusal_or_complete (words.Check folders scenario turns limit layout) (read.Translate script) refusal against can = against
+refusal_or_complete (words.Run folders file scenario turns) task refusal against can = against
+refusal_or_complete (words.Translate file) task refusal against can = against
+
+pub text_small : (request : Request) (task : Task) (text : List ℕ) (status : ℕ) → IsTextOf request task text status → status ≤ 2
+text_small (words.Check folders scenario turns limit layout) (read.Check packages) text status is = is.small
+text_small (words.Check folders scenario turns limit layout) (read.Run packages tree) text status is = absurd is
+text_small (words.Check folders scenario turns limit layout) (read.Translate script) text status is = absurd is
+text_small (words.Run folders file scenario turns) (read.Check packages) text status is = absurd is
+text_small (words.Run folders file scenario turns) (read.Run packages tree) text status is = is.small
+text_small (words.Run folders file scenario turns) (read.Translate script) text status is = absurd is
+text_small (words.Translate file) (read.Check packages) text status is = absurd is
+text_small (words.Translate file) (read.Run packages tree) text status is = absurd is
+text_small (words.Translate file) (read.Translate script) text status is = let none = is.status_is in omega arith
+
+-- the status of a task's text is one with which the task may end
+pub text_ends : (request : Request) (task : Task) (text : List ℕ) (status : ℕ) → IsTextOf request task text status → MayEnd task status
+text_ends (words.Check folders scenario turns limit layout) (read.Check packages) text status is = is.small
+text_ends (words.Check folders scenario turns limit layout) (read.Run packages tree) text status is = absurd is
+text_ends (words.Check folders scenario turns limit layout) (read.Translate script) text status is = absurd is
+text_ends (words.Run folders file scenario turns) (read.Check packages) text status is = absurd is
+text_ends (words.Run folders file scenario turns) (read.Run packages tree) text status is = is.small
+text_ends (words.Run folders file scenario turns) (read.Translate script) text status is = absurd is
+text_ends (words.Translate file) (read.Check packages) text status is = absurd is
+text_ends (words.Translate file) (read.Run packages tree) text status is = absurd is
+text_ends (words.Translate file) (read.Translate script) text status is = is.status_is

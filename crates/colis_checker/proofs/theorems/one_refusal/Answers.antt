@@ -1,0 +1,5 @@
+use Rattle.colis_checker.proofs.OneRefusal.{one_refusal}
+use Rattle.colis_checker.proofs.theorems.one_refusal.Goals as goal
+
+pub returns : goal.returns
+returns c = one_refusal c.one_answer.ensures

@@ -1,0 +1,111 @@
+-- What is reported of packages: for each scenario that is chosen all ways in which it can end; or else which scenario
+-- is refused.
+use Rattle.std.specs.Prelude.{◌≡◌, ℕ, ◌≤◌, List, [], ◌∷◌, ◌++◌, Option, Some, None, Result, Ok, Err}
+use Rattle.dpkg_scenarios.specs.declared.scenario.Scenario.{Scenario}
+use Rattle.dpkg_scenarios.specs.declared.scenario.Scenario.TheVariants.{Install, InstallAgain, Upgrade, Remove}
+use Rattle.dpkg_scenarios.specs.declared.scenario.Scenario.TheVariants.{Purge, PurgeLater}
+use Rattle.command_words.specs.declared.request.Layout.{Layout}
+use Rattle.command_words.specs.declared.request.Layout.TheVariants.{Plain, Brief, Json}
+use Rattle.checker_input.specs.declared.package.Packages.{Packages}
+use Rattle.package_jobs.specs.Written.{written_run}
+use Rattle.package_jobs.specs.StartTrees.{IsStartTree}
+use Rattle.scenario_outcomes.specs.Outcomes.{SomeStarts, AreFew, AreTooMany}
+use Rattle.outcome_report.specs.declared.outcome_report.ReportPart.{ReportPart}
+use Rattle.outcome_report.specs.declared.outcome_report.Report.{Report}
+use Rattle.outcome_report.specs.OutcomeReport.{IsPart, verdict_of}
+use Rattle.outcome_report.specs.ReportText.{report_text}
+use Rattle.outcome_report.specs.BriefText.{brief_text}
+use Rattle.report_json.specs.ReportJson.{json_text}
+use Rattle.colis_checker.specs.declared.faults.Refusal.{Refusal}
+use Rattle.colis_checker.specs.declared.faults.Refusal.TheVariants.{Usage, Input, NoStart, Limit}
+use Rattle.colis_checker.specs.declared.faults.TaskFault.{TaskFault}
+use Rattle.colis_checker.specs.declared.faults.TaskFault.TheVariants.{Refused, Memory}
+use Rattle.colis_checker.specs.declared.written.Written.{Written}
+
+-- the scenarios that are chosen: one, or else all, in the order of the tables
+abbrev pub chosen : Option Scenario → List Scenario
+chosen (Some scenario) = scenario ∷ []
+chosen None = Install ∷ InstallAgain ∷ Upgrade ∷ Remove ∷ Purge ∷ PurgeLater ∷ []
+
+-- the text of a report in a layout
+abbrev pub layout_text : Layout → Report → List ℕ
+layout_text Plain report = report_text report
+layout_text Brief report = brief_text report
+layout_text Json report = json_text report
+
+-- Packages are checked, with so many turns of loops in a run, and so many different traces at most in a scenario.
+module _ (packages : Packages) (turns limit : ℕ) where
+  -- ---- a scenario
+
+  -- the scenario can be reported: there is a start tree, and the runs from all of them have no more different traces
+  -- than the limit
+  pub record CanReport (scenario : Scenario) : Type 0 where
+    pub starts : SomeStarts (IsStartTree scenario packages)
+    pub few : AreFew (written_run scenario packages turns) (IsStartTree scenario packages) limit
+
+  -- the part of a report has all ways in which the scenario's run can end
+  pub record IsPartOf (scenario : Scenario) (part : ReportPart) : Type 0 where
+    pub of_scenario : part.scenario ≡ scenario
+    pub exact : IsPart (written_run scenario packages turns) (IsStartTree scenario packages) part
+    pub bounded : CanReport scenario
+
+  -- why the scenario is refused: there is no start tree, or the runs from the start trees have more different traces
+  -- than the limit
+  abbrev pub IsRefused : Scenario → Refusal → Type 0
+  IsRefused scenario (Usage word) = ⊥
+  IsRefused scenario (Input fault) = ⊥
+  IsRefused scenario (NoStart which) = (which ≡ scenario) × ¬ (SomeStarts (IsStartTree scenario packages))
+  IsRefused scenario (Limit which most) =
+      (which ≡ scenario) × (most ≡ limit)
+      × AreTooMany (written_run scenario packages turns) (IsStartTree scenario packages) limit
+
+  -- ---- scenarios
+
+  -- each can be reported
+  abbrev pub CanReportAll : List Scenario → Type 0
+  CanReportAll [] = Unit {0}
+  CanReportAll (scenario ∷ scenarios) = CanReport scenario × CanReportAll scenarios
+
+  -- a report has one part for each, in order
+  abbrev pub AreParts : List Scenario → List ReportPart → Type 0
+  AreParts [] [] = Unit {0}
+  AreParts [] (part ∷ parts) = ⊥
+  AreParts (scenario ∷ scenarios) [] = ⊥
+  AreParts (scenario ∷ scenarios) (part ∷ parts) = IsPartOf scenario part × AreParts scenarios parts
+
+  -- the first of them that cannot be reported is refused so
+  pub record IsFirstRefused (scenarios : List Scenario) (refusal : Refusal) : Type 0 where
+    pub before : List Scenario
+    pub scenario : Scenario
+    pub behind : List Scenario
+    pub are : scenarios ≡ before ++ scenario ∷ behind
+    pub earlier : CanReportAll before
+    pub refused : IsRefused scenario refusal
+
+  -- the text is that of a report on them, and the status is its verdict
+  pub record IsReportOf (scenarios : List Scenario) (layout : Layout) (text : List ℕ) (status : ℕ) : Type 0 where
+    pub report : Report
+    pub parts : AreParts scenarios report.parts
+    pub text_is : text ≡ layout_text layout report
+    pub status_is : status ≡ verdict_of report
+    pub small : status ≤ 2
+
+  -- ---- what the code answers
+
+  -- the part of a scenario, or its refusal, or want of memory
+  abbrev pub PartGives : Scenario → Result ReportPart TaskFault → Type 0
+  PartGives scenario (Ok part) = IsPartOf scenario part
+  PartGives scenario (Err (Refused refusal)) = IsRefused scenario refusal
+  PartGives scenario (Err Memory) = Unit {0}
+
+  -- the parts of scenarios, or the refusal of the first that has none, or want of memory
+  abbrev pub PartsGive : List Scenario → Result Report TaskFault → Type 0
+  PartsGive scenarios (Ok report) = AreParts scenarios report.parts
+  PartsGive scenarios (Err (Refused refusal)) = IsFirstRefused scenarios refusal
+  PartsGive scenarios (Err Memory) = Unit {0}
+
+  -- the same for the text of the report
+  abbrev pub ReportGives : List Scenario → Layout → Result Written TaskFault → Type 0
+  ReportGives scenarios layout (Ok written) = IsReportOf scenarios layout written.text written.status
+  ReportGives scenarios layout (Err (Refused refusal)) = IsFirstRefused scenarios refusal
+  ReportGives scenarios layout (Err Memory) = Unit {0}

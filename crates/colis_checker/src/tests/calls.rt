@@ -1,0 +1,301 @@
+//! Whole calls: reports on packages, runs, and a program.
+
+use super::{File, QUIET, Wanted, call, see};
+use std::test::Fail;
+
+// A package that asks one question, and a base that says nothing.
+const QUESTION: &[File<'static>] = &[
+    ("p/list", b"/.\n"),
+    ("p/postinst", b"#!/bin/sh\nset -e\n[ -d /a ]\n"),
+    ("b", b""),
+];
+
+// Its report: a link is not followed, nothing and a file are no directory, and a directory is one.
+const REPORT: &[u8] = b"colis report 1\nscenario install outcomes 3\n\
+    outcome 1 incomplete link 3:17\ntrace 3:17:65\nconfirmed yes\ncall new postinst configure \\e ended\n\
+    clause start v0 now v0\nkind v0 dir\nentry v0 a v1\nkind v1 link\nshown\nl /a x\nafter\nl /a x\n\
+    outcome 2 failed Half-Configured\ntrace 3:17:66\nconfirmed yes\ncall new postinst configure \\e failed\n\
+    clause start v0 now v0\nkind v0 dir\nentry v0 a v1\nkind v1 absent,reg,other\nshown\nf /a\nafter\nf /a\n\
+    outcome 3 done Installed\ntrace 3:17:67\nconfirmed yes\ncall new postinst configure \\e ok\n\
+    clause start v0 now v0\nkind v0 dir\nentry v0 a v1\nkind v1 dir\nshown\nd /a\nafter\nd /a\n\
+    place incomplete 3:17 1\nplace failed 3:17 1\nverdict 1\n";
+
+// The same as JSON.
+const REPORT_AS_JSON: &[u8] = b"{\"colis\":1,\"scenarios\":[{\"name\":\"install\",\"outcomes\":[\
+    {\"after\":[\"l /a x\"],\"calls\":[\"call new postinst configure \\\\e ended\"],\
+    \"clause\":{\"literals\":[\"kind v0 dir\",\"entry v0 a v1\",\"kind v1 link\"],\"now\":0,\"start\":0},\
+    \"confirmed\":true,\"number\":1,\"result\":\"incomplete link 3:17\",\"shown\":[\"l /a x\"],\
+    \"trace\":\"3:17:65\"},\
+    {\"after\":[\"f /a\"],\"calls\":[\"call new postinst configure \\\\e failed\"],\
+    \"clause\":{\"literals\":[\"kind v0 dir\",\"entry v0 a v1\",\"kind v1 absent,reg,other\"],\"now\":0,\"start\":0},\
+    \"confirmed\":true,\"number\":2,\"result\":\"failed Half-Configured\",\"shown\":[\"f /a\"],\
+    \"trace\":\"3:17:66\"},\
+    {\"after\":[\"d /a\"],\"calls\":[\"call new postinst configure \\\\e ok\"],\
+    \"clause\":{\"literals\":[\"kind v0 dir\",\"entry v0 a v1\",\"kind v1 dir\"],\"now\":0,\"start\":0},\
+    \"confirmed\":true,\"number\":3,\"result\":\"done Installed\",\"shown\":[\"d /a\"],\
+    \"trace\":\"3:17:67\"}]}],\"verdict\":1}\n";
+
+// The words, the files, and what has to come of the call.
+const CALLS: &[(&[&str], &[File<'static>], Wanted<'static>)] = &[
+    // A package of nothing.
+    (
+        &["check", "p", "--brief"],
+        &[("p/list", b"/.\n")],
+        (
+            0,
+            b"colis brief 1\nscenario install outcomes 1\noutcome 1 done Installed\ntrace\n\
+            scenario install-again outcomes 1\noutcome 1 done Installed\ntrace\n\
+            scenario upgrade outcomes 1\noutcome 1 done Installed\ntrace\n\
+            scenario remove outcomes 1\noutcome 1 done Not-Installed\ntrace\n\
+            scenario purge outcomes 1\noutcome 1 done Not-Installed\ntrace\n\
+            scenario purge-later outcomes 1\noutcome 1 done Not-Installed\ntrace\nverdict 0\n",
+            b"",
+        ),
+    ),
+    // A whole report, for people and for programs.
+    (
+        &["check", "p", "--base", "b", "--scenario", "install"],
+        QUESTION,
+        (1, REPORT, b""),
+    ),
+    (
+        &[
+            "check",
+            "p",
+            "--base",
+            "b",
+            "--scenario",
+            "install",
+            "--json",
+        ],
+        QUESTION,
+        (1, REPORT_AS_JSON, b""),
+    ),
+    // A word that is split (POSIX.1-2017, XCU 2.6.5), and one that is quoted.
+    (
+        &["run", "p", "--scenario", "install", "--tree", "t"],
+        &[
+            ("p/list", b"/.\n"),
+            ("t", b"d /srv\n"),
+            (
+                "p/postinst",
+                b"#!/bin/sh\nset -e\nx=$(echo a b)\nfor i in $x \"$x\"; do\n  touch \"/srv/$i\"\ndone\n",
+            ),
+        ],
+        (
+            0,
+            b"result done Installed\ntrace 3:54:67 3:54:67 3:54:67\ncall new postinst configure \\e ok\nafter\nd /srv\n\
+            f /srv/a\nf /srv/a\\x20b\nf /srv/b\n",
+            b"",
+        ),
+    ),
+    // A loop that is left with the last turn.
+    (
+        &[
+            "check",
+            "p",
+            "--turns",
+            "1",
+            "--brief",
+            "--scenario",
+            "install",
+        ],
+        &[
+            ("p/list", b"/.\n"),
+            (
+                "p/postinst",
+                b"#!/bin/sh\nwhile [ -e /srv/a ]; do :; done\n",
+            ),
+        ],
+        (
+            2,
+            b"colis brief 1\nscenario install outcomes 3\noutcome 1 incomplete link 3:16\ntrace 3:16:65\n\
+            outcome 2 done Installed\ntrace 3:16:66\noutcome 3 bound 3:10\ntrace 3:16:67 3:16:67\nverdict 2\n",
+            b"",
+        ),
+    ),
+    // An upgrade in which the old prerm fails and the new one goes on in its place (Debian Policy, 6.6).
+    (
+        &[
+            "run",
+            "p",
+            "--old",
+            "o",
+            "--scenario",
+            "upgrade",
+            "--tree",
+            "t",
+        ],
+        &[
+            ("p/control", b"Version: 2\n"),
+            ("p/list", b"/.\n"),
+            ("p/prerm", b"#!/bin/sh\n[ \"$1\" = failed-upgrade ]\n"),
+            ("o/control", b"Version: 1\n"),
+            ("o/list", b"/.\n"),
+            ("o/prerm", b"#!/bin/sh\nexit 1\n"),
+            ("t", b""),
+        ],
+        (
+            0,
+            b"result done Installed\ntrace\ncall old prerm upgrade 2 failed\ncall new prerm failed-upgrade 1 2 ok\n\
+            after\n",
+            b"",
+        ),
+    ),
+    // It fails, and so does the old postinst behind it.
+    (
+        &[
+            "run",
+            "p",
+            "--old",
+            "o",
+            "--scenario",
+            "upgrade",
+            "--tree",
+            "t",
+        ],
+        &[
+            ("p/control", b"Version: 2\n"),
+            ("p/list", b"/.\n"),
+            ("p/prerm", b"#!/bin/sh\nexit 1\n"),
+            ("o/control", b"Version: 1\n"),
+            ("o/list", b"/.\n"),
+            ("o/prerm", b"#!/bin/sh\nexit 1\n"),
+            ("o/postinst", b"#!/bin/sh\nexit 1\n"),
+            ("t", b""),
+        ],
+        (
+            1,
+            b"result failed Half-Configured\ntrace\ncall old prerm upgrade 2 failed\n\
+            call new prerm failed-upgrade 1 2 failed\ncall old postinst abort-upgrade 2 failed\nafter\n",
+            b"",
+        ),
+    ),
+    // A directory goes with the last of its files.
+    (
+        &["check", "p", "--scenario", "purge", "--brief"],
+        &[
+            ("p/list", b"/.\n/etc\n/etc/foo\n/etc/foo/a.conf\n"),
+            ("p/conffiles", b"/etc/foo/a.conf\n"),
+        ],
+        (
+            0,
+            b"colis brief 1\nscenario purge outcomes 3\noutcome 1 done Not-Installed\ntrace 2:0:67 4:0:68 4:1:67\n\
+            outcome 2 done Not-Installed\ntrace 2:0:67 4:0:68 4:1:68\noutcome 3 done Not-Installed\n\
+            trace 2:0:68 4:0:66 4:1:66\nverdict 0\n",
+            b"",
+        ),
+    ),
+    // Files are placed; the usual base has it that they fit.
+    (
+        &["check", "p", "--scenario", "install", "--brief"],
+        &[
+            ("p/list", b"/.\n/etc\n/etc/foo\n/etc/foo/a.conf\n"),
+            ("p/conffiles", b"/etc/foo/a.conf\n"),
+        ],
+        (
+            0,
+            b"colis brief 1\nscenario install outcomes 1\noutcome 1 done Installed\ntrace 2:0:68 2:1:68 2:2:68\nverdict 0\n",
+            b"",
+        ),
+    ),
+    // Another base does not.
+    (
+        &[
+            "check",
+            "p",
+            "--scenario",
+            "install",
+            "--brief",
+            "--base",
+            "b",
+        ],
+        &[
+            ("p/list", b"/.\n/etc\n/etc/foo\n/etc/foo/a.conf\n"),
+            ("p/conffiles", b"/etc/foo/a.conf\n"),
+            ("b", b"dir /etc\n"),
+        ],
+        (
+            2,
+            b"colis brief 1\nscenario install outcomes 5\noutcome 1 incomplete link 2:1\ntrace 2:0:68 2:1:65\n\
+            outcome 2 incomplete restore 2:1\ntrace 2:0:68 2:1:67\noutcome 3 incomplete restore 2:2\n\
+            trace 2:0:68 2:1:68 2:2:67\noutcome 4 done Installed\ntrace 2:0:68 2:1:68 2:2:68\n\
+            outcome 5 incomplete conffile 2:2\ntrace 2:0:68 2:1:68 2:2:69\nverdict 2\n",
+            b"",
+        ),
+    ),
+    // A subshell leaves the tree changed, and the variables as they were (POSIX.1-2017, XCU 2.12).
+    (
+        &["run", "p", "--scenario=install", "--tree=t"],
+        &[
+            ("p/list", b"/.\n"),
+            ("t", b"d /srv\n"),
+            (
+                "p/postinst",
+                b"#!/bin/sh\nset -e\n(x=1; touch /srv/a)\n[ -z \"$x\" ]\n[ -f /srv/a ]\n",
+            ),
+        ],
+        (
+            0,
+            b"result done Installed\ntrace 3:23:67 3:49:67\ncall new postinst configure \\e ok\nafter\nd /srv\nf /srv/a\n",
+            b"",
+        ),
+    ),
+    // `&&` and `||` from left to right (POSIX.1-2017, XCU 2.9.3).
+    (
+        &["run", "p", "--scenario", "install", "--tree", "t"],
+        &[
+            ("p/list", b"/.\n"),
+            ("t", b"d /srv\n"),
+            ("p/postinst", b"#!/bin/sh\nfalse && true || touch /srv/b\n"),
+        ],
+        (
+            0,
+            b"result done Installed\ntrace 3:27:67\ncall new postinst configure \\e ok\nafter\nd /srv\nf /srv/b\n",
+            b"",
+        ),
+    ),
+    (
+        &["translate", "s"],
+        &[("s", b"#!/bin/sh\nset -e\ntest -d /etc || mkdir /etc\n")],
+        (
+            0,
+            b"(program lax (seq (strict) (chain (call 17 (word (p =test)) (word (p =-d)) (word (p =/etc))) \
+            (or (call 33 (word (p =mkdir)) (word (p =/etc)))))))\n",
+            b"",
+        ),
+    ),
+];
+
+#[test]
+fn calls_that_are_answered(rt: HostRuntime) -> Result<(), Fail> {
+    for row in CALLS {
+        let ended = call(rt.alloc(), row.0, row.1, QUIET)?;
+        see(&rt, &ended, row.2)?;
+    }
+    Ok(())
+}
+
+// The first bytes of a report in each layout.
+#[test]
+fn layouts(rt: HostRuntime) -> Result<(), Fail> {
+    let rows: [(&[&str], &[u8]); 3] = [
+        (
+            &["check", "p"],
+            b"colis report 1\nscenario install outcomes 1\n",
+        ),
+        (
+            &["check", "p", "--brief"],
+            b"colis brief 1\nscenario install outcomes 1\n",
+        ),
+        (
+            &["check", "--json", "p"],
+            b"{\"colis\":1,\"scenarios\":[{\"name\":\"install\",",
+        ),
+    ];
+    for row in rows {
+        let ended = call(rt.alloc(), row.0, &[("p/list", b"/.\n")], QUIET)?;
+        assert!(rt; ended.status == 0 && ended.out.as_slice().starts_with(row.1));
+    }
+    Ok(())
+}

@@ -1,0 +1,217 @@
+//! The ways in which one script can end, which is the postinst of a package that is installed and lists nothing.
+
+use super::{File, QUIET, call, see};
+use script_names::{Bytes, Memory};
+use std::alloc::Global;
+use std::test::Fail;
+
+const INSTALL: &[&str] = &["check", "p", "--scenario", "install", "--brief"];
+
+// The lines behind a script's first two, `#!/bin/sh` and `set -e`, and what is reported, from the number of outcomes on.
+const STRICT: &[(&[u8], u8, &[u8])] = &[
+    // The base says that the directory is there.
+    (
+        b"test -d /etc\n",
+        0,
+        b"1\noutcome 1 done Installed\ntrace 3:17:67\nverdict 0\n",
+    ),
+    (
+        b"[ -e /srv/a ] || mkdir /srv/a\n",
+        2,
+        b"3\noutcome 1 incomplete link 3:17\ntrace 3:17:65\noutcome 2 done Installed\ntrace 3:17:66 3:34:68\n\
+        outcome 3 done Installed\ntrace 3:17:67\nverdict 2\n",
+    ),
+    (
+        b"mkdir /srv/a/b\n",
+        1,
+        b"4\noutcome 1 incomplete link 3:17\ntrace 3:17:2\noutcome 2 failed Half-Configured\ntrace 3:17:66\n\
+        outcome 3 failed Half-Configured\ntrace 3:17:67\noutcome 4 done Installed\ntrace 3:17:68\nverdict 1\n",
+    ),
+    // A directory in which something was made is not empty.
+    (
+        b"touch /srv/a\nrmdir /srv\n",
+        1,
+        b"3\noutcome 1 incomplete link 3:17\ntrace 3:17:65\noutcome 2 failed Half-Configured\ntrace 3:17:67 3:30:67\n\
+        outcome 3 failed Half-Configured\ntrace 3:17:68 3:30:67\nverdict 1\n",
+    ),
+    (
+        b"rm -f /srv/d/x\nrmdir /srv/d\n",
+        1,
+        b"5\noutcome 1 incomplete link 3:17\ntrace 3:17:2\noutcome 2 failed Half-Configured\ntrace 3:17:67\n\
+        outcome 3 failed Half-Configured\ntrace 3:17:70 3:32:66\noutcome 4 failed Half-Configured\n\
+        trace 3:17:71 3:32:67\noutcome 5 done Installed\ntrace 3:17:71 3:32:68\nverdict 1\n",
+    ),
+    // Two paths of which one is part of the other, or that are the same.
+    (
+        b"mv /srv/a /srv/a/b\n",
+        1,
+        b"3\noutcome 1 incomplete link 3:17\ntrace 3:17:65\noutcome 2 failed Half-Configured\ntrace 3:17:66\n\
+        outcome 3 incomplete link 3:17\ntrace 3:17:130\nverdict 1\n",
+    ),
+    (
+        b"mv /srv/a /srv/a\n",
+        2,
+        b"1\noutcome 1 incomplete same 3:17\ntrace\nverdict 2\n",
+    ),
+    (
+        b"mv /srv/a/b /srv/a\n",
+        2,
+        b"1\noutcome 1 incomplete same 3:17\ntrace\nverdict 2\n",
+    ),
+    (
+        b"mv /srv/a/a /srv\n",
+        1,
+        b"4\noutcome 1 incomplete link 3:17\ntrace 3:17:2\noutcome 2 failed Half-Configured\ntrace 3:17:66\n\
+        outcome 3 failed Half-Configured\ntrace 3:17:72\noutcome 4 failed Half-Configured\ntrace 3:17:75\nverdict 1\n",
+    ),
+    // Failures that `set -e` passes over (POSIX.1-2017, XCU 2.14, set).
+    (
+        b"if false; then :; fi\nfalse || true\n! true\nfalse\n",
+        1,
+        b"1\noutcome 1 failed Half-Configured\ntrace\nverdict 1\n",
+    ),
+    // The usual template of a maintainer script.
+    (
+        b"case \"$1\" in\n  configure)\n    mkdir -p /var/lib/foo\n  ;;\n  \
+        abort-upgrade|abort-remove|abort-deconfigure)\n  ;;\n  *)\n    \
+        echo \"postinst called with unknown argument \\`$1'\" >&2\n    exit 1\n  ;;\nesac\nexit 0\n",
+        1,
+        b"3\noutcome 1 incomplete link 3:47\ntrace 3:47:68 3:47:68 3:47:65\noutcome 2 failed Half-Configured\n\
+        trace 3:47:68 3:47:68 3:47:67\noutcome 3 done Installed\ntrace 3:47:68 3:47:68 3:47:68\nverdict 1\n",
+    ),
+    // What no standard specifies.
+    (
+        b"update-rc.d foo defaults >/dev/null\n",
+        2,
+        b"1\noutcome 1 incomplete call 3:17\ntrace\nverdict 2\n",
+    ),
+    (
+        b"echo a | cat\n",
+        2,
+        b"1\noutcome 1 incomplete pipe 3:17\ntrace\nverdict 2\n",
+    ),
+    (
+        b"echo \"$PWD\"\n",
+        2,
+        b"1\noutcome 1 incomplete call 3:17\ntrace\nverdict 2\n",
+    ),
+    (
+        b"rm -rf /var/lib/foo/\n",
+        2,
+        b"2\noutcome 1 incomplete slash 3:17\ntrace 3:17:64\noutcome 2 done Installed\ntrace 3:17:72\nverdict 2\n",
+    ),
+];
+
+// Two texts, one behind the other.
+fn joined(alloc: Global, first: &[u8], second: &[u8]) -> Result<Bytes, Memory> {
+    let mut text = Bytes::new(alloc);
+    text.extend(first)?;
+    text.extend(second)?;
+    Ok(text)
+}
+
+#[test]
+fn scripts_that_are_strict(rt: HostRuntime) -> Result<(), Fail> {
+    let alloc = rt.alloc();
+    for row in STRICT {
+        let script = joined(alloc, b"#!/bin/sh\nset -e\n", row.0)?;
+        let out = joined(alloc, b"colis brief 1\nscenario install outcomes ", row.2)?;
+        let files: [File<'_>; 2] = [("p/list", b"/.\n"), ("p/postinst", script.as_slice())];
+        let ended = call(alloc, INSTALL, &files, QUIET)?;
+        see(&rt, &ended, (row.1, out.as_slice(), b""))?;
+    }
+    Ok(())
+}
+
+// A script that is refused, and what the one line on standard error says of it.
+const REFUSED: &[(&[u8], &[u8])] = &[
+    (b"", b"interpreter not accepted\n"),
+    (b"#!/bin/zsh\0\n", b"NUL byte at 10\n"),
+    (b"#!/bin/sh\necho 'a\n", b"open quote at 15\n"),
+    (b"#!/bin/sh\nx=$(true\n", b"open substitution at 12\n"),
+    (
+        b"#!/bin/sh\ncat <<EOF\nx\nEOF\n",
+        b"unsupported heredoc at 14\n",
+    ),
+    (b"#!/bin/sh\nx=$((1))\n", b"unsupported arith at 12\n"),
+    (b"#!/bin/sh\ntrue &\n", b"unsupported background at 15\n"),
+    (b"#!/bin/sh\nx=`a`\n", b"unsupported backquote at 12\n"),
+    (b"#!/bin/sh\necho ${x%a}\n", b"unsupported param at 15\n"),
+    (b"#!/bin/sh\necho $@\n", b"unsupported all-args at 15\n"),
+    (b"#!/bin/sh\necho >x\n", b"unsupported redirect at 15\n"),
+    (b"#!/bin/sh\necho ~\n", b"unsupported tilde at 15\n"),
+    (b"#!/bin/sh\necho {a,b}\n", b"unsupported brace at 15\n"),
+    (
+        b"#!/bin/sh\necho $(case)\n",
+        b"unsupported subst-case at 17\n",
+    ),
+    (b"#!/bin/sh\nfi\n", b"syntax at 10\n"),
+    (b"#!/bin/sh\nset -u\n", b"unsupported option at 10\n"),
+    (b"#!/bin/sh\nIFS=x\n", b"unsupported ifs at 10\n"),
+    (b"#!/bin/sh\nx=1 set -e\n", b"unsupported prefix at 10\n"),
+    (b"#!/bin/sh\nexport $x\n", b"unsupported export at 10\n"),
+    (b"#!/bin/sh\nbreak\n", b"unsupported loop-exit at 10\n"),
+    (b"#!/bin/sh\nreturn\n", b"unsupported return at 10\n"),
+    (
+        b"#!/bin/sh\ntrue && f() { true; }\n",
+        b"unsupported function-place at 18\n",
+    ),
+    (
+        b"#!/bin/sh\nf() { true; }; f() { true; }\n",
+        b"unsupported function-twice at 25\n",
+    ),
+    (
+        b"#!/bin/sh\nrm() { true; }\n",
+        b"unsupported function-name at 10\n",
+    ),
+    (
+        b"#!/bin/sh\nf() { f; }\n",
+        b"unsupported call-order at 16\n",
+    ),
+];
+
+#[test]
+fn scripts_that_are_refused(rt: HostRuntime) -> Result<(), Fail> {
+    let alloc = rt.alloc();
+    for row in REFUSED {
+        let err = joined(alloc, b"colis: p/postinst: ", row.1)?;
+        let files: [File<'_>; 2] = [("p/list", b"/.\n"), ("p/postinst", row.0)];
+        let ended = call(alloc, INSTALL, &files, QUIET)?;
+        see(&rt, &ended, (3, b"", err.as_slice()))?;
+    }
+    Ok(())
+}
+
+// The script that touches a file whose name has so many bytes.
+fn touching(alloc: Global, bytes: u32) -> Result<Bytes, Memory> {
+    let mut script = joined(alloc, b"#!/bin/sh\ntouch ", b"/srv/")?;
+    for _ in 0..bytes {
+        script.push(b'a')?;
+    }
+    script.push(b'\n')?;
+    Ok(script)
+}
+
+// A name has at most 255 bytes.
+#[test]
+fn long_names(rt: HostRuntime) -> Result<(), Fail> {
+    let alloc = rt.alloc();
+    let rows: [(u32, &[u8]); 2] = [
+        (
+            256,
+            b"colis brief 1\nscenario install outcomes 1\noutcome 1 incomplete long 3:10\ntrace\nverdict 2\n",
+        ),
+        (
+            255,
+            b"colis brief 1\nscenario install outcomes 3\noutcome 1 incomplete link 3:10\ntrace 3:10:65\n\
+            outcome 2 done Installed\ntrace 3:10:67\noutcome 3 done Installed\ntrace 3:10:68\nverdict 2\n",
+        ),
+    ];
+    for row in rows {
+        let script = touching(alloc, row.0)?;
+        let files: [File<'_>; 2] = [("p/list", b"/.\n"), ("p/postinst", script.as_slice())];
+        let ended = call(alloc, INSTALL, &files, QUIET)?;
+        see(&rt, &ended, (2, row.1, b""))?;
+    }
+    Ok(())
+}

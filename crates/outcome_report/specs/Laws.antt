@@ -1,0 +1,50 @@
+-- What holds of parts of a report and of brief texts, whatever the outcomes are.
+use Rattle.std.specs.Prelude.{◌≡◌, ℕ, suc, List, [], ◌∷◌, map, Option, Result}
+use Rattle.script_names.specs.declared.mark.Mark.{Mark}
+use Rattle.feature_trees.specs.declared.value.Value.{Value}
+use Rattle.dpkg_scenarios.specs.declared.scenario.Ending.{Ending}
+use Rattle.dpkg_scenarios.specs.declared.scenario.Scenario.{Scenario}
+use Rattle.scenario_runs.specs.declared.replayed.Replayed.{Replayed}
+use Rattle.scenario_outcomes.specs.declared.outcome.OutcomesFault.{OutcomesFault}
+use Rattle.scenario_outcomes.specs.Laws.{AreSame}
+use Rattle.outcome_report.specs.declared.outcome_report.ReportEntry.{ReportEntry}
+use Rattle.outcome_report.specs.declared.outcome_report.ReportPart.{ReportPart}
+use Rattle.outcome_report.specs.declared.outcome_report.Report.{Report}
+use Rattle.outcome_report.specs.OutcomeReport.{PartAnswers}
+use Rattle.outcome_report.specs.BriefText.{brief_text}
+
+-- ---- parts do not depend on how runs and start trees are said
+
+-- each answer for the one is an answer for the other, where both are the same
+abbrev pub PartsCarryOver :
+    (Value → Option Replayed) → (Value → Option Replayed) → (Value → Type 0) → (Value → Type 0) → Type 0
+PartsCarryOver run other start from =
+    AreSame run other start from → (limit : ℕ) (result : Result ReportPart OutcomesFault)
+    → PartAnswers run start limit result
+    → PartAnswers other from limit result
+
+-- ---- endings and traces tell the brief text
+
+-- the outcomes are numbered from this number on
+abbrev pub AreNumbered : ℕ → List ReportEntry → Type 0
+AreNumbered n [] = Unit {0}
+AreNumbered n (entry ∷ entries) = (entry.outcome.number ≡ n) × AreNumbered (suc n) entries
+
+-- in each part they are numbered from 1 on
+abbrev pub AllNumbered : List ReportPart → Type 0
+AllNumbered [] = Unit {0}
+AllNumbered (part ∷ parts) = AreNumbered 1 part.entries × AllNumbered parts
+
+-- how an outcome ends, and its acts
+abbrev pub ending_and_trace : ReportEntry → Ending × List Mark
+ending_and_trace entry = (entry.outcome.ending, entry.outcome.trace)
+
+-- a scenario, and how its outcomes end
+abbrev pub scenario_and_endings : ReportPart → Scenario × List (Ending × List Mark)
+scenario_and_endings part = (part.scenario, map ending_and_trace part.entries)
+
+-- reports on the same scenarios, whose outcomes have the same endings and traces, have one brief text
+abbrev pub EndingsTellBriefTexts : Type 0
+EndingsTellBriefTexts = (a b : Report) → AllNumbered a.parts → AllNumbered b.parts
+    → map scenario_and_endings a.parts ≡ map scenario_and_endings b.parts
+    → brief_text a ≡ brief_text b

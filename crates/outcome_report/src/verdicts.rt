@@ -1,0 +1,58 @@
+ghost use Rattle.std.specs.Prelude.{◌≡◌};
+ghost use Rattle.outcome_report.specs.OutcomeReport.{ending_verdict, part_has, report_has, verdict_of};
+
+use crate::outcome_report::{Report, ReportPart};
+use dpkg_scenarios::Ending;
+use scenario_runs::Replayed;
+
+// What an ending alone makes of the verdict.
+fn ending_verdict(ending: Ending) -> u8
+    ensures { result ≡ ending_verdict ending }
+{
+    match ending {
+        Ending::Done(_) => 0,
+        Ending::Failed(_) => 1,
+        Ending::Incomplete(_, _) | Ending::Bound(_) => 2,
+    }
+}
+
+// Whether an outcome of the part makes this of the verdict.
+fn part_has(part: &ReportPart, verdict: u8) -> bool
+    ensures { result ≡ part_has verdict part.now }
+{
+    part.entries
+        .as_slice()
+        .iter()
+        .any(|entry| ending_verdict(entry.outcome.ending) == verdict)
+}
+
+// Whether an outcome of the report does.
+fn report_has(report: &Report, verdict: u8) -> bool
+    ensures { result ≡ report_has verdict report.now }
+{
+    report
+        .parts
+        .as_slice()
+        .iter()
+        .any(|part| part_has(part, verdict))
+}
+
+/// The verdict of a report: 1 where some outcome is failed, else 2 where some is incomplete or bound, else 0.
+pub fn verdict(report: &Report) -> u8
+    ensures { result ≡ verdict_of report.now }
+{
+    if report_has(report, 1) {
+        1
+    } else if report_has(report, 2) {
+        2
+    } else {
+        0
+    }
+}
+
+/// The status of a run: 0 where it is done, 1 where it failed, 2 where it is incomplete or bound.
+pub fn run_status(replayed: &Replayed) -> u8
+    ensures { result ≡ ending_verdict replayed.now.ending }
+{
+    ending_verdict(replayed.ending)
+}

@@ -1,2 +1,0 @@
-pub mod PackageFiles
-pub mod JobRun

@@ -1,0 +1,3 @@
+mod NeedByNeed
+mod Plans
+mod WrittenTurns

@@ -1,0 +1,209 @@
+-- What is needed, need by need, is what a start tree has.
+use Rattle.std.proofs.Common.{◌≡◌, ◌≢◌, ◌⊎◌, ◌↔◌, ℕ, Bool, true, false, List, [], ◌∷◌, ◌++◌, All, inl, inr, refl, sym, ap, subst, ◌∙◌}
+use Rattle.std.specs.Prelude.{IsTrue, not, if◌then◌else◌}
+use Rattle.std.specs.List.{flat_map, list_any}
+use Rattle.std.proofs.lemmas.List.{append_assoc}
+use Rattle.std.proofs.lemmas.List.Elements.{All-nil, All-cons, All-head, All-tail}
+use Rattle.feature_trees.specs.declared.value.Value.{Value}
+use Rattle.script_names.specs.Paths.{PathParts}
+use Rattle.feature_trees.specs.declared.kind.Kind.{Kind}
+use Rattle.feature_trees.specs.declared.kind.Kinds.{Kinds}
+use Rattle.feature_trees.specs.declared.kind.Kind.TheVariants.{Absent, Reg, Link, Other, Dir}
+use Rattle.feature_trees.specs.Kinds.{has, of}
+use Rattle.feature_trees.specs.Tree.{at, kind_of}
+use Rattle.utility_calls.specs.Sights.{but, two}
+use Rattle.start_trees.specs.declared.need.Need.{Need}
+use Rattle.start_trees.specs.Needs.{MeetsNeeds, IsStart}
+use Rattle.dpkg_scenarios.specs.declared.scenario.Scenario.{Scenario}
+use Rattle.dpkg_scenarios.specs.declared.scenario.Scenario.TheVariants as scenario
+use Rattle.package_lists.specs.declared.base.BaseLine.{BaseLine}
+use Rattle.package_lists.specs.declared.base.BaseLine.TheVariants as base
+use Rattle.package_lists.specs.declared.kind.EntryKind.{EntryKind}
+use Rattle.package_lists.specs.declared.kind.EntryKind.TheVariants.{Folder, File, Conf, LinkTo}
+use Rattle.package_lists.specs.Entries.{EntryParts, is_any, has_at}
+use Rattle.package_lists.specs.Paths.{Paths, path_text, plain_path}
+use Rattle.checker_input.specs.declared.package.Packages.{Packages}
+use Rattle.package_jobs.specs.declared.needs.Asked.{Asked}
+use Rattle.package_jobs.specs.declared.needs.Asked.TheVariants.{Placed, KeptConf, Fit}
+use Rattle.package_jobs.specs.Sides.{old_of}
+use Rattle.package_jobs.specs.StartTrees.{Entries, MeetsLine, Stands, AreBefore, IsFit, Fits, is_fits, is_to_fit, IsStartTree}
+use Rattle.package_jobs.specs.Needed.{Holds, kinds_asked, needed_at, entry_needs, line_needs, needs_before, fit_needs, needs_to_fit, needs_in}
+
+-- ---- sets of kinds
+
+of_dir : (k : Kind) → IsTrue (has (of Dir) k) ↔ (k ≡ Dir)
+of_dir Absent = ((λ e. cc), (λ e. cc))
+of_dir Reg = ((λ e. cc), (λ e. cc))
+of_dir Link = ((λ e. cc), (λ e. cc))
+of_dir Other = ((λ e. cc), (λ e. cc))
+of_dir Dir = ((λ e. refl), (λ e. refl))
+
+of_reg : (k : Kind) → IsTrue (has (of Reg) k) ↔ (k ≡ Reg)
+of_reg Absent = ((λ e. cc), (λ e. cc))
+of_reg Reg = ((λ e. refl), (λ e. refl))
+of_reg Link = ((λ e. cc), (λ e. cc))
+of_reg Other = ((λ e. cc), (λ e. cc))
+of_reg Dir = ((λ e. cc), (λ e. cc))
+
+of_absent : (k : Kind) → IsTrue (has (of Absent) k) ↔ (k ≡ Absent)
+of_absent Absent = ((λ e. refl), (λ e. refl))
+of_absent Reg = ((λ e. cc), (λ e. cc))
+of_absent Link = ((λ e. cc), (λ e. cc))
+of_absent Other = ((λ e. cc), (λ e. cc))
+of_absent Dir = ((λ e. cc), (λ e. cc))
+
+but_dir : (k : Kind) → IsTrue (has (but Dir) k) ↔ (k ≢ Dir)
+but_dir Absent = ((λ e f. cc), (λ e. refl))
+but_dir Reg = ((λ e f. cc), (λ e. refl))
+but_dir Link = ((λ e f. cc), (λ e. refl))
+but_dir Other = ((λ e f. cc), (λ e. refl))
+but_dir Dir = ((λ e. cc), (λ e. absurd (e refl)))
+
+absent_or_dir : (k : Kind) → IsTrue (has (two Absent Dir) k) ↔ ((k ≡ Absent) ⊎ (k ≡ Dir))
+absent_or_dir Absent = ((λ e. inl refl), (λ e. refl))
+absent_or_dir Reg = ((λ e. cc), (λ s. elim s [ inl e ↦ cc | inr e ↦ cc ]))
+absent_or_dir Link = ((λ e. cc), (λ s. elim s [ inl e ↦ cc | inr e ↦ cc ]))
+absent_or_dir Other = ((λ e. cc), (λ s. elim s [ inl e ↦ cc | inr e ↦ cc ]))
+absent_or_dir Dir = ((λ e. inr refl), (λ e. refl))
+
+absent_or_reg : (k : Kind) → IsTrue (has (two Absent Reg) k) ↔ ((k ≡ Absent) ⊎ (k ≡ Reg))
+absent_or_reg Absent = ((λ e. inl refl), (λ e. refl))
+absent_or_reg Reg = ((λ e. inr refl), (λ e. refl))
+absent_or_reg Link = ((λ e. cc), (λ s. elim s [ inl e ↦ cc | inr e ↦ cc ]))
+absent_or_reg Other = ((λ e. cc), (λ s. elim s [ inl e ↦ cc | inr e ↦ cc ]))
+absent_or_reg Dir = ((λ e. cc), (λ s. elim s [ inl e ↦ cc | inr e ↦ cc ]))
+
+-- ---- needs
+
+module _ (tree : Value) where
+  both_met : (xs ys : List Need) → MeetsNeeds tree (xs ++ ys) ↔ (MeetsNeeds tree xs × MeetsNeeds tree ys)
+  both_met [] ys = ((λ m. (tt, m)), (λ m. m.1))
+  both_met (x ∷ xs) ys =
+      let rest = both_met xs ys in
+      ((λ m. ((m.0, (rest.0 m.1).0), (rest.0 m.1).1)), (λ m. (m.0.0, rest.1 (m.0.1, m.1))))
+
+  abbrev kind_at : List (List ℕ) → Kind
+  kind_at names = kind_of (at tree names)
+
+  one_met : {P : Type 0} (path : PathParts) (kinds : Kinds) → (IsTrue (has kinds (kind_at path.names)) ↔ P)
+      → MeetsNeeds tree (record { path = path; kinds = kinds } ∷ []) ↔ P
+  one_met path kinds so = ((λ m. so.0 m.0), (λ p. (so.1 p, tt)))
+
+  nothing_met : MeetsNeeds tree [] ↔ Unit {0}
+  nothing_met = ((λ m. tt), (λ m. tt))
+
+  each_met : {X : Type 0} (f : X → List Need) (P : X → Type 0) → ((x : X) → MeetsNeeds tree (f x) ↔ P x) → (xs : List X)
+      → MeetsNeeds tree (flat_map f xs) ↔ All P xs
+  each_met f P so [] = ((λ m. All-nil P), (λ a. tt))
+  each_met f P so (x ∷ xs) =
+      let both = both_met (f x) (flat_map f xs) in
+      let rest = each_met f P so xs in (
+        (λ m. All-cons P x xs ((so x).0 (both.0 m).0) (rest.0 (both.0 m).1)),
+        (λ a. both.1 ((so x).1 (All-head P x xs a), rest.1 (All-tail P x xs a))),
+      )
+
+  -- ---- entries and lines
+
+  asked_met : (asked : Asked) (kind : EntryKind) (names : List (List ℕ))
+      → MeetsNeeds tree (needed_at names (kinds_asked asked kind)) ↔ Holds asked kind (kind_of (at tree names))
+  asked_met Placed Folder names = one_met (plain_path names) (of Dir) (of_dir (kind_at names))
+  asked_met Placed File names = one_met (plain_path names) (but Dir) (but_dir (kind_at names))
+  asked_met Placed Conf names = one_met (plain_path names) (but Dir) (but_dir (kind_at names))
+  asked_met Placed (LinkTo target) names = one_met (plain_path names) (but Dir) (but_dir (kind_at names))
+  asked_met KeptConf Folder names = nothing_met
+  asked_met KeptConf File names = nothing_met
+  asked_met KeptConf Conf names = one_met (plain_path names) (but Dir) (but_dir (kind_at names))
+  asked_met KeptConf (LinkTo target) names = nothing_met
+  asked_met Fit Folder names = one_met (plain_path names) (two Absent Dir) (absent_or_dir (kind_at names))
+  asked_met Fit File names = one_met (plain_path names) (but Dir) (but_dir (kind_at names))
+  asked_met Fit Conf names = one_met (plain_path names) (two Absent Reg) (absent_or_reg (kind_at names))
+  asked_met Fit (LinkTo target) names = one_met (plain_path names) (but Dir) (but_dir (kind_at names))
+
+  line_met : (line : BaseLine) → MeetsNeeds tree (line_needs line) ↔ MeetsLine tree line
+  line_met (base.Folder path) = one_met path (of Dir) (of_dir (kind_at path.names))
+  line_met (base.File path) = one_met path (of Reg) (of_reg (kind_at path.names))
+  line_met (base.Gone path) = one_met path (of Absent) (of_absent (kind_at path.names))
+  line_met (base.NoFolder path) = one_met path (but Dir) (but_dir (kind_at path.names))
+  line_met base.Fits = nothing_met
+
+  entries_met : (asked : Asked) (es : Entries) → MeetsNeeds tree (flat_map (entry_needs asked) es) ↔ All (Stands (Holds asked) tree) es
+  entries_met asked es = each_met (entry_needs asked) (Stands (Holds asked) tree) (λ e. asked_met asked e.kind e.names) es
+
+  before_met : (s : Scenario) (new old : Entries) → MeetsNeeds tree (needs_before s new old) ↔ AreBefore s new old tree
+  before_met scenario.Install new old = nothing_met
+  before_met scenario.InstallAgain new old = entries_met KeptConf new
+  before_met scenario.Upgrade new old = entries_met Placed old
+  before_met scenario.Remove new old = entries_met Placed new
+  before_met scenario.Purge new old = entries_met Placed new
+  before_met scenario.PurgeLater new old = entries_met KeptConf new
+
+  if_met : (b : Bool) (needs : List Need) (P : Type 0) → (MeetsNeeds tree needs ↔ P)
+      → MeetsNeeds tree (if b then needs else []) ↔ (IsTrue b → P)
+  if_met true needs P so = ((λ m e. so.0 m), (λ h. so.1 (h refl)))
+  if_met false needs P so = ((λ m e. cc), (λ h. tt))
+
+  fits_met : (s : Scenario) (lines : List BaseLine) (new old : Entries)
+      → MeetsNeeds tree (needs_to_fit s lines new old) ↔ (IsTrue (list_any is_fits lines) → All (Fits s (has_at is_any old) tree) new)
+  fits_met s lines new old =
+      let listed = has_at is_any old in
+      if_met (list_any is_fits lines) (flat_map (fit_needs s listed) new) _
+      (each_met (fit_needs s listed) (Fits s listed tree)
+      (λ e. if_met (is_to_fit s listed e) (entry_needs Fit e) (Stands IsFit tree e) (asked_met Fit e.kind e.names)) new)
+
+-- ---- start trees
+
+pub starts_met : (s : Scenario) (p : Packages) (tree : Value) → IsStart (needs_in s p) tree ↔ IsStartTree s p tree
+starts_met s p tree =
+    let new = p.new_package.entries in
+    let old = (old_of p).entries in
+    let lines = p.base.lines in
+    let whole = both_met tree (flat_map line_needs lines) (needs_before s new old ++ needs_to_fit s lines new old) in
+    let rest = both_met tree (needs_before s new old) (needs_to_fit s lines new old) in
+    let of_lines = each_met tree line_needs (MeetsLine tree) (line_met tree) lines in (
+      (λ start. record {
+        is_tree = start.is_tree;
+        base = of_lines.0 (whole.0 start.met).0;
+        before = (before_met tree s new old).0 (rest.0 (whole.0 start.met).1).0;
+        fits = (fits_met tree s lines new old).0 (rest.0 (whole.0 start.met).1).1;
+      }),
+      (λ start. record {
+        is_tree = start.is_tree;
+        met = whole.1 (of_lines.1 start.base, rest.1 ((before_met tree s new old).1 start.before, (fits_met tree s lines new old).1 start.fits));
+      }),
+    )
+
+-- what is needed, by lines and entries
+abbrev all_needs : Scenario → List BaseLine → Entries → Entries → List Need
+all_needs s lines new old = flat_map line_needs lines ++ (needs_before s new old ++ needs_to_fit s lines new old)
+
+-- needs that were added one behind another
+pub needs_are : (s : Scenario) (p : Packages) (lines : List BaseLine) (new old : Entries) (none first more all : List Need)
+    → lines ≡ p.base.lines → new ≡ p.new_package.entries → old ≡ (old_of p).entries
+    → none ≡ [] → first ≡ none ++ flat_map line_needs lines → more ≡ first ++ needs_before s new old → all ≡ more ++ needs_to_fit s lines new old
+    → all ≡ needs_in s p
+needs_are s p lines new old none first more all is_lines is_new is_old e0 e1 e2 e3 =
+    e3 ∙ ap (λ l. l ++ needs_to_fit s lines new old) (e2 ∙ ap (λ l. l ++ needs_before s new old) (e1 ∙ ap (λ l. l ++ flat_map line_needs lines) e0))
+    ∙ append_assoc (flat_map line_needs lines) (needs_before s new old) (needs_to_fit s lines new old)
+    ∙ ap (λ l. all_needs s l new old) is_lines ∙ ap (λ n. all_needs s p.base.lines n old) is_new
+    ∙ ap (λ o. all_needs s p.base.lines p.new_package.entries o) is_old
+
+-- needs that are these
+pub needs_met : (s : Scenario) (p : Packages) (needs : List Need) → needs ≡ needs_in s p → (tree : Value) → IsStart needs tree ↔ IsStartTree s p tree
+needs_met s p needs e tree = subst (λ ns. IsStart ns tree ↔ IsStartTree s p tree) (sym e) (starts_met s p tree)
+
+-- ---- which entries have to fit, by sets that have the same paths
+
+module _ (s : Scenario) (f g : Paths) (same : (path : List ℕ) → f path ≡ g path) where
+  to_fit_same : (s : Scenario) (e : EntryParts) → is_to_fit s f e ≡ is_to_fit s g e
+  to_fit_same scenario.Install e = refl
+  to_fit_same scenario.InstallAgain e = refl
+  to_fit_same scenario.Upgrade e = ap not (same (path_text e.names))
+  to_fit_same scenario.Remove e = refl
+  to_fit_same scenario.Purge e = refl
+  to_fit_same scenario.PurgeLater e = refl
+
+  pub fit_needs_same : (es : Entries) → flat_map (fit_needs s f) es ≡ flat_map (fit_needs s g) es
+  fit_needs_same [] = refl
+  fit_needs_same (e ∷ es) =
+      ap (λ (b : Bool). (if b then entry_needs Fit e else []) ++ flat_map (fit_needs s f) es) (to_fit_same s e)
+      ∙ ap (λ l. fit_needs s g e ++ l) (fit_needs_same es)

@@ -1,0 +1,24 @@
+use Rattle.std.proofs.Common.{refl, ap, subst, ◌∙◌}
+use Rattle.checker_input.specs.declared.package.Package.{Package}
+use Rattle.scenario_runs.specs.declared.job.Job.{Job}
+use Rattle.package_jobs.specs.Made.{IsMade}
+use Rattle.package_jobs.specs.Written.{files_of}
+use Rattle.package_jobs.proofs.Plans.{runs_same}
+use Rattle.package_jobs.proofs.job.job_of.Goals as goal
+
+pub returns-clause-run : goal.returns-clause-run
+returns-clause-run c =
+    let job : Job = record {
+      scenario = c.args.scenario;
+      plain = c.is_plain.result;
+      new_package = c.in_ok-new_package.new_package;
+      old_package = c.in_ok-old_package.old_package;
+      files = c.in_ok-files.files;
+      turns = c.args.turns;
+    } in
+    let packages = c.args.packages.now in
+    runs_same job c.args.scenario packages c.args.turns refl c.is_plain.ensures c.in_ok-new_package.ensures
+    (subst (λ old. IsMade old job.old_package) c.old_package-old.ensures c.in_ok-old_package.ensures)
+    (c.in_ok-files.ensures
+    ∙ ap (λ (old : Package). files_of c.args.scenario packages.new_package.entries old.entries packages.base.lines) c.old_package-old.ensures)
+    refl

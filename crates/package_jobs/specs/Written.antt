@@ -1,0 +1,71 @@
+-- The run of a scenario as its packages are written: the scripts are those of the shell, and the acts on files are
+-- those of the packages' lists.
+use Rattle.std.specs.Prelude.{ℕ, Bool, not, ◌&&◌, List, Option, is_none, option_map}
+use Rattle.std.specs.Prelude.{if◌then◌else◌}
+use Rattle.std.specs.List.{list_any}
+use Rattle.feature_trees.specs.declared.value.Value.{Value}
+use Rattle.dpkg_scenarios.specs.declared.scenario.Scenario.{Scenario}
+use Rattle.dpkg_scenarios.specs.declared.scenario.ScriptKind.{ScriptKind}
+use Rattle.dpkg_scenarios.specs.declared.scenario.ScriptKind.TheVariants.{Preinst, Postinst, Prerm, Postrm}
+use Rattle.dpkg_scenarios.specs.declared.scenario.StepWork.TheVariants.{Unpack, RemoveFiles, RemoveOld, RemoveConf}
+use Rattle.shell_syntax.specs.declared.script.Script.{Script}
+use Rattle.shell_to_colis.specs.Shell.{sh_script}
+use Rattle.package_lists.specs.declared.base.BaseLine.{BaseLine}
+use Rattle.package_lists.specs.Entries.{EntryParts, is_conf}
+use Rattle.package_lists.specs.FileActs.{acts_of}
+use Rattle.checker_input.specs.declared.package.Scripts.{Scripts}
+use Rattle.checker_input.specs.declared.package.Package.{Package}
+use Rattle.checker_input.specs.declared.package.Packages.{Packages}
+use Rattle.scenario_runs.specs.declared.job.Files.{Files}
+use Rattle.scenario_runs.specs.declared.replayed.Replayed.{Replayed}
+use Rattle.scenario_runs.specs.Runs.{Meaning, Plan, run_of}
+use Rattle.package_jobs.specs.Sides.{old_of}
+use Rattle.package_jobs.specs.StartTrees.{Entries}
+
+-- a script of a package, if it has that one
+abbrev pub script_of : ScriptKind → Scripts → Option Script
+script_of Preinst scripts = scripts.preinst
+script_of Postinst scripts = scripts.postinst
+script_of Prerm scripts = scripts.prerm
+script_of Postrm scripts = scripts.postrm
+
+-- the old package, or the new one
+abbrev pub side_of : Packages → Bool → Package
+side_of packages old = if old then old_of packages else packages.new_package
+
+-- what a script does, as the shell's rules say it; whether it begins strict is said on its first line
+abbrev pub script_meaning : Script → Meaning
+script_meaning script = record { strict = script.strict; ends = sh_script script }
+
+-- whether an entry is a configuration file
+abbrev pub is_conffile : EntryParts → Bool
+is_conffile entry = is_conf entry.kind
+
+-- whether a package has neither a configuration file nor a postrm
+abbrev pub is_plain : Package → Bool
+is_plain side = not (list_any is_conffile side.entries) && is_none side.scripts.postrm
+
+-- what is done with files in the steps of a scenario, by the new and the old package's entries and the base
+abbrev pub files_of : Scenario → Entries → Entries → List BaseLine → Files
+files_of scenario new old lines = record {
+  unpack = acts_of scenario Unpack new old lines;
+  remove_files = acts_of scenario RemoveFiles new old lines;
+  remove_old = acts_of scenario RemoveOld new old lines;
+  remove_conf = acts_of scenario RemoveConf new old lines;
+}
+
+-- what the run of a scenario needs, with so many turns of loops
+abbrev pub written_plan : Scenario → Packages → ℕ → Plan
+written_plan scenario packages turns = record {
+  scenario = scenario;
+  plain = is_plain packages.new_package;
+  old_version = (old_of packages).version;
+  new_version = packages.new_package.version;
+  scripts = λ old script. option_map script_meaning (script_of script (side_of packages old).scripts);
+  files = files_of scenario packages.new_package.entries (old_of packages).entries packages.base.lines;
+  turns = turns;
+}
+
+-- the run of a scenario from a tree
+abbrev pub written_run : Scenario → Packages → ℕ → Value → Option Replayed
+written_run scenario packages turns = run_of (written_plan scenario packages turns)

@@ -1,0 +1,246 @@
+ghost use Rattle.std.specs.Prelude.{◌≡◌, ◌↔◌, ◌++◌, ◌∷◌, [], IfOk, OnOk};
+ghost use Rattle.std.specs.List.{flat_map, list_any};
+ghost use Rattle.feature_trees.specs.declared.value.Value.{Value};
+ghost use Rattle.utility_calls.specs.Sights.{but, two};
+ghost use Rattle.start_trees.specs.Needs.{IsStart};
+ghost use Rattle.package_lists.specs.PathSets.{has};
+ghost use Rattle.package_jobs.specs.Needed.{kinds_asked, entry_needs, line_needs, needs_before, fit_needs, needs_to_fit};
+ghost use Rattle.package_jobs.specs.StartTrees.{is_fits, is_to_fit, IsStartTree};
+
+use crate::sides::old_package;
+use checker_input::Packages;
+use dpkg_scenarios::Scenario;
+use feature_trees::{Kind, Kinds};
+use package_lists::{BaseLine, Entry, EntryKind, PathSet, Which, has_entry, paths_of};
+use script_names::{Copied, List, Memory, Path};
+use start_trees::Need;
+use std::alloc::Global;
+
+// What is asked of what stands at the path of an entry: what stands there where the package is in place, what stands
+// there where its configuration files stayed, or what the entry fits.
+#[derive(Clone, Copy)]
+pub enum Asked {
+    Placed,
+    KeptConf,
+    Fit,
+}
+
+// Every kind but a directory.
+fn no_folder() -> Kinds
+    ensures { result ≡ but Kind.Dir }
+{
+    let files = Kinds::either(Kinds::of(Kind::Absent), Kinds::of(Kind::Reg));
+    let others = Kinds::either(Kinds::of(Kind::Link), Kinds::of(Kind::Other));
+    Kinds::either(files, others)
+}
+
+// Nothing, or something of this kind.
+fn absent_or(kind: Kind) -> Kinds
+    ensures { result ≡ two Kind.Absent kind }
+{
+    Kinds::either(Kinds::of(Kind::Absent), Kinds::of(kind))
+}
+
+// The kinds that an entry of this kind is to have at its path, if anything is asked of it.
+fn kinds_asked(asked: Asked, kind: &EntryKind) -> Option<Kinds>
+    ensures { result ≡ kinds_asked asked kind.now }
+{
+    match asked {
+        Asked::Placed => match kind {
+            EntryKind::Folder => Some(Kinds::of(Kind::Dir)),
+            EntryKind::File | EntryKind::Conf | EntryKind::LinkTo(_) => Some(no_folder()),
+        },
+        Asked::KeptConf => match kind {
+            EntryKind::Conf => Some(no_folder()),
+            EntryKind::Folder | EntryKind::File | EntryKind::LinkTo(_) => None,
+        },
+        Asked::Fit => match kind {
+            EntryKind::Folder => Some(absent_or(Kind::Dir)),
+            EntryKind::Conf => Some(absent_or(Kind::Reg)),
+            EntryKind::File | EntryKind::LinkTo(_) => Some(no_folder()),
+        },
+    }
+}
+
+// Adds what an entry needs.
+fn add_entry(
+    alloc: Global,
+    needs: &mut List<Need>,
+    asked: Asked,
+    entry: &Entry,
+) -> Result<(), Memory>
+    ensures { OnOk result (needs.new ≡ needs.old ++ entry_needs asked entry.now) }
+{
+    match kinds_asked(asked, entry.kind()) {
+        None => Ok(()),
+        Some(kinds) => {
+            let path = entry.path().copy(alloc)?;
+            needs.add(Need { path, kinds })
+        }
+    }
+}
+
+// Adds what each of these entries needs.
+fn add_entries(
+    alloc: Global,
+    needs: &mut List<Need>,
+    asked: Asked,
+    entries: &[Entry],
+) -> Result<(), Memory>
+    ensures { OnOk result (needs.new ≡ needs.old ++ flat_map (entry_needs asked) entries.now) }
+{
+    for entry in entries {
+        add_entry(alloc, needs, asked, entry)?;
+    }
+    Ok(())
+}
+
+// Adds what is needed at a path.
+fn add_need(alloc: Global, needs: &mut List<Need>, path: &Path, kinds: Kinds) -> Result<(), Memory>
+    ensures { OnOk result (needs.new ≡ needs.old ++ record { path = path.now; kinds = kinds } ∷ []) }
+{
+    let path = path.copy(alloc)?;
+    needs.add(Need { path, kinds })
+}
+
+// Adds what a line of the base needs.
+fn add_line(alloc: Global, needs: &mut List<Need>, line: &BaseLine) -> Result<(), Memory>
+    ensures { OnOk result (needs.new ≡ needs.old ++ line_needs line.now) }
+{
+    match line {
+        BaseLine::Folder(path) => add_need(alloc, needs, path, Kinds::of(Kind::Dir)),
+        BaseLine::File(path) => add_need(alloc, needs, path, Kinds::of(Kind::Reg)),
+        BaseLine::Gone(path) => add_need(alloc, needs, path, Kinds::of(Kind::Absent)),
+        BaseLine::NoFolder(path) => add_need(alloc, needs, path, no_folder()),
+        BaseLine::Fits => Ok(()),
+    }
+}
+
+// Adds what each of these lines needs.
+fn add_lines(alloc: Global, needs: &mut List<Need>, lines: &[BaseLine]) -> Result<(), Memory>
+    ensures { OnOk result (needs.new ≡ needs.old ++ flat_map line_needs lines.now) }
+{
+    for line in lines {
+        add_line(alloc, needs, line)?;
+    }
+    Ok(())
+}
+
+// Adds what is needed of the files that are there before the scenario.
+fn add_before(
+    alloc: Global,
+    needs: &mut List<Need>,
+    scenario: Scenario,
+    new: &[Entry],
+    old: &[Entry],
+) -> Result<(), Memory>
+    ensures { OnOk result (needs.new ≡ needs.old ++ needs_before scenario new.now old.now) }
+{
+    match scenario {
+        Scenario::Install => Ok(()),
+        Scenario::Upgrade => add_entries(alloc, needs, Asked::Placed, old),
+        Scenario::Remove => add_entries(alloc, needs, Asked::Placed, new),
+        Scenario::Purge => add_entries(alloc, needs, Asked::Placed, new),
+        Scenario::InstallAgain => add_entries(alloc, needs, Asked::KeptConf, new),
+        Scenario::PurgeLater => add_entries(alloc, needs, Asked::KeptConf, new),
+    }
+}
+
+// Whether an entry of the new package has to fit, from the paths that the old package lists.
+fn is_to_fit(
+    alloc: Global,
+    scenario: Scenario,
+    listed: &PathSet,
+    entry: &Entry,
+) -> Result<bool, Memory>
+    ensures { IfOk result (λ answer. answer ≡ is_to_fit scenario (has listed.now) entry.now) }
+{
+    match scenario {
+        Scenario::Install | Scenario::InstallAgain => Ok(true),
+        Scenario::Upgrade => {
+            let is_listed = has_entry(alloc, listed, entry)?;
+            Ok(!is_listed)
+        }
+        Scenario::Remove | Scenario::Purge | Scenario::PurgeLater => Ok(false),
+    }
+}
+
+// Adds what an entry of the new package needs to fit, if it has to.
+fn add_fit(
+    alloc: Global,
+    needs: &mut List<Need>,
+    scenario: Scenario,
+    listed: &PathSet,
+    entry: &Entry,
+) -> Result<(), Memory>
+    ensures { OnOk result (needs.new ≡ needs.old ++ fit_needs scenario (has listed.now) entry.now) }
+{
+    let has_to = is_to_fit(alloc, scenario, listed, entry)?;
+    if !has_to {
+        return Ok(());
+    }
+    add_entry(alloc, needs, Asked::Fit, entry)
+}
+
+// Whether one of these lines is `fits`.
+fn has_fits(lines: &[BaseLine]) -> bool
+    ensures { result ≡ list_any is_fits lines.now }
+{
+    for line in lines {
+        if is_fits(line) {
+            return true;
+        }
+    }
+    false
+}
+
+// Whether a line is `fits`.
+fn is_fits(line: &BaseLine) -> bool
+    ensures { result ≡ is_fits line.now }
+{
+    match line {
+        BaseLine::Fits => true,
+        BaseLine::Folder(_) | BaseLine::File(_) | BaseLine::Gone(_) | BaseLine::NoFolder(_) =>
+            false,
+    }
+}
+
+// Adds what the new package's entries need to fit, where the base has a line `fits`.
+fn add_fits(
+    alloc: Global,
+    needs: &mut List<Need>,
+    scenario: Scenario,
+    lines: &[BaseLine],
+    new: &[Entry],
+    old: &[Entry],
+) -> Result<(), Memory>
+    ensures { OnOk result (needs.new ≡ needs.old ++ needs_to_fit scenario lines.now new.now old.now) }
+{
+    if !has_fits(lines) {
+        return Ok(());
+    }
+    let listed = paths_of(alloc, Which::All, old)?;
+    for entry in new {
+        add_fit(alloc, needs, scenario, &listed, entry)?;
+    }
+    Ok(())
+}
+
+/// What is needed of a tree that a scenario may begin from, a need for each path that something is known of. The trees
+/// that have what is needed are the scenario's start trees. The one fault is want of memory.
+pub fn needs_of(
+    alloc: Global,
+    scenario: Scenario,
+    packages: &Packages,
+) -> Result<List<Need>, Memory>
+    ensures { IfOk result (λ needs. (tree : Value) → IsStart needs tree ↔ IsStartTree scenario packages.now tree) }
+{
+    let lines = packages.base.lines.as_slice();
+    let new = packages.new_package.entries.as_slice();
+    let old = old_package(packages).entries.as_slice();
+    let mut needs = List::new(alloc);
+    add_lines(alloc, &mut needs, lines)?;
+    add_before(alloc, &mut needs, scenario, new, old)?;
+    add_fits(alloc, &mut needs, scenario, lines, new, old)?;
+    Ok(needs)
+}

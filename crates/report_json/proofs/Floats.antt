@@ -1,0 +1,46 @@
+-- The value of a report has no float.
+use Rattle.std.proofs.Common.{◌≡◌, ℕ, List, [], ◌∷◌, Bool, false, map, refl, ap₂}
+use Rattle.std.specs.Prelude.{◌||◌}
+use Rattle.std.specs.List.{flat_map}
+use Rattle.serde_json.specs.Data.{Data, string}
+use Rattle.serde_json.specs.View.{items_of}
+use Rattle.serde_json.specs.Written.{has_float, items_have_float}
+use Rattle.feature_trees.specs.TreeText.{tree_text}
+use Rattle.tree_clauses.specs.declared.clause.Clause.{Clause}
+use Rattle.tree_clauses.specs.ClauseText.{literal_text}
+use Rattle.outcome_report.specs.declared.outcome_report.ReportEntry.{ReportEntry}
+use Rattle.outcome_report.specs.declared.outcome_report.ReportPart.{ReportPart}
+use Rattle.outcome_report.specs.declared.outcome_report.Report.{Report}
+use Rattle.outcome_report.specs.ReportText.{call_line}
+use Rattle.report_json.specs.ReportJson.{clause_json, entry_json, part_json, json_of, lines_in, lines_json}
+
+-- a list of values without floats
+items_plain : {X : Type 0} (f : X → Data) → ((x : X) → has_float (f x) ≡ false) → (xs : List X) → items_have_float (items_of (map f xs)) ≡ false
+items_plain f plain [] = refl
+items_plain f plain (x ∷ xs) = ap₂ (λ a b. a || b) (plain x) (items_plain f plain xs)
+
+lines_plain : (text : List ℕ) → has_float (lines_json text) ≡ false
+lines_plain text = items_plain string (λ t. refl) (lines_in text)
+
+-- one more without floats
+behind : (a b : Bool) → a ≡ false → b ≡ false → (a || b) ≡ false
+behind a b e f = ap₂ (λ a b. a || b) e f
+
+clause_plain : (clause : Clause) → has_float (clause_json clause) ≡ false
+unfolding clause_json
+clause_plain clause = behind _ _ (lines_plain (flat_map literal_text clause.literals)) refl
+
+entry_plain : (entry : ReportEntry) → has_float (entry_json entry) ≡ false
+unfolding entry_json
+entry_plain entry =
+    behind _ _ (lines_plain (tree_text entry.replayed.after))
+    (behind _ _ (lines_plain (flat_map call_line entry.replayed.calls))
+    (behind _ _ (clause_plain entry.outcome.clause) (behind _ _ (lines_plain (tree_text entry.outcome.shown)) refl)))
+
+part_plain : (part : ReportPart) → has_float (part_json part) ≡ false
+unfolding part_json
+part_plain part = behind _ _ (items_plain entry_json entry_plain part.entries) refl
+
+pub report_plain : (report : Report) → has_float (json_of report) ≡ false
+unfolding json_of
+report_plain report = behind _ _ (items_plain part_json part_plain report.parts) refl

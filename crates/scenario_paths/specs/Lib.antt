@@ -1,2 +1,0 @@
-pub mod ScenarioPaths
-pub mod OutcomeOf

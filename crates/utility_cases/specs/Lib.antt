@@ -1,4 +1,0 @@
-pub mod Taken
-pub mod Ways
-pub mod Effects
-pub mod Looking
