@@ -1,6 +1,6 @@
 use concrete_utils::steps::act;
 use feature_trees::{Entries, Kind, Value};
-use script_names::{Bytes, Done, List, Name, Path, Reason};
+use script_names::{Bytes, Copied, Done, List, Name, Path, Reason};
 use std::process::Abort;
 use std::test::Fail;
 use utility_calls::acts::Act;
@@ -34,25 +34,26 @@ fn put<R: Abort + AllocGlobal>(rt: &R, tree: &mut Value, p: &Path, kind: Kind) -
     Ok(())
 }
 
-// The row that the act takes on the tree, and its answer.
-fn taken<R: AllocGlobal>(rt: &R, a: &Act, tree: &mut Value) -> Result<(u8, Done), Fail> {
-    Ok(act(rt.alloc(), a, tree)?)
+// The row that the test for something at the path takes on the tree, and its answer.
+fn taken<R: AllocGlobal>(rt: &R, path: &Path, tree: &mut Value) -> Result<(u8, Done), Fail> {
+    let exists = Act::Exists(path.copy(rt.alloc())?);
+    Ok(act(rt.alloc(), &exists, tree)?)
 }
 
 #[test]
 fn takes_rows_of_the_longest_path(rt: HostRuntime) -> Result<(), Fail> {
-    let exists = Act::Exists(deep(&rt, 64)?);
+    let path = deep(&rt, 64)?;
     let mut tree = Value::Dir(Entries::new(rt.alloc()));
-    assert_eq!(rt; taken(&rt, &exists, &mut tree)?, (66, Done::Failed));
+    assert_eq!(rt; taken(&rt, &path, &mut tree)?, (66, Done::Failed));
     for count in 1..65 {
         put(&rt, &mut tree, &deep(&rt, count)?, Kind::Dir)?;
     }
-    assert_eq!(rt; taken(&rt, &exists, &mut tree)?, (67, Done::Ok));
+    assert_eq!(rt; taken(&rt, &path, &mut tree)?, (67, Done::Ok));
     put(&rt, &mut tree, &deep(&rt, 64)?, Kind::Link)?;
-    assert_eq!(rt; taken(&rt, &exists, &mut tree)?, (65, LINK));
+    assert_eq!(rt; taken(&rt, &path, &mut tree)?, (65, LINK));
     for count in [63, 32, 1] {
         put(&rt, &mut tree, &deep(&rt, count)?, Kind::Link)?;
-        assert_eq!(rt; taken(&rt, &exists, &mut tree)?, (count as u8, LINK));
+        assert_eq!(rt; taken(&rt, &path, &mut tree)?, (count as u8, LINK));
     }
     Ok(())
 }
