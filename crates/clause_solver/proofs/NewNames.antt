@@ -1,5 +1,5 @@
 -- Among the names of enough letters one is new: each letter is chosen so that fewer of the used names go on with it.
-use Rattle.std.proofs.Common.{◌≡◌, ◌≢◌, ℕ, zero, suc, ◌+◌, ◌*◌, ◌<◌, ◌≤◌, ◌⊎◌, inl, inr, ◌&&◌, Bool, true, false, IsTrue, List, [], ◌∷◌, ◌++◌, length, refl, ap, ◌∙◌, arith, nat_eq}
+use Rattle.std.proofs.Common.{◌≡◌, ◌≢◌, ℕ, zero, suc, ◌+◌, ◌-◌, ◌*◌, ◌<◌, ◌≤◌, ◌⊎◌, inl, inr, ◌&&◌, Bool, true, false, IsTrue, List, [], ◌∷◌, ◌++◌, length, refl, ap, ◌∙◌, arith, nat_eq}
 use Rattle.std.proofs.lemmas.List.{length-append}
 use Rattle.std.proofs.lemmas.Bool.Decides.{nat_tests}
 use Rattle.std.specs.Prelude.{◌==◌, nat_le, nat_lt}
@@ -145,14 +145,14 @@ next_nothing (y ∷ p) x = refl
 pub next_last : (x b : ℕ) (rest : List ℕ) → begins (x ∷ []) (b ∷ rest) ≡ nat_eq x b
 next_last x b rest = elim (bool_cases (nat_eq x b)) [ inl t ↦ rw t refl | inr f ↦ rw f refl ]
 
-pub other_letter : (p : List ℕ) (vars : List Variable) (room : ℕ) → beginning p vars < 2 * room → room ≤ beginning (p ++ 97 ∷ []) vars → beginning (p ++ 98 ∷ []) vars < room
-other_letter p vars room few many = let s = split p vars in omega (arith, s, few, many)
+pub first_letter : (p : List ℕ) (vars : List Variable) (left : ℕ) → beginning p vars ≤ left → beginning (p ++ 97 ∷ []) vars ≤ left
+first_letter p vars left most = let s = split p vars in omega (arith, s, most)
+
+pub other_letter : (p : List ℕ) (vars : List Variable) (left count : ℕ) → beginning p vars ≤ left → count ≡ beginning (p ++ 97 ∷ []) vars → beginning (p ++ 98 ∷ []) vars ≤ left - count
+other_letter p vars left count most e = let s = split p vars in omega (arith, s, most, e)
 
 pub half_room : (n room : ℕ) → room ≡ two_to n → (m : ℕ) → n ≡ m + 1 → room ≡ 2 * two_to m
 half_room n room e m q = let q' : n ≡ suc m = omega arith in rw (e, q') refl
-
-pub first_room : (vars : List Variable) → length vars ≤ 4294967295 → beginning [] vars < 4294967296
-first_room vars small = let most = beginning_most [] vars in omega (arith, most, small)
 
 pub none_left : (z : List ℕ) (vars : List Variable) (n room : ℕ) → n ≡ 0 → room ≡ two_to n → beginning z vars < room → length z ≡ 32 → AllLetters z → IsNew vars z
 none_left z vars n room e r few long letters =

@@ -44,16 +44,23 @@ fn count_going_on(vars: &Shared<Variable>, p: &[u8], x: u8) -> usize
     count
 }
 
-// The letter that fewer of the names go on with.
-fn next_letter(vars: &Shared<Variable>, p: &[u8], room: usize) -> u8
-    requires { beginning p.now vars.now < 2 * room }
-    ensures letter { IsTrue (is_letter result) }
-    ensures few { beginning (p.now ++ result ∷ []) vars.now < room }
+// A letter that fewer than `room` of the names go on with behind p, and a bound on how many do. Where at most `left` names
+// begin with p, and these are few already, no name is looked at.
+fn next_letter(vars: &Shared<Variable>, p: &[u8], room: usize, left: usize) -> (u8, usize)
+    requires most { beginning p.now vars.now ≤ left }
+    requires left { left < 2 * room }
+    ensures letter { IsTrue (is_letter result.0) }
+    ensures most { beginning (p.now ++ result.0 ∷ []) vars.now ≤ result.1 }
+    ensures few { result.1 < room }
 {
-    if count_going_on(vars, p, b'a') < room {
-        b'a'
+    if left < room {
+        return (b'a', left);
+    }
+    let count = count_going_on(vars, p, b'a');
+    if count < room {
+        (b'a', count)
     } else {
-        b'b'
+        (b'b', left - count)
     }
 }
 
@@ -64,10 +71,12 @@ pub(crate) fn new_name(alloc: Global, vars: &Shared<Variable>) -> Result<Name, M
 {
     let mut bytes = Vec::new(alloc);
     let mut room: usize = 4294967296;
+    let mut left = vars.len();
     for i in 0usize..32 {
         room /= 2;
-        let letter = next_letter(vars, &bytes, room);
+        let (letter, most) = next_letter(vars, &bytes, room, left);
         bytes.push(letter)?;
+        left = most;
     }
     match Name::read(alloc, &bytes) {
         Ok(name) => Ok(name),

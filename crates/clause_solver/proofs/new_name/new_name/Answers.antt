@@ -1,8 +1,8 @@
-use Rattle.std.proofs.Common.{◌≡◌, ◌∙◌, ◌+◌, ◌-◌, ◌/◌, ◌<◌, ◌≤◌, ℕ, length, ap, refl, arith, List, Err, true, false, length-append}
+use Rattle.std.proofs.Common.{◌≡◌, ◌∙◌, ◌+◌, ◌-◌, ◌/◌, ◌<◌, ◌≤◌, ℕ, length, ap, refl, arith, List, [], Err, true, false, length-append}
 use Rattle.script_names.specs.Names.{is_name}
 use Rattle.clause_solver.specs.declared.variable.Variable.{Variable}
 use Rattle.clause_solver.specs.NewNames.{beginning, two_to, IsNew}
-use Rattle.clause_solver.proofs.NewNames.{AllLetters, letters_more, first_room, half_room, none_left}
+use Rattle.clause_solver.proofs.NewNames.{AllLetters, letters_more, beginning_most, half_room, none_left}
 use Rattle.clause_solver.proofs.new_name.new_name.Goals as goal
 
 pub loop-i-init : goal.loop-i-init
@@ -12,7 +12,8 @@ loop-i-init c =
       long = rw e refl;
       letters = rw e tt;
       half = (32, omega arith, refl);
-      few = rw e (first_room c.args.vars.now c.requires);
+      most = rw (e, c.len-left.ensures) (beginning_most [] c.args.vars.now);
+      few = let n = c.len-left.ensures in let small = c.requires in omega (arith, n, small);
     }
 
 pub loop-i-preserved : goal.loop-i-preserved
@@ -28,9 +29,10 @@ loop-i-preserved c =
     let items = c.in_ok-push.ensures.items in
     record {
       long = ap length items ∙ length-append c.loop-i.bytes.items _ ∙ ap (λ k. k + 1) inv.long;
-      letters = rw items (letters_more c.loop-i.bytes.items c.next_letter-letter.result inv.letters c.next_letter-letter.ensures.letter);
+      letters = rw items (letters_more c.loop-i.bytes.items c.next_letter-letter.result.0 inv.letters c.next_letter-letter.ensures.letter);
       half = (m, omega (arith, at, q), half);
-      few = rw items (rw c.deref.ensures.value at c.next_letter-letter.ensures.few);
+      most = rw items (rw c.deref.ensures.value at c.next_letter-letter.ensures.most);
+      few = c.next_letter-letter.ensures.few;
     }
 
 left : (vars : List Variable) (z : List ℕ) (i n room : ℕ) → 32 ≤ i → i + n ≡ 32 → room ≡ two_to n → beginning z vars < room → length z ≡ i → AllLetters z → IsNew vars z
@@ -39,13 +41,19 @@ left vars z i n room w at r few long letters = none_left z vars n room (omega (a
 pub returns-in-Ok : goal.returns-in-Ok
 returns-in-Ok c =
     let inv = c.loop-i.invariant in
-    let new = left c.args.vars.now c.loop-i.bytes.items c.loop-i.i inv.half.0 c.loop-i.room c.loop-i-test.false inv.half.1 inv.half.2 inv.few inv.long inv.letters in
+    let most = inv.most in
+    let room = inv.few in
+    let few : beginning c.loop-i.bytes.items c.args.vars.now < c.loop-i.room = omega (arith, most, room) in
+    let new = left c.args.vars.now c.loop-i.bytes.items c.loop-i.i inv.half.0 c.loop-i.room c.loop-i-test.false inv.half.1 inv.half.2 few inv.long inv.letters in
     rw (c.in-Ok.ensures.ok, c.deref-2.ensures.value) new
 
 pub unreachable-requires : goal.unreachable-requires
 unreachable-requires c =
     let inv = c.loop-i.invariant in
-    let new = left c.args.vars.now c.loop-i.bytes.items c.loop-i.i inv.half.0 c.loop-i.room c.loop-i-test.false inv.half.1 inv.half.2 inv.few inv.long inv.letters in
+    let most = inv.most in
+    let room = inv.few in
+    let few : beginning c.loop-i.bytes.items c.args.vars.now < c.loop-i.room = omega (arith, most, room) in
+    let new = left c.args.vars.now c.loop-i.bytes.items c.loop-i.i inv.half.0 c.loop-i.room c.loop-i-test.false inv.half.1 inv.half.2 few inv.long inv.letters in
     let bad : is_name c.deref-2.result.now ≡ false = c.in-Err-Bad.ensures.bad.0 (ap Err c.in-Err-Bad.field-0-is) in
     let bad' : is_name c.loop-i.bytes.items ≡ false = rw c.deref-2.ensures.value at bad in
     let good : is_name c.loop-i.bytes.items ≡ true = new.name in
