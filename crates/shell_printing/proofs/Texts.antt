@@ -47,39 +47,39 @@ raws_text parts = flat_map raw_text parts
 kind_of : (k : TokenKind) → token_text (operator k) ≡ kind_text k
 kind_of k = fold-roll-Token Text Text Text raw_layer kind_layer token_layer (record { at = 0; kind = k })
 
-word_is : (parts : List RawPart) → token_text (word_token parts) ≡ 32 ∷ flat_map raw_text parts
+pub word_is : (parts : List RawPart) → token_text (word_token parts) ≡ 32 ∷ flat_map raw_text parts
 word_is parts =
     kind_of (token.Word parts) ∙ ap kind_text (sym (token.rolls-Word parts)) ∙ fold-roll-TokenKind Text Text Text raw_layer kind_layer token_layer (seen.Word parts)
     ∙ ap (λ t. 32 ∷ t) (flat_map-map (λ p. p) raw_text parts)
 
-plain_raw : (w : Text) → raw_text (raw.Plain w) ≡ w
+pub plain_raw : (w : Text) → raw_text (raw.Plain w) ≡ w
 plain_raw w = ap raw_text (sym (raw.rolls-Plain w)) ∙ fold-roll-RawPart Text Text Text raw_layer kind_layer token_layer (seen.Plain w)
 
 plain_is : (w : Text) → token_text (plain_token w) ≡ 32 ∷ w
 plain_is w = word_is (raw.Plain w ∷ []) ∙ ap (λ t. 32 ∷ t) (append-nil (raw_text (raw.Plain w)) ∙ plain_raw w)
 
-line_is : token_text line ≡ codes "\n"
+pub line_is : token_text line ≡ codes "\n"
 line_is = kind_of token.Newline ∙ ap kind_text (sym token.rolls-Newline) ∙ fold-roll-TokenKind Text Text Text raw_layer kind_layer token_layer seen.Newline
 
-double_semi_is : token_text (operator token.DoubleSemi) ≡ codes " ;;"
+pub double_semi_is : token_text (operator token.DoubleSemi) ≡ codes " ;;"
 double_semi_is = kind_of token.DoubleSemi ∙ ap kind_text (sym token.rolls-DoubleSemi) ∙ fold-roll-TokenKind Text Text Text raw_layer kind_layer token_layer seen.DoubleSemi
 
-and_is : token_text (operator token.AndAnd) ≡ codes " &&"
+pub and_is : token_text (operator token.AndAnd) ≡ codes " &&"
 and_is = kind_of token.AndAnd ∙ ap kind_text (sym token.rolls-AndAnd) ∙ fold-roll-TokenKind Text Text Text raw_layer kind_layer token_layer seen.AndAnd
 
-or_is : token_text (operator token.OrOr) ≡ codes " ||"
+pub or_is : token_text (operator token.OrOr) ≡ codes " ||"
 or_is = kind_of token.OrOr ∙ ap kind_text (sym token.rolls-OrOr) ∙ fold-roll-TokenKind Text Text Text raw_layer kind_layer token_layer seen.OrOr
 
-bar_is : token_text (operator token.Bar) ≡ codes " |"
+pub bar_is : token_text (operator token.Bar) ≡ codes " |"
 bar_is = kind_of token.Bar ∙ ap kind_text (sym token.rolls-Bar) ∙ fold-roll-TokenKind Text Text Text raw_layer kind_layer token_layer seen.Bar
 
-left_is : token_text (operator token.LeftParen) ≡ codes " ("
+pub left_is : token_text (operator token.LeftParen) ≡ codes " ("
 left_is = kind_of token.LeftParen ∙ ap kind_text (sym token.rolls-LeftParen) ∙ fold-roll-TokenKind Text Text Text raw_layer kind_layer token_layer seen.LeftParen
 
-right_is : token_text (operator token.RightParen) ≡ codes " )"
+pub right_is : token_text (operator token.RightParen) ≡ codes " )"
 right_is = kind_of token.RightParen ∙ ap kind_text (sym token.rolls-RightParen) ∙ fold-roll-TokenKind Text Text Text raw_layer kind_layer token_layer seen.RightParen
 
-redirect_is : (which : Redirect) → token_text (redirect_token which) ≡ redirect_text which
+pub redirect_is : (which : Redirect) → token_text (redirect_token which) ≡ redirect_text which
 redirect_is which = kind_of (token.Redirect which) ∙ ap kind_text (sym (token.rolls-Redirect which)) ∙ fold-roll-TokenKind Text Text Text raw_layer kind_layer token_layer (seen.Redirect which)
 
 link_is : (is_and : Bool) → token_text (link_token is_and) ≡ link_word is_and

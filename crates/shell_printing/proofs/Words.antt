@@ -123,7 +123,7 @@ single (p ∷ q ∷ ps) h = absurd (clash (no_single (out-RawPart p)) h)
 
 -- ---- assignments
 
-abbrev NotPlain : List RawPart → Type 0
+abbrev pub NotPlain : List RawPart → Type 0
 NotPlain [] = Unit {0}
 NotPlain (p ∷ ps) = plain_of (out-RawPart p) ≡ None
 

@@ -2,4 +2,5 @@ pub mod Zeroed
 pub mod PrintedTokens
 pub mod TokenTexts
 pub mod Runs
+pub mod PlainTokens
 pub mod Laws
