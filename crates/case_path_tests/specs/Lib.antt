@@ -1,1 +1,2 @@
 pub mod TwoActs
+pub mod Questions

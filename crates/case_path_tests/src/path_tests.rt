@@ -1,4 +1,5 @@
-use crate::asked_path::AskedPath;
+use crate::asked_path::{AskedPath, AskedPaths};
+use crate::questions::answered;
 use crate::two_acts::all_paths;
 use case_paths::PathsFault;
 use script_names::{Done, List, Name, Path};
@@ -18,6 +19,17 @@ fn machine<R: Abort + AllocGlobal>(rt: &R) -> Result<AskedPath, Fail> {
     assert!(rt; names.len() == 1);
     let path = Path::new(names, false);
     Ok(AskedPath { path })
+}
+
+// A machine that asks for paths of one name each, in turn.
+fn questions<R: Abort + AllocGlobal>(rt: &R, names: &[u8]) -> Result<AskedPaths, Fail> {
+    let mut paths = List::new(rt.alloc());
+    for name in names {
+        let mut parts = List::new(rt.alloc());
+        parts.add(Name::read(rt.alloc(), &[*name])?)?;
+        paths.add(Path::new(parts, false))?;
+    }
+    Ok(AskedPaths { paths })
 }
 
 #[test]
@@ -43,6 +55,41 @@ fn two_have_no_room(rt: HostRuntime) -> Result<(), Fail> {
     match all_paths(rt.alloc(), &machine, 2) {
         Err(PathsFault::Over) => (),
         _ => assert!(rt; false, "room for three paths"),
+    }
+    Ok(())
+}
+
+// The rows of a question: a link, nothing, or something else stands there.
+const ROWS: &[u8] = &[65, 66, 67];
+
+// Whichever run is followed first, it parts from others at each of its three acts: those of lower rows at an early act
+// and at a later one come before it, those of higher rows behind it.
+#[test]
+fn paths_come_by_their_rows(rt: HostRuntime) -> Result<(), Fail> {
+    let machine = questions(&rt, b"abc")?;
+    let found = answered(rt.alloc(), &machine, 27)?;
+    assert_eq!(rt; found.len(), 27);
+    for at in 0usize..27 {
+        if let Some(path) = found.get(at) {
+            let rows = match path.state.trace.as_slice() {
+                [a, b, c] => (a.row, b.row, c.row),
+                _ => (0, 0, 0),
+            };
+            assert_eq!(rt; rows, (ROWS[at / 9], ROWS[at / 3 % 3], ROWS[at % 3]));
+        }
+    }
+    Ok(())
+}
+
+// One run from the first stage parts from eight others, at four acts.
+#[test]
+fn forks_of_one_run_have_no_room(rt: HostRuntime) -> Result<(), Fail> {
+    let machine = questions(&rt, b"abcd")?;
+    for room in [8, 80] {
+        match answered(rt.alloc(), &machine, room) {
+            Err(PathsFault::Over) => (),
+            _ => assert!(rt; false, "room for 81 paths"),
+        }
     }
     Ok(())
 }

@@ -1,12 +1,16 @@
 -- What an act's cases fork a stage into.
-use Rattle.std.proofs.Common.{inl, inr, ◌≡◌, ℕ, zero, suc, ◌<◌, ◌≤◌, ◌+◌, drop, append_assoc, List, [], ◌∷◌, ◌++◌, length, length-append, get_or, refl, sym, ap, ◌∙◌, subst, arith, map}
+use Rattle.std.proofs.Common.{inl, inr, ◌≡◌, ◌≢◌, Bool, true, false, nat_lt, ℕ, zero, suc, ◌<◌, ◌≤◌, ◌+◌, take, drop, append_assoc, List, [], ◌∷◌, ◌++◌, length, length-append, get_or, refl, sym, ap, ◌∙◌, subst, arith, map}
 use Rattle.std.specs.Prelude.{◌⊎◌, All}
+use Rattle.std.proofs.lemmas.Bool.{ltb-true, ltb-false}
+use Rattle.std.proofs.lemmas.List.{take-append-drop, get_or_read}
+use Rattle.std.proofs.lemmas.List.Elements.{All-contains}
 use Rattle.script_names.specs.declared.mark.Mark.{Mark}
 use Rattle.script_names.specs.declared.mark.Site.{Site}
 use Rattle.script_names.specs.declared.reason.Done.{Done}
 use Rattle.feature_trees.specs.declared.value.Value.{Value}
 use Rattle.tree_clauses.specs.declared.case.Case.{Case}
 use Rattle.tree_clauses.specs.Leads.{Leads}
+use Rattle.tree_clauses.specs.Plain.{IsPlain}
 use Rattle.utility_calls.specs.declared.acts.Act.{Act}
 use Rattle.utility_calls.specs.Acts.{row, tree_after}
 use Rattle.act_cases.specs.Cases.{AreCases, IsExact, AnswersAs, case_row, Rising as RisingRows}
@@ -16,8 +20,8 @@ use Rattle.act_decisions.specs.Decisions.{Decision, Asks, play, mark_at}
 use Rattle.case_paths.specs.declared.state.PathState.{PathState}
 use Rattle.case_paths.specs.Traces.{Before, AllBegin, AllAfter, Rising}
 use Rattle.case_paths.specs.Paths.{traces, AllAlive}
-use Rattle.case_paths.specs.Stages.{Holds, Parts, marked, Forked, none, dead, live, IsStageOf, AllStages}
-use Rattle.case_paths.proofs.Orders.{begins_refl, nil_right}
+use Rattle.case_paths.specs.Stages.{Holds, Parts, marked, Forked, none, dead, live, AreForks, IsLed, HasRow, IsRowAt, IsStageOf, AllStages}
+use Rattle.case_paths.proofs.Orders.{begins_refl, nil_right, before_other}
 use Rattle.case_paths.proofs.Plays.{now_is_tree}
 
 -- ---- each, down the list of cases
@@ -58,10 +62,10 @@ before_marks trace site n m lt = record {
   second = begins_refl (marked trace site m);
 }
 
--- one of these has the pair
-abbrev pub HavePair : List PathState → Value → Value → Type 0
-HavePair [] t v = ⊥
-HavePair (y ∷ ys) t v = HasPair y.store t v ⊎ HavePair ys t v
+-- one of these, with this trace, has the pair
+abbrev pub HavePair : List PathState → List Mark → Value → Value → Type 0
+HavePair [] trace t v = ⊥
+HavePair (y ∷ ys) trace t v = (HasPair y.store t v × (y.trace ≡ trace)) ⊎ HavePair ys trace t v
 
 module _ (site : Site) (x : PathState) where
   forks_above : (n : ℕ) (cases : List Case) (ys : List PathState) → Forked site x cases ys → AllAbove n cases → AllAfter (marked x.trace site n) (traces ys)
@@ -93,11 +97,11 @@ module _ (site : Site) (x : PathState) where
   forks_none_else cases ys (live {made = made} {cases = rest} {y = y} {ys = zs} adds e f) t (inl p) = (let s = (adds.pairs t p.0).0 p.1 in (s.0, s.1))
   forks_none_else cases ys (live {made = made} {cases = rest} {y = y} {ys = zs} adds e f) t (inr h) = forks_none_else rest zs f t h
 
-  forks_have : (cases : List Case) (ys : List PathState) → Forked site x cases ys → (made : Case) (k : ℕ) → k < length cases → ((d : Case) → get_or cases k d ≡ made) → (t u v : Value) → HasPair x.store t u → Leads made u v → HavePair ys t v
+  forks_have : (cases : List Case) (ys : List PathState) → Forked site x cases ys → (made : Case) (k : ℕ) → k < length cases → ((d : Case) → get_or cases k d ≡ made) → (t u v : Value) → HasPair x.store t u → Leads made u v → HavePair ys (marked x.trace site made.row) t v
   forks_have cases ys none made k lt at t u v p l = absurd (omega (arith, lt))
   forks_have cases ys (dead {made = other} {cases = rest} nowhere f) made zero lt at t u v p l = absurd (nowhere t v (u, p, subst (λ c. Leads c u v) (sym (at other)) l))
   forks_have cases ys (dead {made = other} {cases = rest} nowhere f) made (suc k) lt at t u v p l = forks_have rest ys f made k (omega (arith, lt)) at t u v p l
-  forks_have cases ys (live {made = other} {cases = rest} {y = y} {ys = zs} adds e f) made zero lt at t u v p l = inl ((adds.pairs t v).1 (u, p, subst (λ c. Leads c u v) (sym (at other)) l))
+  forks_have cases ys (live {made = other} {cases = rest} {y = y} {ys = zs} adds e f) made zero lt at t u v p l = inl ((adds.pairs t v).1 (u, p, subst (λ c. Leads c u v) (sym (at other)) l), e ∙ ap (λ (c : Case). marked x.trace site c.row) (at other))
   forks_have cases ys (live {made = other} {cases = rest} {y = y} {ys = zs} adds e f) made (suc k) lt at t u v p l = inr (forks_have rest zs f made k (omega (arith, lt)) at t u v p l)
 
 -- ---- what is played from a fork
@@ -129,8 +133,8 @@ module _ {A : Type 0} (d : Decision A) (first : Value → Value) (trace : List M
     forks_are_stages rest zs f (all_later (IsExact act) made rest exact) (all_later (AnswersAs act) made rest answers),
   )
 
--- a pair of the state goes on in one of the forks, with the tree that the act leaves
-pub forks_have_pair : (site : Site) (act : Act) (x : PathState) (cases : List Case) (ys : List PathState) → AreCases act cases → Forked site x cases ys → (t u : Value) → HasPair x.store t u → HavePair ys t (tree_after act u)
+-- a pair of the state goes on in the fork with its row, with the tree that the act leaves
+pub forks_have_pair : (site : Site) (act : Act) (x : PathState) (cases : List Case) (ys : List PathState) → AreCases act cases → Forked site x cases ys → (t u : Value) → HasPair x.store t u → HavePair ys (marked x.trace site (row act u).number) t (tree_after act u)
 forks_have_pair site act x cases ys are f t u p =
     let is_tree = now_is_tree x.store t u p in
     let every = are.every u is_tree in
@@ -138,22 +142,22 @@ forks_have_pair site act x cases ys are f t u p =
     let place = every.1 in
     let same : (d : Case) → get_or cases place.0 d ≡ made = λ d. get_or_any cases place.0 place.1 d made ∙ place.2 in
     let leads = (subst (IsExact act) (same made) (are.exact place.0 made place.1) u (tree_after act u) is_tree).1 (sym every.2, refl) in
-    forks_have site x cases ys f made place.0 place.1 same t u (tree_after act u) p leads
+    subst (λ n. HavePair ys (marked x.trace site n) t (tree_after act u)) every.2 (forks_have site x cases ys f made place.0 place.1 same t u (tree_after act u) p leads)
   where
     get_or_any : (xs : List Case) (k : ℕ) → k < length xs → (d e : Case) → get_or xs k d ≡ get_or xs k e
     get_or_any [] k lt d e = absurd (omega (arith, lt))
     get_or_any (x ∷ xs) zero lt d e = refl
     get_or_any (x ∷ xs) (suc k) lt d e = get_or_any xs k (omega (arith, lt)) d e
 
-have_holds : (ys : List PathState) (t v : Value) → HavePair ys t v → Holds ys t
-have_holds [] t v h = absurd h
-have_holds (y ∷ ys) t v (inl p) = inl (v, p)
-have_holds (y ∷ ys) t v (inr h) = inr (have_holds ys t v h)
+have_holds : (ys : List PathState) (trace : List Mark) (t v : Value) → HavePair ys trace t v → Holds ys t
+have_holds [] trace t v h = absurd h
+have_holds (y ∷ ys) trace t v (inl p) = inl (v, p.0)
+have_holds (y ∷ ys) trace t v (inr h) = inr (have_holds ys trace t v h)
 
 -- the forks part the state
 pub forks_part : (site : Site) (act : Act) (x : PathState) (cases : List Case) (ys : List PathState) → AreCases act cases → Forked site x cases ys → Parts x ys
 forks_part site act x cases ys are f = record {
-  all = λ t u p. have_holds ys t (tree_after act u) (forks_have_pair site act x cases ys are f t u p);
+  all = λ t u p. have_holds ys (marked x.trace site (row act u).number) t (tree_after act u) (forks_have_pair site act x cases ys are f t u p);
   none_else = forks_none_else site x cases ys f;
   alive = forks_alive site x cases ys f;
   rising = forks_rise site x cases ys f are.rising;
@@ -190,3 +194,77 @@ dead_next site x cases i made forks lt at nowhere h ys f = h ys (subst (λ l. Fo
 
 pub all_forks : (site : Site) (x : PathState) (cases : List Case) (i : ℕ) (forks : List PathState) → length cases ≤ i → AreSoFar site x cases i forks → Forked site x cases forks
 all_forks site x cases i forks le h = subst (Forked site x cases) (nil_right forks) (h [] (subst (λ l. Forked site x l []) (sym (drop_none cases i le)) none))
+
+-- ---- the cases below a row, the case of that row, and those above it
+
+forked_append : (site : Site) (x : PathState) (cases more : List Case) (ys zs : List PathState) → Forked site x cases ys → Forked site x more zs → Forked site x (cases ++ more) (ys ++ zs)
+forked_append site x cases more ys zs none g = g
+forked_append site x cases more ys zs (dead {made = made} {cases = rest} nowhere f) g = dead nowhere (forked_append site x rest more ys zs f g)
+forked_append site x cases more ys zs (live {made = made} {cases = rest} {y = y} {ys = us} adds e f) g = live adds e (forked_append site x rest more us zs f g)
+
+pub forks_joined : (mark : Mark) (x : PathState) (cases : List Case) (i : ℕ) (made : Case) (lower higher : List PathState) (y : PathState) → i < length cases → made ≡ get_or cases i made → made.row ≡ mark.row → Forked mark.site x (take i cases) lower → Forked mark.site x (drop (i + 1) cases) higher → AddsCase x.store made y.store → y.trace ≡ x.trace ++ mark ∷ [] → AreForks mark x cases (record { lower = lower; followed = y; higher = higher })
+forks_joined mark x cases i made lower higher y lt at same low high adds e = record {
+  forked = subst (λ l. Forked mark.site x l (lower ++ y ∷ higher)) whole (forked_append mark.site x (take i cases) (made ∷ drop (i + 1) cases) lower (y ∷ higher) low (live adds trace_is high));
+  followed = e;
+}
+  where
+    whole : take i cases ++ made ∷ drop (i + 1) cases ≡ cases
+    whole = ap (λ l. take i cases ++ l) (sym (drop_one cases i made lt at)) ∙ take-append-drop i cases
+
+    trace_is : y.trace ≡ marked x.trace mark.site made.row
+    trace_is = e ∙ ap (λ n. marked x.trace mark.site n) (sym same)
+
+-- what is so of the case at a place
+pub plain_at : (cases : List Case) (i : ℕ) (made : Case) → i < length cases → made ≡ get_or cases i made → All IsPlain cases → IsPlain made
+plain_at cases i made lt at plain = subst IsPlain (sym at) (plain i made lt)
+
+pub led_at : (x : PathState) (cases : List Case) (n i : ℕ) (made : Case) → made ≡ get_or cases i made → IsRowAt cases n i → IsLed x cases n → LeadsNowhere x.store made → ⊥
+led_at x cases n i made at row led = led.leads made (i, row.0, sym at) (ap (λ (c : Case). c.row) at ∙ row.1 made)
+
+-- where the act's row on the tree of a pair is this one, the cases are led by it
+pub pair_leads : (act : Act) (x : PathState) (cases : List Case) (t u : Value) → AreCases act cases → HasPair x.store t u → IsLed x cases (row act u).number
+pair_leads act x cases t u are p =
+    let is_tree = now_is_tree x.store t u p in
+    let every = are.every u is_tree in
+    record {
+      has = every;
+      leads = λ made has e nowhere. nowhere t (tree_after act u) (u, p, (All-contains (IsExact act) cases made are.exact has u (tree_after act u) is_tree).1 (sym e, refl));
+    }
+
+-- ---- the fork of a run
+
+not_after : (a b : List Mark) (ys : List PathState) (t v : Value) → AllAfter a (traces ys) → HavePair ys b t v → a ≡ b → ⊥
+not_after a b [] t v h k e = absurd k
+not_after a b (y ∷ ys) t v h (inl p) e = before_other a y.trace h.0 (e ∙ sym p.1)
+not_after a b (y ∷ ys) t v h (inr k) e = not_after a b ys t v h.1 k e
+
+after_between : (a : List Mark) (lower higher : List PathState) (y : PathState) → AllAfter a (traces (lower ++ y ∷ higher)) → Before a y.trace
+after_between a [] higher y h = h.0
+after_between a (z ∷ lower) higher y h = after_between a lower higher y h.1
+
+-- of states whose traces rise, the one with the trace of a pair has the pair
+pub followed_pair : (lower higher : List PathState) (y : PathState) (trace : List Mark) (t v : Value) → Rising (traces (lower ++ y ∷ higher)) → y.trace ≡ trace → HavePair (lower ++ y ∷ higher) trace t v → HasPair y.store t v
+followed_pair [] higher y trace t v r e (inl p) = p.0
+followed_pair [] higher y trace t v r e (inr h) = absurd (not_after y.trace trace higher t v r.0 h e)
+followed_pair (z ∷ lower) higher y trace t v r e (inl p) = absurd (before_other z.trace y.trace (after_between z.trace lower higher y r.0) (p.1 ∙ sym e))
+followed_pair (z ∷ lower) higher y trace t v r e (inr h) = followed_pair lower higher y trace t v r.1 e h
+
+-- ---- the place of a row
+
+-- none of the cases before this place is of this row
+abbrev pub NoneBefore : List Case → ℕ → ℕ → Type 0
+NoneBefore cases n i = (k : ℕ) → k < i → (o : Case) → (get_or cases k o).row ≡ n → ⊥
+
+pub none_more : (cases : List Case) (n i : ℕ) (made : Case) → i < length cases → made ≡ get_or cases i made → made.row ≢ n → NoneBefore cases n i → NoneBefore cases n (i + 1)
+none_more cases n i made within at ne before k lt o e = by (nat_lt k i) refl
+  where
+    by : (b : Bool) → nat_lt k i ≡ b → ⊥
+    by true below = before k (ltb-true k i below) o e
+    by false above =
+        let reached = ltb-false k i above in
+        let same : k ≡ i = omega (arith, lt, reached) in
+        ne (ap (λ (c : Case). c.row) (get_or_read cases i made within at o) ∙ ap (λ j. (get_or cases j o).row) (sym same) ∙ e)
+
+pub not_reached : (cases : List Case) (n i : ℕ) → HasRow cases n → NoneBefore cases n i → length cases ≤ i → ⊥
+not_reached cases n i has before le =
+    let w = has.1.1 in before has.1.0 (omega (arith, w, le)) has.0 (ap (λ (c : Case). c.row) has.1.2 ∙ has.2)

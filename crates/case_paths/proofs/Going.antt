@@ -1,5 +1,5 @@
--- One path from a stage on, along the run from one of its start trees.
-use Rattle.std.proofs.Common.{inl, inr, ◌≡◌, ◌≢◌, ℕ, ◌<◌, ◌≤◌, ◌+◌, ◌-◌, List, [], ◌∷◌, length, length-append, get_or, refl, sym, ap, ◌∙◌, subst, arith}
+-- One run from a stage to its end, and the stages that part from it on the way.
+use Rattle.std.proofs.Common.{◌≡◌, ℕ, ◌<◌, ◌≤◌, ◌+◌, ◌-◌, List, [], ◌∷◌, ◌++◌, length, length-append, get_or, append_assoc, refl, sym, ap, ◌∙◌, subst, arith}
 use Rattle.script_names.specs.declared.mark.Mark.{Mark}
 use Rattle.script_names.specs.declared.mark.Site.{Site}
 use Rattle.script_names.specs.declared.reason.Done.{Done}
@@ -14,37 +14,20 @@ use Rattle.clause_solver.specs.Pairs.{HasPair}
 use Rattle.act_decisions.specs.Decisions.{Decision, Decided, Asks, Played, play, mark_at}
 use Rattle.case_paths.specs.declared.state.PathState.{PathState}
 use Rattle.case_paths.specs.declared.state.Ran.{Ran}
+use Rattle.case_paths.specs.declared.fork.Forks.{Forks}
 use Rattle.case_paths.specs.Paths.{Gives}
-use Rattle.case_paths.specs.Stages.{Parts, Forked, none, dead, live, IsStageOf, IsStage, AllStages, HasEnded}
+use Rattle.case_paths.specs.Stages.{Parts, AreForks, IsLed, IsStageOf, IsStage, AllStages, HasEnded, Comes}
 use Rattle.case_paths.proofs.Plays.{next_act, at_end, extends}
-use Rattle.case_paths.proofs.Parting.{parts_alone, parts_then}
-use Rattle.case_paths.proofs.Forking.{HavePair, forks_have_pair, forks_part, forks_stages}
+use Rattle.case_paths.proofs.Parting.{parts_alone, parts_replace, stages_append, stages_between}
+use Rattle.case_paths.proofs.Forking.{forks_have_pair, forks_part, forks_stages, pair_leads, followed_pair}
 
--- the state x comes of the stage x0 as the only one, and has a pair with the start tree t
-pub record Going {A : Type 0} (d : Decision A) (first : Value → Value) (trace : List Mark) (x0 : PathState) (t : Value) (x : PathState) : Type 0 where
+-- the state x is a stage, and has a pair with the start tree t
+pub record Going {A : Type 0} (d : Decision A) (first : Value → Value) (trace : List Mark) (t : Value) (x : PathState) : Type 0 where
   pub stage : IsStage d first trace x
-  pub parts : Parts x0 (x ∷ [])
   pub tree : Value
   pub has : HasPair x.store t tree
 
-pub begin_going : {A : Type 0} (d : Decision A) (first : Value → Value) (trace : List Mark) (x : PathState) (t v : Value) → IsStage d first trace x → Alive x.store → HasPair x.store t v → Going d first trace x t x
-begin_going d first trace x t v s a p = record { stage = s; parts = parts_alone x a; tree = v; has = p }
-
--- each of these has a trace so long
-abbrev AllLong : ℕ → List PathState → Type 0
-AllLong n [] = Unit {0}
-AllLong n (y ∷ ys) = (length y.trace ≡ n) × AllLong n ys
-
-forks_long : (site : Site) (x : PathState) (cases : List Case) (ys : List PathState) → Forked site x cases ys → AllLong (length x.trace + 1) ys
-forks_long site x cases ys none = tt
-forks_long site x cases ys (dead {made = made} {cases = rest} nowhere f) = forks_long site x rest ys f
-forks_long site x cases ys (live {made = made} {cases = rest} {y = y} {ys = zs} adds e f) = (let k = ap length e ∙ length-append x.trace (record { site = site; row = made.row } ∷ []) in omega (arith, k), forks_long site x rest zs f)
-
-have_some : (ys : List PathState) (t v : Value) → HavePair ys t v → 1 ≤ length ys
-have_some [] t v h = absurd h
-have_some (y ∷ ys) t v h = omega arith
-
-module _ {A : Type 0} (d : Decision A) (first : Value → Value) (trace : List Mark) (x0 : PathState) (t : Value) (marks : List Mark) (run_acts : List Act) (marks_are : marks ≡ (play d (first t) trace []).trace) (acts_are : run_acts ≡ (play d (first t) trace []).acts) where
+module _ {A : Type 0} (d : Decision A) (first : Value → Value) (trace : List Mark) (t : Value) (marks : List Mark) (run_acts : List Act) (marks_are : marks ≡ (play d (first t) trace []).trace) (acts_are : run_acts ≡ (play d (first t) trace []).acts) where
   -- the next act of the run is that of the stage
   pub record Step (x : PathState) (tree : Value) : Type 0 where
     pub site : Site
@@ -56,7 +39,7 @@ module _ {A : Type 0} (d : Decision A) (first : Value → Value) (trace : List M
     pub act_is : (o : Act) → get_or run_acts (length x.trace - length trace) o ≡ act
     pub mark_is : (o : Mark) → get_or marks (length x.trace) o ≡ mark_at site act tree
 
-  pub step : (x : PathState) (g : Going d first trace x0 t x) → length x.trace < length marks → Step x g.tree
+  pub step : (x : PathState) (g : Going d first trace t x) → length x.trace < length marks → Step x g.tree
   step x g lt =
       let s = g.stage.2 in
       let p = play g.stage.0 g.tree x.trace g.stage.1 in
@@ -77,55 +60,52 @@ module _ {A : Type 0} (d : Decision A) (first : Value → Value) (trace : List M
         mark_is = λ o. ap (λ l. get_or l (length x.trace) o) m ∙ n.mark_is o;
       }
 
-  pub starts_before : (x : PathState) → Going d first trace x0 t x → length trace ≤ length x.trace
+  pub starts_before : (x : PathState) → Going d first trace t x → length trace ≤ length x.trace
   starts_before x g = let c = g.stage.2.count in omega (arith, c)
 
-  pub step_within : (x : PathState) (i : ℕ) → Going d first trace x0 t x → i ≡ length x.trace → i < length marks → i - length trace < length run_acts
+  pub step_within : (x : PathState) (i : ℕ) → Going d first trace t x → i ≡ length x.trace → i < length marks → i - length trace < length run_acts
   step_within x i g e lt = let w = (step x g (subst (λ n. n < length marks) e lt)).within in omega (arith, w, e)
 
-  pub step_performed : (x : PathState) (i : ℕ) (act : Act) → Going d first trace x0 t x → i ≡ length x.trace → i < length marks → act ≡ get_or run_acts (i - length trace) act → IsPerformed act
+  pub step_performed : (x : PathState) (i : ℕ) (act : Act) → Going d first trace t x → i ≡ length x.trace → i < length marks → act ≡ get_or run_acts (i - length trace) act → IsPerformed act
   step_performed x i act g e lt is =
       let s = step x g (subst (λ n. n < length marks) e lt) in
       subst IsPerformed (sym (is ∙ ap (λ n. get_or run_acts (n - length trace) act) e ∙ s.act_is act)) s.stage.performed.0
 
-  -- what the next act forks the state into
-  pub record Forks (x : PathState) (ys : List PathState) : Type 0 where
-    pub stages : AllStages d first trace ys
-    pub parts : Parts x0 ys
-    pub after : Value
-    pub have : HavePair ys t after
-    pub long : AllLong (length x.trace + 1) ys
-
-  pub forks_from : (x : PathState) (i : ℕ) (act : Act) (o : Mark) (at : Site) (cases : List Case) (ys : List PathState) → Going d first trace x0 t x → i ≡ length x.trace → i < length marks → act ≡ get_or run_acts (i - length trace) act → at ≡ (get_or marks i o).site → AreCases act cases → Forked at x cases ys → Forks x ys
-  forks_from x i act o at cases ys g e lt act_is at_is are f =
+  pub step_leads : (x : PathState) (i : ℕ) (act : Act) (o mark : Mark) (cases : List Case) → Going d first trace t x → i ≡ length x.trace → i < length marks → act ≡ get_or run_acts (i - length trace) act → mark ≡ get_or marks i o → AreCases act cases → IsLed x cases mark.row
+  step_leads x i act o mark cases g e lt act_is mark_is are =
       let s = step x g (subst (λ n. n < length marks) e lt) in
       let same_act : act ≡ s.act = act_is ∙ ap (λ n. get_or run_acts (n - length trace) act) e ∙ s.act_is act in
-      let same_site : at ≡ s.site = at_is ∙ ap (λ (m : Mark). m.site) (ap (λ n. get_or marks n o) e ∙ s.mark_is o) in
+      let same_mark : mark ≡ mark_at s.site s.act g.tree = mark_is ∙ ap (λ n. get_or marks n o) e ∙ s.mark_is o in
+      subst (IsLed x cases) (ap (λ (m : Mark). m.row) (sym same_mark)) (pair_leads s.act x cases t g.tree (subst (λ a. AreCases a cases) same_act are) g.has)
+
+  -- what the next act forks the state into
+  pub record Forking (x : PathState) (forks : Forks) : Type 0 where
+    pub stages : AllStages d first trace (forks.lower ++ forks.followed ∷ forks.higher)
+    pub parts : Parts x (forks.lower ++ forks.followed ∷ forks.higher)
+    pub after : Value
+    pub has : HasPair forks.followed.store t after
+    pub longer : length forks.followed.trace ≡ length x.trace + 1
+
+  pub forks_from : (x : PathState) (i : ℕ) (act : Act) (o mark : Mark) (cases : List Case) (forks : Forks) → Going d first trace t x → i ≡ length x.trace → i < length marks → act ≡ get_or run_acts (i - length trace) act → mark ≡ get_or marks i o → AreCases act cases → AreForks mark x cases forks → Forking x forks
+  forks_from x i act o mark cases forks g e lt act_is mark_is are f =
+      let s = step x g (subst (λ n. n < length marks) e lt) in
+      let same_act : act ≡ s.act = act_is ∙ ap (λ n. get_or run_acts (n - length trace) act) e ∙ s.act_is act in
+      let same_mark : mark ≡ mark_at s.site s.act g.tree = mark_is ∙ ap (λ n. get_or marks n o) e ∙ s.mark_is o in
       let are' : AreCases s.act cases = subst (λ a. AreCases a cases) same_act are in
-      let f' : Forked s.site x cases ys = subst (λ (q : Site). Forked q x cases ys) same_site f in
+      let f' : AreForks (mark_at s.site s.act g.tree) x cases forks = subst (λ (m : Mark). AreForks m x cases forks) same_mark f in
+      let ys = forks.lower ++ forks.followed ∷ forks.higher in
+      let parts = forks_part s.site s.act x cases ys are' f'.forked in
+      let have = forks_have_pair s.site s.act x cases ys are' f'.forked t g.tree g.has in
       record {
-        stages = forks_stages d first trace s.site s.act s.next s.acts x cases ys s.stage are' f';
-        parts = parts_then x0 x ys g.parts (forks_part s.site s.act x cases ys are' f');
+        stages = forks_stages d first trace s.site s.act s.next s.acts x cases ys s.stage are' f'.forked;
+        parts = parts;
         after = tree_after s.act g.tree;
-        have = forks_have_pair s.site s.act x cases ys are' f' t g.tree g.has;
-        long = forks_long at x cases ys f;
+        has = followed_pair forks.lower forks.higher forks.followed (x.trace ++ mark_at s.site s.act g.tree ∷ []) t (tree_after s.act g.tree) parts.rising f'.followed have;
+        longer = ap length f'.followed ∙ length-append x.trace (mark_at s.site s.act g.tree ∷ []);
       }
 
-  pub at_least_two : (x : PathState) (ys : List PathState) → Forks x ys → length ys ≢ 1 → 2 ≤ length ys
-  at_least_two x ys f ne = let k = have_some ys t f.after f.have in omega (arith, k, ne)
-
-  pub goes_on : (x y : PathState) (ys : List PathState) → Forks x ys → ys ≡ y ∷ [] → Going d first trace x0 t y × (length y.trace ≡ length x.trace + 1)
-  goes_on x y ys f e = only (subst (Forks x) e f)
-    where
-      pair : (v : Value) → HavePair (y ∷ []) t v → HasPair y.store t v
-      pair v (inl p) = p
-      pair v (inr h) = absurd h
-
-      only : Forks x (y ∷ []) → Going d first trace x0 t y × (length y.trace ≡ length x.trace + 1)
-      only f = (record { stage = f.stages.0; parts = f.parts; tree = f.after; has = pair f.after f.have }, f.long.0)
-
   -- at the end of the run nothing is left of the decision
-  pub has_ended : (x : PathState) (value : A) → Going d first trace x0 t x → value ≡ (play d (first t) trace []).value → length marks ≤ length x.trace → HasEnded d first trace (record { value = value; state = x })
+  pub has_ended : (x : PathState) (value : A) → Going d first trace t x → value ≡ (play d (first t) trace []).value → length marks ≤ length x.trace → HasEnded d first trace (record { value = value; state = x })
   has_ended x value g is le =
       let s = g.stage.2 in
       let p = play g.stage.0 g.tree x.trace g.stage.1 in
@@ -143,40 +123,69 @@ module _ {A : Type 0} (d : Decision A) (first : Value → Value) (trace : List M
         tree = ap (λ (q : Played A). q.tree) same;
       })
 
--- the state x comes of the stage x0 along the run that gave these: what it ends with, its marks and its acts
-pub record Follows {A : Type 0} (d : Decision A) (first : Value → Value) (trace : List Mark) (x0 : PathState) (value : A) (marks : List Mark) (run_acts : List Act) (x : PathState) : Type 0 where
+-- the state x comes of the stage x0 along the run that gave these: what it ends with, its marks and its acts; the
+-- others that x0 has parted into are stages, those with lower traces and those with higher ones
+pub record Follows {A : Type 0} (d : Decision A) (first : Value → Value) (trace : List Mark) (x0 : PathState) (value : A) (marks : List Mark) (run_acts : List Act) (lower : List PathState) (x : PathState) (higher : List PathState) : Type 0 where
   pub start : Value
   pub value_is : value ≡ (play d (first start) trace []).value
   pub marks_are : marks ≡ (play d (first start) trace []).trace
   pub acts_are : run_acts ≡ (play d (first start) trace []).acts
-  pub going : Going d first trace x0 start x
+  pub going : Going d first trace start x
+  pub lower_stages : AllStages d first trace lower
+  pub higher_stages : AllStages d first trace higher
+  pub parts : Parts x0 (lower ++ x ∷ higher)
 
-pub begin_follows : {A : Type 0} (d : Decision A) (first : Value → Value) (trace : List Mark) (x : PathState) (start : Value) (value : A) (marks : List Mark) (run_acts : List Act) (ran : Ran A) → IsStage d first trace x → Alive x.store → (g : Valuation) × Stands x.store start g → Gives (play d (first start) trace []) ran → value ≡ ran.value → marks ≡ ran.trace → run_acts ≡ ran.acts → Follows d first trace x value marks run_acts x
-begin_follows d first trace x start value marks run_acts ran s a g gives e f h = record {
+pub begin_follows : {A : Type 0} (d : Decision A) (first : Value → Value) (trace : List Mark) (x : PathState) (start : Value) (value : A) (marks : List Mark) (run_acts : List Act) (ran : Ran A) (lower higher : List PathState) → IsStage d first trace x → Alive x.store → (g : Valuation) × Stands x.store start g → Gives (play d (first start) trace []) ran → value ≡ ran.value → marks ≡ ran.trace → run_acts ≡ ran.acts → lower ≡ [] → higher ≡ [] → Follows d first trace x value marks run_acts lower x higher
+begin_follows d first trace x start value marks run_acts ran lower higher s a g gives e f h no_lower no_higher = record {
   start = start;
   value_is = e ∙ gives.value;
   marks_are = f ∙ gives.trace;
   acts_are = h ∙ gives.acts;
-  going = begin_going d first trace x start (value_of_variable g.0 x.store.current) s a (g.0, g.1, refl);
+  going = record { stage = s; tree = value_of_variable g.0 x.store.current; has = (g.0, g.1, refl) };
+  lower_stages = subst (AllStages d first trace) (sym no_lower) tt;
+  higher_stages = subst (AllStages d first trace) (sym no_higher) tt;
+  parts = subst (λ l. Parts x (l ++ x ∷ higher)) (sym no_lower) (subst (λ l. Parts x (x ∷ l)) (sym no_higher) (parts_alone x a));
 }
 
-module _ {A : Type 0} (d : Decision A) (first : Value → Value) (trace : List Mark) (x0 : PathState) (value : A) (marks : List Mark) (run_acts : List Act) (x : PathState) (f : Follows d first trace x0 value marks run_acts x) where
+module _ {A : Type 0} (d : Decision A) (first : Value → Value) (trace : List Mark) (x0 : PathState) (value : A) (marks : List Mark) (run_acts : List Act) (lower : List PathState) (x : PathState) (higher : List PathState) (f : Follows d first trace x0 value marks run_acts lower x higher) where
   pub follows_within : (i : ℕ) → i ≡ length x.trace → i < length marks → i - length trace < length run_acts
-  follows_within i e lt = step_within d first trace x0 f.start marks run_acts f.marks_are f.acts_are x i f.going e lt
+  follows_within i e lt = step_within d first trace f.start marks run_acts f.marks_are f.acts_are x i f.going e lt
 
   pub follows_performed : (i : ℕ) (act : Act) → i ≡ length x.trace → i < length marks → act ≡ get_or run_acts (i - length trace) act → IsPerformed act
-  follows_performed i act e lt is = step_performed d first trace x0 f.start marks run_acts f.marks_are f.acts_are x i act f.going e lt is
+  follows_performed i act e lt is = step_performed d first trace f.start marks run_acts f.marks_are f.acts_are x i act f.going e lt is
 
-  pub follows_forks : (i : ℕ) (act : Act) (o : Mark) (at : Site) (cases : List Case) (ys : List PathState) → i ≡ length x.trace → i < length marks → act ≡ get_or run_acts (i - length trace) act → at ≡ (get_or marks i o).site → AreCases act cases → Forked at x cases ys → length ys ≢ 1 → AllStages d first trace ys × Parts x0 ys × (2 ≤ length ys)
-  follows_forks i act o at cases ys e lt act_is at_is are forked ne =
-      let k = forks_from d first trace x0 f.start marks run_acts f.marks_are f.acts_are x i act o at cases ys f.going e lt act_is at_is are forked in
-      (k.stages, k.parts, at_least_two d first trace x0 f.start marks run_acts f.marks_are f.acts_are x ys k ne)
+  pub follows_leads : (i : ℕ) (act : Act) (o mark : Mark) (cases : List Case) → i ≡ length x.trace → i < length marks → act ≡ get_or run_acts (i - length trace) act → mark ≡ get_or marks i o → AreCases act cases → IsLed x cases mark.row
+  follows_leads i act o mark cases e lt act_is mark_is are = step_leads d first trace f.start marks run_acts f.marks_are f.acts_are x i act o mark cases f.going e lt act_is mark_is are
 
-  pub follows_on : (i : ℕ) (act : Act) (o : Mark) (at : Site) (cases : List Case) (ys : List PathState) (y : PathState) → i ≡ length x.trace → i < length marks → act ≡ get_or run_acts (i - length trace) act → at ≡ (get_or marks i o).site → AreCases act cases → Forked at x cases ys → ys ≡ y ∷ [] → (i + 1 ≡ length y.trace) × Follows d first trace x0 value marks run_acts y
-  follows_on i act o at cases ys y e lt act_is at_is are forked only =
-      let k = forks_from d first trace x0 f.start marks run_acts f.marks_are f.acts_are x i act o at cases ys f.going e lt act_is at_is are forked in
-      let on = goes_on d first trace x0 f.start marks run_acts f.marks_are f.acts_are x y ys k only in
-      (ap (λ n. n + 1) e ∙ sym on.1, record { start = f.start; value_is = f.value_is; marks_are = f.marks_are; acts_are = f.acts_are; going = on.0 })
+  -- the next act parts some more stages from the run
+  pub follows_on : (i : ℕ) (act : Act) (o mark : Mark) (cases : List Case) (forks : Forks) (below above : List PathState) → i ≡ length x.trace → i < length marks → act ≡ get_or run_acts (i - length trace) act → mark ≡ get_or marks i o → AreCases act cases → AreForks mark x cases forks → below ≡ lower ++ forks.lower → above ≡ forks.higher ++ higher → (i + 1 ≡ length forks.followed.trace) × Follows d first trace x0 value marks run_acts below forks.followed above
+  follows_on i act o mark cases forks below above e lt act_is mark_is are forked below_is above_is =
+      let k = forks_from d first trace f.start marks run_acts f.marks_are f.acts_are x i act o mark cases forks f.going e lt act_is mark_is are forked in
+      let between = stages_between d first trace forks.lower forks.followed forks.higher k.stages in (
+        ap (λ n. n + 1) e ∙ sym k.longer,
+        record {
+          start = f.start;
+          value_is = f.value_is;
+          marks_are = f.marks_are;
+          acts_are = f.acts_are;
+          going = record { stage = between.1; tree = k.after; has = k.has };
+          lower_stages = subst (AllStages d first trace) (sym below_is) (stages_append d first trace lower forks.lower f.lower_stages between.0);
+          higher_stages = subst (AllStages d first trace) (sym above_is) (stages_append d first trace forks.higher higher between.2 f.higher_stages);
+          parts = subst (Parts x0) joined (parts_replace x0 x lower (forks.lower ++ forks.followed ∷ forks.higher) higher f.parts k.parts);
+        },
+      )
+    where
+      joined : lower ++ ((forks.lower ++ forks.followed ∷ forks.higher) ++ higher) ≡ below ++ forks.followed ∷ above
+      joined =
+          ap (λ l. lower ++ l) (append_assoc forks.lower (forks.followed ∷ forks.higher) higher)
+          ∙ sym (append_assoc lower forks.lower (forks.followed ∷ (forks.higher ++ higher)))
+          ∙ ap (λ l. l ++ forks.followed ∷ (forks.higher ++ higher)) (sym below_is)
+          ∙ ap (λ l. below ++ forks.followed ∷ l) (sym above_is)
 
-  pub follows_to_end : (i : ℕ) → i ≡ length x.trace → length marks ≤ i → HasEnded d first trace (record { value = value; state = x }) × Parts x0 (x ∷ [])
-  follows_to_end i e le = (has_ended d first trace x0 f.start marks run_acts f.marks_are f.acts_are x value f.going f.value_is (subst (λ n. length marks ≤ n) e le), f.going.parts)
+  pub follows_to_end : (i : ℕ) → i ≡ length x.trace → length marks ≤ i → Comes d first trace x0 (record { lower = lower; path = record { value = value; state = x }; higher = higher })
+  follows_to_end i e le = record {
+    lower = f.lower_stages;
+    ended = has_ended d first trace f.start marks run_acts f.marks_are f.acts_are x value f.going f.value_is (subst (λ n. length marks ≤ n) e le);
+    higher = f.higher_stages;
+    parts = f.parts;
+  }

@@ -10,8 +10,8 @@ use Rattle.case_paths.specs.declared.state.PathState.{PathState}
 use Rattle.case_paths.specs.declared.state.Found.{Found}
 use Rattle.case_paths.specs.Traces.{AllBegin, Rising}
 use Rattle.case_paths.specs.Paths.{traces, states, AllAlive}
-use Rattle.case_paths.specs.Stages.{Holds, Parts, AllStages, AllEnded, HasEnded}
-use Rattle.case_paths.proofs.Orders.{nil_right, begins_refl, rising_replace, under_replace}
+use Rattle.case_paths.specs.Stages.{Holds, Parts, IsStage, AllStages, AllEnded, HasEnded}
+use Rattle.case_paths.proofs.Orders.{begins_refl, rising_replace, under_replace}
 
 pub traces_append : (xs ys : List PathState) → traces (xs ++ ys) ≡ traces xs ++ traces ys
 traces_append [] ys = refl
@@ -102,15 +102,15 @@ parts_replace x y ds zs bs h k = record {
     back t (inl p) = holds_left ds (y ∷ bs) t p
     back t (inr p) = holds_right ds (y ∷ bs) t (first t (holds_split zs bs t p))
 
--- the one state parts further
-pub parts_then : (x y : PathState) (zs : List PathState) → Parts x (y ∷ []) → Parts y zs → Parts x zs
-parts_then x y zs h k = subst (Parts x) (nil_right zs) (parts_replace x y [] zs [] h k)
-
 -- ---- stages, and paths that have ended
 
 pub stages_append : {A : Type 0} (d : Decision A) (first : Value → Value) (trace : List Mark) (xs ys : List PathState) → AllStages d first trace xs → AllStages d first trace ys → AllStages d first trace (xs ++ ys)
 stages_append d first trace [] ys h k = k
 stages_append d first trace (x ∷ xs) ys h k = (h.0, stages_append d first trace xs ys h.1 k)
+
+pub stages_between : {A : Type 0} (d : Decision A) (first : Value → Value) (trace : List Mark) (xs : List PathState) (y : PathState) (zs : List PathState) → AllStages d first trace (xs ++ y ∷ zs) → AllStages d first trace xs × IsStage d first trace y × AllStages d first trace zs
+stages_between d first trace [] y zs h = (tt, h.0, h.1)
+stages_between d first trace (x ∷ xs) y zs h = let k = stages_between d first trace xs y zs h.1 in ((h.0, k.0), k.1, k.2)
 
 pub ended_push : {A : Type 0} (d : Decision A) (first : Value → Value) (trace : List Mark) (xs : List (Found A)) (x : Found A) → AllEnded d first trace xs → HasEnded d first trace x → AllEnded d first trace (xs ++ x ∷ [])
 ended_push d first trace [] x h k = (k, tt)

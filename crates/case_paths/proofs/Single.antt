@@ -10,10 +10,13 @@ use Rattle.case_paths.specs.declared.state.PathState.{PathState}
 use Rattle.case_paths.specs.declared.state.Found.{Found}
 use Rattle.case_paths.specs.Traces.{Begins, Before, AllBegin, AllAfter, Rising}
 use Rattle.case_paths.specs.Paths.{EndsAs, IsAt, Once, traces, states, AllAlive, AreThePaths, AllPlayed, AreTooMany, AreFew}
-use Rattle.case_paths.specs.Stages.{Holds, Parts, IsStage, AllStages, HasEnded, AllEnded}
+use Rattle.case_paths.specs.declared.items.Item.{Item}
+use Rattle.case_paths.specs.declared.items.Item.TheVariants.{Waiting, Ended}
+use Rattle.case_paths.specs.Stages.{Holds, Parts, IsStage, HasEnded, AllEnded}
 use Rattle.case_paths.proofs.Orders.{nil_right, before_left, before_right, before_other}
 use Rattle.case_paths.proofs.Plays.{some_pair, extends}
 use Rattle.case_paths.proofs.Parting.{traces_length, states_length}
+use Rattle.case_paths.proofs.ItemStates.{item_states, AllItems, items_length}
 
 -- ---- one place for each trace
 
@@ -170,13 +173,14 @@ module _ {A : Type 0} (d : Decision A) (first : Value → Value) (trace : List M
       let q = back p.0 (p.1, p.2) in
       (p.0, q.0, q.1, record { more = []; is = ap (λ u. (from u).trace) (known p.0 q.0 q.1) ∙ sym (ended p.0 p.1 p.2).trace ∙ sym (nil_right x.state.trace) })
 
-  stages_met : (xs : List PathState) → AllStages d first trace xs → AllAlive xs → ((t : Value) → Holds xs t → (u : Value) × HasPair root.store t u) → AllMet (traces xs)
-  stages_met [] s a back = tt
-  stages_met (x ∷ xs) s a back = (stage_met x s.0 a.0 (λ t p. back t (inl p)), stages_met xs s.1 a.1 (λ t h. back t (inr h)))
+  items_met : (items : List (Item A)) → AllItems d first trace items → AllAlive (item_states items) → ((t : Value) → Holds (item_states items) t → (u : Value) × HasPair root.store t u) → AllMet (traces (item_states items))
+  items_met [] s a back = tt
+  items_met (Waiting x ∷ items) s a back = (stage_met x s.0 a.0 (λ t p. back t (inl p)), items_met items s.1 a.1 (λ t h. back t (inr h)))
+  items_met (Ended path ∷ items) s a back = (ended_met path s.0 a.0 (λ t p. back t (inl p)), items_met items s.1 a.1 (λ t h. back t (inr h)))
 
-  pub all_met : (xs : List (Found A)) (ys : List PathState) → AllEnded d first trace xs → AllStages d first trace ys → AllAlive (states xs ++ ys) → ((t : Value) → Holds (states xs ++ ys) t → (u : Value) × HasPair root.store t u) → AllMet (traces (states xs ++ ys))
-  all_met [] ys e s a back = stages_met ys s a back
-  all_met (x ∷ xs) ys e s a back = (ended_met x e.0 a.0 (λ t p. back t (inl p)), all_met xs ys e.1 s a.1 (λ t h. back t (inr h)))
+  pub all_met : (xs : List (Found A)) (items : List (Item A)) → AllEnded d first trace xs → AllItems d first trace items → AllAlive (states xs ++ item_states items) → ((t : Value) → Holds (states xs ++ item_states items) t → (u : Value) × HasPair root.store t u) → AllMet (traces (states xs ++ item_states items))
+  all_met [] items e s a back = items_met items s a back
+  all_met (x ∷ xs) items e s a back = (ended_met x e.0 a.0 (λ t p. back t (inl p)), all_met xs items e.1 s a.1 (λ t h. back t (inr h)))
 
   ends_of : (fs : List (List Mark)) → AllMet fs → List (List Mark)
   ends_of [] h = []
@@ -202,13 +206,14 @@ module _ {A : Type 0} (d : Decision A) (first : Value → Value) (trace : List M
   ends_length [] h = refl
   ends_length (f ∷ fs) h = ap suc (ends_length fs h.1)
 
-  pub too_many : (xs : List (Found A)) (ys : List PathState) (room : ℕ) → AllEnded d first trace xs → AllStages d first trace ys → Parts root (states xs ++ ys) → room < length xs + length ys → AreTooMany d root.store trace room
-  too_many xs ys room e s parts lt =
-      let met = all_met xs ys e s parts.alive parts.none_else in
+  pub too_many : (xs : List (Found A)) (items : List (Item A)) (room : ℕ) → AllEnded d first trace xs → AllItems d first trace items → Parts root (states xs ++ item_states items) → room < length xs + length items → AreTooMany d root.store trace room
+  too_many xs items room e s parts lt =
+      let ys = item_states items in
+      let met = all_met xs items e s parts.alive parts.none_else in
       let fs = traces (states xs ++ ys) in
       record {
         traces = ends_of fs met;
         rising = ends_rise fs met parts.rising;
         played = ends_played fs met;
-        count = (let a = ends_length fs met in let b = traces_length (states xs ++ ys) in let c = length-append (states xs) ys in let f = states_length xs in omega (arith, a, b, c, f, lt));
+        count = (let a = ends_length fs met in let b = traces_length (states xs ++ ys) in let c = length-append (states xs) ys in let f = states_length xs in let h = items_length items in omega (arith, a, b, c, f, h, lt));
       }

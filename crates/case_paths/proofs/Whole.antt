@@ -1,4 +1,4 @@
--- All paths at once: those that have ended, and the stages that wait.
+-- All paths at once: those so far, and the items that are left.
 use Rattle.std.proofs.Common.{◌≡◌, ◌≢◌, ℕ, ◌<◌, ◌≤◌, ◌+◌, ◌-◌, List, [], ◌∷◌, ◌++◌, length, length-append, Result, Ok, Err, IsTrue, Bool, true, false, rules, refl, sym, ap, ◌∙◌, subst, append_assoc, arith}
 use Rattle.std.specs.Prelude.{◌↔◌}
 use Rattle.script_names.specs.declared.mark.Mark.{Mark}
@@ -17,24 +17,26 @@ use Rattle.case_paths.specs.declared.state.Found.{Found}
 use Rattle.case_paths.specs.declared.state.PathsFault.{PathsFault}
 use Rattle.case_paths.specs.declared.state.PathsFault.TheVariants as fault
 use Rattle.case_paths.specs.declared.pursuit.Pursued.{Pursued}
-use Rattle.case_paths.specs.declared.pursuit.Pursued.TheVariants.{Ended, Forks}
+use Rattle.case_paths.specs.declared.items.Item.{Item}
+use Rattle.case_paths.specs.declared.items.Item.TheVariants.{Waiting, Ended}
 use Rattle.case_paths.specs.Paths.{states, AllPlayed, Explored, AllAlive}
-use Rattle.case_paths.specs.Stages.{Parts, IsStage, AllStages, AllEnded, Comes}
+use Rattle.case_paths.specs.Stages.{Parts, IsStage, AllEnded, Comes, found_before}
 use Rattle.case_paths.proofs.Orders.{nil_right}
 use Rattle.case_paths.proofs.Plays.{some_pair, some_alive}
-use Rattle.case_paths.proofs.Parting.{parts_alone, parts_replace, states_append, stages_append, ended_push}
+use Rattle.case_paths.proofs.Parting.{parts_alone, parts_replace, states_append, ended_push}
+use Rattle.case_paths.proofs.ItemStates.{item_states, AllItems, ended_count, ended_within, found_states, found_ended, found_all}
 use Rattle.case_paths.proofs.Single.{the_paths, are_few, too_many}
 
--- the paths that have ended and the stages that wait part the state
-pub record Whole {A : Type 0} (d : Decision A) (first : Value → Value) (trace : List Mark) (root : PathState) (done : List (Found A)) (waiting : List PathState) : Type 0 where
+-- the paths so far and the items that are left part the state
+pub record Whole {A : Type 0} (d : Decision A) (first : Value → Value) (trace : List Mark) (root : PathState) (done : List (Found A)) (items : List (Item A)) : Type 0 where
   pub ended : AllEnded d first trace done
-  pub stages : AllStages d first trace waiting
-  pub parts : Parts root (states done ++ waiting)
+  pub left : AllItems d first trace items
+  pub parts : Parts root (states done ++ item_states items)
 
-pub whole_begin : {A : Type 0} (d : Decision A) (first : Value → Value) (trace : List Mark) (root : PathState) → AllPerformed d → ((t u : Value) → HasPair root.store t u → u ≡ first t) → root.trace ≡ trace → Alive root.store → Whole d first trace root [] (root ∷ [])
+pub whole_begin : {A : Type 0} (d : Decision A) (first : Value → Value) (trace : List Mark) (root : PathState) → AllPerformed d → ((t u : Value) → HasPair root.store t u → u ≡ first t) → root.trace ≡ trace → Alive root.store → Whole d first trace root [] (Waiting root ∷ [])
 whole_begin d first trace root performed known e a = record {
   ended = tt;
-  stages = (
+  left = (
     (
       d,
       [],
@@ -50,28 +52,28 @@ whole_begin d first trace root performed known e a = record {
 }
 
 module _ {A : Type 0} (d : Decision A) (first : Value → Value) (trace : List Mark) (root : PathState) where
-  pub alive_next : (done : List (Found A)) (x : PathState) (rest : List PathState) → Whole d first trace root done (x ∷ rest) → Alive x.store
+  pub alive_next : (done : List (Found A)) (x : PathState) (rest : List (Item A)) → Whole d first trace root done (Waiting x ∷ rest) → Alive x.store
   alive_next done x rest w = next (states done) w.parts.alive
     where
-      next : (ds : List PathState) → AllAlive (ds ++ x ∷ rest) → Alive x.store
+      next : (ds : List PathState) → AllAlive (ds ++ x ∷ item_states rest) → Alive x.store
       next [] a = a.0
       next (y ∷ ds) a = next ds a.1
 
-  pub whole_ended : (done : List (Found A)) (x : PathState) (rest : List PathState) (path : Found A) → Whole d first trace root done (x ∷ rest) → Comes d first trace x (Ended path) → Whole d first trace root (done ++ path ∷ []) rest
-  whole_ended done x rest path w c = record {
-    ended = ended_push d first trace done path w.ended c.0;
-    stages = w.stages.1;
-    parts = subst (Parts root) split (parts_replace root x (states done) (path.state ∷ []) rest w.parts c.1);
+  pub whole_ended : (done : List (Found A)) (path : Found A) (rest : List (Item A)) → Whole d first trace root done (Ended path ∷ rest) → Whole d first trace root (done ++ path ∷ []) rest
+  whole_ended done path rest w = record {
+    ended = ended_push d first trace done path w.ended w.left.0;
+    left = w.left.1;
+    parts = subst (Parts root) split w.parts;
   }
     where
-      split : states done ++ (path.state ∷ rest) ≡ states (done ++ path ∷ []) ++ rest
-      split = sym (append_assoc (states done) (path.state ∷ []) rest) ∙ ap (λ l. l ++ rest) (sym (states_append done (path ∷ [])))
+      split : states done ++ (path.state ∷ item_states rest) ≡ states (done ++ path ∷ []) ++ item_states rest
+      split = sym (append_assoc (states done) (path.state ∷ []) (item_states rest)) ∙ ap (λ l. l ++ item_states rest) (sym (states_append done (path ∷ [])))
 
-  pub whole_forks : (done : List (Found A)) (x : PathState) (rest ys : List PathState) → Whole d first trace root done (x ∷ rest) → Comes d first trace x (Forks ys) → Whole d first trace root done (ys ++ rest)
-  whole_forks done x rest ys w c = record {
+  pub whole_found : (done : List (Found A)) (x : PathState) (rest : List (Item A)) (found : Pursued A) → Whole d first trace root done (Waiting x ∷ rest) → Comes d first trace x found → Whole d first trace root done (found_before found rest)
+  whole_found done x rest found w c = record {
     ended = w.ended;
-    stages = stages_append d first trace ys rest c.0 w.stages.1;
-    parts = parts_replace root x (states done) ys rest w.parts c.1;
+    left = found_all d first trace x found rest c w.left.1;
+    parts = subst (λ l. Parts root (states done ++ l)) (sym (found_states found rest)) (parts_replace root x (states done) (found.lower ++ found.path.state ∷ found.higher) (item_states rest) w.parts c.parts);
   }
 
   pub all_found : (done : List (Found A)) (room : ℕ) → ((t u : Value) → HasPair root.store t u → u ≡ first t) → root.trace ≡ trace → Whole d first trace root done [] → length done ≤ room → Explored d root.store trace room (Ok done)
@@ -79,8 +81,8 @@ module _ {A : Type 0} (d : Decision A) (first : Value → Value) (trace : List M
       let parts = subst (Parts root) (nil_right (states done)) w.parts in
       (the_paths d first trace root known done e w.ended parts, le, are_few d first trace root known done room w.ended parts le)
 
-  pub too_many_found : (done : List (Found A)) (waiting : List PathState) (room : ℕ) → ((t u : Value) → HasPair root.store t u → u ≡ first t) → Whole d first trace root done waiting → room < length done + length waiting → Explored d root.store trace room (Err fault.Over)
-  too_many_found done waiting room known w lt = too_many d first trace root known done waiting room w.ended w.stages w.parts lt
+  pub too_many_found : (done : List (Found A)) (items : List (Item A)) (room : ℕ) → ((t u : Value) → HasPair root.store t u → u ≡ first t) → Whole d first trace root done items → room < length done + length items → Explored d root.store trace room (Err fault.Over)
+  too_many_found done items room known w lt = too_many d first trace root known done items room w.ended w.left w.parts lt
 
 -- ---- where a store is asked whether it has a pair
 
@@ -173,77 +175,83 @@ no_path d old new left trace room xs s f e is = none_found d old trace room xs (
 pub no_room_left : {A : Type 0} (d : Decision A) (old new : Seen) (left : Bool) (trace : List Mark) (room : ℕ) → SamePairs old new → (IsTrue left ↔ Alive new) → left ≡ true → room ≡ 0 → Explored d old trace room (Err fault.Over)
 no_room_left d old new left trace room s f e z = subst (λ n. Explored d old trace n (Err fault.Over)) (sym z) (no_room d old trace (limited_some old new left s f e))
 
--- the paths so far and the stages that wait are those of the store's pairs, and there is room for them
-pub record Exploring {A : Type 0} (d : Decision A) (first : Value → Value) (trace : List Mark) (s : Seen) (room : ℕ) (done : List (Found A)) (waiting : List PathState) : Type 0 where
+-- the paths so far and the items that are left are those of the store's pairs, and there is room for them
+pub record Exploring {A : Type 0} (d : Decision A) (first : Value → Value) (trace : List Mark) (s : Seen) (room : ℕ) (done : List (Found A)) (items : List (Item A)) : Type 0 where
   pub root : PathState
   pub begins : root.trace ≡ trace
   pub known : (t u : Value) → HasPair root.store t u → u ≡ first t
   pub same : SamePairs s root.store
-  pub count : length done + length waiting ≤ room
-  pub whole : Whole d first trace root done waiting
+  pub count : length done + length items ≤ room
+  pub whole : Whole d first trace root done items
 
-pub exploring_begin : {A : Type 0} (d : Decision A) (first : Value → Value) (trace : List Mark) (s new : Seen) (room : ℕ) (own : List Mark) (done : List (Found A)) (empty waiting : List PathState) → AllPerformed d → ((t u : Value) → HasPair s t u → u ≡ first t) → SamePairs s new → Alive new → own ≡ trace → room ≢ 0 → empty ≡ [] → waiting ≡ empty ++ record { store = new; trace = own } ∷ [] → done ≡ [] → Exploring d first trace s room done waiting
-exploring_begin {A} d first trace s new room own done empty waiting performed known same alive e nz no_item waits no_path =
+pub exploring_begin : {A : Type 0} (d : Decision A) (first : Value → Value) (trace : List Mark) (s new : Seen) (room : ℕ) (own : List Mark) (done : List (Found A)) (empty items : List (Item A)) → AllPerformed d → ((t u : Value) → HasPair s t u → u ≡ first t) → SamePairs s new → Alive new → own ≡ trace → room ≢ 0 → empty ≡ [] → items ≡ empty ++ Waiting (record { store = new; trace = own }) ∷ [] → done ≡ [] → Exploring d first trace s room done items
+exploring_begin {A} d first trace s new room own done empty items performed known same alive e nz no_item waits no_path =
     let root : PathState = record { store = new; trace = own } in
     let known_new : (t u : Value) → HasPair new t u → u ≡ first t = λ t u p. known t u (same.back t u p) in
-    let one : waiting ≡ root ∷ [] = waits ∙ ap (λ l. l ++ root ∷ []) no_item in
+    let one : items ≡ Waiting root ∷ [] = waits ∙ ap (λ l. l ++ Waiting root ∷ []) no_item in
     record {
       root = root;
       begins = e;
       known = known_new;
       same = same;
       count = (let a = ap length one in let b = ap length no_path in omega (arith, a, b, nz));
-      whole = subst (λ l. Whole d first trace root done l) (sym one) (subst (λ l. Whole d first trace root l (root ∷ [])) (sym no_path) (whole_begin d first trace root performed known_new e alive));
+      whole = subst (λ l. Whole d first trace root done l) (sym one) (subst (λ l. Whole d first trace root l (Waiting root ∷ [])) (sym no_path) (whole_begin d first trace root performed known_new e alive));
     }
 
-module _ {A : Type 0} (d : Decision A) (first : Value → Value) (trace : List Mark) (s : Seen) (room : ℕ) (done : List (Found A)) (waiting : List PathState) (e : Exploring d first trace s room done waiting) where
-  pub exploring_end : waiting ≡ [] → Explored d s trace room (Ok done)
+-- how far an exploration is from its end, at most
+abbrev pub steps_left : {A : Type 0} → ℕ → List (Found A) → List (Item A) → ℕ
+steps_left room done items = room + room - (length done + length done + ended_count items)
+
+module _ {A : Type 0} (d : Decision A) (first : Value → Value) (trace : List Mark) (s : Seen) (room : ℕ) (done : List (Found A)) (items : List (Item A)) (e : Exploring d first trace s room done items) where
+  pub exploring_end : items ≡ [] → Explored d s trace room (Ok done)
   exploring_end none =
       let w = subst (Whole d first trace e.root done) none e.whole in
       let c = e.count in
       explored_same d s e.root.store trace room (Ok done) e.same (all_found d first trace e.root done room e.known e.begins w (omega (arith, c)))
 
-  pub exploring_alive : (x : PathState) (rest : List PathState) → waiting ≡ x ∷ rest → Alive x.store
+  pub exploring_alive : (x : PathState) (rest : List (Item A)) → items ≡ Waiting x ∷ rest → Alive x.store
   exploring_alive x rest is = alive_next d first trace e.root done x rest (subst (Whole d first trace e.root done) is e.whole)
 
-  pub exploring_stage : (x : PathState) (rest : List PathState) → waiting ≡ x ∷ rest → IsStage d first trace x
-  exploring_stage x rest is = (subst (Whole d first trace e.root done) is e.whole).stages.0
+  pub exploring_stage : (x : PathState) (rest : List (Item A)) → items ≡ Waiting x ∷ rest → IsStage d first trace x
+  exploring_stage x rest is = (subst (Whole d first trace e.root done) is e.whole).left.0
 
-  pub exploring_ended : (x : PathState) (rest : List PathState) (found : Pursued A) (path : Found A) (more : List (Found A)) → waiting ≡ x ∷ rest → Comes d first trace x found → found ≡ Ended path → more ≡ done ++ path ∷ [] → Exploring d first trace s room more rest
-  exploring_ended x rest found path more is comes ended pushed = record {
+  pub exploring_ended : (path : Found A) (rest : List (Item A)) (more : List (Found A)) → items ≡ Ended path ∷ rest → more ≡ done ++ path ∷ [] → Exploring d first trace s room more rest
+  exploring_ended path rest more is pushed = record {
     root = e.root;
     begins = e.begins;
     known = e.known;
     same = e.same;
     count = (let a = ap length is in let b = ap length pushed ∙ length-append done (path ∷ []) in let c = e.count in omega (arith, a, b, c));
-    whole = subst (λ l. Whole d first trace e.root l rest) (sym pushed) (whole_ended d first trace e.root done x rest path (subst (Whole d first trace e.root done) is e.whole) (subst (Comes d first trace x) ended comes));
+    whole = subst (λ l. Whole d first trace e.root l rest) (sym pushed) (whole_ended d first trace e.root done path rest (subst (Whole d first trace e.root done) is e.whole));
   }
 
-  pub ended_smaller : (x : PathState) (rest : List PathState) (path : Found A) (more : List (Found A)) → waiting ≡ x ∷ rest → more ≡ done ++ path ∷ [] → room + room - (length more + length more + length rest) < room + room - (length done + length done + length waiting)
-  ended_smaller x rest path more is pushed = let a = ap length is in let b = ap length pushed ∙ length-append done (path ∷ []) in let c = e.count in omega (arith, a, b, c)
+  pub ended_smaller : (path : Found A) (rest : List (Item A)) (more : List (Found A)) → items ≡ Ended path ∷ rest → more ≡ done ++ path ∷ [] → steps_left room more rest < steps_left room done items
+  ended_smaller path rest more is pushed =
+      let a = ap length is in let b = ap length pushed ∙ length-append done (path ∷ []) in
+      let f = ap ended_count is in let k = ended_within rest in let c = e.count in omega (arith, a, b, f, k, c)
 
-  forks_whole : (x : PathState) (rest : List PathState) (found : Pursued A) (ys more : List PathState) → waiting ≡ x ∷ rest → Comes d first trace x found → found ≡ Forks ys → more ≡ ys ++ rest → Whole d first trace e.root done more
-  forks_whole x rest found ys more is comes forked put = subst (Whole d first trace e.root done) (sym put) (whole_forks d first trace e.root done x rest ys (subst (Whole d first trace e.root done) is e.whole) (subst (Comes d first trace x) forked comes))
+  found_whole : (x : PathState) (rest more : List (Item A)) (found : Pursued A) → items ≡ Waiting x ∷ rest → Comes d first trace x found → more ≡ found_before found rest → Whole d first trace e.root done more
+  found_whole x rest more found is comes put = subst (Whole d first trace e.root done) (sym put) (whole_found d first trace e.root done x rest found (subst (Whole d first trace e.root done) is e.whole) comes)
 
-  pub exploring_forks : (x : PathState) (rest : List PathState) (found : Pursued A) (ys more : List PathState) → waiting ≡ x ∷ rest → Comes d first trace x found → found ≡ Forks ys → more ≡ ys ++ rest → length done + length more ≤ room → Exploring d first trace s room done more
-  exploring_forks x rest found ys more is comes forked put le = record {
+  pub exploring_found : (x : PathState) (rest more : List (Item A)) (found : Pursued A) → items ≡ Waiting x ∷ rest → Comes d first trace x found → more ≡ found_before found rest → length done + length more ≤ room → Exploring d first trace s room done more
+  exploring_found x rest more found is comes put le = record {
     root = e.root;
     begins = e.begins;
     known = e.known;
     same = e.same;
     count = le;
-    whole = forks_whole x rest found ys more is comes forked put;
+    whole = found_whole x rest more found is comes put;
   }
 
-  pub forks_smaller : (x : PathState) (rest : List PathState) (found : Pursued A) (ys more : List PathState) → waiting ≡ x ∷ rest → Comes d first trace x found → found ≡ Forks ys → more ≡ ys ++ rest → length done + length more ≤ room → room + room - (length done + length done + length more) < room + room - (length done + length done + length waiting)
-  forks_smaller x rest found ys more is comes forked put le =
-      let a = ap length is in let b = ap length put ∙ length-append ys rest in
-      let k = (subst (Comes d first trace x) forked comes).2 in omega (arith, a, b, k, le)
+  pub found_smaller : (x : PathState) (rest more : List (Item A)) (found : Pursued A) → items ≡ Waiting x ∷ rest → more ≡ found_before found rest → length done + length more ≤ room → steps_left room done more < steps_left room done items
+  found_smaller x rest more found is put le =
+      let a = ap ended_count is in let b = ap ended_count put ∙ found_ended found rest in
+      let k = ended_within more in omega (arith, a, b, k, le)
 
-  pub exploring_over : (x : PathState) (rest : List PathState) (found : Pursued A) (ys more : List PathState) → waiting ≡ x ∷ rest → Comes d first trace x found → found ≡ Forks ys → more ≡ ys ++ rest → room < length done + length more → Explored d s trace room (Err fault.Over)
-  exploring_over x rest found ys more is comes forked put lt =
+  pub exploring_over : (x : PathState) (rest more : List (Item A)) (found : Pursued A) → items ≡ Waiting x ∷ rest → Comes d first trace x found → more ≡ found_before found rest → room < length done + length more → Explored d s trace room (Err fault.Over)
+  exploring_over x rest more found is comes put lt =
       explored_same d s e.root.store trace room (Err fault.Over) e.same
-      (too_many_found d first trace e.root done more room e.known (forks_whole x rest found ys more is comes forked put) lt)
+      (too_many_found d first trace e.root done more room e.known (found_whole x rest more found is comes put) lt)
 
   pub room_left : length done ≤ room
   room_left = let c = e.count in omega (arith, c)

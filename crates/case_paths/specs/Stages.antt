@@ -1,5 +1,5 @@
 -- What is known of a path before it has ended, and how one state parts into several.
-use Rattle.std.specs.Prelude.{◌≡◌, ℕ, ◌+◌, ◌≤◌, ◌⊎◌, List, [], ◌∷◌, ◌++◌, length}
+use Rattle.std.specs.Prelude.{◌≡◌, ℕ, ◌+◌, ◌<◌, ◌⊎◌, List, [], ◌∷◌, ◌++◌, length, slice_index_or, Contains}
 use Rattle.script_names.specs.declared.mark.Mark.{Mark}
 use Rattle.script_names.specs.declared.mark.Site.{Site}
 use Rattle.feature_trees.specs.declared.value.Value.{Value}
@@ -10,8 +10,10 @@ use Rattle.clause_solver.specs.Adds.{AddsCase, LeadsNowhere}
 use Rattle.act_decisions.specs.Decisions.{Decision, play, AllPerformed}
 use Rattle.case_paths.specs.declared.state.PathState.{PathState}
 use Rattle.case_paths.specs.declared.state.Found.{Found}
+use Rattle.case_paths.specs.declared.fork.Forks.{Forks}
 use Rattle.case_paths.specs.declared.pursuit.Pursued.{Pursued}
-use Rattle.case_paths.specs.declared.pursuit.Pursued.TheVariants.{Ended, Forks}
+use Rattle.case_paths.specs.declared.items.Item.{Item}
+use Rattle.case_paths.specs.declared.items.Item.TheVariants.{Waiting, Ended}
 use Rattle.case_paths.specs.Traces.{Rising, AllBegin}
 use Rattle.case_paths.specs.Paths.{EndsAs, traces, AllAlive}
 
@@ -41,6 +43,24 @@ pub data Forked (site : Site) (x : PathState) : List Case → List PathState →
   live : {made : Case} {cases : List Case} {y : PathState} {ys : List PathState} → AddsCase x.store made y.store
       → y.trace ≡ marked x.trace site made.row → Forked site x cases ys → Forked site x (made ∷ cases) (y ∷ ys)
 
+-- there is a case of this row
+abbrev pub HasRow : List Case → ℕ → Type 0
+HasRow cases n = (made : Case) × Contains cases made × (made.row ≡ n)
+
+-- the case at this place is of this row
+abbrev pub IsRowAt : List Case → ℕ → ℕ → Type 0
+IsRowAt cases n k = (k < length cases) × ((o : Case) → (slice_index_or cases k o).row ≡ n)
+
+-- there is a case of this row, and each such case leads on from some pair of the state
+pub record IsLed (x : PathState) (cases : List Case) (n : ℕ) : Type 0 where
+  pub has : HasRow cases n
+  pub leads : (made : Case) → Contains cases made → made.row ≡ n → LeadsNowhere x.store made → ⊥
+
+-- an act forks a state into these, of which the one that is followed has this mark
+pub record AreForks (mark : Mark) (x : PathState) (cases : List Case) (forks : Forks) : Type 0 where
+  pub forked : Forked mark.site x cases (forks.lower ++ forks.followed ∷ forks.higher)
+  pub followed : forks.followed.trace ≡ x.trace ++ mark ∷ []
+
 -- A stage of a decision, which is played behind a trace from the tree that `first` gives for a start tree: what is
 -- left of the decision, played from each pair of the state behind its trace and these acts, comes to what is played
 -- for the pair's start tree.
@@ -68,7 +88,21 @@ abbrev pub AllEnded : {A : Type 0} → Decision A → (Value → Value) → List
 AllEnded d first trace [] = Unit {0}
 AllEnded d first trace (x ∷ xs) = HasEnded d first trace x × AllEnded d first trace xs
 
--- what comes of a stage: the path has ended, or it has parted into at least two further stages
-abbrev pub Comes : {A : Type 0} → Decision A → (Value → Value) → List Mark → PathState → Pursued A → Type 0
-Comes d first trace x (Ended path) = HasEnded d first trace path × Parts x (path.state ∷ [])
-Comes d first trace x (Forks ys) = AllStages d first trace ys × Parts x ys × (2 ≤ length ys)
+-- what comes of a stage: a path that has ended, and the further stages that part from it
+pub record Comes {A : Type 0} (d : Decision A) (first : Value → Value) (trace : List Mark) (x : PathState)
+    (found : Pursued A) : Type 0 where
+  pub lower : AllStages d first trace found.lower
+  pub ended : HasEnded d first trace found.path
+  pub higher : AllStages d first trace found.higher
+  pub parts : Parts x (found.lower ++ found.path.state ∷ found.higher)
+
+-- ---- what is left of an exploration
+
+-- these stages, and then these items
+abbrev pub stages_before : {A : Type 0} → List PathState → List (Item A) → List (Item A)
+stages_before [] items = items
+stages_before (x ∷ xs) items = Waiting x ∷ stages_before xs items
+
+-- what comes of a stage, and then these items
+abbrev pub found_before : {A : Type 0} → Pursued A → List (Item A) → List (Item A)
+found_before found items = stages_before found.lower (Ended found.path ∷ stages_before found.higher items)

@@ -3,8 +3,9 @@ ghost use Rattle.clause_solver.specs.Pairs.{HasPair};
 ghost use Rattle.feature_trees.specs.declared.value.Value.{Value as Tree};
 ghost use Rattle.case_paths.specs.Paths.{Explored};
 
+use crate::items::{Item, put_found};
 use crate::machine::Machine;
-use crate::pursuit::{Pursued, pursue};
+use crate::pursuit::pursue;
 use crate::queue::Queue;
 use crate::state::{Found, PathState, PathsFault};
 use clause_solver::Store;
@@ -34,27 +35,21 @@ pub fn explore<V: Drop, M: Machine<End = V>>(
         return Err(PathsFault::Over);
     }
     let trace_copy = trace.copy(alloc)?;
-    let mut waiting = Queue::new(alloc);
-    waiting.push(PathState {
+    let mut items = Queue::new(alloc);
+    items.push(Item::Waiting(PathState {
         store,
         trace: trace_copy,
-    })?;
+    }))?;
     let mut done = List::new(alloc);
     'paths: loop {
-        match waiting.pop() {
+        match items.pop() {
             None => return Ok(done),
-            Some(stage) => {
+            Some(Item::Ended(path)) => done.add(path)?,
+            Some(Item::Waiting(stage)) => {
                 let found = pursue(alloc, machine, trace, stage)?;
-                match found {
-                    Pursued::Ended(path) => {
-                        done.add(path)?;
-                    }
-                    Pursued::Forks(forks) => {
-                        waiting.put_first(forks)?;
-                        if waiting.len() > room - done.len() {
-                            return Err(PathsFault::Over);
-                        }
-                    }
+                put_found(&mut items, found)?;
+                if items.len() > room - done.len() {
+                    return Err(PathsFault::Over);
                 }
             }
         }

@@ -6,6 +6,7 @@
 
 mod exploration;
 mod fork;
+mod items;
 mod machine;
 mod pursuit;
 mod queue;

@@ -1,10 +1,10 @@
-//! One path from a stage on: to its end, or to the first act at which it parts.
+//! One run from a stage, followed to its end, and the stages that part from it on the way.
 
-ghost use Rattle.std.specs.Prelude.{IfOk, length, ◌∷◌, [], ◌≡◌};
+ghost use Rattle.std.specs.Prelude.{IfOk};
 ghost use Rattle.clause_solver.specs.Stands.{Alive};
 ghost use Rattle.case_paths.specs.Stages.{IsStage, Comes};
 
-use crate::fork::fork;
+use crate::fork::{Forks, fork};
 use crate::machine::Machine;
 use crate::queue::Queue;
 use crate::state::{Found, PathState, Ran};
@@ -12,26 +12,17 @@ use act_cases::cases;
 use script_names::{List, Mark, Memory};
 use std::alloc::Global;
 
-/// What comes of a stage: a path that has ended, or further stages, by rising rows.
+/// What comes of a stage: the path of one of its runs, and the stages that part from it, those with lower traces and
+/// those with higher ones, each by rising traces.
 #[derive(Drop)]
-pub enum Pursued<V> {
-    Ended(Found<V>),
-    Forks(Queue<PathState>),
-}
-
-// The one item of a queue.
-fn only(mut queue: Queue<PathState>) -> PathState
-    requires { length queue ≡ 1 }
-    ensures { queue ≡ result ∷ [] }
-{
-    match queue.pop() {
-        Some(item) => item,
-        None => unreachable!(),
-    }
+pub struct Pursued<V> {
+    pub lower: Queue<PathState>,
+    pub path: Found<V>,
+    pub higher: Queue<PathState>,
 }
 
 /// What comes of a stage: the machine runs from a start tree of it, and its acts are taken one after the other for all
-/// pairs at once, up to the first at which they part.
+/// pairs at once. At each act the pairs with the run's row go on; those with another row are a stage of their own.
 pub fn pursue<V: Drop, M: Machine<End = V>>(
     alloc: Global,
     machine: &M,
@@ -51,16 +42,22 @@ pub fn pursue<V: Drop, M: Machine<End = V>>(
     let marks = all_marks.as_slice();
     let acts = all_acts.as_slice();
     let before = trace.len();
+    let mut lower = Queue::new(alloc);
     let mut state = stage;
+    let mut higher = Queue::new(alloc);
     for at in state.trace.len()..marks.len() {
         let act = &acts[at - before];
         let mark = marks[at];
         let rows = cases(alloc, act)?;
-        let forks = fork(alloc, mark.site, &state, rows.as_slice())?;
-        if forks.len() != 1 {
-            return Ok(Pursued::Forks(forks));
-        }
-        state = only(forks);
+        let forks = fork(alloc, mark, state, rows.as_slice())?;
+        lower.put_last(forks.lower)?;
+        higher.put_first(forks.higher)?;
+        state = forks.followed;
     }
-    Ok(Pursued::Ended(Found { value, state }))
+    let path = Found { value, state };
+    Ok(Pursued {
+        lower,
+        path,
+        higher,
+    })
 }

@@ -83,4 +83,16 @@ impl<T: Drop> Queue<T> {
             }
         }
     }
+
+    /// The items of another queue behind these, in their order.
+    pub fn put_last(&mut self, mut last: Queue<T>) -> Result<(), Memory>
+        ensures { OnOk result (self.new ≡ self.old ++ last) }
+    {
+        'items: loop {
+            match last.pop() {
+                None => return Ok(()),
+                Some(item) => self.push(item)?,
+            }
+        }
+    }
 }

@@ -1,20 +1,33 @@
-use Rattle.std.proofs.Common.{arith, subst}
-use Rattle.std.specs.Prelude.{MatchOption}
-use Rattle.clause_solver.specs.Adds.{AddsCase, LeadsNowhere}
-use Rattle.case_paths.proofs.Forking.{live_next, dead_next, all_forks}
+use Rattle.std.proofs.Common.{◌+◌, sym, ap, ◌∙◌, subst}
+use Rattle.std.specs.Prelude.{All}
+use Rattle.std.proofs.lemmas.List.{take_rest}
+use Rattle.std.proofs.lemmas.List.Elements.{All-take, All-drop}
+use Rattle.tree_clauses.specs.declared.case.Case.{Case}
+use Rattle.tree_clauses.specs.Plain.{IsPlain}
+use Rattle.case_paths.specs.Stages.{Forked}
+use Rattle.case_paths.proofs.Forking.{forks_joined, led_at, plain_at}
 use Rattle.case_paths.proofs.fork.fork.Goals as goal
 
-pub loop-case-preserved-in-None : goal.loop-case-preserved-in-None
-loop-case-preserved-in-None c =
-    dead_next c.args.site c.args.state.now c.args.cases.now c.loop-case.case-index c.case-item.result c.loop-case.forks c.loop-case-test.true c.case-item.is
-    (subst (λ o. MatchOption o (LeadsNowhere c.args.state.now.store c.case-item.result) (AddsCase c.args.state.now.store c.case-item.result)) c.in-None.is c.in_ok-found.ensures)
-    c.loop-case.invariant
+pub place-at-requires : goal.place-at-requires
+place-at-requires c = c.requires.led.has
 
-pub loop-case-preserved : goal.loop-case-preserved
-loop-case-preserved c =
-    live_next c.args.site c.args.state.now (record { store = c.in-Some.store; trace = c.in_ok-trace.trace }) c.args.cases.now c.loop-case.case-index c.case-item.result c.loop-case.forks c.push.new.self c.loop-case-test.true c.case-item.is
-    (subst (λ o. MatchOption o (LeadsNowhere c.args.state.now.store c.case-item.result) (AddsCase c.args.state.now.store c.case-item.result)) c.in-Some.is c.in_ok-found.ensures)
-    c.in_ok-trace.ensures c.in_ok-push.ensures c.loop-case.invariant
+pub siblings-requires : goal.siblings-requires
+siblings-requires c = All-take IsPlain c.place-at.result c.args.cases.now c.requires.plain
+
+pub siblings-requires-2 : goal.siblings-requires-2
+siblings-requires-2 c =
+    subst (All IsPlain) (sym (take_rest c.args.cases.now (c.place-at.result + 1)))
+    (All-drop IsPlain (c.place-at.result + 1) c.args.cases.now c.requires.plain)
+
+pub gone_on-requires : goal.gone_on-requires
+gone_on-requires c = record {
+  plain = plain_at c.args.cases.now c.place-at.result c.index-cases-at.result c.place-at.ensures.0 c.index-cases-at.is c.requires.plain;
+  leads = led_at c.args.state c.args.cases.now c.args.mark.row c.place-at.result c.index-cases-at.result c.index-cases-at.is c.place-at.ensures c.requires.led;
+}
 
 pub returns : goal.returns
-returns c = all_forks c.args.site c.args.state.now c.args.cases.now c.loop-case.case-index c.loop-case.forks (omega (arith, c.loop-case-test.false)) c.loop-case.invariant
+returns c =
+    forks_joined c.args.mark c.args.state c.args.cases.now c.place-at.result c.index-cases-at.result c.in_ok-lower.lower c.in_ok-higher.higher c.in_ok-followed.followed
+    c.place-at.ensures.0 c.index-cases-at.is (ap (λ (made : Case). made.row) c.index-cases-at.is ∙ c.place-at.ensures.1 c.index-cases-at.result) c.in_ok-lower.ensures
+    (subst (λ l. Forked c.args.mark.site c.args.state l c.in_ok-higher.higher) (take_rest c.args.cases.now (c.place-at.result + 1)) c.in_ok-higher.ensures)
+    c.in_ok-followed.ensures.adds c.in_ok-followed.ensures.trace

@@ -1,54 +1,55 @@
 use Rattle.std.proofs.Common.{◌-◌, get_or, arith, refl, sym, ap, ◌∙◌, subst}
 use Rattle.act_cases.specs.Cases.{AreCases}
-use Rattle.case_paths.proofs.Going.{begin_follows, follows_within, follows_performed, follows_forks, follows_on, follows_to_end}
+use Rattle.case_paths.proofs.Going.{begin_follows, follows_within, follows_performed, follows_leads, follows_on, follows_to_end}
 use Rattle.case_paths.proofs.pursuit.pursue.Goals as goal
 
 pub loop-at-init : goal.loop-at-init
 loop-at-init g c = record {
   place = c.len-at.ensures;
   follows = begin_follows (g.M.Machine.decision c.args.machine.now) (g.M.Machine.first c.args.machine.now) c.args.trace.now c.args.stage c.in_ok-start.start
-      c.in_ok-value.field-0.value c.as_slice-marks.result.now c.as_slice-acts.result.now c.in_ok-value.field-0 c.requires.stage c.requires.alive c.in_ok-start.ensures c.in_ok-value.ensures
-      refl c.as_slice-marks.ensures c.as_slice-acts.ensures;
+      c.in_ok-value.field-0.value c.as_slice-marks.result.now c.as_slice-acts.result.now c.in_ok-value.field-0 c.new-lower.result c.new-higher.result c.requires.stage c.requires.alive
+      c.in_ok-start.ensures c.in_ok-value.ensures refl c.as_slice-marks.ensures c.as_slice-acts.ensures c.new-lower.ensures c.new-higher.ensures;
 }
 
 pub bounds-acts-at : goal.bounds-acts-at
 bounds-acts-at g c =
     let w = follows_within (g.M.Machine.decision c.args.machine.now) (g.M.Machine.first c.args.machine.now) c.args.trace.now c.args.stage c.in_ok-value.field-0.value
-    c.as_slice-marks.result.now c.as_slice-acts.result.now c.loop-at.state c.loop-at.invariant.follows c.loop-at.at c.loop-at.invariant.place c.loop-at-test.true in
+    c.as_slice-marks.result.now c.as_slice-acts.result.now c.loop-at.lower c.loop-at.state c.loop-at.higher c.loop-at.invariant.follows c.loop-at.at c.loop-at.invariant.place c.loop-at-test.true in
     omega (arith, w, c.len-before.ensures)
 
 pub offset_bounds-acts-at : goal.offset_bounds-acts-at
 offset_bounds-acts-at g c =
     let w = follows_within (g.M.Machine.decision c.args.machine.now) (g.M.Machine.first c.args.machine.now) c.args.trace.now c.args.stage c.in_ok-value.field-0.value
-    c.as_slice-marks.result.now c.as_slice-acts.result.now c.loop-at.state c.loop-at.invariant.follows c.loop-at.at c.loop-at.invariant.place c.loop-at-test.true in
+    c.as_slice-marks.result.now c.as_slice-acts.result.now c.loop-at.lower c.loop-at.state c.loop-at.higher c.loop-at.invariant.follows c.loop-at.at c.loop-at.invariant.place c.loop-at-test.true in
     omega (arith, w, c.len-before.ensures, c.as_slice-acts.type_inv)
 
 pub cases-requires : goal.cases-requires
 cases-requires g c =
     follows_performed (g.M.Machine.decision c.args.machine.now) (g.M.Machine.first c.args.machine.now) c.args.trace.now c.args.stage c.in_ok-value.field-0.value
-    c.as_slice-marks.result.now c.as_slice-acts.result.now c.loop-at.state c.loop-at.invariant.follows c.loop-at.at c.index-acts-at.result c.loop-at.invariant.place c.loop-at-test.true
+    c.as_slice-marks.result.now c.as_slice-acts.result.now c.loop-at.lower c.loop-at.state c.loop-at.higher c.loop-at.invariant.follows c.loop-at.at c.index-acts-at.result c.loop-at.invariant.place c.loop-at-test.true
     (c.index-acts-at.is ∙ ap (λ n. get_or c.as_slice-acts.result.now (c.loop-at.at - n) c.index-acts-at.result) c.len-before.ensures)
 
-pub returns-then-len-ne1 : goal.returns-then-len-ne1
-returns-then-len-ne1 g c =
+pub fork-requires : goal.fork-requires
+fork-requires g c =
     let are = subst (AreCases c.index-acts-at.result) (sym c.as_slice.ensures) c.in_ok-rows.ensures in
-    follows_forks (g.M.Machine.decision c.args.machine.now) (g.M.Machine.first c.args.machine.now) c.args.trace.now c.args.stage c.in_ok-value.field-0.value
-    c.as_slice-marks.result.now c.as_slice-acts.result.now c.loop-at.state c.loop-at.invariant.follows c.loop-at.at c.index-acts-at.result _ _ c.as_slice.result.now c.in_ok-forks.forks
-    c.loop-at.invariant.place c.loop-at-test.true
-    (c.index-acts-at.is ∙ ap (λ n. get_or c.as_slice-acts.result.now (c.loop-at.at - n) c.index-acts-at.result) c.len-before.ensures)
-    refl are c.in_ok-forks.ensures (λ e. c.if-len-ne1.true (c.len.ensures ∙ e))
+    record {
+      plain = are.plain;
+      led = follows_leads (g.M.Machine.decision c.args.machine.now) (g.M.Machine.first c.args.machine.now) c.args.trace.now c.args.stage c.in_ok-value.field-0.value
+          c.as_slice-marks.result.now c.as_slice-acts.result.now c.loop-at.lower c.loop-at.state c.loop-at.higher c.loop-at.invariant.follows c.loop-at.at c.index-acts-at.result _ _ c.as_slice.result.now
+          c.loop-at.invariant.place c.loop-at-test.true (c.index-acts-at.is ∙ ap (λ n. get_or c.as_slice-acts.result.now (c.loop-at.at - n) c.index-acts-at.result) c.len-before.ensures) refl are;
+    }
 
 pub loop-at-preserved : goal.loop-at-preserved
 loop-at-preserved g c =
     let are = subst (AreCases c.index-acts-at.result) (sym c.as_slice.ensures) c.in_ok-rows.ensures in
     let on = follows_on (g.M.Machine.decision c.args.machine.now) (g.M.Machine.first c.args.machine.now) c.args.trace.now c.args.stage c.in_ok-value.field-0.value
-    c.as_slice-marks.result.now c.as_slice-acts.result.now c.loop-at.state c.loop-at.invariant.follows c.loop-at.at c.index-acts-at.result _ _ c.as_slice.result.now c.in_ok-forks.forks c.only-state.result
-    c.loop-at.invariant.place c.loop-at-test.true
+    c.as_slice-marks.result.now c.as_slice-acts.result.now c.loop-at.lower c.loop-at.state c.loop-at.higher c.loop-at.invariant.follows c.loop-at.at c.index-acts-at.result _ _ c.as_slice.result.now c.in_ok-forks.forks
+    c.put_last.new.self c.put_first.new.self c.loop-at.invariant.place c.loop-at-test.true
     (c.index-acts-at.is ∙ ap (λ n. get_or c.as_slice-acts.result.now (c.loop-at.at - n) c.index-acts-at.result) c.len-before.ensures)
-    refl are c.in_ok-forks.ensures c.only-state.ensures in
+    refl are c.in_ok-forks.ensures c.in_ok-put_last.ensures c.in_ok-put_first.ensures in
     record { place = on.0; follows = on.1 }
 
 pub returns : goal.returns
 returns g c =
     follows_to_end (g.M.Machine.decision c.args.machine.now) (g.M.Machine.first c.args.machine.now) c.args.trace.now c.args.stage c.in_ok-value.field-0.value
-    c.as_slice-marks.result.now c.as_slice-acts.result.now c.loop-at.state c.loop-at.invariant.follows c.loop-at.at c.loop-at.invariant.place c.loop-at-test.false
+    c.as_slice-marks.result.now c.as_slice-acts.result.now c.loop-at.lower c.loop-at.state c.loop-at.higher c.loop-at.invariant.follows c.loop-at.at c.loop-at.invariant.place c.loop-at-test.false

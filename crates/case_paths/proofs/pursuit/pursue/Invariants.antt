@@ -5,5 +5,5 @@ use Rattle.case_paths.proofs.pursuit.pursue.Given as goal
 abbrev pub invariant-loop-at : goal.invariant-loop-at
 invariant-loop-at g l = record {
   place : l.at ≡ length l.state.trace;
-  follows : Follows (g.M.Machine.decision l.machine) (g.M.Machine.first l.machine) l.trace l.fn.stage l.value l.marks l.acts l.state;
+  follows : Follows (g.M.Machine.decision l.machine) (g.M.Machine.first l.machine) l.trace l.fn.stage l.value l.marks l.acts l.lower l.state l.higher;
 }

@@ -1,0 +1,55 @@
+ghost use Rattle.std.specs.Prelude.{◌≤◌, length, IfOk};
+ghost use Rattle.case_path_tests.specs.Questions.{all_asked, asked_performed};
+
+use crate::asked_path::AskedPaths;
+use case_paths::{Found, Machine, PathsFault, Ran, explore};
+use clause_solver::Store;
+use concrete_utils::steps::act;
+use feature_trees::Value;
+use script_names::{Copied, Done, List, Mark, Memory, Site};
+use std::alloc::Global;
+use utility_calls::acts::Act;
+
+impl Machine for AskedPaths {
+    type End = Done;
+
+    ghost decision = { all_asked };
+
+    ghost first = { λ _ tree. tree };
+
+    fn run(&self, alloc: Global, start: &Value, trace: &List<Mark>) -> Result<Ran<Done>, Memory> {
+        let mut tree = start.copy(alloc)?;
+        let mut marks = trace.copy(alloc)?;
+        let mut acts = List::new(alloc);
+        let paths = self.paths.as_slice();
+        for path in paths {
+            let ask = Act::Exists(path.copy(alloc)?);
+            let taken = act(alloc, &ask, &mut tree)?;
+            marks.add(Mark {
+                site: Site { step: 0, at: 0 },
+                row: taken.0,
+            })?;
+            acts.add(ask)?;
+        }
+        Ok(Ran {
+            value: Done::Ok,
+            trace: marks,
+            acts,
+        })
+    }
+
+    ghost performed = { λ m. asked_performed m.paths };
+}
+
+/// All paths of the questions from every tree.
+pub fn answered(
+    alloc: Global,
+    machine: &AskedPaths,
+    room: usize,
+) -> Result<List<Found<Done>>, PathsFault>
+    ensures { IfOk result (λ xs. length xs ≤ room) }
+{
+    let store = Store::start(alloc)?;
+    let found = explore(alloc, machine, store, &List::new(alloc), room)?;
+    Ok(found)
+}
