@@ -1,31 +1,16 @@
--- What is left of an exploration: the states of its items, and how many of them have ended.
-use Rattle.std.proofs.Common.{◌≡◌, ℕ, zero, suc, ◌≤◌, List, [], ◌∷◌, ◌++◌, length, refl, sym, ap, ◌∙◌, append_assoc, arith}
+-- Items behind items: their states, and how many of them have ended.
+use Rattle.std.proofs.Common.{◌≡◌, suc, ◌≤◌, ◌+◌, List, [], ◌∷◌, ◌++◌, length, refl, ap, ◌∙◌, arith}
 use Rattle.script_names.specs.declared.mark.Mark.{Mark}
 use Rattle.feature_trees.specs.declared.value.Value.{Value}
 use Rattle.act_decisions.specs.Decisions.{Decision}
 use Rattle.case_paths.specs.declared.state.PathState.{PathState}
+use Rattle.case_paths.specs.declared.state.Found.{Found}
 use Rattle.case_paths.specs.declared.pursuit.Pursued.{Pursued}
 use Rattle.case_paths.specs.declared.items.Item.{Item}
 use Rattle.case_paths.specs.declared.items.Item.TheVariants.{Waiting, Ended}
-use Rattle.case_paths.specs.Stages.{IsStage, AllStages, HasEnded, Comes, stages_before, found_before}
-
--- the states of items
-abbrev pub item_states : {A : Type 0} → List (Item A) → List PathState
-item_states [] = []
-item_states (Waiting x ∷ items) = x ∷ item_states items
-item_states (Ended path ∷ items) = path.state ∷ item_states items
-
--- those that wait are stages, and the others have ended
-abbrev pub AllItems : {A : Type 0} → Decision A → (Value → Value) → List Mark → List (Item A) → Type 0
-AllItems d first trace [] = Unit {0}
-AllItems d first trace (Waiting x ∷ items) = IsStage d first trace x × AllItems d first trace items
-AllItems d first trace (Ended path ∷ items) = HasEnded d first trace path × AllItems d first trace items
-
--- how many of them have ended
-abbrev pub ended_count : {A : Type 0} → List (Item A) → ℕ
-ended_count [] = zero
-ended_count (Waiting x ∷ items) = ended_count items
-ended_count (Ended path ∷ items) = suc (ended_count items)
+use Rattle.case_paths.specs.Paths.{states}
+use Rattle.case_paths.specs.Stages.{AllStages, AllEnded, Comes}
+use Rattle.case_paths.specs.Items.{stage_items, path_items, found_items, item_states, AllItems, ended_count}
 
 pub items_length : {A : Type 0} (items : List (Item A)) → length (item_states items) ≡ length items
 items_length [] = refl
@@ -37,34 +22,73 @@ ended_within [] = omega arith
 ended_within (Waiting x ∷ items) = let h = ended_within items in omega (arith, h)
 ended_within (Ended path ∷ items) = let h = ended_within items in omega (arith, h)
 
--- ---- stages in front of items
+-- ---- items behind items
 
-pub stages_before_push : {A : Type 0} (xs : List PathState) (x : PathState) (items : List (Item A)) → stages_before (xs ++ x ∷ []) items ≡ stages_before xs (Waiting x ∷ items)
-stages_before_push [] x items = refl
-stages_before_push (y ∷ xs) x items = ap (λ l. Waiting y ∷ l) (stages_before_push xs x items)
+pub states_behind : {A : Type 0} (xs ys : List (Item A)) → item_states (xs ++ ys) ≡ item_states xs ++ item_states ys
+states_behind [] ys = refl
+states_behind (Waiting x ∷ xs) ys = ap (λ l. x ∷ l) (states_behind xs ys)
+states_behind (Ended path ∷ xs) ys = ap (λ l. path.state ∷ l) (states_behind xs ys)
 
-before_states : {A : Type 0} (xs : List PathState) (items : List (Item A)) → item_states (stages_before xs items) ≡ xs ++ item_states items
-before_states [] items = refl
-before_states (x ∷ xs) items = ap (λ l. x ∷ l) (before_states xs items)
+pub ended_behind : {A : Type 0} (xs ys : List (Item A)) → ended_count (xs ++ ys) ≡ ended_count xs + ended_count ys
+ended_behind [] ys = omega arith
+ended_behind (Waiting x ∷ xs) ys = ended_behind xs ys
+ended_behind (Ended path ∷ xs) ys = let h = ended_behind xs ys in omega (arith, h)
 
-before_ended : {A : Type 0} (xs : List PathState) (items : List (Item A)) → ended_count (stages_before xs items) ≡ ended_count items
-before_ended [] items = refl
-before_ended (x ∷ xs) items = before_ended xs items
+module _ {A : Type 0} (d : Decision A) (first : Value → Value) (trace : List Mark) where
+  pub all_behind : (xs ys : List (Item A)) → AllItems d first trace xs → AllItems d first trace ys → AllItems d first trace (xs ++ ys)
+  all_behind [] ys h k = k
+  all_behind (Waiting x ∷ xs) ys h k = (h.0, all_behind xs ys h.1 k)
+  all_behind (Ended path ∷ xs) ys h k = (h.0, all_behind xs ys h.1 k)
 
-before_all : {A : Type 0} (d : Decision A) (first : Value → Value) (trace : List Mark) (xs : List PathState) (items : List (Item A)) → AllStages d first trace xs → AllItems d first trace items → AllItems d first trace (stages_before xs items)
-before_all d first trace [] items h k = k
-before_all d first trace (x ∷ xs) items h k = (h.0, before_all d first trace xs items h.1 k)
+  pub all_apart : (xs ys : List (Item A)) → AllItems d first trace (xs ++ ys) → AllItems d first trace xs × AllItems d first trace ys
+  all_apart [] ys h = (tt, h)
+  all_apart (Waiting x ∷ xs) ys h = let k = all_apart xs ys h.1 in ((h.0, k.0), k.1)
+  all_apart (Ended path ∷ xs) ys h = let k = all_apart xs ys h.1 in ((h.0, k.0), k.1)
 
--- ---- what comes of a stage in front of items
+  stages_all : (xs : List PathState) → AllStages d first trace xs → AllItems d first trace (stage_items xs)
+  stages_all [] h = tt
+  stages_all (x ∷ xs) h = (h.0, stages_all xs h.1)
 
-pub found_states : {A : Type 0} (found : Pursued A) (items : List (Item A)) → item_states (found_before found items) ≡ (found.lower ++ found.path.state ∷ found.higher) ++ item_states items
-found_states found items =
-    before_states found.lower (Ended found.path ∷ stages_before found.higher items)
-    ∙ ap (λ l. found.lower ++ (found.path.state ∷ l)) (before_states found.higher items)
-    ∙ sym (append_assoc found.lower (found.path.state ∷ found.higher) (item_states items))
+  pub paths_ended : (xs : List (Found A)) → AllItems d first trace (path_items xs) → AllEnded d first trace xs
+  paths_ended [] h = tt
+  paths_ended (x ∷ xs) h = (h.0, paths_ended xs h.1)
 
-pub found_ended : {A : Type 0} (found : Pursued A) (items : List (Item A)) → ended_count (found_before found items) ≡ suc (ended_count items)
-found_ended found items = before_ended found.lower (Ended found.path ∷ stages_before found.higher items) ∙ ap suc (before_ended found.higher items)
+  pub found_all : (x : PathState) (found : Pursued A) → Comes d first trace x found → AllItems d first trace (found_items found)
+  found_all x found c = all_behind (stage_items found.lower) (Ended found.path ∷ stage_items found.higher) (stages_all found.lower c.lower) (c.ended, stages_all found.higher c.higher)
 
-pub found_all : {A : Type 0} (d : Decision A) (first : Value → Value) (trace : List Mark) (x : PathState) (found : Pursued A) (items : List (Item A)) → Comes d first trace x found → AllItems d first trace items → AllItems d first trace (found_before found items)
-found_all d first trace x found items c h = before_all d first trace found.lower (Ended found.path ∷ stages_before found.higher items) c.lower (c.ended, before_all d first trace found.higher items c.higher h)
+-- ---- stages, paths, and what comes of a stage, as items
+
+stages_states : (A : Type 0) (xs : List PathState) → item_states {A = A} (stage_items xs) ≡ xs
+stages_states A [] = refl
+stages_states A (x ∷ xs) = ap (λ l. x ∷ l) (stages_states A xs)
+
+stages_ended : (A : Type 0) (xs : List PathState) → ended_count {A = A} (stage_items xs) ≡ 0
+stages_ended A [] = refl
+stages_ended A (x ∷ xs) = stages_ended A xs
+
+pub stages_push : {A : Type 0} (items : List (Item A)) (x : PathState) (xs : List PathState) → (items ++ Waiting x ∷ []) ++ stage_items xs ≡ items ++ stage_items (x ∷ xs)
+stages_push [] x xs = refl
+stages_push (y ∷ items) x xs = ap (λ l. y ∷ l) (stages_push items x xs)
+
+pub paths_states : {A : Type 0} (xs : List (Found A)) → item_states (path_items xs) ≡ states xs
+paths_states [] = refl
+paths_states (x ∷ xs) = ap (λ l. x.state ∷ l) (paths_states xs)
+
+pub paths_length : {A : Type 0} (xs : List (Found A)) → length (path_items xs) ≡ length xs
+paths_length [] = refl
+paths_length (x ∷ xs) = ap suc (paths_length xs)
+
+pub paths_push : {A : Type 0} (xs : List (Found A)) (x : Found A) (items : List (Item A)) → path_items xs ++ Ended x ∷ items ≡ path_items (xs ++ x ∷ []) ++ items
+paths_push [] x items = refl
+paths_push (y ∷ xs) x items = ap (λ l. Ended y ∷ l) (paths_push xs x items)
+
+pub found_states : {A : Type 0} (found : Pursued A) → item_states (found_items found) ≡ found.lower ++ found.path.state ∷ found.higher
+found_states {A} found =
+    states_behind (stage_items found.lower) (Ended found.path ∷ stage_items found.higher)
+    ∙ ap (λ l. l ++ (found.path.state ∷ item_states {A = A} (stage_items found.higher))) (stages_states A found.lower)
+    ∙ ap (λ l. found.lower ++ found.path.state ∷ l) (stages_states A found.higher)
+
+pub found_ended : {A : Type 0} (found : Pursued A) → ended_count (found_items found) ≡ 1
+found_ended {A} found =
+    let a = ended_behind (stage_items found.lower) (Ended found.path ∷ stage_items found.higher) in
+    let b = stages_ended A found.lower in let c = stages_ended A found.higher in omega (arith, a, b, c)

@@ -3,6 +3,7 @@ pub mod Plays
 pub mod Parting
 pub mod Forking
 pub mod ItemStates
+pub mod Rounds
 pub mod Single
 pub mod Going
 pub mod Whole

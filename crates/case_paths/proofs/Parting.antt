@@ -53,7 +53,7 @@ alive_append : (xs ys : List PathState) → AllAlive xs → AllAlive ys → AllA
 alive_append [] ys h k = k
 alive_append (x ∷ xs) ys h k = (h.0, alive_append xs ys h.1 k)
 
-alive_replace : (ds fs bs : List PathState) (y : PathState) → AllAlive (ds ++ y ∷ bs) → AllAlive fs → AllAlive (ds ++ (fs ++ bs))
+pub alive_replace : (ds fs bs : List PathState) (y : PathState) → AllAlive (ds ++ y ∷ bs) → AllAlive fs → AllAlive (ds ++ (fs ++ bs))
 alive_replace [] fs bs y h k = alive_append fs bs k h.1
 alive_replace (x ∷ ds) fs bs y h k = (h.0, alive_replace ds fs bs y h.1 k)
 

@@ -16,7 +16,8 @@ use Rattle.case_paths.specs.Stages.{Holds, Parts, IsStage, HasEnded, AllEnded}
 use Rattle.case_paths.proofs.Orders.{nil_right, before_left, before_right, before_other}
 use Rattle.case_paths.proofs.Plays.{some_pair, extends}
 use Rattle.case_paths.proofs.Parting.{traces_length, states_length}
-use Rattle.case_paths.proofs.ItemStates.{item_states, AllItems, items_length}
+use Rattle.case_paths.specs.Items.{item_states, AllItems}
+use Rattle.case_paths.proofs.ItemStates.{items_length}
 
 -- ---- one place for each trace
 

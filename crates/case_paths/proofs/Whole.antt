@@ -1,5 +1,5 @@
 -- All paths at once: those so far, and the items that are left.
-use Rattle.std.proofs.Common.{◌≡◌, ◌≢◌, ℕ, ◌<◌, ◌≤◌, ◌+◌, ◌-◌, List, [], ◌∷◌, ◌++◌, length, length-append, Result, Ok, Err, IsTrue, Bool, true, false, rules, refl, sym, ap, ◌∙◌, subst, append_assoc, arith}
+use Rattle.std.proofs.Common.{◌≡◌, ◌≢◌, ℕ, ◌<◌, ◌≤◌, ◌-◌, List, [], ◌∷◌, ◌++◌, length, Result, Ok, Err, IsTrue, Bool, true, false, rules, refl, sym, ap, ◌∙◌, subst, arith}
 use Rattle.std.specs.Prelude.{◌↔◌}
 use Rattle.script_names.specs.declared.mark.Mark.{Mark}
 use Rattle.feature_trees.specs.declared.value.Value.{Value}
@@ -16,27 +16,24 @@ use Rattle.case_paths.specs.declared.state.PathState.{PathState}
 use Rattle.case_paths.specs.declared.state.Found.{Found}
 use Rattle.case_paths.specs.declared.state.PathsFault.{PathsFault}
 use Rattle.case_paths.specs.declared.state.PathsFault.TheVariants as fault
-use Rattle.case_paths.specs.declared.pursuit.Pursued.{Pursued}
 use Rattle.case_paths.specs.declared.items.Item.{Item}
-use Rattle.case_paths.specs.declared.items.Item.TheVariants.{Waiting, Ended}
-use Rattle.case_paths.specs.Paths.{states, AllPlayed, Explored, AllAlive}
-use Rattle.case_paths.specs.Stages.{Parts, IsStage, AllEnded, Comes, found_before}
-use Rattle.case_paths.proofs.Orders.{nil_right}
+use Rattle.case_paths.specs.declared.items.Item.TheVariants.{Waiting}
+use Rattle.case_paths.specs.Paths.{AllPlayed, Explored}
+use Rattle.case_paths.specs.Stages.{Parts}
+use Rattle.case_paths.specs.Items.{path_items, item_states, AllItems, ended_count, Refine, Advanced}
 use Rattle.case_paths.proofs.Plays.{some_pair, some_alive}
-use Rattle.case_paths.proofs.Parting.{parts_alone, parts_replace, states_append, ended_push}
-use Rattle.case_paths.proofs.ItemStates.{item_states, AllItems, ended_count, ended_within, found_states, found_ended, found_all}
+use Rattle.case_paths.proofs.Parting.{parts_alone}
+use Rattle.case_paths.proofs.ItemStates.{ended_within, paths_ended, paths_states, paths_length}
 use Rattle.case_paths.proofs.Single.{the_paths, are_few, too_many}
 
--- the paths so far and the items that are left part the state
-pub record Whole {A : Type 0} (d : Decision A) (first : Value → Value) (trace : List Mark) (root : PathState) (done : List (Found A)) (items : List (Item A)) : Type 0 where
-  pub ended : AllEnded d first trace done
-  pub left : AllItems d first trace items
-  pub parts : Parts root (states done ++ item_states items)
+-- the items part the state
+pub record Whole {A : Type 0} (d : Decision A) (first : Value → Value) (trace : List Mark) (root : PathState) (items : List (Item A)) : Type 0 where
+  pub all : AllItems d first trace items
+  pub parts : Parts root (item_states items)
 
-pub whole_begin : {A : Type 0} (d : Decision A) (first : Value → Value) (trace : List Mark) (root : PathState) → AllPerformed d → ((t u : Value) → HasPair root.store t u → u ≡ first t) → root.trace ≡ trace → Alive root.store → Whole d first trace root [] (Waiting root ∷ [])
+pub whole_begin : {A : Type 0} (d : Decision A) (first : Value → Value) (trace : List Mark) (root : PathState) → AllPerformed d → ((t u : Value) → HasPair root.store t u → u ≡ first t) → root.trace ≡ trace → Alive root.store → Whole d first trace root (Waiting root ∷ [])
 whole_begin d first trace root performed known e a = record {
-  ended = tt;
-  left = (
+  all = (
     (
       d,
       [],
@@ -52,37 +49,14 @@ whole_begin d first trace root performed known e a = record {
 }
 
 module _ {A : Type 0} (d : Decision A) (first : Value → Value) (trace : List Mark) (root : PathState) where
-  pub alive_next : (done : List (Found A)) (x : PathState) (rest : List (Item A)) → Whole d first trace root done (Waiting x ∷ rest) → Alive x.store
-  alive_next done x rest w = next (states done) w.parts.alive
-    where
-      next : (ds : List PathState) → AllAlive (ds ++ x ∷ item_states rest) → Alive x.store
-      next [] a = a.0
-      next (y ∷ ds) a = next ds a.1
+  pub all_found : (paths : List (Found A)) (room : ℕ) → ((t u : Value) → HasPair root.store t u → u ≡ first t) → root.trace ≡ trace → Whole d first trace root (path_items paths) → length paths ≤ room → Explored d root.store trace room (Ok paths)
+  all_found paths room known e w le =
+      let ended = paths_ended d first trace paths w.all in
+      let parts = subst (Parts root) (paths_states paths) w.parts in
+      (the_paths d first trace root known paths e ended parts, le, are_few d first trace root known paths room ended parts le)
 
-  pub whole_ended : (done : List (Found A)) (path : Found A) (rest : List (Item A)) → Whole d first trace root done (Ended path ∷ rest) → Whole d first trace root (done ++ path ∷ []) rest
-  whole_ended done path rest w = record {
-    ended = ended_push d first trace done path w.ended w.left.0;
-    left = w.left.1;
-    parts = subst (Parts root) split w.parts;
-  }
-    where
-      split : states done ++ (path.state ∷ item_states rest) ≡ states (done ++ path ∷ []) ++ item_states rest
-      split = sym (append_assoc (states done) (path.state ∷ []) (item_states rest)) ∙ ap (λ l. l ++ item_states rest) (sym (states_append done (path ∷ [])))
-
-  pub whole_found : (done : List (Found A)) (x : PathState) (rest : List (Item A)) (found : Pursued A) → Whole d first trace root done (Waiting x ∷ rest) → Comes d first trace x found → Whole d first trace root done (found_before found rest)
-  whole_found done x rest found w c = record {
-    ended = w.ended;
-    left = found_all d first trace x found rest c w.left.1;
-    parts = subst (λ l. Parts root (states done ++ l)) (sym (found_states found rest)) (parts_replace root x (states done) (found.lower ++ found.path.state ∷ found.higher) (item_states rest) w.parts c.parts);
-  }
-
-  pub all_found : (done : List (Found A)) (room : ℕ) → ((t u : Value) → HasPair root.store t u → u ≡ first t) → root.trace ≡ trace → Whole d first trace root done [] → length done ≤ room → Explored d root.store trace room (Ok done)
-  all_found done room known e w le =
-      let parts = subst (Parts root) (nil_right (states done)) w.parts in
-      (the_paths d first trace root known done e w.ended parts, le, are_few d first trace root known done room w.ended parts le)
-
-  pub too_many_found : (done : List (Found A)) (items : List (Item A)) (room : ℕ) → ((t u : Value) → HasPair root.store t u → u ≡ first t) → Whole d first trace root done items → room < length done + length items → Explored d root.store trace room (Err fault.Over)
-  too_many_found done items room known w lt = too_many d first trace root known done items room w.ended w.left w.parts lt
+  pub too_many_found : (items : List (Item A)) (room : ℕ) → ((t u : Value) → HasPair root.store t u → u ≡ first t) → Whole d first trace root items → room < length items → Explored d root.store trace room (Err fault.Over)
+  too_many_found items room known w lt = too_many d first trace root known [] items room tt w.all w.parts (let w = lt in omega (arith, w))
 
 -- ---- where a store is asked whether it has a pair
 
@@ -175,17 +149,17 @@ no_path d old new left trace room xs s f e is = none_found d old trace room xs (
 pub no_room_left : {A : Type 0} (d : Decision A) (old new : Seen) (left : Bool) (trace : List Mark) (room : ℕ) → SamePairs old new → (IsTrue left ↔ Alive new) → left ≡ true → room ≡ 0 → Explored d old trace room (Err fault.Over)
 no_room_left d old new left trace room s f e z = subst (λ n. Explored d old trace n (Err fault.Over)) (sym z) (no_room d old trace (limited_some old new left s f e))
 
--- the paths so far and the items that are left are those of the store's pairs, and there is room for them
-pub record Exploring {A : Type 0} (d : Decision A) (first : Value → Value) (trace : List Mark) (s : Seen) (room : ℕ) (done : List (Found A)) (items : List (Item A)) : Type 0 where
+-- the items are those of the store's pairs, and there is room for them
+pub record Exploring {A : Type 0} (d : Decision A) (first : Value → Value) (trace : List Mark) (s : Seen) (room : ℕ) (items : List (Item A)) : Type 0 where
   pub root : PathState
   pub begins : root.trace ≡ trace
   pub known : (t u : Value) → HasPair root.store t u → u ≡ first t
   pub same : SamePairs s root.store
-  pub count : length done + length items ≤ room
-  pub whole : Whole d first trace root done items
+  pub within : length items ≤ room
+  pub whole : Whole d first trace root items
 
-pub exploring_begin : {A : Type 0} (d : Decision A) (first : Value → Value) (trace : List Mark) (s new : Seen) (room : ℕ) (own : List Mark) (done : List (Found A)) (empty items : List (Item A)) → AllPerformed d → ((t u : Value) → HasPair s t u → u ≡ first t) → SamePairs s new → Alive new → own ≡ trace → room ≢ 0 → empty ≡ [] → items ≡ empty ++ Waiting (record { store = new; trace = own }) ∷ [] → done ≡ [] → Exploring d first trace s room done items
-exploring_begin {A} d first trace s new room own done empty items performed known same alive e nz no_item waits no_path =
+pub exploring_begin : {A : Type 0} (d : Decision A) (first : Value → Value) (trace : List Mark) (s new : Seen) (room : ℕ) (own : List Mark) (empty items : List (Item A)) → AllPerformed d → ((t u : Value) → HasPair s t u → u ≡ first t) → SamePairs s new → Alive new → own ≡ trace → room ≢ 0 → empty ≡ [] → items ≡ empty ++ Waiting (record { store = new; trace = own }) ∷ [] → Exploring d first trace s room items
+exploring_begin {A} d first trace s new room own empty items performed known same alive e nz no_item waits =
     let root : PathState = record { store = new; trace = own } in
     let known_new : (t u : Value) → HasPair new t u → u ≡ first t = λ t u p. known t u (same.back t u p) in
     let one : items ≡ Waiting root ∷ [] = waits ∙ ap (λ l. l ++ Waiting root ∷ []) no_item in
@@ -194,64 +168,43 @@ exploring_begin {A} d first trace s new room own done empty items performed know
       begins = e;
       known = known_new;
       same = same;
-      count = (let a = ap length one in let b = ap length no_path in omega (arith, a, b, nz));
-      whole = subst (λ l. Whole d first trace root done l) (sym one) (subst (λ l. Whole d first trace root l (Waiting root ∷ [])) (sym no_path) (whole_begin d first trace root performed known_new e alive));
+      within = (let a = ap length one in omega (arith, a, nz));
+      whole = subst (Whole d first trace root) (sym one) (whole_begin d first trace root performed known_new e alive);
     }
 
--- how far an exploration is from its end, at most
-abbrev pub steps_left : {A : Type 0} → ℕ → List (Found A) → List (Item A) → ℕ
-steps_left room done items = room + room - (length done + length done + ended_count items)
+module _ {A : Type 0} (d : Decision A) (first : Value → Value) (trace : List Mark) (s : Seen) (room : ℕ) (items : List (Item A)) (e : Exploring d first trace s room items) where
+  refined : (ys : List (Item A)) → Refine d first trace items ys → Whole d first trace e.root ys
+  refined ys r = record { all = r.items; parts = r.parts e.root e.whole.parts }
 
-module _ {A : Type 0} (d : Decision A) (first : Value → Value) (trace : List Mark) (s : Seen) (room : ℕ) (done : List (Found A)) (items : List (Item A)) (e : Exploring d first trace s room done items) where
-  pub exploring_end : items ≡ [] → Explored d s trace room (Ok done)
-  exploring_end none =
-      let w = subst (Whole d first trace e.root done) none e.whole in
-      let c = e.count in
-      explored_same d s e.root.store trace room (Ok done) e.same (all_found d first trace e.root done room e.known e.begins w (omega (arith, c)))
-
-  pub exploring_alive : (x : PathState) (rest : List (Item A)) → items ≡ Waiting x ∷ rest → Alive x.store
-  exploring_alive x rest is = alive_next d first trace e.root done x rest (subst (Whole d first trace e.root done) is e.whole)
-
-  pub exploring_stage : (x : PathState) (rest : List (Item A)) → items ≡ Waiting x ∷ rest → IsStage d first trace x
-  exploring_stage x rest is = (subst (Whole d first trace e.root done) is e.whole).left.0
-
-  pub exploring_ended : (path : Found A) (rest : List (Item A)) (more : List (Found A)) → items ≡ Ended path ∷ rest → more ≡ done ++ path ∷ [] → Exploring d first trace s room more rest
-  exploring_ended path rest more is pushed = record {
+  pub exploring_more : (next : List (Item A)) → Advanced d first trace items room (Ok next) → Exploring d first trace s room next
+  exploring_more next a = record {
     root = e.root;
     begins = e.begins;
     known = e.known;
     same = e.same;
-    count = (let a = ap length is in let b = ap length pushed ∙ length-append done (path ∷ []) in let c = e.count in omega (arith, a, b, c));
-    whole = subst (λ l. Whole d first trace e.root l rest) (sym pushed) (whole_ended d first trace e.root done path rest (subst (Whole d first trace e.root done) is e.whole));
+    within = a.1;
+    whole = refined next a.0;
   }
 
-  pub ended_smaller : (path : Found A) (rest : List (Item A)) (more : List (Found A)) → items ≡ Ended path ∷ rest → more ≡ done ++ path ∷ [] → steps_left room more rest < steps_left room done items
-  ended_smaller path rest more is pushed =
-      let a = ap length is in let b = ap length pushed ∙ length-append done (path ∷ []) in
-      let f = ap ended_count is in let k = ended_within rest in let c = e.count in omega (arith, a, b, f, k, c)
+  -- a round that gives no more items has left none that waits
+  pub all_ended : (next : List (Item A)) → Advanced d first trace items room (Ok next) → length next ≡ length items → ended_count next ≡ length next
+  all_ended next a same = let c = a.2 in omega (arith, c, same)
 
-  found_whole : (x : PathState) (rest more : List (Item A)) (found : Pursued A) → items ≡ Waiting x ∷ rest → Comes d first trace x found → more ≡ found_before found rest → Whole d first trace e.root done more
-  found_whole x rest more found is comes put = subst (Whole d first trace e.root done) (sym put) (whole_found d first trace e.root done x rest found (subst (Whole d first trace e.root done) is e.whole) comes)
+  -- another round has more items, of which there are at most `room`
+  pub fewer_left : (next : List (Item A)) → Advanced d first trace items room (Ok next) → length next ≢ length items → room - length next < room - length items
+  fewer_left next a more = let c = a.2 in let w = a.1 in let k = ended_within next in omega (arith, c, w, k, more)
 
-  pub exploring_found : (x : PathState) (rest more : List (Item A)) (found : Pursued A) → items ≡ Waiting x ∷ rest → Comes d first trace x found → more ≡ found_before found rest → length done + length more ≤ room → Exploring d first trace s room done more
-  exploring_found x rest more found is comes put le = record {
-    root = e.root;
-    begins = e.begins;
-    known = e.known;
-    same = e.same;
-    count = le;
-    whole = found_whole x rest more found is comes put;
-  }
+  pub exploring_end : (next : List (Item A)) (paths : List (Found A)) → Advanced d first trace items room (Ok next) → next ≡ path_items paths → Explored d s trace room (Ok paths)
+  exploring_end next paths a is =
+      let w = subst (Whole d first trace e.root) is (refined next a.0) in
+      let k = ap length is ∙ paths_length paths in let le = a.1 in
+      explored_same d s e.root.store trace room (Ok paths) e.same (all_found d first trace e.root paths room e.known e.begins w (omega (arith, k, le)))
 
-  pub found_smaller : (x : PathState) (rest more : List (Item A)) (found : Pursued A) → items ≡ Waiting x ∷ rest → more ≡ found_before found rest → length done + length more ≤ room → steps_left room done more < steps_left room done items
-  found_smaller x rest more found is put le =
-      let a = ap ended_count is in let b = ap ended_count put ∙ found_ended found rest in
-      let k = ended_within more in omega (arith, a, b, k, le)
-
-  pub exploring_over : (x : PathState) (rest more : List (Item A)) (found : Pursued A) → items ≡ Waiting x ∷ rest → Comes d first trace x found → more ≡ found_before found rest → room < length done + length more → Explored d s trace room (Err fault.Over)
-  exploring_over x rest more found is comes put lt =
+  exploring_over : Advanced d first trace items room (Err fault.Over) → Explored d s trace room (Err fault.Over)
+  exploring_over a =
       explored_same d s e.root.store trace room (Err fault.Over) e.same
-      (too_many_found d first trace e.root done more room e.known (found_whole x rest more found is comes put) lt)
+      (too_many_found d first trace e.root a.0 room e.known (refined a.0 a.1) a.2)
 
-  pub room_left : length done ≤ room
-  room_left = let c = e.count in omega (arith, c)
+  pub exploring_fault : (f : PathsFault) → Advanced d first trace items room (Err f) → Explored d s trace room (Err f)
+  exploring_fault fault.Over a = exploring_over a
+  exploring_fault fault.Memory a = tt

@@ -1,3 +1,4 @@
 pub mod Traces
 pub mod Paths
 pub mod Stages
+pub mod Items

@@ -12,8 +12,6 @@ use Rattle.case_paths.specs.declared.state.PathState.{PathState}
 use Rattle.case_paths.specs.declared.state.Found.{Found}
 use Rattle.case_paths.specs.declared.fork.Forks.{Forks}
 use Rattle.case_paths.specs.declared.pursuit.Pursued.{Pursued}
-use Rattle.case_paths.specs.declared.items.Item.{Item}
-use Rattle.case_paths.specs.declared.items.Item.TheVariants.{Waiting, Ended}
 use Rattle.case_paths.specs.Traces.{Rising, AllBegin}
 use Rattle.case_paths.specs.Paths.{EndsAs, traces, AllAlive}
 
@@ -95,14 +93,3 @@ pub record Comes {A : Type 0} (d : Decision A) (first : Value → Value) (trace 
   pub ended : HasEnded d first trace found.path
   pub higher : AllStages d first trace found.higher
   pub parts : Parts x (found.lower ++ found.path.state ∷ found.higher)
-
--- ---- what is left of an exploration
-
--- these stages, and then these items
-abbrev pub stages_before : {A : Type 0} → List PathState → List (Item A) → List (Item A)
-stages_before [] items = items
-stages_before (x ∷ xs) items = Waiting x ∷ stages_before xs items
-
--- what comes of a stage, and then these items
-abbrev pub found_before : {A : Type 0} → Pursued A → List (Item A) → List (Item A)
-found_before found items = stages_before found.lower (Ended found.path ∷ stages_before found.higher items)

@@ -1,9 +1,10 @@
-ghost use Rattle.std.specs.Prelude.{◌≡◌};
+ghost use Rattle.std.specs.Prelude.{◌≡◌, ◌≤◌, length};
 ghost use Rattle.clause_solver.specs.Pairs.{HasPair};
 ghost use Rattle.feature_trees.specs.declared.value.Value.{Value as Tree};
-ghost use Rattle.case_paths.specs.Paths.{Explored};
+ghost use Rattle.case_paths.specs.Paths.{Explored, AllAlive};
+ghost use Rattle.case_paths.specs.Items.{AllItems, Advanced, item_states};
 
-use crate::items::{Item, put_found};
+use crate::items::{Item, paths_of, put_found};
 use crate::machine::Machine;
 use crate::pursuit::pursue;
 use crate::queue::Queue;
@@ -12,6 +13,36 @@ use clause_solver::Store;
 use feature_trees::Kinds;
 use script_names::{Copied, List, Mark};
 use std::alloc::Global;
+
+// One round over the items: each stage that waits is run once, and what comes of it takes its place. `Over` where there
+// are more items than room, each of which stands for a trace at least.
+fn round<V: Drop, M: Machine<End = V>>(
+    alloc: Global,
+    machine: &M,
+    trace: &List<Mark>,
+    mut items: Queue<Item<V>>,
+    room: usize,
+) -> Result<Queue<Item<V>>, PathsFault>
+    requires items { AllItems (M.decision machine.now) (M.first machine.now) trace.now items }
+    requires alive { AllAlive (item_states items) }
+    requires room { length items ≤ room }
+    ensures { Advanced (M.decision machine.now) (M.first machine.now) trace.now items room result }
+{
+    let mut seen = Queue::new(alloc);
+    'items: loop {
+        match items.pop() {
+            None => return Ok(seen),
+            Some(Item::Ended(path)) => seen.push(Item::Ended(path))?,
+            Some(Item::Waiting(stage)) => {
+                let found = pursue(alloc, machine, trace, stage)?;
+                put_found(&mut seen, found)?;
+                if seen.len() > room - items.len() {
+                    return Err(PathsFault::Over);
+                }
+            }
+        }
+    }
+}
 
 /// All paths of a machine from a set of pairs of trees, behind a trace: each pair is on the path of its own run, and
 /// the traces of the paths rise. `Over` exactly where the runs have more than `room` different traces.
@@ -40,18 +71,16 @@ pub fn explore<V: Drop, M: Machine<End = V>>(
         store,
         trace: trace_copy,
     }))?;
-    let mut done = List::new(alloc);
-    'paths: loop {
-        match items.pop() {
-            None => return Ok(done),
-            Some(Item::Ended(path)) => done.add(path)?,
-            Some(Item::Waiting(stage)) => {
-                let found = pursue(alloc, machine, trace, stage)?;
-                put_found(&mut items, found)?;
-                if items.len() > room - done.len() {
-                    return Err(PathsFault::Over);
-                }
-            }
+    'rounds: loop {
+        let before = items.len();
+        let next = match round(alloc, machine, trace, items, room) {
+            Ok(next) => next,
+            Err(fault) => return Err(fault),
+        };
+        if next.len() == before {
+            let paths = paths_of(alloc, next)?;
+            return Ok(paths);
         }
+        items = next;
     }
 }

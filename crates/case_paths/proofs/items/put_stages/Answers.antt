@@ -1,13 +1,16 @@
 use Rattle.std.proofs.Common.{sym, ap, ◌∙◌}
-use Rattle.case_paths.specs.Stages.{stages_before}
-use Rattle.case_paths.proofs.ItemStates.{stages_before_push}
+use Rattle.std.specs.Prelude.{◌++◌}
+use Rattle.case_paths.specs.Items.{stage_items}
+use Rattle.case_paths.proofs.Orders.{nil_right}
+use Rattle.case_paths.proofs.ItemStates.{stages_push}
 use Rattle.case_paths.proofs.items.put_stages.Goals as goal
 
 pub stages-preserved : goal.stages-preserved
 stages-preserved g c =
-    ap (stages_before c.pop_last.new.self) c.in_ok-push_first-in-Some.ensures
-    ∙ sym (stages_before_push c.pop_last.new.self c.in-Some.stage c.stages.items)
-    ∙ ap (λ l. stages_before l c.stages.items) (sym c.in-Some.ensures) ∙ c.stages.invariant
+    ap (λ l. l ++ stage_items c.pop.new.self) c.in_ok-push-in-Some.ensures
+    ∙ stages_push c.stages.items c.in-Some.stage c.pop.new.self
+    ∙ ap (λ l. c.stages.items ++ stage_items l) (sym c.in-Some.ensures) ∙ c.stages.invariant
 
 pub returns-in-None : goal.returns-in-None
-returns-in-None g c = ap (λ l. stages_before l c.stages.items) (sym c.in-None.ensures) ∙ c.stages.invariant
+returns-in-None g c =
+    sym (ap (λ l. c.stages.items ++ stage_items l) c.in-None.ensures ∙ nil_right c.stages.items) ∙ c.stages.invariant
