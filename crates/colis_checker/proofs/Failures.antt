@@ -1,5 +1,5 @@
 -- What is reported as failed fails from the tree that is shown.
-use Rattle.std.proofs.Common.{◌≡◌, ◌⊎◌, inl, inr, ℕ, zero, suc, Bool, true, false, List, [], ◌∷◌, map, Option, Some, refl, sym, ap, subst}
+use Rattle.std.proofs.Common.{◌≡◌, ◌⊎◌, inl, inr, ℕ, zero, suc, Bool, true, false, List, [], ◌∷◌, map, Option, Some, refl, sym, ap, ◌∙◌, subst}
 use Rattle.std.specs.Prelude.{slice_get, ◌||◌, ◌==◌, if◌then◌else◌}
 use Rattle.std.specs.List.{list_any}
 use Rattle.feature_trees.specs.declared.value.Value.{Value}
@@ -11,6 +11,7 @@ use Rattle.scenario_runs.specs.declared.replayed.Replayed.{Replayed}
 use Rattle.scenario_runs.specs.Laws.{is_bound}
 use Rattle.package_jobs.specs.Written.{written_run}
 use Rattle.package_jobs.specs.Laws.{MoreTurnsSameRun}
+use Rattle.outcome_report.specs.declared.replay.Replay.{Replay}
 use Rattle.outcome_report.specs.declared.outcome_report.ReportEntry.{ReportEntry}
 use Rattle.outcome_report.specs.declared.outcome_report.ReportPart.{ReportPart}
 use Rattle.outcome_report.specs.OutcomeReport.{IsEntryOf, AllEntries, ending_verdict, part_has}
@@ -46,13 +47,16 @@ failed_scenario more packages turns limit scenario part is place entry at report
     let shown = entry.outcome.shown in
     let start = (is.exact.exact.runs place entry.outcome shown covers.0 there covers.1).0 in
     let own = entry_of (written_run scenario packages turns) part.entries place entry is.exact.entries at in
-    let failed = subst IsFailed (sym own.agrees.ending) reported in
-    let free = not_bound entry.replayed.ending failed in
-    record {
+    let run = own.whole in
+    let ending : entry.outcome.ending ≡ run.ending = sym own.agrees.ending ∙ ap (λ (r : Replay). r.ending) own.kept in
+    let failed = subst IsFailed ending reported in
+    let free = not_bound run.ending failed in
+    let failure : IsFailure packages turns scenario shown run = record {
       is_start = start;
-      is_run = λ n. more scenario packages turns n shown entry.replayed own.replayed free;
+      is_run = λ n. more scenario packages turns n shown run own.replayed free;
       failed = failed;
-    }
+    } in
+    (run, own.kept, failure)
 
 -- ---- a report
 
@@ -98,14 +102,16 @@ some_entry (entry ∷ entries) e =
 module _ (more : MoreTurnsSameRun) (packages : Packages) (turns limit : ℕ) where
   part_fails : (scenario : Scenario) (scenarios : List Scenario) (part : ReportPart) → IsPartOf packages turns limit scenario part
       → SomeEntry part.entries → FailsSomewhere packages turns (scenario ∷ scenarios)
-  part_fails scenario scenarios part is some = record {
-    place = 0;
-    scenario = scenario;
-    at = refl;
-    start = some.entry.outcome.shown;
-    run = some.entry.replayed;
-    failure = failed_scenario more packages turns limit scenario part is some.place some.entry some.at some.failed;
-  }
+  part_fails scenario scenarios part is some =
+      let failing = failed_scenario more packages turns limit scenario part is some.place some.entry some.at some.failed in
+      record {
+        place = 0;
+        scenario = scenario;
+        at = refl;
+        start = some.entry.outcome.shown;
+        run = failing.0;
+        failure = failing.2;
+      }
 
   later_fails : (scenario : Scenario) (scenarios : List Scenario) → FailsSomewhere packages turns scenarios
       → FailsSomewhere packages turns (scenario ∷ scenarios)

@@ -13,6 +13,7 @@ use Rattle.package_jobs.specs.Written.{written_run}
 use Rattle.package_jobs.specs.StartTrees.{IsStartTree}
 use Rattle.outcome_report.specs.declared.outcome_report.ReportEntry.{ReportEntry}
 use Rattle.outcome_report.specs.declared.outcome_report.ReportPart.{ReportPart}
+use Rattle.outcome_report.specs.Kept.{replay_of}
 use Rattle.colis_checker.specs.declared.faults.Refusal.{Refusal}
 use Rattle.colis_checker.specs.Reports.{IsPartOf, IsReportOf}
 use Rattle.colis_checker.specs.Top.{FilesGiveOver, IsRequestRefusal}
@@ -75,14 +76,14 @@ pub record FailsSomewhere (packages : Packages) (turns : ℕ) (scenarios : List 
   pub run : Replayed
   pub failure : IsFailure packages turns scenario start run
 
--- where a scenario is reported with a failed outcome, the replay that goes with it is a failure, from the tree that is
--- shown
+-- where a scenario is reported with a failed outcome, the replay that goes with it is what is kept of a run that is a
+-- failure, from the tree that is shown
 abbrev pub FailedScenario : Type 0
 FailedScenario =
     (packages : Packages) (turns limit : ℕ) (scenario : Scenario) (part : ReportPart)
     → IsPartOf packages turns limit scenario part
     → (place : ℕ) (entry : ReportEntry) → slice_get part.entries place ≡ Some entry → IsFailed entry.outcome.ending
-    → IsFailure packages turns scenario entry.outcome.shown entry.replayed
+    → (run : Replayed) × (entry.replayed ≡ replay_of run) × IsFailure packages turns scenario entry.outcome.shown run
 
 -- where the status of a report is 1, one of its scenarios fails from some start tree
 abbrev pub FailedReport : Type 0

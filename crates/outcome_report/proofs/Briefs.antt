@@ -15,7 +15,8 @@ use Rattle.outcome_report.specs.OutcomeReport.{ending_verdict, part_has, report_
 use Rattle.outcome_report.specs.ReportNames.{scenario_name}
 use Rattle.outcome_report.specs.ReportText.{result_text, outcome_line, trace_line, scenario_line, verdict_line}
 use Rattle.outcome_report.specs.BriefText.{brief_entry, brief_part, brief_text}
-use Rattle.outcome_report.specs.Laws.{AreNumbered, AllNumbered, ending_and_trace, scenario_and_endings, EndingsTellBriefTexts}
+use Rattle.outcome_report.specs.Numbered.{AreNumbered, AllNumbered}
+use Rattle.outcome_report.specs.Laws.{ending_and_trace, scenario_and_endings, EndingsTellBriefTexts}
 
 abbrev Told : Type 0
 Told = List (Ending × List Mark)

@@ -11,7 +11,9 @@ use Rattle.outcome_report.specs.Laws.{PartsCarryOver}
 module _ (run other : Value → Option Replayed) (same : (tree : Value) → run tree ≡ other tree) where
   entry_carries : (entry : ReportEntry) → IsEntryOf run entry → IsEntryOf other entry
   entry_carries entry is = record {
+    whole = is.whole;
     replayed = sym (same entry.outcome.shown) ∙ is.replayed;
+    kept = is.kept;
     agrees = is.agrees;
     confirmed = is.confirmed;
   }

@@ -9,6 +9,8 @@ use Rattle.scenario_runs.specs.declared.replayed.Replayed.{Replayed}
 use Rattle.scenario_outcomes.specs.declared.outcome.Outcome.{Outcome}
 use Rattle.scenario_outcomes.specs.Outcomes.{IsExact}
 use Rattle.outcome_report.specs.declared.outcome_report.ReportEntry.{ReportEntry}
+use Rattle.outcome_report.specs.declared.replay.Replay.{Replay}
+use Rattle.outcome_report.specs.Kept.{replay_of}
 use Rattle.outcome_report.specs.OutcomeReport.{Agrees, IsEntryOf, AllEntries}
 use Rattle.outcome_report.specs.Replays.{Replays, AllReplay}
 
@@ -69,17 +71,19 @@ next_dir run all made before rest outcome next so_far =
     (subst Q next so_far).left.0.dir
 
 module _ (run : Value → Option Replayed) (all : List Outcome) (old : List ReportEntry) (entry : ReportEntry) (outcome : Outcome)
-    (same : entry.outcome ≡ outcome) (replayed : run outcome.shown ≡ Some entry.replayed)
+    (same : entry.outcome ≡ outcome) (whole : Replayed) (replayed : run outcome.shown ≡ Some whole) (kept : entry.replayed ≡ replay_of whole)
     (confirms : Agrees entry → IsTrue entry.confirmed) where
   agrees : Replays run outcome → Agrees entry
   agrees is = record {
-    ending = is.ending entry.replayed replayed ∙ ap (λ (o : Outcome). o.ending) (sym same);
-    trace = is.trace entry.replayed replayed ∙ ap (λ (o : Outcome). o.trace) (sym same);
+    ending = ap (λ (r : Replay). r.ending) kept ∙ is.ending whole replayed ∙ ap (λ (o : Outcome). o.ending) (sym same);
+    trace = ap (λ (r : Replay). r.trace) kept ∙ is.trace whole replayed ∙ ap (λ (o : Outcome). o.trace) (sym same);
   }
 
   is_entry : Replays run outcome → IsEntryOf run entry
   is_entry is = record {
+    whole = whole;
     replayed = ap (λ (o : Outcome). run o.shown) same ∙ replayed;
+    kept = kept;
     agrees = agrees is;
     confirmed = confirms (agrees is);
   }

@@ -4,3 +4,9 @@ mod Counted
 mod Growing
 mod Briefs
 pub mod Carrying
+pub mod ShownBytes
+pub mod PieceReading
+pub mod Blocks
+pub mod WholeLines
+pub mod TreeTexts
+pub mod TextApart

@@ -1,5 +1,5 @@
 -- What holds of parts of a report and of brief texts, whatever the outcomes are.
-use Rattle.std.specs.Prelude.{◌≡◌, ℕ, suc, List, [], ◌∷◌, map, Option, Result}
+use Rattle.std.specs.Prelude.{◌≡◌, ℕ, List, map, Option, Result}
 use Rattle.script_names.specs.declared.mark.Mark.{Mark}
 use Rattle.feature_trees.specs.declared.value.Value.{Value}
 use Rattle.dpkg_scenarios.specs.declared.scenario.Ending.{Ending}
@@ -10,6 +10,7 @@ use Rattle.scenario_outcomes.specs.Laws.{AreSame}
 use Rattle.outcome_report.specs.declared.outcome_report.ReportEntry.{ReportEntry}
 use Rattle.outcome_report.specs.declared.outcome_report.ReportPart.{ReportPart}
 use Rattle.outcome_report.specs.declared.outcome_report.Report.{Report}
+use Rattle.outcome_report.specs.Numbered.{AllNumbered}
 use Rattle.outcome_report.specs.OutcomeReport.{PartAnswers}
 use Rattle.outcome_report.specs.BriefText.{brief_text}
 
@@ -24,16 +25,6 @@ PartsCarryOver run other start from =
     → PartAnswers other from limit result
 
 -- ---- endings and traces tell the brief text
-
--- the outcomes are numbered from this number on
-abbrev pub AreNumbered : ℕ → List ReportEntry → Type 0
-AreNumbered n [] = Unit {0}
-AreNumbered n (entry ∷ entries) = (entry.outcome.number ≡ n) × AreNumbered (suc n) entries
-
--- in each part they are numbered from 1 on
-abbrev pub AllNumbered : List ReportPart → Type 0
-AllNumbered [] = Unit {0}
-AllNumbered (part ∷ parts) = AreNumbered 1 part.entries × AllNumbered parts
 
 -- how an outcome ends, and its acts
 abbrev pub ending_and_trace : ReportEntry → Ending × List Mark

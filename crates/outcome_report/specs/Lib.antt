@@ -1,5 +1,7 @@
+pub mod Kept
 pub mod OutcomeReport
 pub mod Replays
+pub mod Numbered
 pub mod Laws
 pub mod ReportNames
 pub mod Places
@@ -8,3 +10,7 @@ pub mod PlaceText
 pub mod ReportText
 pub mod BriefText
 pub mod RunText
+pub mod PieceRead
+pub mod PieceLaws
+pub mod Whole
+pub mod TextLaws

@@ -12,6 +12,7 @@ use Rattle.scenario_outcomes.specs.Outcomes.{IsExact, SomeStarts, AreFew, Answer
 use Rattle.outcome_report.specs.declared.outcome_report.ReportEntry.{ReportEntry}
 use Rattle.outcome_report.specs.declared.outcome_report.ReportPart.{ReportPart}
 use Rattle.outcome_report.specs.declared.outcome_report.Report.{Report}
+use Rattle.outcome_report.specs.Kept.{replay_of}
 
 -- ---- entries
 
@@ -20,9 +21,12 @@ pub record Agrees (entry : ReportEntry) : Type 0 where
   pub ending : entry.replayed.ending ≡ entry.outcome.ending
   pub trace : entry.replayed.trace ≡ entry.outcome.trace
 
--- the entry has the run from the tree that its outcome shows, that run ends as the outcome says, and the entry says so
+-- the entry has what is kept of the run from the tree that its outcome shows, that run ends as the outcome says, and
+-- the entry says so
 pub record IsEntryOf (run : Value → Option Replayed) (entry : ReportEntry) : Type 0 where
-  pub replayed : run entry.outcome.shown ≡ Some entry.replayed
+  pub whole : Replayed
+  pub replayed : run entry.outcome.shown ≡ Some whole
+  pub kept : entry.replayed ≡ replay_of whole
   pub agrees : Agrees entry
   pub confirmed : entry.confirmed ≡ true
 

@@ -53,11 +53,15 @@ confirmed_line confirmed = line (codes "confirmed " ++ confirmed_name confirmed)
 abbrev pub call_word : List ℕ → List ℕ
 call_word word = codes " " ++ show word
 
--- a call of a script: whose it is, its name, its words, and how it ended
+-- a call of a script, without the newline of its line: whose it is, its name, its words, and how it ended
+abbrev pub call_content : ScriptCall → List ℕ
+call_content call =
+    codes "call " ++ side_name call.old ++ codes " " ++ script_name call.script ++ flat_map call_word call.words
+    ++ codes " " ++ call_end_name call.how
+
+-- the line of a call
 unfoldable pub call_line : ScriptCall → List ℕ
-call_line call =
-    line (codes "call " ++ side_name call.old ++ codes " " ++ script_name call.script ++ flat_map call_word call.words
-    ++ codes " " ++ call_end_name call.how)
+call_line call = line (call_content call)
 
 -- the tree that an outcome shows, and the one that the replay left
 unfoldable pub trees_text : ReportEntry → List ℕ

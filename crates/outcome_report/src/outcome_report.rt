@@ -4,18 +4,19 @@ ghost use Rattle.start_trees.specs.Needs.{IsStart};
 ghost use Rattle.outcome_report.specs.OutcomeReport.{Agrees, AllEntries, PartAnswers};
 ghost use Rattle.outcome_report.specs.Replays.{AllReplay};
 
+use crate::replay::{Replay, keep_replay};
 use dpkg_scenarios::{Ending, Scenario};
 use scenario_outcomes::{Outcome, OutcomesFault, outcomes};
-use scenario_runs::{Job, Replayed, run};
+use scenario_runs::{Job, run};
 use script_names::{List, Mark, Memory};
 use start_trees::Need;
 use std::alloc::Global;
 
-/// An outcome, the run from the tree that it shows, and whether that run ends as the outcome says.
+/// An outcome, what is kept of the run from the tree that it shows, and whether that run ends as it says.
 #[derive(Drop)]
 pub struct ReportEntry {
     pub outcome: Outcome,
-    pub replayed: Replayed,
+    pub replayed: Replay,
     pub confirmed: bool,
 }
 
@@ -46,8 +47,9 @@ fn same_trace(a: &[Mark], b: &[Mark]) -> bool
     a == b
 }
 
-/// The entry of any outcome and any run: it is confirmed where the two have the same ending and the same acts.
-pub fn make_entry(outcome: Outcome, replayed: Replayed) -> ReportEntry
+/// The entry of any outcome and of what is kept of any run: it is confirmed where the two have the same ending and the
+/// same acts.
+pub fn make_entry(outcome: Outcome, replayed: Replay) -> ReportEntry
     ensures outcome { result.outcome ≡ outcome }
     ensures replayed { result.replayed ≡ replayed }
     ensures confirmed { IsTrue result.confirmed ↔ Agrees result }
@@ -74,7 +76,7 @@ fn make_entries(
     let mut entries = List::new(alloc);
     for outcome in outcomes.into_vec() {
         let replayed = run(alloc, job, &outcome.shown)?;
-        entries.add(make_entry(outcome, replayed))?;
+        entries.add(make_entry(outcome, keep_replay(replayed)))?;
     }
     Ok(entries)
 }

@@ -1,4 +1,4 @@
-ghost use Rattle.std.specs.Prelude.{◌≡◌, ◌++◌, IfOk, OnOk};
+ghost use Rattle.std.specs.Prelude.{◌≡◌, ◌++◌, length, take, IfOk, OnOk, OnErr};
 ghost use Rattle.std.specs.List.{flat_map};
 ghost use Rattle.outcome_report.specs.ReportText.{stop_text, result_text, outcome_line, trace_mark, trace_line};
 ghost use Rattle.outcome_report.specs.ReportText.{confirmed_line, call_word, call_line, trees_text, entry_text};
@@ -31,17 +31,20 @@ pub(crate) fn put_trace(text: &mut Bytes, trace: &[Mark]) -> Result<(), Memory>
     text.extend(b"\n")
 }
 
+// Adds a reason and the site where it came.
 fn put_stop(text: &mut Bytes, reason: Reason, site: Site) -> Result<(), Memory>
-    ensures { OnOk result (text.new ≡ text.old ++ stop_text reason site) }
+    ensures ok { OnOk result (text.new ≡ text.old ++ stop_text reason site) }
+    ensures begins { OnErr result (take (length text.old) text.new ≡ text.old) }
 {
     push_reason(text, reason)?;
     text.extend(b" ")?;
     push_site(text, site)
 }
 
-/// Adds how a scenario ended.
-pub fn put_result(text: &mut Bytes, ending: Ending) -> Result<(), Memory>
-    ensures { OnOk result (text.new ≡ text.old ++ result_text ending) }
+// Adds how a scenario ended, piece by piece.
+fn put_ending(text: &mut Bytes, ending: Ending) -> Result<(), Memory>
+    ensures ok { OnOk result (text.new ≡ text.old ++ result_text ending) }
+    ensures begins { OnErr result (take (length text.old) text.new ≡ text.old) }
 {
     match ending {
         Ending::Done(state) => {
@@ -63,8 +66,25 @@ pub fn put_result(text: &mut Bytes, ending: Ending) -> Result<(), Memory>
     }
 }
 
+/// Adds how a scenario ended; for want of memory the text is as before.
+pub fn put_result(text: &mut Bytes, ending: Ending) -> Result<(), Memory>
+    ensures ok { OnOk result (text.new ≡ text.old ++ result_text ending) }
+    ensures kept { OnErr result (text.new ≡ text.old) }
+{
+    let before = text.len();
+    match put_ending(text, ending) {
+        Ok(()) => Ok(()),
+        Err(_) => {
+            text.truncate(before);
+            Err(Memory)
+        }
+    }
+}
+
+// Adds words, each behind a space.
 fn put_words(text: &mut Bytes, words: &[Bytes]) -> Result<(), Memory>
-    ensures { OnOk result (text.new ≡ text.old ++ flat_map call_word words.now) }
+    ensures ok { OnOk result (text.new ≡ text.old ++ flat_map call_word words.now) }
+    ensures begins { OnErr result (take (length text.old) text.new ≡ text.old) }
 {
     for word in words {
         text.extend(b" ")?;
@@ -73,9 +93,11 @@ fn put_words(text: &mut Bytes, words: &[Bytes]) -> Result<(), Memory>
     Ok(())
 }
 
+// Adds the line of a call.
 #[tactic(auto, unfolding(crate::specs::ReportText::call_line))]
 fn put_call(text: &mut Bytes, call: &ScriptCall) -> Result<(), Memory>
-    ensures { OnOk result (text.new ≡ text.old ++ call_line call.now) }
+    ensures ok { OnOk result (text.new ≡ text.old ++ call_line call.now) }
+    ensures begins { OnErr result (take (length text.old) text.new ≡ text.old) }
 {
     text.extend(b"call ")?;
     text.extend(side_name(call.old))?;
@@ -86,14 +108,30 @@ fn put_call(text: &mut Bytes, call: &ScriptCall) -> Result<(), Memory>
     push_line(text, call_end_name(call.how))
 }
 
-/// Adds the lines of calls of scripts.
-pub fn put_calls(text: &mut Bytes, calls: &[ScriptCall]) -> Result<(), Memory>
-    ensures { OnOk result (text.new ≡ text.old ++ flat_map call_line calls.now) }
+// Adds the line of each call.
+fn put_each_call(text: &mut Bytes, calls: &[ScriptCall]) -> Result<(), Memory>
+    ensures ok { OnOk result (text.new ≡ text.old ++ flat_map call_line calls.now) }
+    ensures begins { OnErr result (take (length text.old) text.new ≡ text.old) }
 {
     for call in calls {
         put_call(text, call)?;
     }
     Ok(())
+}
+
+/// Adds the lines of calls of scripts; for want of memory the text is as before.
+pub fn put_calls(text: &mut Bytes, calls: &[ScriptCall]) -> Result<(), Memory>
+    ensures ok { OnOk result (text.new ≡ text.old ++ flat_map call_line calls.now) }
+    ensures kept { OnErr result (text.new ≡ text.old) }
+{
+    let len = text.len();
+    match put_each_call(text, calls) {
+        Ok(()) => Ok(()),
+        Err(_) => {
+            text.truncate(len);
+            Err(Memory)
+        }
+    }
 }
 
 /// Adds the line of an outcome's number and ending.

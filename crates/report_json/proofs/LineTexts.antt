@@ -1,12 +1,10 @@
--- Marks one behind another, and a text without its first line.
+-- A text without its first line.
 use Rattle.std.proofs.Common.{◌≡◌, ℕ, suc, ◌-◌, ◌^◌, ◌<◌, Bool, true, false, nat_le, List, [], ◌∷◌, ◌++◌, length, take, drop, map, refl, sym, ap, ◌∙◌, arith, append_assoc, append-nil, decimal}
 use Rattle.std.specs.Prelude.{not, ◌==◌, codes}
-use Rattle.std.specs.List.{flat_map, join_with_byte, onto_first}
+use Rattle.std.specs.List.{flat_map, onto_first}
 use Rattle.std.proofs.lemmas.Bool.{and_parts, leb-true, ne_eqb}
 use Rattle.std.proofs.lemmas.List.Splits.{slice_split-cons_yes, slice_split-cons_no, length-slice_split}
-use Rattle.script_names.specs.declared.mark.Mark.{Mark}
 use Rattle.shown_texts.specs.Lines.{line}
-use Rattle.shown_texts.specs.Marks.{mark_text}
 use Rattle.shown_texts.specs.Numbers.{is_digit}
 use Rattle.shown_texts.specs.Parts.{parts, lacks}
 use Rattle.shown_texts.proofs.Lists.{all_weaker, all_both}
@@ -14,17 +12,7 @@ use Rattle.shown_texts.proofs.Numerals.{decimal_digits}
 use Rattle.tree_clauses.specs.declared.clause.Clause.{Clause}
 use Rattle.tree_clauses.specs.declared.clause.Var.{Var}
 use Rattle.tree_clauses.specs.ClauseText.{var_text, literal_text, clause_text}
-use Rattle.outcome_report.specs.ReportText.{trace_mark}
 use Rattle.report_json.specs.ReportJson.{lines_in}
-
-marks_joined : (m : Mark) (ms : List Mark) → mark_text m ++ flat_map trace_mark ms ≡ join_with_byte 32 (map mark_text (m ∷ ms))
-marks_joined m [] = append-nil (mark_text m)
-marks_joined m (n ∷ ms) = ap (λ r. mark_text m ++ 32 ∷ r) (marks_joined n ms)
-
--- marks, each behind a space, without the first space
-pub trace_joined : (ms : List Mark) → drop 1 (flat_map trace_mark ms) ≡ join_with_byte 32 (map mark_text ms)
-trace_joined [] = refl
-trace_joined (m ∷ ms) = marks_joined m ms
 
 -- ---- the line before others
 

@@ -2,7 +2,7 @@ use Rattle.std.proofs.Common.{◌++◌, ap, ◌∙◌, drop}
 use Rattle.std.specs.List.{flat_map}
 use Rattle.serde_json.specs.Data.{string}
 use Rattle.outcome_report.specs.ReportText.{trace_mark}
-use Rattle.report_json.proofs.LineTexts.{trace_joined}
+use Rattle.outcome_report.proofs.TextApart.{trace_joined}
 use Rattle.report_json.proofs.lines.trace_value.Goals as goal
 
 pub returns : goal.returns

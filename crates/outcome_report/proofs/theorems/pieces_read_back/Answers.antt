@@ -1,0 +1,10 @@
+use Rattle.outcome_report.proofs.PieceReading.{scenario_read, result_read, trace_read, call_read}
+use Rattle.outcome_report.proofs.theorems.pieces_read_back.Goals as goal
+
+pub returns : goal.returns
+returns c = record {
+  scenarios = λ scenario h. scenario_read scenario;
+  endings = result_read;
+  traces = trace_read;
+  calls = call_read;
+}

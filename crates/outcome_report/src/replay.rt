@@ -1,0 +1,36 @@
+ghost use Rattle.std.specs.Prelude.{◌≡◌};
+ghost use Rattle.outcome_report.specs.Kept.{replay_of};
+
+use dpkg_scenarios::Ending;
+use feature_trees::Value;
+use scenario_runs::{Replayed, ScriptCall};
+use script_names::{List, Mark};
+
+/// What a report keeps of a run: its ending, the marks of the acts that were done, in order, the tree that it left, and
+/// the calls of scripts, in order.
+#[derive(Drop)]
+pub struct Replay {
+    pub ending: Ending,
+    pub trace: List<Mark>,
+    pub after: Value,
+    pub calls: List<ScriptCall>,
+}
+
+/// What a report keeps of a run.
+pub fn keep_replay(run: Replayed) -> Replay
+    ensures { result ≡ replay_of run }
+{
+    let Replayed {
+        ending,
+        trace,
+        after,
+        calls,
+        acts: _,
+    } = run;
+    Replay {
+        ending,
+        trace,
+        after,
+        calls,
+    }
+}
