@@ -11,8 +11,3 @@ mod puts;
 mod tables;
 
 pub use making::cases;
-
-#[cfg(test)]
-mod taken_tests;
-#[cfg(test)]
-mod tests;

@@ -13,8 +13,6 @@ mod reading;
 mod shelf;
 mod sink;
 mod stop;
-#[cfg(test)]
-mod tests;
 
 pub use content::read_content;
 pub use dir_shelf::DirShelf;

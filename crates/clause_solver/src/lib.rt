@@ -21,8 +21,3 @@ mod variable;
 
 pub use store::Store;
 pub use tree_clauses::{Case, Clause, Literal, Var, print_clause, put_clause};
-
-#[cfg(test)]
-mod empty_tests;
-#[cfg(test)]
-mod store_tests;

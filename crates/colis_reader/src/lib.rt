@@ -10,8 +10,6 @@ mod nest;
 mod nesting;
 mod parts;
 mod program;
-#[cfg(test)]
-mod tests;
 pub mod theorems;
 
 pub use fault::ProgramFault;

@@ -1,4 +1,5 @@
-//! Tests of script_names and shown_texts. They stand apart from these crates, so that no crate is proved twice.
+//! Tests of script_names, shown_texts, shared_table, checker_io and case_pool. They stand apart from these crates, so
+//! that no crate is proved twice.
 #![tactic(auto)]
 
 #[cfg(test)]
@@ -7,5 +8,11 @@ mod common;
 mod names;
 #[cfg(test)]
 mod paths;
+#[cfg(test)]
+mod pools;
+#[cfg(test)]
+mod shared_lists;
+#[cfg(test)]
+mod shelves;
 #[cfg(test)]
 mod shown;

@@ -1,6 +1,10 @@
-//! Tests of whole scripts that are run: read, accepted, translated, and run on one tree. They stand above shell_to_colis
-//! and colis_interp, and apart from these, so that no crate is proved twice.
+//! Tests of whole scripts that are run: read, accepted, translated, and run on one tree; and of programs as text. They
+//! stand above shell_to_colis, colis_interp and colis_reader, and apart from these, so that no crate is proved twice.
 #![tactic(auto)]
 
 #[cfg(test)]
 mod runs;
+#[cfg(test)]
+mod texts;
+#[cfg(test)]
+mod translations;

@@ -1,7 +1,10 @@
-//! Tests of shell_parser and shell_forms. They stand apart from these crates, so that no crate is proved twice.
+//! Tests of shell_parser, shell_forms and printed scripts. They stand apart from these crates, so that no crate is
+//! proved twice.
 #![tactic(auto)]
 
 #[cfg(test)]
 mod forms;
+#[cfg(test)]
+mod printed;
 #[cfg(test)]
 mod scripts;

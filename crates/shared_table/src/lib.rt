@@ -6,8 +6,6 @@ mod alone;
 mod node;
 mod shared;
 mod steps;
-#[cfg(test)]
-mod tests;
 
 pub use alone::{fork_alone, push_alone, set_alone};
 pub use shared::Shared;

@@ -6,8 +6,6 @@
 mod kinds;
 mod redirections;
 mod statements;
-#[cfg(test)]
-mod tests;
 pub mod theorems;
 mod translation;
 mod words;

@@ -5,8 +5,6 @@
 
 mod need;
 mod starts;
-#[cfg(test)]
-mod tests;
 
 pub use need::Need;
 pub use starts::start_store;

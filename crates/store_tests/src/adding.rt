@@ -3,6 +3,7 @@
 ghost use Rattle.std.specs.Prelude.{All, IfOk};
 ghost use Rattle.tree_clauses.specs.Plain.{IsPlain};
 
+use crate::call_words::words;
 use act_cases::cases;
 use clause_solver::{Store, print_clause};
 use script_names::{Bytes, List, Memory};
@@ -49,15 +50,6 @@ mkdir -p /a 68; -> now v3|kind v0 dir|entry v0 a v1|kind v1 absent,dir|similar v
 touch /a 67; -> now v3|kind v0 dir|entry v0 a v1|kind v1 absent,reg|kind v2 reg|similar v3 {a} v0|entry v3 a v2|
 ln -s t /a 68; -> now v3|kind v0 dir|entry v0 a v1|kind v1 absent|target v2 t|similar v3 {a} v0|entry v3 a v2|
 mkdir /a 68; mkdir /a/b 68; -> now v7|kind v0 dir|entry v0 a v1|kind v1 absent|kind v2 dir|fence v2 {}|similar v3 {a} v0|entry v3 a v2|kind v4 absent|kind v5 dir|fence v5 {}|similar v6 {b} v2|entry v6 b v5|similar v7 {a} v3|entry v7 a v6|";
-
-fn words(alloc: Global, text: &str) -> Result<List<Bytes>, Memory> {
-    let mut all = List::new(alloc);
-    for part in text.split(' ') {
-        let word = Bytes::from_slice(alloc, part.as_bytes())?;
-        all.add(word)?;
-    }
-    Ok(all)
-}
 
 // The cases of an act.
 fn act_cases<R: Abort + AllocGlobal>(rt: &R, act: &Act) -> Result<List<Case>, Fail>

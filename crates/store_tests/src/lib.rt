@@ -1,6 +1,18 @@
-//! Tests of act_cases and clause_solver together: the cases of calls are added to stores. They stand apart from these
-//! crates, so that no crate is proved twice.
+//! Tests of act_cases, clause_solver and start_trees: cases of calls, stores, and cases that are added to stores. They
+//! stand apart from these crates, so that no crate is proved twice.
 #![tactic(auto)]
 
 #[cfg(test)]
 mod adding;
+#[cfg(test)]
+mod call_words;
+#[cfg(test)]
+mod cases;
+#[cfg(test)]
+mod emptied;
+#[cfg(test)]
+mod starts;
+#[cfg(test)]
+mod stores;
+#[cfg(test)]
+mod taken;

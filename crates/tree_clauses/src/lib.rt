@@ -21,8 +21,3 @@ pub use clause::{Clause, Literal, Var};
 pub use deciding::meets;
 pub use read::{ClauseFault, read_clause};
 pub use text::{print_clause, put_clause};
-
-#[cfg(test)]
-mod tests;
-#[cfg(test)]
-mod text_tests;

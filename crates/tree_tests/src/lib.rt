@@ -1,9 +1,13 @@
-//! Tests of feature_trees, utility_calls and concrete_utils. They stand apart from these crates, so that no crate is
-//! proved twice.
+//! Tests of feature_trees, tree_clauses, utility_calls and concrete_utils. They stand apart from these crates, so that
+//! no crate is proved twice.
 #![tactic(auto)]
 
 #[cfg(test)]
 mod all_acts;
+#[cfg(test)]
+mod clause_texts;
+#[cfg(test)]
+mod clauses;
 #[cfg(test)]
 mod deep_paths;
 #[cfg(test)]

@@ -1,7 +1,0 @@
-use Rattle.clause_solver.proofs.KindSets.{of_dir}
-use Rattle.clause_solver.proofs.empty_tests.without.Goals as goal
-
-pub derive-requires-clause-directory : goal.derive-requires-clause-directory
-derive-requires-clause-directory c t v st =
-    let kind = (c.in_ok-left.ensures.exact t v).0 st in
-    of_dir _ (rw c.of.ensures at kind.1)

@@ -1,0 +1,367 @@
+//! Cases of the last act of a call: the row, its answer, and the clause of the trees that take it.
+
+use crate::call_words::words;
+use act_cases::cases;
+use script_names::{Copied, Done, Reason};
+use std::process::Abort;
+use std::test::Fail;
+use tree_clauses::{Case, Clause, Var, print_clause};
+use utility_calls::acts::Act;
+use utility_calls::calls::{Planned, plan};
+
+// A call, a row of its last act, the answer there, how many further variables the case has, and its clause.
+type Printed = (&'static str, u8, &'static str, u32, &'static str);
+
+// Questions.
+const QUESTIONS: &[Printed] = &[
+    (
+        "test -f /a/b",
+        1,
+        "link",
+        1,
+        "clause start v0 now v0
+kind v0 dir
+kind v0 dir
+entry v0 a v1
+kind v1 link
+",
+    ),
+    (
+        "test -f /a/b/",
+        66,
+        "failed",
+        2,
+        "clause start v0 now v0
+kind v0 dir
+kind v0 absent,reg,other,dir
+entry v0 a v1
+kind v1 absent,reg,other,dir
+entry v1 b v2
+kind v2 absent,dir
+",
+    ),
+    (
+        "test -f /a/b/",
+        67,
+        "ok",
+        2,
+        "clause start v0 now v0
+kind v0 dir
+kind v0 dir
+entry v0 a v1
+kind v1 dir
+entry v1 b v2
+kind v2 -
+",
+    ),
+    (
+        "test -d /",
+        67,
+        "ok",
+        0,
+        "clause start v0 now v0
+kind v0 dir
+kind v0 dir
+",
+    ),
+];
+
+// Changes at one path.
+const CHANGES: &[Printed] = &[
+    (
+        "mkdir /a/b",
+        66,
+        "failed",
+        2,
+        "clause start v0 now v0
+kind v0 dir
+kind v0 absent,reg,other,dir
+entry v0 a v1
+kind v1 absent,reg,other
+entry v1 b v2
+kind v2 absent,reg,link,other,dir
+",
+    ),
+    (
+        "mkdir /a/b",
+        68,
+        "ok",
+        5,
+        "clause start v0 now v5
+kind v0 dir
+kind v0 dir
+entry v0 a v1
+kind v1 dir
+entry v1 b v2
+kind v2 absent
+kind v3 dir
+fence v3 {}
+similar v4 {b} v1
+entry v4 b v3
+similar v5 {a} v0
+entry v5 a v4
+",
+    ),
+    (
+        "mkdir -p /a",
+        68,
+        "ok",
+        3,
+        "clause start v0 now v3
+kind v0 dir
+kind v0 dir
+entry v0 a v1
+kind v1 absent,dir
+similar v2 {} v1
+similar v3 {a} v0
+entry v3 a v2
+",
+    ),
+    (
+        "rmdir /a/",
+        64,
+        "slash",
+        1,
+        "clause start v0 now v0
+kind v0 dir
+kind v0 dir
+entry v0 a v1
+kind v1 reg,link,other
+",
+    ),
+    (
+        "rmdir /a/",
+        67,
+        "failed",
+        1,
+        "clause start v0 now v0
+kind v0 dir
+kind v0 dir
+entry v0 a v1
+kind v1 dir
+notempty v1
+",
+    ),
+    (
+        "rmdir /a/",
+        68,
+        "ok",
+        3,
+        "clause start v0 now v3
+kind v0 dir
+kind v0 dir
+entry v0 a v1
+kind v1 dir
+fence v1 {}
+kind v2 absent
+similar v3 {a} v0
+entry v3 a v2
+",
+    ),
+    (
+        "ln -s /x/t /a",
+        71,
+        "ok",
+        5,
+        "clause start v0 now v5
+kind v0 dir
+kind v0 dir
+entry v0 a v1
+kind v1 dir
+entry v1 t v2
+kind v2 absent
+target v3 /x/t
+similar v4 {t} v1
+entry v4 t v3
+similar v5 {a} v0
+entry v5 a v4
+",
+    ),
+];
+
+// Moves: to the place, below it, below what is moved, and past a link on the way of the place.
+const MOVES: &[Printed] = &[
+    (
+        "mv /a /b",
+        66,
+        "failed",
+        1,
+        "clause start v0 now v0
+kind v0 dir
+kind v0 absent,reg,other,dir
+entry v0 a v1
+kind v1 absent
+kind v0 absent,reg,link,other,dir
+",
+    ),
+    (
+        "mv /a /b",
+        68,
+        "ok",
+        6,
+        "clause start v0 now v6
+kind v0 dir
+kind v0 dir
+entry v0 a v1
+kind v1 reg,link,other
+kind v0 dir
+entry v0 b v2
+kind v2 absent
+kind v3 absent
+similar v4 {a} v0
+entry v4 a v3
+kind v4 dir
+entry v4 b v5
+kind v5 absent,reg,link,other,dir
+similar v6 {b} v4
+entry v6 b v1
+",
+    ),
+    (
+        "mv /a /b",
+        76,
+        "ok",
+        9,
+        "clause start v0 now v9
+kind v0 dir
+kind v0 dir
+entry v0 a v1
+kind v1 dir
+kind v0 dir
+entry v0 b v2
+kind v2 dir
+entry v2 a v3
+kind v3 dir
+fence v3 {}
+kind v4 absent
+similar v5 {a} v0
+entry v5 a v4
+kind v5 dir
+entry v5 b v6
+kind v6 dir
+entry v6 a v7
+kind v7 absent,reg,link,other,dir
+similar v8 {a} v6
+entry v8 a v1
+similar v9 {b} v5
+entry v9 b v8
+",
+    ),
+    (
+        "mv /a /a/b",
+        66,
+        "failed",
+        3,
+        "clause start v0 now v0
+kind v0 dir
+kind v0 absent,reg,other,dir
+entry v0 a v1
+kind v1 absent,reg,link,other,dir
+kind v0 absent,reg,other,dir
+entry v0 a v2
+kind v2 absent,reg,other,dir
+entry v2 b v3
+kind v3 absent,reg,other,dir
+",
+    ),
+    (
+        "mv /a /b/c",
+        129,
+        "link",
+        2,
+        "clause start v0 now v0
+kind v0 dir
+kind v0 dir
+entry v0 a v1
+kind v1 reg,link,other,dir
+kind v0 dir
+entry v0 b v2
+kind v2 link
+",
+    ),
+];
+
+fn answer_text(answer: Done) -> &'static str {
+    match answer {
+        Done::Ok => "ok",
+        Done::Failed => "failed",
+        Done::Stopped(Reason::Link) => "link",
+        Done::Stopped(Reason::Slash) => "slash",
+        Done::Stopped(_) => "another",
+    }
+}
+
+// The case is the row's.
+fn expect_case<R: Abort + AllocGlobal>(rt: &R, made: &Case, row: &Printed) -> Result<(), Fail> {
+    let made = made.copy(rt.alloc())?;
+    assert_eq!(rt; answer_text(made.done), row.2, "{}", row.0);
+    assert_eq!(rt; made.locals, row.3, "{}", row.0);
+    let clause = Clause {
+        literals: made.literals,
+        start: Var(0),
+        now: made.root,
+    };
+    let text = print_clause(rt.alloc(), &clause)?;
+    assert_eq!(rt; text.as_slice(), row.4.as_bytes(), "{}", row.0);
+    Ok(())
+}
+
+// One case of the act is the row's.
+fn expect<R: Abort + AllocGlobal>(rt: &R, act: &Act, row: &Printed) -> Result<(), Fail> {
+    assert!(rt; act.is_performed());
+    let list = cases(rt.alloc(), act)?;
+    let mut found = 0u32;
+    for made in list.as_slice() {
+        if made.row == row.1 && found < 100 {
+            expect_case(rt, made, row)?;
+            found += 1;
+        }
+    }
+    assert_eq!(rt; found, 1, "{}", row.0);
+    Ok(())
+}
+
+// One case of the last act of a call is the row's.
+fn expect_call<R: Abort + AllocGlobal>(rt: &R, row: &Printed) -> Result<(), Fail> {
+    let list = words(rt.alloc(), row.0)?;
+    assert!(rt; list.len() > 0);
+    match plan(rt.alloc(), &list)? {
+        Planned::Ask { act, negate: _ } => expect(rt, &act, row),
+        Planned::Change(all) => {
+            for acts in &all.into_vec() {
+                if let Some(last) = acts.as_slice().last() {
+                    expect(rt, last, row)?;
+                }
+            }
+            Ok(())
+        }
+        _ => {
+            assert!(rt; false, "{}", row.0);
+            Ok(())
+        }
+    }
+}
+
+#[test]
+fn cases_of_questions(rt: HostRuntime) -> Result<(), Fail> {
+    for row in QUESTIONS {
+        expect_call(&rt, row)?;
+    }
+    Ok(())
+}
+
+#[test]
+fn cases_of_changes(rt: HostRuntime) -> Result<(), Fail> {
+    for row in CHANGES {
+        expect_call(&rt, row)?;
+    }
+    Ok(())
+}
+
+#[test]
+fn cases_of_moves(rt: HostRuntime) -> Result<(), Fail> {
+    for row in MOVES {
+        expect_call(&rt, row)?;
+    }
+    Ok(())
+}
