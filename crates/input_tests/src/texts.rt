@@ -1,0 +1,117 @@
+//! What was read, as a text: a line for each package and one for the base, then the lines of the tree. The line of a
+//! package has its version, a letter for each script and its entries. A script is `-` where there is none, `s` where it
+//! begins strict, and else `x`. In front of the path of an entry stands d for a directory, f for a file, c for a
+//! configuration file and l for a link; in front of that of a line of the base d for a directory, f for a file, a for
+//! nothing and n for no directory.
+
+use checker_input::{Package, Packages, Scripts, Task};
+use feature_trees::put_tree;
+use package_lists::{BaseLine, Entry, EntryKind};
+use script_names::{Bytes, Memory, Path, Slot};
+use shell_forms::Accepted;
+use std::alloc::Global;
+
+fn put_path(text: &mut Bytes, letter: &[u8], path: &Path) -> Result<(), Memory> {
+    text.extend(letter)?;
+    for name in path.names() {
+        text.push(b'/')?;
+        text.extend(name.as_slice())?;
+    }
+    Ok(())
+}
+
+fn entry_letter(kind: &EntryKind) -> &'static [u8] {
+    match kind {
+        EntryKind::Folder => b" d",
+        EntryKind::File => b" f",
+        EntryKind::Conf => b" c",
+        EntryKind::LinkTo(_) => b" l",
+    }
+}
+
+fn put_entries(text: &mut Bytes, entries: &[Entry]) -> Result<(), Memory> {
+    for entry in entries {
+        put_path(text, entry_letter(entry.kind()), entry.path())?;
+    }
+    Ok(())
+}
+
+fn script_letter(script: &Slot<Accepted>) -> u8 {
+    match script.get() {
+        None => b'-',
+        Some(script) => { if script.script().strict { b's' } else { b'x' } }
+    }
+}
+
+fn put_scripts(text: &mut Bytes, scripts: &Scripts) -> Result<(), Memory> {
+    text.extend(&[
+        script_letter(&scripts.preinst),
+        script_letter(&scripts.postinst),
+        script_letter(&scripts.prerm),
+        script_letter(&scripts.postrm),
+    ])
+}
+
+fn put_package(text: &mut Bytes, whose: &[u8], package: &Package) -> Result<(), Memory> {
+    text.extend(whose)?;
+    text.extend(package.version.as_slice())?;
+    text.extend(b" ")?;
+    put_scripts(text, &package.scripts)?;
+    put_entries(text, package.entries.as_slice())?;
+    text.extend(b"\n")
+}
+
+fn put_base_line(text: &mut Bytes, line: &BaseLine) -> Result<(), Memory> {
+    match line {
+        BaseLine::Folder(path) => put_path(text, b" d", path),
+        BaseLine::File(path) => put_path(text, b" f", path),
+        BaseLine::Gone(path) => put_path(text, b" a", path),
+        BaseLine::NoFolder(path) => put_path(text, b" n", path),
+        BaseLine::Fits => text.extend(b" fits"),
+    }
+}
+
+fn put_base(text: &mut Bytes, lines: &[BaseLine]) -> Result<(), Memory> {
+    text.extend(b"base")?;
+    for line in lines {
+        put_base_line(text, line)?;
+    }
+    text.extend(b"\n")
+}
+
+fn put_packages(text: &mut Bytes, packages: &Packages) -> Result<(), Memory> {
+    put_package(text, b"new ", &packages.new_package)?;
+    match &packages.old_package {
+        Some(package) => put_package(text, b"old ", package)?,
+        None => {}
+    }
+    put_base(text, packages.base.lines.as_slice())
+}
+
+fn put_task(alloc: Global, text: &mut Bytes, task: &Task) -> Result<(), Memory> {
+    match task {
+        Task::Check(packages) => put_packages(text, packages),
+        Task::Run(packages, tree) => {
+            put_packages(text, packages)?;
+            put_tree(alloc, text, tree)
+        }
+        Task::Translate(script) => {
+            if script.script().strict {
+                text.extend(b"strict\n")
+            } else {
+                text.extend(b"lax\n")
+            }
+        }
+    }
+}
+
+fn task_text(alloc: Global, task: &Task) -> Result<Bytes, Memory> {
+    let mut text = Bytes::new(alloc);
+    put_task(alloc, &mut text, task)?;
+    Ok(text)
+}
+
+/// What was read, which is let go here, in one place.
+pub fn told(alloc: Global, task: Task) -> Result<Bytes, Memory> {
+    task_text(alloc, &task)
+}

@@ -1,0 +1,147 @@
+//! Packages from files in memory, what a scenario needs for them, and its runs.
+
+use checker_input::{Packages, Task, read_task};
+use checker_io::MemShelf;
+use command_words::{Request, read_words};
+use dpkg_scenarios::Scenario;
+use feature_trees::{Kind, Kinds, Value};
+use outcome_report::render_run;
+use package_jobs::{job_of, needs_of};
+use scenario_runs::run;
+use script_names::{Bytes, List, Memory, Path, Text};
+use start_trees::Need;
+use std::alloc::Global;
+
+/// A file: its name and its bytes.
+pub type File = (&'static str, &'static [u8]);
+
+// The words of a line.
+fn words(alloc: Global, line: &str) -> Result<List<Text>, Memory> {
+    let mut words = List::new(alloc);
+    for word in line.split(" ") {
+        let word = Text::from_text(alloc, word)?;
+        words.add(word)?;
+    }
+    Ok(words)
+}
+
+// The request that the words of a line spell.
+fn request(alloc: Global, line: &str) -> Result<Request, Memory> {
+    let words = words(alloc, line)?;
+    match read_words(alloc, &words) {
+        Ok(request) => Ok(request),
+        Err(_) => Err(Memory),
+    }
+}
+
+// A shelf with these files, where those of the second list stand in the place of those of the first.
+fn shelf(alloc: Global, files: &[File], others: &[File]) -> Result<MemShelf, Memory> {
+    let mut shelf = MemShelf::new(alloc);
+    for file in files {
+        shelf.put(file.0, file.1)?;
+    }
+    for file in others {
+        shelf.put(file.0, file.1)?;
+    }
+    Ok(shelf)
+}
+
+fn put_path(text: &mut Bytes, path: &Path) -> Result<(), Memory> {
+    for name in path.names() {
+        text.push(b'/')?;
+        text.extend(name.as_slice())?;
+    }
+    Ok(())
+}
+
+const LETTERS: &[(Kind, u8)] = &[
+    (Kind::Absent, b'A'),
+    (Kind::Reg, b'R'),
+    (Kind::Link, b'L'),
+    (Kind::Other, b'O'),
+    (Kind::Dir, b'D'),
+];
+
+fn put_kinds(text: &mut Bytes, kinds: Kinds) -> Result<(), Memory> {
+    text.push(b':')?;
+    for letter in LETTERS {
+        if kinds.has(letter.0) {
+            text.push(letter.1)?;
+        }
+    }
+    text.push(b' ')
+}
+
+// What is needed, as a text: the paths, each with a letter for each kind that may stand there.
+fn needs_text(alloc: Global, needs: &[Need]) -> Result<Bytes, Memory> {
+    let mut text = Bytes::new(alloc);
+    for need in needs {
+        put_path(&mut text, &need.path)?;
+        put_kinds(&mut text, need.kinds)?;
+    }
+    Ok(text)
+}
+
+// What a scenario needs.
+fn needed(alloc: Global, scenario: Scenario, packages: &Packages) -> Result<Bytes, Memory> {
+    let needs = needs_of(alloc, scenario, packages)?;
+    needs_text(alloc, needs.as_slice())
+}
+
+// The text of a scenario's run from a tree, with one turn of loops.
+fn ran(
+    alloc: Global,
+    scenario: Scenario,
+    packages: &Packages,
+    tree: &Value,
+) -> Result<Bytes, Memory> {
+    match tree {
+        Value::Dir(_) => {
+            let job = job_of(alloc, scenario, packages, 1)?;
+            let replayed = run(alloc, &job, tree)?;
+            render_run(alloc, &replayed)
+        }
+        _ => Err(Memory),
+    }
+}
+
+// What is said of a scenario for a task: what it needs for packages, or its run from a tree.
+fn task_text(alloc: Global, scenario: Scenario, task: &Task) -> Result<Bytes, Memory> {
+    match task {
+        Task::Check(packages) => needed(alloc, scenario, packages),
+        Task::Run(packages, tree) => ran(alloc, scenario, packages, tree),
+        Task::Translate(_) => Err(Memory),
+    }
+}
+
+// The same; the task is let go here, in one place.
+fn told(alloc: Global, scenario: Scenario, task: Task) -> Result<Bytes, Memory> {
+    task_text(alloc, scenario, &task)
+}
+
+// What is said of a scenario for the task of a request.
+fn read(
+    alloc: Global,
+    scenario: Scenario,
+    request: &Request,
+    shelf: &mut MemShelf,
+) -> Result<Bytes, Memory> {
+    match read_task(alloc, request, shelf) {
+        Ok(task) => told(alloc, scenario, task),
+        Err(_) => Err(Memory),
+    }
+}
+
+/// What is said of a scenario for the request of a line over these files, where those of the second list stand in the
+/// place of those of the first.
+pub fn answer(
+    alloc: Global,
+    scenario: Scenario,
+    line: &str,
+    files: &[File],
+    others: &[File],
+) -> Result<Bytes, Memory> {
+    let request = request(alloc, line)?;
+    let mut shelf = shelf(alloc, files, others)?;
+    read(alloc, scenario, &request, &mut shelf)
+}

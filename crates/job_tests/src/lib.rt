@@ -1,0 +1,12 @@
+//! Tests of package_jobs: what is needed of the trees that a scenario may begin from, and the runs of jobs, with each
+//! step that succeeds and each that fails. They stand apart from package_jobs, so that it is not proved twice.
+#![tactic(auto)]
+
+#[cfg(test)]
+mod answers;
+#[cfg(test)]
+mod needs;
+#[cfg(test)]
+mod runs;
+#[cfg(test)]
+mod steps;

@@ -1,0 +1,94 @@
+//! What start trees need. Behind a path stand the kinds that it may have: A nothing, R a regular file, L a link, O
+//! another thing, D a directory.
+
+use crate::answers::{File, answer};
+use dpkg_scenarios::Scenario;
+use std::test::Fail;
+
+const FILES: &[File] = &[
+    (
+        "p/list",
+        b"/.\n/etc\n/etc/foo\n/etc/foo/a.conf\n/usr/x\n/l -> x\n",
+    ),
+    ("p/conffiles", b"/etc/foo/a.conf\n"),
+    ("o/list", b"/etc\n/etc/old\n/usr/x\n/o.conf\n/m -> x\n"),
+    ("o/conffiles", b"/o.conf\n"),
+];
+
+const BOTH: &str = "check p --old o --base b";
+
+const ALONE: &str = "check p --base b";
+
+// A scenario, the words of the request, the base, and what is needed.
+const ROWS: &[(Scenario, &str, &[File], &str)] = &[
+    (
+        Scenario::Install,
+        BOTH,
+        &[("b", b"dir /etc\nfile /f\n# none\nabsent /n\nnodir /x/y\n")],
+        "/etc:D /f:R /n:A /x/y:ARLO ",
+    ),
+    (
+        Scenario::Install,
+        BOTH,
+        &[("b", b"dir /etc\nfits\nfile /f\nfits\n")],
+        "/etc:D /f:R /etc:AD /etc/foo:AD /etc/foo/a.conf:AR /usr/x:ARLO /l:ARLO ",
+    ),
+    (
+        Scenario::InstallAgain,
+        BOTH,
+        &[("b", b"dir /usr\n")],
+        "/usr:D /etc/foo/a.conf:ARLO ",
+    ),
+    (
+        Scenario::InstallAgain,
+        BOTH,
+        &[("b", b"fits")],
+        "/etc/foo/a.conf:ARLO /etc:AD /etc/foo:AD /etc/foo/a.conf:AR /usr/x:ARLO /l:ARLO ",
+    ),
+    (
+        Scenario::Upgrade,
+        BOTH,
+        &[("b", b"")],
+        "/etc:D /etc/old:ARLO /usr/x:ARLO /o.conf:ARLO /m:ARLO ",
+    ),
+    (
+        Scenario::Upgrade,
+        BOTH,
+        &[("b", b"fits\n")],
+        "/etc:D /etc/old:ARLO /usr/x:ARLO /o.conf:ARLO /m:ARLO /etc/foo:AD /etc/foo/a.conf:AR /l:ARLO ",
+    ),
+    (
+        Scenario::Remove,
+        BOTH,
+        &[("b", b"fits\ndir /a\n")],
+        "/a:D /etc:D /etc/foo:D /etc/foo/a.conf:ARLO /usr/x:ARLO /l:ARLO ",
+    ),
+    (
+        Scenario::Purge,
+        BOTH,
+        &[("b", b"fits\n")],
+        "/etc:D /etc/foo:D /etc/foo/a.conf:ARLO /usr/x:ARLO /l:ARLO ",
+    ),
+    (
+        Scenario::PurgeLater,
+        BOTH,
+        &[("b", b"fits\n")],
+        "/etc/foo/a.conf:ARLO ",
+    ),
+    // A package is its own old one where no other is named.
+    (
+        Scenario::Upgrade,
+        ALONE,
+        &[("b", b"fits\n")],
+        "/etc:D /etc/foo:D /etc/foo/a.conf:ARLO /usr/x:ARLO /l:ARLO ",
+    ),
+];
+
+#[test]
+fn start_trees_need(rt: HostRuntime) -> Result<(), Fail> {
+    for row in ROWS {
+        let text = answer(rt.alloc(), row.0, row.1, FILES, row.2)?;
+        assert!(rt; text.as_slice() == row.3.as_bytes(), "{}", row.3);
+    }
+    Ok(())
+}

@@ -1,0 +1,225 @@
+//! Runs of jobs of which steps fail. The packages have all scripts, which do nothing but where a row has others; the
+//! new package has version 2, the old one version 1. The texts are those of runs without their last lines.
+
+use crate::answers::{File, answer};
+use dpkg_scenarios::Scenario;
+use std::test::Fail;
+
+const RUN: &str = "run p --old o --scenario install --tree t";
+
+const DONE: &[u8] = b"#!/bin/sh\n";
+
+const FAILS: &[u8] = b"#!/bin/sh\nexit 1\n";
+
+// Fails where it is called to purge.
+const KEEPS: &[u8] = b"#!/bin/sh\n[ \"$1\" != purge ]\n";
+
+const FILES: &[File] = &[
+    ("p/control", b"Version: 2\n"),
+    ("p/list", b"/srv/n\n"),
+    ("p/preinst", DONE),
+    ("p/postinst", DONE),
+    ("p/prerm", DONE),
+    ("p/postrm", DONE),
+    ("o/control", b"Version: 1\n"),
+    ("o/list", b"/srv/o\n"),
+    ("o/preinst", DONE),
+    ("o/postinst", DONE),
+    ("o/prerm", DONE),
+    ("o/postrm", DONE),
+    ("t", b"d /srv\n"),
+];
+
+// A scenario, the files in which the packages or the tree differ, how the run ends, and the calls.
+const STEPS: &[(Scenario, &[File], &str, &str)] = &[
+    (
+        Scenario::Install,
+        &[("p/preinst", FAILS)],
+        "failed Not-Installed",
+        "call new preinst install failed\ncall new postrm abort-install ok\n",
+    ),
+    (
+        Scenario::Install,
+        &[("p/preinst", FAILS), ("p/postrm", FAILS)],
+        "failed Half-Installed",
+        "call new preinst install failed\ncall new postrm abort-install failed\n",
+    ),
+    (
+        Scenario::Install,
+        &[("p/postinst", FAILS)],
+        "failed Half-Configured",
+        "call new preinst install ok\ncall new postinst configure \\e failed\n",
+    ),
+    (
+        Scenario::Install,
+        &[("t", b"f /srv\n")],
+        "incomplete restore 2:0",
+        "call new preinst install ok\n",
+    ),
+    (
+        Scenario::Install,
+        &[("p/preinst", b"#!/bin/sh\ntrue\nupdate-rc.d foo defaults\n")],
+        "incomplete call 1:15",
+        "call new preinst install ended\n",
+    ),
+    (
+        Scenario::Install,
+        &[("p/postinst", b"#!/bin/sh\nwhile true; do :; done\n")],
+        "bound 3:10",
+        "call new preinst install ok\ncall new postinst configure \\e ended\n",
+    ),
+    (
+        Scenario::InstallAgain,
+        &[("p/preinst", FAILS)],
+        "failed Config-Files",
+        "call new preinst install 1 2 failed\ncall new postrm abort-install 1 2 ok\n",
+    ),
+    (
+        Scenario::InstallAgain,
+        &[("p/preinst", FAILS), ("p/postrm", FAILS)],
+        "failed Half-Installed",
+        "call new preinst install 1 2 failed\ncall new postrm abort-install 1 2 failed\n",
+    ),
+    (
+        Scenario::InstallAgain,
+        &[("p/postinst", FAILS)],
+        "failed Half-Configured",
+        "call new preinst install 1 2 ok\ncall new postinst configure 1 failed\n",
+    ),
+    (
+        Scenario::InstallAgain,
+        &[("t", b"d /srv\nd /srv/n\n")],
+        "incomplete restore 2:0",
+        "call new preinst install 1 2 ok\n",
+    ),
+    (
+        Scenario::Upgrade,
+        &[("o/prerm", FAILS)],
+        "done Installed",
+        "call old prerm upgrade 2 failed\ncall new prerm failed-upgrade 1 2 ok\ncall new preinst upgrade 1 2 ok\ncall old postrm upgrade 2 ok\ncall new postinst configure 1 ok\n",
+    ),
+    (
+        Scenario::Upgrade,
+        &[("o/prerm", FAILS), ("p/prerm", FAILS)],
+        "failed Installed",
+        "call old prerm upgrade 2 failed\ncall new prerm failed-upgrade 1 2 failed\ncall old postinst abort-upgrade 2 ok\n",
+    ),
+    (
+        Scenario::Upgrade,
+        &[
+            ("o/prerm", FAILS),
+            ("p/prerm", FAILS),
+            ("o/postinst", FAILS),
+        ],
+        "failed Half-Configured",
+        "call old prerm upgrade 2 failed\ncall new prerm failed-upgrade 1 2 failed\ncall old postinst abort-upgrade 2 failed\n",
+    ),
+    (
+        Scenario::Upgrade,
+        &[("p/preinst", FAILS)],
+        "failed Installed",
+        "call old prerm upgrade 2 ok\ncall new preinst upgrade 1 2 failed\ncall new postrm abort-upgrade 1 2 ok\ncall old postinst abort-upgrade 2 ok\n",
+    ),
+    (
+        Scenario::Upgrade,
+        &[("p/preinst", FAILS), ("o/postinst", FAILS)],
+        "failed Unpacked",
+        "call old prerm upgrade 2 ok\ncall new preinst upgrade 1 2 failed\ncall new postrm abort-upgrade 1 2 ok\ncall old postinst abort-upgrade 2 failed\n",
+    ),
+    (
+        Scenario::Upgrade,
+        &[("p/preinst", FAILS), ("p/postrm", FAILS)],
+        "failed Half-Installed",
+        "call old prerm upgrade 2 ok\ncall new preinst upgrade 1 2 failed\ncall new postrm abort-upgrade 1 2 failed\n",
+    ),
+    (
+        Scenario::Upgrade,
+        &[("t", b"")],
+        "incomplete restore 4:0",
+        "call old prerm upgrade 2 ok\ncall new preinst upgrade 1 2 ok\n",
+    ),
+    (
+        Scenario::Upgrade,
+        &[("o/postrm", FAILS)],
+        "done Installed",
+        "call old prerm upgrade 2 ok\ncall new preinst upgrade 1 2 ok\ncall old postrm upgrade 2 failed\ncall new postrm failed-upgrade 1 2 ok\ncall new postinst configure 1 ok\n",
+    ),
+    (
+        Scenario::Upgrade,
+        &[("o/postrm", FAILS), ("p/postrm", FAILS)],
+        "incomplete restore 6:0",
+        "call old prerm upgrade 2 ok\ncall new preinst upgrade 1 2 ok\ncall old postrm upgrade 2 failed\ncall new postrm failed-upgrade 1 2 failed\n",
+    ),
+    (
+        Scenario::Upgrade,
+        &[("p/postinst", FAILS)],
+        "failed Half-Configured",
+        "call old prerm upgrade 2 ok\ncall new preinst upgrade 1 2 ok\ncall old postrm upgrade 2 ok\ncall new postinst configure 1 failed\n",
+    ),
+    (
+        Scenario::Remove,
+        &[("p/prerm", FAILS)],
+        "failed Installed",
+        "call new prerm remove failed\ncall new postinst abort-remove ok\n",
+    ),
+    (
+        Scenario::Remove,
+        &[("p/prerm", FAILS), ("p/postinst", FAILS)],
+        "failed Half-Configured",
+        "call new prerm remove failed\ncall new postinst abort-remove failed\n",
+    ),
+    (
+        Scenario::Remove,
+        &[("p/postrm", FAILS)],
+        "failed Half-Installed",
+        "call new prerm remove ok\ncall new postrm remove failed\n",
+    ),
+    (
+        Scenario::Purge,
+        &[("p/prerm", FAILS)],
+        "failed Installed",
+        "call new prerm remove failed\ncall new postinst abort-remove ok\n",
+    ),
+    (
+        Scenario::Purge,
+        &[("p/prerm", FAILS), ("p/postinst", FAILS)],
+        "failed Half-Configured",
+        "call new prerm remove failed\ncall new postinst abort-remove failed\n",
+    ),
+    (
+        Scenario::Purge,
+        &[("p/postrm", FAILS)],
+        "failed Half-Installed",
+        "call new prerm remove ok\ncall new postrm remove failed\n",
+    ),
+    (
+        Scenario::Purge,
+        &[("p/postrm", KEEPS)],
+        "failed Config-Files",
+        "call new prerm remove ok\ncall new postrm remove ok\ncall new postrm purge failed\n",
+    ),
+    (
+        Scenario::PurgeLater,
+        &[("p/postrm", FAILS)],
+        "failed Config-Files",
+        "call new postrm purge failed\n",
+    ),
+];
+
+// Whether the text of a run has this ending in its first line, and these calls behind its second, which is its trace.
+fn is_run(text: &str, ending: &str, calls: &str) -> bool {
+    let (first, rest) = text.split_once("\n").unwrap_or(("", ""));
+    let (_, lines) = rest.split_once("\n").unwrap_or(("", ""));
+    let (told, _) = lines.split_once("after\n").unwrap_or(("", ""));
+    first.strip_prefix("result ") == Some(ending) && told == calls
+}
+
+#[test]
+fn steps_fail(rt: HostRuntime) -> Result<(), Fail> {
+    for row in STEPS {
+        let text = answer(rt.alloc(), row.0, RUN, FILES, row.1)?;
+        let text = str::from_utf8(text.as_slice()).unwrap_or("");
+        assert!(rt; is_run(text, row.2, row.3), "{} {}", row.2, row.3);
+    }
+    Ok(())
+}

@@ -1,0 +1,108 @@
+//! Runs by hand, and their texts.
+
+use crate::made::{RunRow, replayed};
+use dpkg_scenarios::{Ending, ScriptKind, State};
+use outcome_report::{render_run, run_status};
+use scenario_runs::CallEnd;
+use script_names::{Reason, Site};
+use std::test::Fail;
+
+const INSTALLED: Ending = Ending::Done(State::Installed);
+
+const BROKEN: Ending = Ending::Failed(State::HalfConfigured);
+
+const CALL: Ending = Ending::Incomplete(Reason::Call, Site { step: 3, at: 17 });
+
+const BOUND: Ending = Ending::Bound(Site { step: 3, at: 10 });
+
+// A run, its text, and its status.
+const RUNS: &[(RunRow<'static>, &str, u8)] = &[
+    (
+        (
+            INSTALLED,
+            &[(3, 54, 67), (3, 54, 67), (3, 54, 67)],
+            &[(false, ScriptKind::Postinst, &["configure", ""], CallEnd::Ok)],
+            "d /srv\nf /srv/a\nf /srv/a\\x20b\nf /srv/b\n",
+        ),
+        "result done Installed\ntrace 3:54:67 3:54:67 3:54:67\ncall new postinst configure \\e ok\nafter\nd /srv\nf /srv/a\nf /srv/a\\x20b\nf /srv/b\n",
+        0,
+    ),
+    (
+        (
+            INSTALLED,
+            &[],
+            &[
+                (true, ScriptKind::Prerm, &["upgrade", "2"], CallEnd::Failed),
+                (
+                    false,
+                    ScriptKind::Prerm,
+                    &["failed-upgrade", "1", "2"],
+                    CallEnd::Ok,
+                ),
+            ],
+            "",
+        ),
+        "result done Installed\ntrace\ncall old prerm upgrade 2 failed\ncall new prerm failed-upgrade 1 2 ok\nafter\n",
+        0,
+    ),
+    (
+        (
+            BROKEN,
+            &[],
+            &[
+                (true, ScriptKind::Prerm, &["upgrade", "2"], CallEnd::Failed),
+                (
+                    false,
+                    ScriptKind::Prerm,
+                    &["failed-upgrade", "1", "2"],
+                    CallEnd::Failed,
+                ),
+                (
+                    true,
+                    ScriptKind::Postinst,
+                    &["abort-upgrade", "2"],
+                    CallEnd::Failed,
+                ),
+            ],
+            "",
+        ),
+        "result failed Half-Configured\ntrace\ncall old prerm upgrade 2 failed\ncall new prerm failed-upgrade 1 2 failed\ncall old postinst abort-upgrade 2 failed\nafter\n",
+        1,
+    ),
+    (
+        (
+            CALL,
+            &[],
+            &[(
+                false,
+                ScriptKind::Postinst,
+                &["configure", ""],
+                CallEnd::Ended,
+            )],
+            "",
+        ),
+        "result incomplete call 3:17\ntrace\ncall new postinst configure \\e ended\nafter\n",
+        2,
+    ),
+    (
+        (
+            BOUND,
+            &[(3, 16, 67), (3, 16, 67)],
+            &[],
+            "d /srv\nf /srv/a\n",
+        ),
+        "result bound 3:10\ntrace 3:16:67 3:16:67\nafter\nd /srv\nf /srv/a\n",
+        2,
+    ),
+];
+
+#[test]
+fn runs_are_printed(rt: HostRuntime) -> Result<(), Fail> {
+    for row in RUNS {
+        let run = replayed(rt.alloc(), row.0)?;
+        let text = render_run(rt.alloc(), &run)?;
+        assert!(rt; text.as_slice() == row.1.as_bytes(), "{}", row.1);
+        assert!(rt; run_status(&run) == row.2, "{}", row.1);
+    }
+    Ok(())
+}
