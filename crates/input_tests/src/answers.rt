@@ -56,7 +56,7 @@ fn read(alloc: Global, request: &Request, shelf: &mut MemShelf) -> Result<Bytes,
 
 /// What was read for the request of a line over these files, as a text. The read of that number is to fail, counted
 /// from 1.
-pub fn answer(
+pub(crate) fn answer(
     alloc: Global,
     line: &str,
     files: &[File<'_>],
@@ -68,7 +68,7 @@ pub fn answer(
 }
 
 /// Whether the request of a line is stopped so.
-pub fn is_stopped(
+pub(crate) fn is_stopped(
     alloc: Global,
     line: &str,
     files: &[File<'_>],
@@ -82,7 +82,12 @@ pub fn is_stopped(
 }
 
 /// Whether a file of the request of a line has this name.
-pub fn is_named(alloc: Global, line: &str, file: InputFile, want: &str) -> Result<bool, Memory> {
+pub(crate) fn is_named(
+    alloc: Global,
+    line: &str,
+    file: InputFile,
+    want: &str,
+) -> Result<bool, Memory> {
     let request = request(alloc, line)?;
     let name = make_name(alloc, &request, file)?;
     Ok(name.as_str() == want)

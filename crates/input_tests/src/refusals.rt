@@ -351,7 +351,7 @@ const ROWS: &[(&str, &[File<'static>], InputRefusal)] = &[
 fn files_at_fault(rt: HostRuntime) -> Result<(), Fail> {
     for row in ROWS {
         let stopped = is_stopped(rt.alloc(), row.0, row.1, 0, Stop::Refused(row.2));
-        assert!(rt; stopped, "{:?}", row.2);
+        assert!(rt; stopped, "{}", row.0);
     }
     Ok(())
 }

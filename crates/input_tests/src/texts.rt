@@ -112,6 +112,6 @@ fn task_text(alloc: Global, task: &Task) -> Result<Bytes, Memory> {
 }
 
 /// What was read, which is let go here, in one place.
-pub fn told(alloc: Global, task: Task) -> Result<Bytes, Memory> {
+pub(crate) fn told(alloc: Global, task: Task) -> Result<Bytes, Memory> {
     task_text(alloc, &task)
 }

@@ -134,7 +134,7 @@ fn read(
 
 /// What is said of a scenario for the request of a line over these files, where those of the second list stand in the
 /// place of those of the first.
-pub fn answer(
+pub(crate) fn answer(
     alloc: Global,
     scenario: Scenario,
     line: &str,

@@ -78,7 +78,7 @@ fn calls(alloc: Global, rows: Calls<'_>) -> Result<List<ScriptCall>, Memory> {
 }
 
 /// The run of a row.
-pub fn replayed(alloc: Global, row: RunRow<'_>) -> Result<Replayed, Memory> {
+pub(crate) fn replayed(alloc: Global, row: RunRow<'_>) -> Result<Replayed, Memory> {
     let trace = marks(alloc, row.1)?;
     let calls = calls(alloc, row.2)?;
     let after = tree(alloc, row.3)?;
@@ -123,7 +123,7 @@ fn part(alloc: Global, row: PartRow<'_>) -> Result<ReportPart, Memory> {
 }
 
 /// The report of rows.
-pub fn report(alloc: Global, rows: &[PartRow<'_>]) -> Result<Report, Memory> {
+pub(crate) fn report(alloc: Global, rows: &[PartRow<'_>]) -> Result<Report, Memory> {
     let mut parts = List::new(alloc);
     for row in rows {
         let part = part(alloc, *row)?;
@@ -133,7 +133,7 @@ pub fn report(alloc: Global, rows: &[PartRow<'_>]) -> Result<Report, Memory> {
 }
 
 /// The part of a scenario with short rows.
-pub fn short_part(
+pub(crate) fn short_part(
     alloc: Global,
     scenario: Scenario,
     rows: &[ShortRow<'_>],
