@@ -23,7 +23,8 @@ impl Machine for AskedPaths {
         let mut acts = List::new(alloc);
         let paths = self.paths.as_slice();
         for path in paths {
-            let ask = Act::Exists(path.copy(alloc)?);
+            let asked = path.copy(alloc)?;
+            let ask = Act::Exists(asked);
             let taken = act(alloc, &ask, &mut tree)?;
             marks.add(Mark {
                 site: Site { step: 0, at: 0 },
