@@ -6,43 +6,26 @@
 #     bench/two_sizes.sh changes    100 and 200 names of /srv, each taken away and made anew. Each clause tells the changes
 #                                   before it, so the report grows with the square of the count: 200 names are to take
 #                                   under two seconds, and at most 6 times the 100.
-lines() {
-    case $1 in
-    tests) printf 'test -e /srv/name%d\n' "$2" ;;
-    changes) printf 'rm -f /srv/name%d\nmkdir /srv/name%d\n' "$2" "$2" ;;
-    esac
-}
-
 what=$1
 case $what in
-tests | changes) ;;
+tests) line='test -e /srv/name%d\n' ;;
+changes) line='rm -f /srv/name%d\nmkdir /srv/name%d\n' ;;
 *) echo "usage: bench/two_sizes.sh tests|changes" >&2; exit 1 ;;
 esac
-program=$(dirname "$(readlink -f "$0")")/../crates/colis_checker/out/colis_checker
-[ -x "$program" ] || { echo "bench: build the program first: ./colis check examples/web-data" >&2; exit 1; }
-folder=$(mktemp -d) || exit 1
-trap 'rm -rf "$folder"' EXIT
+. "$(dirname "$(readlink -f "$0")")/common.sh"
 
-# The nanoseconds that the check of a script of so many names takes; the count of its outcomes goes to standard error.
-nanoseconds() {
-    mkdir -p "$folder/$1"
+for count in 100 200; do
     {
         printf '#!/bin/sh\nset -e\n'
         i=0
-        while [ "$i" -lt "$1" ]; do
-            lines "$what" "$i"
+        while [ "$i" -lt "$count" ]; do
+            # (a format for each line, with the number as often as it stands there)
+            # shellcheck disable=SC2059
+            printf "$line" "$i" "$i"
             i=$((i + 1))
         done
-    } >"$folder/$1/postinst"
-    begin=$(date +%s%N)
-    "$program" check "$folder/$1" >"$folder/report"
-    end=$(date +%s%N)
-    echo "$what: $1 names, $(grep -c '^outcome ' "$folder/report") outcomes" >&2
-    echo "$((end - begin))"
-}
-
-small=$(nanoseconds 100)
-large=$(nanoseconds 200)
-awk -v a="$small" -v b="$large" 'BEGIN {
-    printf "100 names: %.3f s\n200 names: %.3f s\nratio: %.2f\n", a / 1e9, b / 1e9, b / a
-}'
+    } | package "$what-$count"
+    install "$what-$count"
+    [ "$count" -ne 100 ] || small=$took
+done
+awk -v a="$small" -v b="$took" 'BEGIN { printf "ratio: %.2f\n", b / (a ? a : 1) }'
