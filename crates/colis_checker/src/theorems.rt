@@ -16,8 +16,8 @@ pub fn a_quiet_scenario_fails_nowhere()
 }
 
 /// Of a scenario that is reported with a failed outcome, the run from the tree that is shown, which is a start tree, is
-/// the replay that is reported, and it fails, with more turns of loops too. Where the report's status is 1, a chosen
-/// scenario fails from some start tree.
+/// the one of which the report tells the replay, and it fails, with more turns of loops too. Where the report's status
+/// is 1, a chosen scenario fails from some start tree.
 pub fn a_failure_is_real()
     ensures scenario { FailedScenario }
     ensures report { FailedReport }

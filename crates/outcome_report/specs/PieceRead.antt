@@ -1,5 +1,5 @@
--- Reading the pieces of a report: its names, endings, traces and calls. The readers are loose: what they read is
--- printed again and compared.
+-- Reading the pieces of a report: its names, endings, traces and calls. The readers are loose: they may read further
+-- texts too.
 use Rattle.std.specs.Prelude.{ℕ, Bool, true, false, List, [], ◌∷◌, ◌++◌, codes, Option, Some, None, if◌then◌else◌}
 use Rattle.std.specs.List.{list_all}
 use Rattle.std.specs.Option.{option_map, option_and_then}
