@@ -101,13 +101,13 @@ late_any (suc d) at ms e n =
 
 -- ---- words without substitutions have the texts of shell_lexer's laws
 
-quoted_raw : (w : Bytes) → raw_text (raw.Quoted w) ≡ lexed_text (raw.Quoted w)
+pub quoted_raw : (w : Bytes) → raw_text (raw.Quoted w) ≡ lexed_text (raw.Quoted w)
 quoted_raw w = ap raw_text (sym (raw.rolls-Quoted w)) ∙ fold-roll-RawPart Bytes Bytes Bytes raw_text_layer kind_text_layer token_text_layer (o.Quoted w)
 
-param_raw : (key : _) (default : _) (quoted : Bool) → raw_text (raw.Param key default quoted) ≡ lexed_text (raw.Param key default quoted)
+pub param_raw : (key : _) (default : _) (quoted : Bool) → raw_text (raw.Param key default quoted) ≡ lexed_text (raw.Param key default quoted)
 param_raw key default quoted = ap raw_text (sym (raw.rolls-Param key default quoted)) ∙ fold-roll-RawPart Bytes Bytes Bytes raw_text_layer kind_text_layer token_text_layer (o.Param key default quoted)
 
-all_raw : raw_text raw.All ≡ lexed_text raw.All
+pub all_raw : raw_text raw.All ≡ lexed_text raw.All
 all_raw = ap raw_text (sym raw.rolls-All) ∙ fold-roll-RawPart Bytes Bytes Bytes raw_text_layer kind_text_layer token_text_layer o.All
 
 pub same_text : (ps : List RawPart) → holds_no_run ps ≡ true → flat_map raw_text ps ≡ flat_map lexed_text ps
@@ -118,7 +118,7 @@ same_text (raw.Param key default quoted ∷ ps) e = two (λ (s t : Bytes). s ++ 
 same_text (raw.All ∷ ps) e = two (λ (s t : Bytes). s ++ t) all_raw (same_text ps e)
 same_text (_ ∷ ps) e = absurd (false_true e)
 
-word_text : (qs : List RawPart) (rest : Bytes) → tokens_text (word_token qs ∷ []) ++ rest ≡ 32 ∷ (flat_map raw_text qs ++ rest)
+pub word_text : (qs : List RawPart) (rest : Bytes) → tokens_text (word_token qs ∷ []) ++ rest ≡ 32 ∷ (flat_map raw_text qs ++ rest)
 word_text qs rest = ap (λ t. t ++ rest) (append-nil (token_text (word_token qs)) ∙ word_is qs)
 
 module _ (deep : ℕ → Bool) where

@@ -56,7 +56,7 @@ clean_skip [] e = e
 clean_skip (a ∷ []) e = e
 clean_skip (a ∷ b ∷ t) e = either IsClean (nat_eq a 92 && nat_eq b 10) (clean_skip t (later b t (later a (b ∷ t) e))) e
 
-clean_stands : (s text rest : Bytes) → Stands s text rest → IsClean text → IsClean s × IsClean rest
+pub clean_stands : (s text rest : Bytes) → Stands s text rest → IsClean text → IsClean s × IsClean rest
 clean_stands [] text rest h e = (refl, subst IsClean h e)
 clean_stands (b ∷ s) text rest h e =
     let k = subst IsClean h.1 (clean_skip text e) in
@@ -119,7 +119,7 @@ clean_quoted {bytes} {text} {rest} (single all h) e =
 clean_quoted {text = text} {rest = rest} (by_backslash {byte = b} h) e =
     let k = (clean_stands (codes "\\") text (b ∷ rest) h e).1 in (and_true (is_clean b) true (first b rest k) refl, later b rest k)
 
-clean_piece : (inside : Bool) (p : RawPart) (text rest : Bytes) → IsPiece inside p text rest → IsClean text → CleanPart p × IsClean rest
+pub clean_piece : (inside : Bool) (p : RawPart) (text rest : Bytes) → IsPiece inside p text rest → IsClean text → CleanPart p × IsClean rest
 clean_piece inside (raw.Param key default quoted) text rest h e = let k = clean_param h.1 e in ((k.0, k.1), k.2)
 clean_piece inside (raw.Quoted bytes) text rest h e = clean_quoted h.1 e
 clean_piece inside _ text rest h e = absurd h
@@ -174,7 +174,7 @@ parts_clean ps n a = subst IsClean (sym (same_text ps n)) (by ps n a) where
 
 -- ---- what is seen of a text
 
-abbrev CleanByte : Look → Type 0
+abbrev pub CleanByte : Look → Type 0
 CleanByte (Byte b rest) = (is_clean b ≡ true) × IsClean rest
 CleanByte _ = Unit {0}
 
@@ -192,7 +192,7 @@ inner_escaped_byte : (b : ℕ) (t : Bytes) → is_clean b ≡ true → IsClean t
 inner_escaped_byte b [] e f = (e, refl)
 inner_escaped_byte b (c ∷ t) e f = either CleanByte (is_escapable (kind c)) (first c t f, later c t f) (e, f)
 
-look_clean : (len : ℕ) (text : Bytes) → IsClean text → CleanByte (look len text)
+pub look_clean : (len : ℕ) (text : Bytes) → IsClean text → CleanByte (look len text)
 look_clean len text e = by (place len (skip text)) (skip text) (clean_skip text e) where
   at_byte : (at b : ℕ) (t : Bytes) → is_clean b ≡ true → IsClean t → CleanByte (look_by at b (kind b) t)
   at_byte at b t f g =
@@ -221,7 +221,7 @@ look_clean len text e = by (place len (skip text)) (skip text) (clean_skip text 
   by at [] e = tt
   by at (b ∷ t) e = at_byte at b t (first b t e) (later b t e)
 
-inner_look_clean : (len : ℕ) (text : Bytes) → IsClean text → CleanByte (inner len text)
+pub inner_look_clean : (len : ℕ) (text : Bytes) → IsClean text → CleanByte (inner len text)
 inner_look_clean len text e = by (place len (skip text)) (skip text) (clean_skip text e) where
   at_byte : (at b : ℕ) (t : Bytes) → is_clean b ≡ true → IsClean t → CleanByte (inner_by at b (kind b) t)
   at_byte at b t f g =
@@ -374,11 +374,11 @@ sight_clean len text e = by (place len (skip text)) (skip text) (clean_skip text
 
 -- ---- all readings
 
-abbrev RestClean : Out (List Token) → Type 0
+abbrev pub RestClean : Out (List Token) → Type 0
 RestClean (Whole ts rest) = IsClean rest
 RestClean (Stop f) = Unit {0}
 
-abbrev ReadClean : Out Read → Type 0
+abbrev pub ReadClean : Out Read → Type 0
 ReadClean (Whole v rest) = AllClean v.0 × IsClean rest
 ReadClean (Stop f) = Unit {0}
 
@@ -430,7 +430,7 @@ module _ (outside : PartsAreSpelled look false) (inside : PartsAreSpelled inner 
     word_clean (word_bad_double g f h i e) r k = subst ReadClean (sym e) tt
     word_clean (word_bad_run g f h i e) r k = subst ReadClean (sym e) tt
 
-    inner_clean : {deep : ℕ → Bool} {len depth begun : ℕ} {fresh : Bool} {run text : Bytes} {q : Out Read} → IsInner deep len depth begun fresh run text q → IsClean run → IsClean text → ReadClean q
+    pub inner_clean : {deep : ℕ → Bool} {len depth begun : ℕ} {fresh : Bool} {run text : Bytes} {q : Out Read} → IsInner deep len depth begun fresh run text q → IsClean run → IsClean text → ReadClean q
     inner_clean (inner_open h e) r k = subst ReadClean (sym e) tt
     inner_clean {len = len} {fresh = fresh} {run = run} {text = text} (inner_ends t h e) r k = subst ReadClean (sym e) (clean_last fresh run r, (clean_stands (codes "\"") text t ((quotes_inside len text t).0 h) k).1)
     inner_clean {len = len} {run = run} {text = text} (inner_byte b t (Whole v1 r1) h x e) r k =
@@ -452,7 +452,7 @@ module _ (outside : PartsAreSpelled look false) (inside : PartsAreSpelled inner 
     inner_clean (inner_wrong f h e) r k = subst ReadClean (sym e) tt
     inner_clean (inner_bad_run g f h i e) r k = subst ReadClean (sym e) tt
 
-    sub_clean : {deep : ℕ → Bool} {len depth begun : ℕ} {text : Bytes} {q : Out (List Token)} → IsSub deep len depth begun text q → IsClean text → RestClean q
+    pub sub_clean : {deep : ℕ → Bool} {len depth begun : ℕ} {text : Bytes} {q : Out (List Token)} → IsSub deep len depth begun text q → IsClean text → RestClean q
     sub_clean (sub_deep h e) k = subst RestClean (sym e) tt
     sub_clean (sub_items h x) k = items_clean x k
 

@@ -2,16 +2,17 @@
 use Rattle.std.proofs.Common.{◌≡◌, ℕ, ◌-◌, Bool, true, false, if◌then◌else◌, nat_eq, [], ◌∷◌, Option, Some, None, refl}
 use Rattle.shell_syntax.specs.declared.key.Key.{Key}
 use Rattle.shell_syntax.specs.declared.key.Key.TheVariants.{Named, Arg, Count}
-use Rattle.shell_lexer.specs.Parts.{Look, Byte, dollar, dollar_by, before_quote, braced, braced_by, behind_key, behind_colon, closed, number_key}
+use Rattle.shell_lexer.specs.Parts.{Look, Ends, Byte, dollar, dollar_by, before_quote, braced, braced_by, behind_key, behind_colon, closed, number_key}
 use Rattle.shell_lexer.specs.Text.{Bytes, is_name_byte, is_default_byte, cells, run_of, behind_run, is_blank, is_digit, is_letter, is_special, skip, head_is}
 
 pub either : {A : Type 0} (Q : A → Type 0) (b : Bool) {x y : A} → Q x → Q y → Q (if b then x else y)
 either Q true h g = h
 either Q false h g = g
 
--- where a byte is seen it is the `$`, and this text is behind it
+-- no word ends there, and where a byte is seen it is the `$`, and this text is behind it
 abbrev pub IsDollar : Bytes → Look → Type 0
 IsDollar rest (Byte b r) = (b ≡ 36) × (r ≡ rest)
+IsDollar rest Ends = ⊥
 IsDollar rest _ = Unit {0}
 
 module _ (rest : Bytes) where
@@ -30,7 +31,7 @@ module _ (rest : Bytes) where
   in_number : (quoted : Bool) (at b : ℕ) (t : Bytes) → IsDollar rest (number_key quoted at b t)
   in_number quoted at b t = either (IsDollar rest) (nat_eq b 48) tt (in_key quoted at (Arg (b - 48)) (skip t))
 
-  in_braces : (quoted : Bool) (at : ℕ) (t : Bytes) → IsDollar rest (braced quoted at t)
+  pub in_braces : (quoted : Bool) (at : ℕ) (t : Bytes) → IsDollar rest (braced quoted at t)
   in_braces quoted at [] = tt
   in_braces quoted at (b ∷ t) =
       either (λ it. IsDollar rest (braced_by quoted at b it t)) (is_blank b) tt

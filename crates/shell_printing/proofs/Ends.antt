@@ -16,7 +16,7 @@ use Rattle.shell_lexer.specs.declared.token.RawPart.TheOpen as o
 use Rattle.shell_lexer.specs.LongestRuns.{plain_runs_are_longest}
 use Rattle.shell_grammar.specs.declared.items.Items.{Items}
 use Rattle.shell_grammar.specs.declared.look.Look.{Look}
-use Rattle.shell_grammar.specs.declared.look.Look.TheVariants.{AtEnd, Newline, Semi, DoubleSemi, AndAnd, OrOr, Bar, LeftParen, RightParen, Keyword, Name, Assignment, Other}
+use Rattle.shell_grammar.specs.declared.look.Look.TheVariants.{AtEnd, Keyword, Name, Assignment, Other}
 use Rattle.shell_grammar.specs.declared.look.Reserved.{Reserved}
 use Rattle.shell_grammar.specs.declared.look.Reserved.TheVariants.{Case}
 use Rattle.shell_grammar.specs.Forms.{is_name_word}

@@ -19,6 +19,14 @@ mod Sources
 mod Spelled
 mod Texts
 mod Twice
+mod WordBegins
+mod WordBytes
+mod WordClaim
+mod WordLate
+mod WordNotes
+mod WordParts
+mod WordShape
+mod WordTokens
 mod Words
 mod ZeroedLayers
 mod ZeroedTokens

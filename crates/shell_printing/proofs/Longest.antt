@@ -24,19 +24,19 @@ use Rattle.shell_printing.proofs.ZeroedTokens.{seen_kind, seen_plain, seen_quote
 -- ---- parts that are no substitution
 
 -- a part without a substitution
-abbrev Simple : RawPart → Type 0
+abbrev pub Simple : RawPart → Type 0
 Simple p = (x : Part) × (plainly (out-RawPart p) ≡ Some x)
 
-plain_simple : (w : Bytes) → Simple (raw.Plain w)
+pub plain_simple : (w : Bytes) → Simple (raw.Plain w)
 plain_simple w = (part.Plain w, ap plainly (seen_plain w))
 
-quoted_simple : (w : Bytes) → Simple (raw.Quoted w)
+pub quoted_simple : (w : Bytes) → Simple (raw.Quoted w)
 quoted_simple w = (part.Quoted w, ap plainly (seen_quoted w))
 
-all_simple : Simple raw.All
+pub all_simple : Simple raw.All
 all_simple = (part.All, ap plainly seen_all)
 
-piece_simple : (inside : Bool) (p : RawPart) (text rest : Bytes) → IsPiece inside p text rest → Simple p
+pub piece_simple : (inside : Bool) (p : RawPart) (text rest : Bytes) → IsPiece inside p text rest → Simple p
 piece_simple inside (raw.Param key default quoted) text rest h = (part.Param key default quoted, ap plainly (seen_param key default quoted))
 piece_simple inside (raw.Quoted bytes) text rest h = quoted_simple bytes
 piece_simple inside _ text rest h = absurd h

@@ -22,8 +22,8 @@ use Rattle.shell_lexer.specs.declared.token.RawPart.TheVariants as raw
 use Rattle.shell_lexer.specs.PrintedLaws.{OperatorsReadBack, WordTokensReadBack, AllTokensReadBack}
 use Rattle.shell_grammar.specs.declared.items.Items.{Items}
 use Rattle.shell_grammar.specs.declared.look.Look.{Look}
-use Rattle.shell_grammar.specs.declared.look.Look.TheVariants.{DoubleSemi, Bar, LeftParen, RightParen, Keyword, Assignment}
-use Rattle.shell_grammar.specs.declared.look.Reserved.TheVariants.{If, For, While, Case}
+use Rattle.shell_grammar.specs.declared.look.Look.TheVariants.{Keyword, Assignment}
+use Rattle.shell_grammar.specs.declared.look.Reserved.TheVariants.{Case}
 use Rattle.shell_grammar.specs.Forms.{is_name_word}
 use Rattle.shell_grammar.specs.Look.{Text, Tokens, look, behind, place, word_look, reserved}
 use Rattle.shell_grammar.specs.Reading.{plainly}
@@ -32,7 +32,7 @@ use Rattle.shell_grammar.specs.PlainGrammar.{Stands, AreNewlines, no_newline, ne
 use Rattle.shell_grammar.proofs.Unique.{clash}
 use Rattle.shell_printing.specs.PrintedTokens.{Phrase, word_token, plain_token, operator, line, redirect_token, braced, placed, between, link_token, do_tokens, loop_token, phrase, raw_of, assign_raws, arm_tokens, condition_tokens, further_tokens, word_raws}
 use Rattle.shell_printing.proofs.PhraseLayers.{phrase_simple, phrase_redirected, phrase_pipe, phrase_not, phrase_chain, phrase_seq, phrase_if, phrase_if_else, phrase_for, phrase_for_in, phrase_while, phrase_case, phrase_sub, phrase_define, phrase_run, phrase_the_case_arm, phrase_the_if_arm, phrase_the_link, phrase_the_word}
-use Rattle.shell_printing.proofs.Words.{single, assigns, word_looks_so}
+use Rattle.shell_printing.proofs.Words.{single, word_looks_so}
 use Rattle.shell_printing.proofs.Backs.{ReadsBack, nothing, wider, joined, a_line, double_semi, and_and, or_or, a_bar, redirects, in_parens, opening, closing, bang, an_if, a_then, an_elif, an_else, a_fi, a_for, an_in, a_do, a_done, a_while, an_until, an_esac}
 use Rattle.shell_printing.proofs.Sources.{may_end, same_part, Likes, likes_none, likes_same, likes_run, Sound, other_token, word_token_of, SoundParts, first_word, sound_behind}
 use Rattle.shell_printing.proofs.Ends.{higher, stop, newlines_stop, separator_stop, word_stop, patterns_stop, for_words_stop, else_stop, members_end, links_end, piped_end, words_end, patterns_end, items_end, case_of, whole_case, keyword_word, is_plain_part, assign_is, name_is, sound_parts_behind, sound_inside}

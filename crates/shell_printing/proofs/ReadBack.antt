@@ -8,7 +8,7 @@ use Rattle.shell_lexer.specs.FirstLine.{first_line as line_of, behind_line, inte
 use Rattle.shell_lexer.specs.Laws.{PlainRunsAreLongest, PartsAreSpelled, AllArgsAreSpelled, SubstitutionsAreSpelled, DoubleQuotesAreSpelled}
 use Rattle.shell_lexer.specs.Lexed.{IsBody}
 use Rattle.shell_lexer.specs.Parts.{look, inner}
-use Rattle.shell_lexer.specs.PrintedLaws.{OperatorsReadBack, WordTokensReadBack, AllTokensReadBack}
+use Rattle.shell_lexer.specs.PrintedLaws.{QuotedIsOnePart, ParamIsOnePart, AllIsOnePart, SubstitutionsClose, OperatorsReadBack, WordTokensReadBack, AllTokensReadBack}
 use Rattle.shell_lexer.specs.Reading.{Whole, IsItems, items_end}
 use Rattle.shell_lexer.specs.Text.{Bytes}
 use Rattle.shell_grammar.proofs.FromTable.{plain_script}
@@ -55,13 +55,13 @@ first_clean false = refl
 
 -- ---- the whole text
 
-module _ (words : WordTokensReadBack) (args : AllTokensReadBack) (operators : OperatorsReadBack) (runs : PlainRunsAreLongest) (outside : PartsAreSpelled look false) (inside : PartsAreSpelled inner true) (all : AllArgsAreSpelled look) (all_inside : AllArgsAreSpelled inner)
+module _ (words : WordTokensReadBack) (args : AllTokensReadBack) (quoted_law : QuotedIsOnePart) (param_law : ParamIsOnePart) (all_law : AllIsOnePart) (operators : OperatorsReadBack) (closing : SubstitutionsClose) (runs : PlainRunsAreLongest) (outside : PartsAreSpelled look false) (inside : PartsAreSpelled inner true) (all : AllArgsAreSpelled look) (all_inside : AllArgsAreSpelled inner)
     (subs : SubstitutionsAreSpelled look) (subs_inside : SubstitutionsAreSpelled inner) (quotes : DoubleQuotesAreSpelled look) (quotes_inside : DoubleQuotesAreSpelled inner)
     (texts : PrintedTextsAreTokens) (lines : PrintedFirstLinesAreRead) (spells : PrintedTokensSpell) where
   pub scripts_read_back : PrintedScriptsReadBack
-  scripts_read_back text l script x s plain =
+  scripts_read_back text l script x s =
       let us = script_tokens script.body in
-      let source = cut_source too_deep words args runs outside inside all all_inside subs subs_inside quotes quotes_inside x.body (line_clean text (no_nul_clean 0 text x.no_nul)) plain in
+      let source = cut_source too_deep words args quoted_law param_law all_law closing runs outside inside all all_inside subs subs_inside quotes quotes_inside x.body (line_clean text (no_nul_clean 0 text x.no_nul)) in
       let grammar = plain_script l.end l.tokens script.body (spelled l.end l.tokens script.body s.rest s.reads) in
       let back = script_back too_deep words args operators grammar source in
       let printed = script_text script in

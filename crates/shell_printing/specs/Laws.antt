@@ -1,5 +1,5 @@
 -- The laws that src/theorems.rt proves.
-use Rattle.std.specs.Prelude.{◌≡◌, ℕ, Bool, true, ◌++◌, Some}
+use Rattle.std.specs.Prelude.{◌≡◌, ℕ, Bool, ◌++◌, Some}
 use Rattle.shell_syntax.specs.declared.script.Script.{Script}
 use Rattle.shell_syntax.specs.declared.syntax.Command.{Command}
 use Rattle.shell_syntax.specs.Printed.{first_line, script_text}
@@ -11,7 +11,6 @@ use Rattle.shell_grammar.specs.Look.{Tokens}
 use Rattle.shell_grammar.specs.Spelling.{SpellsWithin}
 use Rattle.shell_printing.specs.Zeroed.{zeroed, zeroed_tokens}
 use Rattle.shell_printing.specs.PrintedTokens.{script_tokens}
-use Rattle.shell_printing.specs.PlainTokens.{are_plain}
 use Rattle.shell_printing.specs.Runs.{RunsAreLongest}
 use Rattle.shell_printing.specs.TokenTexts.{tokens_text}
 
@@ -54,11 +53,11 @@ PrintedTextsAreTokens =
 
 -- A script that some text spells, of which no token is too deep, is printed so that its text is cut into tokens that
 -- are those of the printed script but for their offsets, and spell within 64 levels the same script but for its
--- offsets. In the words of the first text no command substitution stands.
+-- offsets.
 abbrev pub PrintedScriptsReadBack : Type 0
 PrintedScriptsReadBack =
     (text : Bytes) (l : Lexed) (script : Script)
-    → Cut text l → SpellsWithin l.end l.tokens script.body → are_plain l.tokens ≡ true
+    → Cut text l → SpellsWithin l.end l.tokens script.body
     → (cut : Lexed) × (again : Command)
     × Cut (script_text script) cut × (cut.strict ≡ script.strict)
     × (zeroed_tokens cut.tokens ≡ zeroed_tokens (script_tokens script.body))

@@ -2,5 +2,4 @@ pub mod Zeroed
 pub mod PrintedTokens
 pub mod TokenTexts
 pub mod Runs
-pub mod PlainTokens
 pub mod Laws

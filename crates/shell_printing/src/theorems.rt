@@ -4,7 +4,9 @@ ghost use Rattle.shell_printing.specs.Laws.{CutRunsAreLongest, OffsetsDoNotMatte
 ghost use Rattle.shell_printing.specs.Laws.{PrintedScriptsReadBack};
 ghost use Rattle.shell_printing.specs.Laws.{PrintedTextsAreTokens, PrintedTokensSpell, PrintedTokensSpellAgain};
 
-use shell_lexer::printed::{operators_read_back, word_tokens_read_back};
+use shell_lexer::printed::{
+    expansions_read_back, operators_read_back, quoted_bytes_read_back, word_tokens_read_back,
+};
 use shell_lexer::theorems::{openings_are_spelled, parts_are_spelled, runs_are_longest};
 
 /// What tokens spell does not depend on where they stand (XCU 2.10 Shell Grammar): tokens that are the same but for
@@ -40,13 +42,15 @@ pub fn printed_texts_are_tokens()
     ensures first_lines { PrintedFirstLinesAreRead }
 {}
 
-/// The text of a printed script is cut into tokens that spell the script again: where some text without command
-/// substitutions spells a script, and no token is too deep, that is cut into the tokens of the printed script, but for
-/// their offsets, and spells within 64 levels the same script but for its offsets.
+/// The text of a printed script is cut into tokens that spell the script again (XCU 2.3 Token Recognition, 2.10 Shell
+/// Grammar): where some text spells a script, and no token is too deep, that is cut into the tokens of the printed
+/// script, but for their offsets, and spells within 64 levels the same script but for its offsets.
 pub fn printed_scripts_read_back()
     ensures { PrintedScriptsReadBack }
 {
     word_tokens_read_back();
+    quoted_bytes_read_back();
+    expansions_read_back();
     operators_read_back();
     runs_are_longest();
     parts_are_spelled();
