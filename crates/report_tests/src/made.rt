@@ -2,7 +2,7 @@
 
 use dpkg_scenarios::{Ending, Scenario, ScriptKind};
 use feature_trees::{Value, read_tree};
-use outcome_report::{Report, ReportEntry, ReportPart, make_entry};
+use outcome_report::{Report, ReportEntry, ReportPart, keep_replay, make_entry};
 use scenario_outcomes::Outcome;
 use scenario_runs::{CallEnd, Replayed, ScriptCall};
 use script_names::{Bytes, List, Mark, Memory, Site};
@@ -107,7 +107,7 @@ fn outcome(alloc: Global, row: EntryRow<'_>) -> Result<Outcome, Memory> {
 fn entry(alloc: Global, row: EntryRow<'_>) -> Result<ReportEntry, Memory> {
     let replayed = replayed(alloc, row.5)?;
     let outcome = outcome(alloc, row)?;
-    Ok(make_entry(outcome, replayed))
+    Ok(make_entry(outcome, keep_replay(replayed)))
 }
 
 fn part(alloc: Global, row: PartRow<'_>) -> Result<ReportPart, Memory> {
