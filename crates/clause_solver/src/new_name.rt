@@ -44,8 +44,8 @@ fn count_going_on(vars: &Shared<Variable>, p: &[u8], x: u8) -> usize
     count
 }
 
-// A letter that fewer than `room` of the names go on with behind p, and a bound on how many do. Where at most `left` names
-// begin with p, and these are few already, no name is looked at.
+// A letter that fewer than `room` of the names go on with behind p, and a bound on how many do. Where at most `left`
+// names begin with p, and these are few already, no name is looked at.
 fn next_letter(vars: &Shared<Variable>, p: &[u8], room: usize, left: usize) -> (u8, usize)
     requires most { beginning p.now vars.now ≤ left }
     requires left { left < 2 * room }
