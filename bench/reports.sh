@@ -1,10 +1,12 @@
 #!/bin/sh
-# Times the built program on four installations.
+# Times the built program on six installations.
 #
 # 1. The usual template of a postinst, beside `dash -n` on the same file: 200 runs of each, at most ten times as long.
 # 2. 500 times `mkdir -p /srv/kNNN`: 1,001 outcomes in under ten seconds and 1 GB.
 # 3. 14 `if [ -e .. ]` inside one another, each with both branches: more than 10,000 outcomes, so status 3.
-# 4. 10,000 outcomes in under 60 seconds and 4 GB.
+# 4. 10,000 outcomes, as many as the limit where none is given, in under 60 seconds and 4 GB.
+# 5. 10,001 outcomes: the limit's line, and status 3.
+# 6. 40 `if` in a row over different paths, so 2^40 paths: the same in about the time of the fifth.
 . "$(dirname "$(readlink -f "$0")")/common.sh"
 
 package template <<'EOF'
@@ -80,10 +82,10 @@ tests() {
         i=$((i + 1))
     done
 }
-# 10,000 outcomes: two of `mkdir -p`, and behind its success, for each of the two answers of `rmdir`, 4,999: a question
-# has one, and those of both branches.
-{
-    printf '#!/bin/sh\nset -e\nmkdir -p /srv/q\nrmdir /srv/q || :\n'
+# many: 10,000 outcomes: two of `mkdir -p`, and behind its success, for each of the two answers of `rmdir`, 4,999: a
+# question has one, and those of both branches.
+many() {
+    printf 'mkdir -p /srv/q\nrmdir /srv/q || :\n'
     for count in 11 8 7 6; do
         echo "if [ -e /srv/q$count ]; then"
         tests "$count"
@@ -91,5 +93,28 @@ tests() {
     done
     tests 2
     printf 'fi\nfi\nfi\nfi\n'
+}
+{
+    printf '#!/bin/sh\nset -e\n'
+    many
 } | package many
 install many
+
+# One outcome more: `mkdir` fails, or the others follow.
+{
+    printf '#!/bin/sh\nset -e\nmkdir /srv/r\n'
+    many
+} | package one_more
+install one_more
+cat "$folder/line"
+
+{
+    echo '#!/bin/sh'
+    i=0
+    while [ "$i" -lt 40 ]; do
+        echo "if [ -e /srv/t$i ]; then :; fi"
+        i=$((i + 1))
+    done
+} | package forty
+install forty
+cat "$folder/line"

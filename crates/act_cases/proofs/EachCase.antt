@@ -25,7 +25,8 @@ use Rattle.act_cases.specs.Cases.{IsOnOnePath, link_row, IsExact, AnswersAs, rul
 use Rattle.tree_clauses.specs.Leads.{Leads}
 use Rattle.act_cases.proofs.Meets.{AreNames, first_name, later_names}
 use Rattle.act_cases.proofs.Leading.{leads_from, leads_to}
-use Rattle.act_cases.proofs.Seeing.{through_from, through_to, parents_clear, there_parents}
+use Rattle.utility_calls.proofs.Above.{there_parents}
+use Rattle.act_cases.proofs.Seeing.{through_from, through_to, parents_clear}
 use Rattle.act_cases.proofs.RuleSees.{some_name, needs_name, rule_from, rule_to}
 use Rattle.act_cases.proofs.Tabled.{Suits, suits_is, suits, all_of, apart, test_of, same_rule, tabled, effect_fits}
 use Rattle.act_cases.proofs.AnyRow.{link_taken, slash_taken}

@@ -14,7 +14,6 @@ pub mod Ordered
 pub mod PlainCases
 pub mod Moving
 pub mod MoveTabled
-pub mod Stays
 pub mod MoveCases
 pub mod PlainMoves
 pub mod AllMoves

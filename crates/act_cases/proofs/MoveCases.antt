@@ -33,7 +33,7 @@ use Rattle.act_cases.specs.Cases.{link_row}
 use Rattle.tree_clauses.specs.Leads.{Leads}
 use Rattle.act_cases.proofs.Meets.{AreNames}
 use Rattle.act_cases.proofs.Leading.{leads_from, leads_to}
-use Rattle.act_cases.proofs.Seeing.{has_all, through_from, through_to, parents_clear, there_parents}
+use Rattle.act_cases.proofs.Seeing.{has_all, through_from, through_to, parents_clear}
 use Rattle.act_cases.proofs.RuleSees.{some_name, needs_name, Reached, seen, rule_from, rule_to}
 use Rattle.act_cases.proofs.Tabled.{same_rule}
 use Rattle.act_cases.proofs.EachCase.{IsOne, one_of, some_names, is_link, thing, is_thing, link_there}
@@ -41,7 +41,7 @@ use Rattle.act_cases.proofs.PlainCases.{through_ways}
 use Rattle.act_cases.proofs.AnyRow.{link_taken, slash_taken, second_taken, table_taken, Tells, way, slash, second, table, row_tells}
 use Rattle.act_cases.proofs.Moving.{moves_from, moves_to}
 use Rattle.act_cases.proofs.MoveTabled.{MovesWell, move_well, moves_apart, move_fits, looks_where, looks_not}
-use Rattle.act_cases.proofs.Stays.{Clear, kept_parents, clear_below, clear_place}
+use Rattle.utility_calls.proofs.Above.{there_parents, Clear, kept_parents, clear_below, clear_place}
 
 -- ---- what a row says of what is moved
 
@@ -242,12 +242,12 @@ module _ (a b : PathParts) (performed : IsPerformed (Move a b)) (few_a : length 
 
   -- and directories are above the place still where what is moved is taken away
   room_by : (t : Value) (names : List (List ℕ)) → IsTrue (sound t) → Clear p names → IsTrue (has_parents t names) → IsTrue (has_parents (put t p value.Absent) names)
-  room_by t names s clear h = kept_parents t p names s clear h
+  room_by t names s clear h = kept_parents t value.Absent p names s clear h
 
   clear_second : (x : Option (List ℕ)) (c i : Bool) → below ≡ false → c ≡ false → Clear p (second_names c i q x)
   clear_second x true i beside e = absurd (cc)
-  clear_second x false false beside e = clear_place p q beside performed.1
-  clear_second None false true beside e = clear_place p q beside performed.1
+  clear_second x false false beside e = clear_place p q beside
+  clear_second None false true beside e = clear_place p q beside
   clear_second (Some f) false true beside e = clear_below p q f beside performed.1
 
   pub move_rule_one : (r : Rule) → IsAmong r (move_by below) → IsOne act (move_rule_case act r)

@@ -14,10 +14,11 @@ use Rattle.utility_calls.specs.Ways.{NoLinkOnWay}
 use Rattle.utility_calls.specs.Sights.{Where, anything, is, within, inside, outside, empty, full, into, into_empty, into_full, holds, sight_of, has_entry}
 use Rattle.utility_calls.specs.Acts.{with_name, inner_at}
 use Rattle.utility_calls.proofs.Ways.{parents}
+use Rattle.utility_calls.proofs.Above.{some_in, there_parents, parents_more}
 use Rattle.act_cases.specs.Looks.{Sees}
 use Rattle.act_cases.specs.Plans.{EndMet}
 use Rattle.act_cases.specs.Tables.{fitting, free, through, beside, ways_of, end_of_place, is_inner, names_at}
-use Rattle.act_cases.proofs.Seeing.{Fits, has_all, dir_has, fit_from, fit_to, free_from, free_to, through_from, through_to, beside_from, beside_to, parents_clear, there_parents, at_more, parents_more}
+use Rattle.act_cases.proofs.Seeing.{Fits, has_all, dir_has, fit_from, fit_to, free_from, free_to, through_from, through_to, beside_from, beside_to, parents_clear, at_more}
 
 -- whether a condition speaks of what holds the path's last name
 abbrev pub needs_name : Where → Bool
@@ -72,10 +73,6 @@ module _ (t : Value) (names : List (List ℕ)) (slash : Bool) where
   in_from : (ns : List (List ℕ)) → ns ≢ [] → IsTrue (has_parents t ns) → in_dir t ns ≡ true
   in_from [] ne p = absurd (ne refl)
   in_from (f ∷ rest) ne p = parents t f rest ∙ p
-
-  in_to : (ns : List (List ℕ)) → ns ≢ [] → in_dir t ns ≡ true → IsTrue (has_parents t ns)
-  in_to [] ne p = absurd (ne refl)
-  in_to (f ∷ rest) ne p = sym (parents t f rest) ∙ p
 
   out_from : (kinds : Kinds) (ns : List (List ℕ)) → ns ≢ [] → Sees (beside kinds) t ns → NoLinkOnWay t ns × (in_dir t ns ≡ false) × IsTrue (has kinds (kind_of (at t ns)))
   out_from kinds [] ne s = absurd (ne refl)
@@ -186,10 +183,10 @@ module _ (t : Value) (names : List (List ℕ)) (slash : Bool) where
   rule_to m anything ne inner r h = (free_to (fitting slash all) t names r.0 (fit_to slash all (kind_of here) (has_all (kind_of here)) r.1), tt)
   rule_to m (is kinds) ne inner r h = (is_to kinds (has kinds Absent) refl r h, tt)
   rule_to m within ne inner r h =
-      (through_to (fitting slash all) t names (in_to names (ne refl) h) (fit_to slash all (kind_of here) (has_all (kind_of here)) r.1), tt)
+      (through_to (fitting slash all) t names (some_in t names (ne refl) h) (fit_to slash all (kind_of here) (has_all (kind_of here)) r.1), tt)
   rule_to m (inside kinds) ne inner r h =
       let parts = and_parts (in_dir t names) (has kinds (kind_of here)) h in
-      (through_to (fitting slash kinds) t names (in_to names (ne refl) parts.0) (fit_to slash kinds (kind_of here) parts.1 r.1), tt)
+      (through_to (fitting slash kinds) t names (some_in t names (ne refl) parts.0) (fit_to slash kinds (kind_of here) parts.1 r.1), tt)
   rule_to m outside ne inner r h =
       (out_to (fitting slash all) names (ne refl) r.0 (of_not (in_dir t names) h) (fit_to slash all (kind_of here) (has_all (kind_of here)) r.1), tt)
   rule_to m empty ne inner r h =

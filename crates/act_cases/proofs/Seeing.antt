@@ -1,5 +1,5 @@
 -- What a look along names says of what stands there.
-use Rattle.std.proofs.Common.{◌≡◌, ◌≢◌, ℕ, zero, suc, ◌+◌, ◌<◌, ◌≤◌, ◌⊎◌, inl, inr, Bool, true, false, not, ◌&&◌, IsTrue, List, [], ◌∷◌, ◌++◌, length, take, refl, sym, ap, subst, ◌∙◌, arith}
+use Rattle.std.proofs.Common.{◌≡◌, ◌≢◌, ℕ, zero, suc, ◌+◌, ◌<◌, ◌≤◌, ◌⊎◌, inl, inr, Bool, true, false, not, ◌&&◌, IsTrue, List, [], ◌∷◌, ◌++◌, length, take, refl, sym, subst, ◌∙◌, arith}
 use Rattle.feature_trees.specs.declared.kind.Kind.{Kind}
 use Rattle.feature_trees.specs.declared.kind.Kind.TheVariants.{Absent, Reg, Link, Other, Dir}
 use Rattle.feature_trees.specs.declared.kind.Kinds.{Kinds}
@@ -7,7 +7,6 @@ use Rattle.feature_trees.specs.declared.value.Value.{Value}
 use Rattle.feature_trees.specs.declared.value.Value.TheVariants as value
 use Rattle.feature_trees.specs.Kinds.{has, of, all, both}
 use Rattle.feature_trees.specs.Tree.{entry, at, kind_of, is_dir, has_parents}
-use Rattle.feature_trees.proofs.Found.{at_Absent}
 use Rattle.feature_trees.proofs.Laws.{and_parts, and_made}
 use Rattle.act_cases.proofs.KindSets.{has_both}
 use Rattle.utility_calls.specs.Ways.{in_dir}
@@ -151,18 +150,6 @@ parents_clear v (f ∷ rest) p =
     let parts = and_parts (is_dir v) (has_parents (entry v f) rest) p in
     clear_more v f rest (dir_no_link v parts.0) (parents_clear (entry v f) rest parts.1)
 
-holds_entry : (v : Value) (f : List ℕ) (rest : List (List ℕ)) → kind_of (at v (f ∷ rest)) ≢ Absent → IsTrue (is_dir v)
-holds_entry value.Absent f rest h = absurd (h (ap kind_of (at_Absent rest)))
-holds_entry value.Reg f rest h = absurd (h (ap kind_of (at_Absent rest)))
-holds_entry (value.Link b) f rest h = absurd (h (ap kind_of (at_Absent rest)))
-holds_entry value.Other f rest h = absurd (h (ap kind_of (at_Absent rest)))
-holds_entry (value.Dir es) f rest h = refl
-
--- what is there has directories above it
-pub there_parents : (v : Value) (names : List (List ℕ)) → kind_of (at v names) ≢ Absent → IsTrue (has_parents v names)
-there_parents v [] h = refl
-there_parents v (f ∷ rest) h = and_made (is_dir v) (has_parents (entry v f) rest) (holds_entry v f rest h) (there_parents (entry v f) rest h)
-
 -- ---- beside a directory
 
 pub beside_from : (kinds : Kinds) (v : Value) (f : List ℕ) (rest : List (List ℕ)) → Sees (beside kinds) v (f ∷ rest)
@@ -184,15 +171,3 @@ beside_to kinds v f (g ∷ rest) clear out h =
 pub at_more : (v : Value) (names : List (List ℕ)) (f : List ℕ) → at v (names ++ f ∷ []) ≡ entry (at v names) f
 at_more v [] f = refl
 at_more v (g ∷ names) f = at_more (entry v g) names f
-
-pub parents_more : (v : Value) (names : List (List ℕ)) (f : List ℕ) → has_parents v (names ++ f ∷ []) ≡ (has_parents v names && is_dir (at v names))
-parents_more v [] f = and_true (is_dir v)
-  where
-    and_true : (b : Bool) → (b && true) ≡ b
-    and_true true = refl
-    and_true false = refl
-parents_more v (g ∷ names) f = ap (λ b. is_dir v && b) (parents_more (entry v g) names f) ∙ and_assoc (is_dir v) _ _
-  where
-    and_assoc : (a b c : Bool) → (a && (b && c)) ≡ ((a && b) && c)
-    and_assoc true b c = refl
-    and_assoc false b c = refl

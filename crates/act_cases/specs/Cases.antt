@@ -61,10 +61,11 @@ IsExact act made =
 abbrev pub AnswersAs : Act → Case → Type 0
 AnswersAs act made = (t : Value) → IsTree t → (row act t).number ≡ made.row → made.done ≡ (row act t).answer
 
--- the number and the answer of a case, and of a row
+-- the number and the answer of a case
 abbrev pub case_answer : Case → ℕ × Done
 case_answer made = (made.row, made.done)
 
+-- the number and the answer of a row
 abbrev pub row_answer : Row → ℕ × Done
 row_answer r = (r.number, r.answer)
 

@@ -58,14 +58,17 @@ moved_literals p q =
     ++ (look_literals (through all) (freed p q) (onward p q) q
     ++ put_literals (freed p q) (onward p q) q (length p) (outward p q)))
 
+-- those of an effect, by whether it moves something
 abbrev pub moves_by : Bool → List (List ℕ) → List (List ℕ) → List Literal
 moves_by false p q = []
 moves_by true p q = moved_literals p q
 
+-- how many variables there are, with those of the ways to both paths
 abbrev pub move_locals : Bool → List (List ℕ) → List (List ℕ) → ℕ
 move_locals false p q = length p + length q
 move_locals true p q = spare p q + length p + length q + length q
 
+-- the variable of the tree afterwards; where nothing is moved that is the tree before
 abbrev pub move_root : Bool → List (List ℕ) → List (List ℕ) → ℕ
 move_root false p q = 0
 move_root true p q = placed p q

@@ -43,7 +43,7 @@ impl Machine for AskedPaths {
 }
 
 /// All paths of the questions from every tree.
-pub fn answered(
+pub(crate) fn answered(
     alloc: Global,
     machine: &AskedPaths,
     room: usize,

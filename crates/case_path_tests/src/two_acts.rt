@@ -46,7 +46,7 @@ impl Machine for AskedPath {
 }
 
 /// All paths of the two acts from every tree.
-pub fn all_paths(
+pub(crate) fn all_paths(
     alloc: Global,
     machine: &AskedPath,
     room: usize,

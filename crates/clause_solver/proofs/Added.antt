@@ -1,7 +1,6 @@
 -- What a case adds to a store, from what its literals leave.
-use Rattle.std.proofs.Common.{◌≡◌, ℕ, zero, suc, ◌+◌, ◌<◌, ◌≤◌, ◌↔◌, IsTrue, true, Option, Some, None, List, [], ◌∷◌, length, take, refl, sym, ap, ◌∙◌, arith}
+use Rattle.std.proofs.Common.{◌≡◌, ℕ, zero, suc, ◌+◌, ◌<◌, ◌≤◌, ◌↔◌, IsTrue, Option, Some, None, [], ◌∷◌, length, take, refl, sym, ap, ◌∙◌, arith}
 use Rattle.std.proofs.lemmas.List.{get_or-take, length-take-le}
-use Rattle.feature_trees.specs.declared.kind.Kind.{Kind}
 use Rattle.feature_trees.specs.declared.kind.Kind.TheVariants as kind
 use Rattle.feature_trees.specs.declared.value.Value.{Value}
 use Rattle.feature_trees.specs.declared.value.Value.TheVariants as value
@@ -15,11 +14,10 @@ use Rattle.clause_solver.specs.declared.drafts.Draft.{Draft}
 use Rattle.clause_solver.specs.declared.store.Store.TheInside.{Inside}
 use Rattle.clause_solver.specs.Adds.{AddsCase, LeadsNowhere}
 use Rattle.clause_solver.specs.Drafts.{place_in, Agrees, IsDrafted}
-use Rattle.clause_solver.specs.Greatest.{IsBest, IsSatisfied, unfenced}
 use Rattle.clause_solver.specs.Stands.{Stands, Alive}
 use Rattle.clause_solver.specs.Variables.{AllFit, AlwaysDir}
 use Rattle.clause_solver.specs.View.{seen, IsSettled}
-use Rattle.clause_solver.proofs.Alive.{alive_iff}
+use Rattle.clause_solver.proofs.Deciding.{left_alive}
 use Rattle.clause_solver.proofs.OneMore.{seen_of, sound_take}
 use Rattle.clause_solver.proofs.Pairs.{sound_at, fits_from, fits_to}
 
@@ -47,7 +45,7 @@ at_place_sound : (g : Valuation) (place : Option ℕ) → IsSound g → IsTrue (
 at_place_sound g None s = refl
 at_place_sound g (Some n) s = sound_at g s n
 
-module _ (a : Inside) (inv : IsSettled a) (made : Case) (plain : IsPlain made) (draft : Draft) (d : IsDrafted a.vars a.current made draft) (root : ℕ) (at : place_in draft made.root.0 ≡ Some root) where
+module _ (a : Inside) (inv : IsSettled a) (made : Case) (plain : IsPlain made) (draft : Draft) (d : IsDrafted a.lists.vars a.current made draft) (root : ℕ) (at : place_in draft made.root.0 ≡ Some root) where
   -- the values of the case's variables
   abbrev case_values : Valuation → Valuation
   case_values g = tabled (λ i. at_place g (place_in draft i)) (made.locals + 1)
@@ -60,18 +58,18 @@ module _ (a : Inside) (inv : IsSettled a) (made : Case) (plain : IsPlain made) (
       let low : x ≤ made.locals = (d.placed x).0 (rw e tt) in
       tabled_at (λ i. at_place g (place_in draft i)) (made.locals + 1) x (omega (arith, low)) ∙ ap (at_place g) e
 
-  old_at : (g : Valuation) (i : ℕ) → i < length a.vars → value_of_variable (take (length a.vars) g) i ≡ value_of_variable g i
-  old_at g i w = get_or-take (length a.vars) g i value.Absent w
+  old_at : (g : Valuation) (i : ℕ) → i < length a.lists.vars → value_of_variable (take (length a.lists.vars) g) i ≡ value_of_variable g i
+  old_at g i w = get_or-take (length a.lists.vars) g i value.Absent w
 
-  module _ (g : Valuation) (long : length g ≡ length draft.vars) (s : IsSound g) (fits : AllFit draft.vars g) where
-    below : AllFit a.vars (take (length a.vars) g)
+  module _ (g : Valuation) (long : length g ≡ length draft.lists.vars) (s : IsSound g) (fits : AllFit draft.lists.vars g) where
+    below : AllFit a.lists.vars (take (length a.lists.vars) g)
     below = (d.leaves.down g long s fits).0
 
-    short : length (take (length a.vars) g) ≡ length a.vars
-    short = let less = d.leaves.more in length-take-le (length a.vars) g (omega (arith, long, less))
+    short : length (take (length a.lists.vars) g) ≡ length a.lists.vars
+    short = let less = d.leaves.more in length-take-le (length a.lists.vars) g (omega (arith, long, less))
 
-    short_sound : IsSound (take (length a.vars) g)
-    short_sound = let less = d.leaves.more in sound_take (length a.vars) g (omega (arith, long, less)) s
+    short_sound : IsSound (take (length a.lists.vars) g)
+    short_sound = let less = d.leaves.more in sound_take (length a.lists.vars) g (omega (arith, long, less)) s
 
     leads : Leads made (value_of_variable g a.current) (value_of_variable g root)
     leads = record {
@@ -83,38 +81,38 @@ module _ (a : Inside) (inv : IsSettled a) (made : Case) (plain : IsPlain made) (
     }
 
     now_dir : kind_of (value_of_variable g a.current) ≡ kind.Dir
-    now_dir = ap kind_of (sym (old_at g a.current inv.now_known)) ∙ inv.now_tree (take (length a.vars) g) short short_sound below
+    now_dir = ap kind_of (sym (old_at g a.current inv.now_known)) ∙ inv.now_tree (take (length a.lists.vars) g) short short_sound below
 
     root_dir : kind_of (value_of_variable g root) ≡ kind.Dir
     root_dir =
         let l = leads in
         ap kind_of (sym l.ends) ∙ plain.dir l.valuation l.values l.met
 
-  always : AlwaysDir draft.vars root
+  always : AlwaysDir draft.lists.vars root
   always g l s fits = root_dir g l s fits
 
-  known : root < length draft.vars
+  known : root < length draft.lists.vars
   known = d.steady.inside made.root.0 root at
 
-  step_down : (t : Value) (g : Valuation) → Stands (seen_of draft.vars root) t g → Stands (seen a) t (take (length a.vars) g) × Leads made (value_of_variable g a.current) (value_of_variable g root)
+  step_down : (t : Value) (g : Valuation) → Stands (seen_of draft.lists.vars root) t g → Stands (seen a) t (take (length a.lists.vars) g) × Leads made (value_of_variable g a.current) (value_of_variable g root)
   step_down t g h =
-      let fits = fits_from draft.vars g d.steady.together.order h.values h.met in
+      let fits = fits_from draft.lists.vars g d.steady.decided.order h.values h.met in
       let long = h.counted in (
         record {
           counted = short g long h.values fits;
-          starts = old_at g 0 inv.order.some ∙ h.starts;
+          starts = old_at g 0 inv.decided.order.some ∙ h.starts;
           tree = h.tree;
           ends = ap kind_of (old_at g a.current inv.now_known) ∙ now_dir g long h.values fits;
-          met = fits_to a.vars (take (length a.vars) g) (short_sound g long h.values fits) (below g long h.values fits);
+          met = fits_to a.lists.vars (take (length a.lists.vars) g) (short_sound g long h.values fits) (below g long h.values fits);
           values = short_sound g long h.values fits;
         },
         leads g long h.values fits,
       )
 
-  step_up : (t : Value) (g : Valuation) (v : Value) → Stands (seen a) t g → Leads made (value_of_variable g a.current) v → (h : Valuation) × Stands (seen_of draft.vars root) t h × (take (length a.vars) h ≡ g) × (value_of_variable h root ≡ v)
+  step_up : (t : Value) (g : Valuation) (v : Value) → Stands (seen a) t g → Leads made (value_of_variable g a.current) v → (h : Valuation) × Stands (seen_of draft.lists.vars root) t h × (take (length a.lists.vars) h ≡ g) × (value_of_variable h root ≡ v)
   step_up t g v h l =
-      let k = d.leaves.up g l.valuation h.counted h.values (fits_from a.vars g inv.order h.values h.met) l.values l.starts l.met in
-      let first : value_of_variable k.0 0 ≡ value_of_variable g 0 = sym (old_at k.0 0 inv.order.some) ∙ ap (λ u. value_of_variable u 0) k.4 in
+      let k = d.leaves.up g l.valuation h.counted h.values (fits_from a.lists.vars g inv.decided.order h.values h.met) l.values l.starts l.met in
+      let first : value_of_variable k.0 0 ≡ value_of_variable g 0 = sym (old_at k.0 0 inv.decided.order.some) ∙ ap (λ u. value_of_variable u 0) k.4 in
       let last : value_of_variable k.0 root ≡ v = sym (k.5 made.root.0 root at) ∙ l.ends in (
         k.0,
         record {
@@ -122,50 +120,47 @@ module _ (a : Inside) (inv : IsSettled a) (made : Case) (plain : IsPlain made) (
           starts = first ∙ h.starts;
           tree = h.tree;
           ends = always k.0 k.1 k.2 k.3;
-          met = fits_to draft.vars k.0 k.2 k.3;
+          met = fits_to draft.lists.vars k.0 k.2 k.3;
           values = k.2;
         },
         k.4,
         last,
       )
 
-  module _ (best : List Kind) (same : length best ≡ length draft.vars) (is : IsBest draft.vars best) where
-    live : IsSatisfied draft.vars best (unfenced draft.vars) ↔ Alive (seen_of draft.vars root)
-    live = alive_iff draft.vars best root d.steady.together.small d.steady.together.order is always (d.leaves.first inv.start_tree)
+  live : IsTrue draft.lists.alive ↔ Alive (seen_of draft.lists.vars root)
+  live =
+      let left = d.steady.decided.alive in
+      let some = left_alive draft.lists.vars root d.steady.decided.order always (d.leaves.first inv.start_tree) in
+      (λ t. some.0 (left.0 t), λ x. left.1 (some.1 x))
 
-    pub nowhere : ¬ (IsSatisfied draft.vars best (unfenced draft.vars)) → LeadsNowhere (seen a) made
-    nowhere dead t v (u, (g, h, e), l) =
-        let start : Leads made (value_of_variable g a.current) v = rw e l in
-        let r = step_up t g v h start in
-        dead (live.1 (t, r.0, r.1))
+  pub nowhere : ¬ (IsTrue draft.lists.alive) → LeadsNowhere (seen a) made
+  nowhere dead t v (u, (g, h, e), l) =
+      let start : Leads made (value_of_variable g a.current) v = rw e l in
+      let r = step_up t g v h start in
+      dead (live.1 (t, r.0, r.1))
 
-    module _ (b : Inside) (vars : b.vars ≡ draft.vars) (kinds : b.best ≡ best) (kin : b.kin ≡ draft.kin) (now : b.current ≡ root) (alive : b.alive ≡ true) (f : IsSatisfied draft.vars best (unfenced draft.vars)) where
-      pub added_settled : IsSettled b
-      added_settled = record {
-        order = rw vars d.steady.together.order;
-        same = rw (vars, kinds) same;
-        best = rw (vars, kinds) is;
-        linked = rw (vars, kin) d.steady.together.linked;
-        small = rw vars d.steady.together.small;
-        now_known = rw (vars, now) known;
-        now_tree = rw (vars, now) always;
-        start_tree = rw vars (d.leaves.first inv.start_tree);
-        alive = (λ t. rw (vars, now) (live.0 f), λ x. alive);
-      }
+  module _ (b : Inside) (lists : b.lists ≡ draft.lists) (now : b.current ≡ root) where
+    pub added_settled : IsSettled b
+    added_settled = record {
+      decided = rw lists d.steady.decided;
+      now_known = rw (lists, now) known;
+      now_tree = rw (lists, now) always;
+      start_tree = rw lists (d.leaves.first inv.start_tree);
+    }
 
-      pub added : AddsCase (seen a) made (seen b)
-      added = rw (vars, now) (record {
-        alive = live.0 f;
-        pairs = λ t v. (
-          λ (g, h, e).
-              let r = step_down t g h in
-              (value_of_variable g a.current, (take (length a.vars) g, r.0, old_at g a.current inv.now_known), rw e at r.1),
-          λ (u, (g, h, e), l).
-              let start : Leads made (value_of_variable g a.current) v = rw e l in
-              let r = step_up t g v h start in
-              (r.0, r.1, r.3),
-        );
-        more = d.leaves.more;
-        down = step_down;
-        up = step_up;
-      })
+    pub added : IsTrue draft.lists.alive → AddsCase (seen a) made (seen b)
+    added f = rw (lists, now) (record {
+      alive = live.0 f;
+      pairs = λ t v. (
+        λ (g, h, e).
+            let r = step_down t g h in
+            (value_of_variable g a.current, (take (length a.lists.vars) g, r.0, old_at g a.current inv.now_known), rw e at r.1),
+        λ (u, (g, h, e), l).
+            let start : Leads made (value_of_variable g a.current) v = rw e l in
+            let r = step_up t g v h start in
+            (r.0, r.1, r.3),
+      );
+      more = d.leaves.more;
+      down = step_down;
+      up = step_up;
+    })

@@ -12,7 +12,7 @@ use Rattle.tree_clauses.proofs.Orders.{contains_head, contains_nothing, contains
 use Rattle.clause_solver.specs.declared.drafts.Draft.{Draft}
 use Rattle.clause_solver.specs.declared.variable.Variable.{Variable}
 use Rattle.clause_solver.specs.Drafts.{place_in, IsPlaced, Agrees, IsSteady, Leaves, Goes, CanGo, GoesOn, IsDrafted}
-use Rattle.clause_solver.specs.Emptied.{StandTogether}
+use Rattle.clause_solver.specs.Decided.{AreDecided}
 use Rattle.clause_solver.proofs.Names.{nat_cases}
 use Rattle.clause_solver.proofs.PlainViews.{view, SimilarView, is_same, is_replaced}
 
@@ -21,14 +21,14 @@ abbrev pub Going : List Variable → ℕ → Case → List Literal → Draft →
 Going old now made rest draft =
     (after : List ℕ) × ((i : ℕ) → Contains after i ↔ (i ≤ made.locals)) × Goes old now made.literals after rest draft
 
-module _ (old : List Variable) (now : ℕ) (made : Case) (plain : IsPlain made) (draft : Draft) (vars : draft.vars ≡ old) (start : place_in draft 0 ≡ Some now) (other : (x : ℕ) → x ≢ 0 → place_in draft x ≡ None) (inside : now < length old) where
+module _ (old : List Variable) (now : ℕ) (made : Case) (plain : IsPlain made) (draft : Draft) (vars : draft.lists.vars ≡ old) (start : place_in draft 0 ≡ Some now) (other : (x : ℕ) → x ≢ 0 → place_in draft x ≡ None) (inside : now < length old) where
   at_start : (x n : ℕ) → place_in draft x ≡ Some n → (x ≡ 0) × (n ≡ now)
   at_start x n e = elim (nat_cases x 0) [
     | inl z ↦ let q : Some n ≡ Some now = sym e ∙ ap (place_in draft) z ∙ start in (z, cc)
     | inr ne ↦ let bad : Some n ≡ None = sym e ∙ other x ne in absurd (cc)
   ]
 
-  begin_leaves : Leaves old now [] (place_in draft) draft.vars
+  begin_leaves : Leaves old now [] (place_in draft) draft.lists.vars
   begin_leaves = rw vars (record {
     more = omega arith;
     first = λ f. f;
@@ -51,8 +51,8 @@ module _ (old : List Variable) (now : ℕ) (made : Case) (plain : IsPlain made) 
     )
   ]
 
-  pub begins : StandTogether draft.vars draft.best draft.kin → Going old now made made.literals draft
-  begins together = (
+  pub begins : AreDecided draft.lists → Going old now made made.literals draft
+  begins decided = (
     plain.known,
     plain.variables,
     record {
@@ -62,7 +62,7 @@ module _ (old : List Variable) (now : ℕ) (made : Case) (plain : IsPlain made) 
       split = λ h. (λ m. (tt, m), λ q. q.1);
       placed = begin_placed;
       leaves = begin_leaves;
-      steady = record { together = together; inside = λ x n e. let q = at_start x n e in rw (vars, q.1) inside };
+      steady = record { decided = decided; inside = λ x n e. let q = at_start x n e in rw (vars, q.1) inside };
     },
   )
 

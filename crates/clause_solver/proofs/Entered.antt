@@ -3,17 +3,16 @@ use Rattle.std.proofs.Common.{◌≡◌, ℕ, zero, suc, ◌+◌, ◌<◌, ◌�
 use Rattle.std.proofs.lemmas.List.{take_all, length-append, length-take-le}
 use Rattle.std.proofs.Math.Seq.{take-append_seam}
 use Rattle.script_names.specs.Names.{is_name}
-use Rattle.feature_trees.specs.declared.kind.Kind.{Kind}
 use Rattle.tree_clauses.specs.Literals.{Valuation}
-use Rattle.clause_solver.specs.declared.kin.Kin.{Kin}
+use Rattle.clause_solver.specs.declared.lists.Lists.{Lists}
 use Rattle.clause_solver.specs.declared.variable.Definition.TheVariants.{Child}
 use Rattle.clause_solver.specs.declared.variable.Variable.{Variable}
-use Rattle.clause_solver.specs.Variables.{var_at, Listed, Earlier, Ordered, IsChild, defined, is_node}
-use Rattle.clause_solver.specs.Fresh.{fresh}
+use Rattle.clause_solver.specs.Variables.{var_at, Listed, Earlier, IsChild, defined, is_node}
 use Rattle.clause_solver.specs.Appends.{IsAppended}
-use Rattle.clause_solver.specs.Emptied.{StandTogether, HasMore, HasItsVariable}
-use Rattle.clause_solver.proofs.OneMore.{longer, old_at, new_at, append_order, append_down, append_up, sound_push, defined_sound}
-use Rattle.clause_solver.proofs.Links.{variable_linked}
+use Rattle.clause_solver.specs.Decided.{AreDecided}
+use Rattle.clause_solver.specs.Emptied.{HasMore, HasItsVariable}
+use Rattle.clause_solver.proofs.OneMore.{longer, old_at, new_at, append_down, append_up, sound_push, defined_sound}
+use Rattle.clause_solver.proofs.ListSteps.{appended_decided}
 use Rattle.clause_solver.proofs.Names.{last_cases}
 use Rattle.clause_solver.proofs.Settles.{child_single}
 
@@ -57,43 +56,35 @@ known_still a b n f m child =
     let less = m.more in
     (child.0, (omega (arith, w, less), ap (λ (v : Variable). v.definition) (m.old_at child.0 w) ∙ child.1.1))
 
-module _ (vars : List Variable) (best : List Kind) (kin : List Kin) (n : ℕ) (f : List ℕ) (new_vars : List Variable) (new_best : List Kind) (new_kin : List Kin) (y : ℕ) (t : StandTogether vars best kin) (inside : n < length vars) (node : IsTrue (is_node (var_at vars n).definition)) (name : IsTrue (is_name f)) (none : (i : ℕ) → ¬ (IsChild vars n f i)) (is : IsAppended vars best kin (Child n f) new_vars new_best new_kin y) where
-  before : Earlier vars (length vars) (Child n f)
+module _ (a b : Lists) (n : ℕ) (f : List ℕ) (y : ℕ) (t : AreDecided a) (inside : n < length a.vars) (node : IsTrue (is_node (var_at a.vars n).definition)) (name : IsTrue (is_name f)) (none : (i : ℕ) → ¬ (IsChild a.vars n f i)) (is : IsAppended a.vars a.best a.kin (Child n f) b.vars b.best b.kin y) where
+  before : Earlier a.vars (length a.vars) (Child n f)
   before = (inside, node, name)
 
-  new_order : Ordered (vars ++ fresh (Child n f) ∷ [])
-  new_order = append_order vars t.order (Child n f) before (child_single vars n f none)
+  pub entered_decided : b.filled ≡ a.filled → b.alive ≡ a.alive → AreDecided b
+  entered_decided numbers live = appended_decided a b y (Child n f) t before (child_single a.vars n f none) is numbers live
 
-  pub entered_together : StandTogether new_vars new_best new_kin
-  entered_together = record {
-    order = rw is.variable new_order;
-    same = rw (is.variable, is.kind, length-append, length-append) (ap (λ k. k + 1) t.same);
-    linked = rw (is.variable, is.links) (variable_linked vars kin t.order t.linked (Child n f) before);
-    small = rw (is.variable, longer vars t.order (Child n f) before) (let r = is.room in omega arith);
-  }
-
-  pub entered_more : HasMore vars new_vars
+  pub entered_more : HasMore a.vars b.vars
   entered_more =
-      let long = longer vars t.order (Child n f) before in
+      let long = longer a.vars t.order (Child n f) before in
       rw is.variable (record {
         more = rw long (omega arith);
-        old_at = λ i w. old_at vars t.order (Child n f) before i w;
-        down = λ g l fits. (append_down vars t.order (Child n f) before g fits).0;
+        old_at = λ i w. old_at a.vars t.order (Child n f) before i w;
+        down = λ g l fits. (append_down a.vars t.order (Child n f) before g fits).0;
         up = λ g l s fits.
             let v = defined g (Child n f) in (
               g ++ v ∷ [],
               rw (long, length-append g (v ∷ [])) (ap (λ k. k + 1) l),
-              sound_push g v s (defined_sound vars (length vars) g (Child n f) before s),
-              append_up vars t.order (Child n f) before g l fits,
+              sound_push g v s (defined_sound a.vars (length a.vars) g (Child n f) before s),
+              append_up a.vars t.order (Child n f) before g l fits,
               rw (sym l) (take-append_seam g (v ∷ [])),
             );
       })
 
-  pub entered_known : HasItsVariable new_vars n f
+  pub entered_known : HasItsVariable b.vars n f
   entered_known =
       rw is.variable (
-        length vars,
-        (rw (longer vars t.order (Child n f) before) (omega arith), ap (λ (v : Variable). v.definition) (new_at vars t.order (Child n f) before)),
+        length a.vars,
+        (rw (longer a.vars t.order (Child n f) before) (omega arith), ap (λ (v : Variable). v.definition) (new_at a.vars t.order (Child n f) before)),
       )
 
 -- every name of a list has its place there

@@ -57,7 +57,7 @@ module _ (vars : List Variable) (n : ℕ) (names : List (List ℕ)) (inside : n 
   ]
 
   -- both fences let a name in, or the new one does not
-  let_in_both : (f : List ℕ) → IsTrue (allowed fence f) → Listed f names × IsTrue (allowed (var_at vars n).fence f)
+  pub let_in_both : (f : List ℕ) → IsTrue (allowed fence f) → Listed f names × IsTrue (allowed (var_at vars n).fence f)
   let_in_both f t = kept_of (allowed (var_at vars n).fence) names f (listed_from_member f (let_in (var_at vars n).fence names) t)
 
   both_let_in : (f : List ℕ) → Listed f names → IsTrue (allowed (var_at vars n).fence f) → IsTrue (allowed fence f)

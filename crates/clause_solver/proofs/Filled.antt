@@ -21,19 +21,19 @@ module _ (vars : List Variable) (x : ℕ) (inside : x < length vars) where
   abbrev here_now : Variable
   here_now = record (var_at vars x) { not_empty = true }
 
-  filled_definition : (i : ℕ) → (var_at (filled vars x) i).definition ≡ (var_at vars i).definition
+  pub filled_definition : (i : ℕ) → (var_at (filled vars x) i).definition ≡ (var_at vars i).definition
   filled_definition i = elim (nat_cases i x) [
     | inl e ↦ rw (e, get_or-set_same) refl
     | inr n ↦ rw get_or-set_other refl
   ]
 
-  filled_fence : (i : ℕ) → (var_at (filled vars x) i).fence ≡ (var_at vars i).fence
+  pub filled_fence : (i : ℕ) → (var_at (filled vars x) i).fence ≡ (var_at vars i).fence
   filled_fence i = elim (nat_cases i x) [
     | inl e ↦ rw (e, get_or-set_same) refl
     | inr n ↦ rw get_or-set_other refl
   ]
 
-  filled_kinds : (i : ℕ) → (var_at (filled vars x) i).kinds ≡ (var_at vars i).kinds
+  pub filled_kinds : (i : ℕ) → (var_at (filled vars x) i).kinds ≡ (var_at vars i).kinds
   filled_kinds i = elim (nat_cases i x) [
     | inl e ↦ rw (e, get_or-set_same) refl
     | inr n ↦ rw get_or-set_other refl

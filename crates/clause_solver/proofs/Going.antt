@@ -57,7 +57,7 @@ module _ (a b : Draft) where
       λ q. (g.split h).1 (q.0.1, (q.0.0, q.1)),
     );
     placed = λ x. rw s.same (g.placed x);
-    leaves = rw s.same (narrowed old a.vars b.vars now g.before (place_in a) g.leaves g.steady.inside literal s.here s.narrows s.is);
+    leaves = rw s.same (narrowed old a.lists.vars b.lists.vars now g.before (place_in a) g.leaves g.steady.inside literal s.here s.narrows s.is);
     steady = s.steady;
   }
 
@@ -77,6 +77,6 @@ module _ (a b : Draft) where
           λ q. (g.split h).1 ((turn.split h).1 q),
         );
         placed = more_placed g.known (place_in a) (place_in b) v m.place g.placed m.here m.other;
-        leaves = grown old a.vars b.vars now g.before (place_in a) g.leaves g.steady.inside (place_in b) v m.place d none m.here m.other turn.added m.keeps m.is turn.says;
+        leaves = grown old a.lists.vars b.lists.vars now g.before (place_in a) g.leaves g.steady.inside (place_in b) v m.place d none m.here m.other turn.added m.keeps m.is turn.says;
         steady = m.steady;
       }

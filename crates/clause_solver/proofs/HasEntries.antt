@@ -1,19 +1,21 @@
--- The cases of a variable that has an entry, and one more variable that gets its greatest kind.
-use Rattle.std.proofs.Common.{◌≡◌, ◌≢◌, ℕ, zero, suc, ◌+◌, ◌<◌, ◌≤◌, ◌⊎◌, inl, inr, ◌||◌, ◌&&◌, ◌↔◌, Bool, true, false, IsTrue, List, [], ◌∷◌, length, set, get_or, refl, sym, ap, subst, ◌∙◌, arith, get_or-set_other, get_or-set_same, below_more}
+-- The cases of a variable that has an entry, and the way over the entries of a place.
+use Rattle.std.proofs.Common.{◌≡◌, ◌≢◌, ℕ, ◌<◌, ◌≤◌, ◌⊎◌, inl, inr, ◌||◌, ◌↔◌, Bool, true, false, IsTrue, Option, None, Some, List, [], ◌∷◌, length, refl, sym, ap, subst, ◌∙◌, arith}
 use Rattle.feature_trees.specs.declared.kind.Kind.{Kind}
 use Rattle.feature_trees.specs.declared.kind.Kind.TheVariants.{Absent, Dir}
-use Rattle.feature_trees.specs.Kinds.{has}
 use Rattle.clause_solver.specs.declared.greatest.ReplacedNames.{fold-roll-ReplacedNames}
 use Rattle.clause_solver.specs.declared.greatest.ReplacedNames.TheVariants.{Also, Nothing, rolls-Also, rolls-Nothing}
 use Rattle.clause_solver.specs.declared.greatest.ReplacedNames.TheOpen.{Also as an_also, Nothing as a_nothing}
 use Rattle.clause_solver.specs.declared.variable.MadeValue.{MadeValue}
-use Rattle.clause_solver.specs.declared.variable.Definition.{Definition}
-use Rattle.clause_solver.specs.declared.variable.Definition.TheVariants.{Start, Child, Derived, Ensured, Made}
+use Rattle.clause_solver.specs.declared.variable.Definition.TheVariants.{Child, Derived, Ensured, Made}
 use Rattle.clause_solver.specs.declared.variable.Variable.{Variable}
+use Rattle.clause_solver.specs.declared.kin.Kin.{Kin}
+use Rattle.clause_solver.specs.Linked.{kin_at, IsLastChild, AreLinked}
 use Rattle.clause_solver.specs.ReplacedNames.{names, layer}
 use Rattle.clause_solver.specs.Variables.{var_at, Listed, is_node, Ordered}
-use Rattle.clause_solver.specs.Greatest.{kind_at, name_in, best_by, best_of, unfenced, HasEntryOutside, free, child_present, here, below, kept, IsOpen, IsPresentChild, IsSatisfiedAt}
-use Rattle.std.proofs.lemmas.Bool.{or_cases, or_left, or_right, and_parts, and_from}
+use Rattle.clause_solver.specs.Greatest.{kind_at, name_in, HasEntryOutside, free, child_present, here, below, kept, IsOpen, IsPresentChild}
+use Rattle.clause_solver.proofs.Links.{below_or, left_of, left_falls}
+use Rattle.clause_solver.proofs.Names.{nat_cases}
+use Rattle.std.proofs.lemmas.Bool.{or_cases, or_left, or_right}
 
 pub node_parent : (vars : List Variable) → Ordered vars → (m n : ℕ) (f : List ℕ) → m < length vars → (var_at vars m).definition ≡ Child n f → IsTrue (is_node (var_at vars n).definition)
 node_parent vars order m n f w e = (rw e at (order.earlier m w)).1
@@ -60,22 +62,6 @@ module _ (vars : List Variable) (best : List Kind) (open_at : ℕ → Bool) wher
   has_entry_made order n k ds e (below x' f' y' e' rest1) = let bad : Made k ≡ Derived x' f' y' = sym e ∙ e' in absurd (cc)
   has_entry_made order n k ds e (kept x' e' rest1) = let bad : Made k ≡ Ensured x' = sym e ∙ e' in absurd (cc)
 
-same_by : (vars : List Variable) (best : List Kind) (i k : ℕ) (v : Kind) → Ordered vars → k ≤ i → i < length vars → (d : Definition) → (var_at vars k).definition ≡ d → best_by vars (set best i v) (var_at vars k).kinds d ≡ best_by vars best (var_at vars k).kinds d
-same_by vars best i k v order h w Start e = refl
-same_by vars best i k v order h w (Child p f) e =
-    let before = rw e at (order.earlier k (omega arith)) in
-    let ne : p ≢ i = omega (arith, before.0) in
-    rw get_or-set_other refl
-same_by vars best i k v order h w (Derived x f y) e = refl
-same_by vars best i k v order h w (Ensured x) e = refl
-same_by vars best i k v order h w (Made q) e = refl
-
-pub settled_more : (vars : List Variable) (best : List Kind) (i : ℕ) (v : Kind) → Ordered vars → length best ≡ length vars → i < length vars → v ≡ best_of vars best i → ((k : ℕ) → k < i → kind_at best k ≡ best_of vars best k) → (k : ℕ) → k < i + 1 → kind_at (set best i v) k ≡ best_of vars (set best i v) k
-settled_more vars best i v order same h is done =
-    below_more _ _
-    (λ k b. let ne : k ≢ i = omega arith in rw (same_by vars best i k v order (omega arith) h (var_at vars k).definition refl) (rw get_or-set_other (done k b)))
-    (let inside : i < length best = omega arith in rw (same_by vars best i i v order (omega arith) h (var_at vars i).definition refl) (rw get_or-set_same is))
-
 pub node_iff : (vars : List Variable) (best : List Kind) (open_at : ℕ → Bool) (n : ℕ) (ds : List (List ℕ)) (a b : Bool) → IsTrue (is_node (var_at vars n).definition) → (IsTrue a ↔ IsOpen best open_at n) → (IsTrue b ↔ ((m : ℕ) × (m < length vars) × IsPresentChild vars best n ds m)) → IsTrue (a || b) ↔ HasEntryOutside vars best open_at n ds
 node_iff vars best open_at n ds a b node ia ib = (
   λ t. elim (or_cases a b t) [
@@ -119,29 +105,45 @@ replaced_also f p = ap names (sym (rolls-Also f p)) ∙ fold-roll-ReplacedNames 
 pub replaced_nothing : names Nothing ≡ []
 replaced_nothing = ap names (sym rolls-Nothing) ∙ fold-roll-ReplacedNames (List (List ℕ)) layer a_nothing
 
-pub var_same : (vars : List Variable) (i : ℕ) (d e : Variable) → i < length vars → get_or vars i d ≡ get_or vars i e
-var_same [] i d e w = absurd (omega arith)
-var_same (c ∷ cs) zero d e w = refl
-var_same (c ∷ cs) (suc i) d e w = var_same cs i d e (omega arith)
+-- on the way from the last entry of a place to the first: none that is there stands behind what is left
+pub record NonePresent (vars : List Variable) (best : List Kind) (x : ℕ) (ds : List (List ℕ)) (rest : Option ℕ) : Type 0 where
+  pub bound : ℕ
+  pub low : bound ≤ length vars
+  pub last : IsLastChild vars x bound rest
+  pub none : (i : ℕ) → bound ≤ i → i < length vars → ¬ (IsPresentChild vars best x ds i)
 
-abbrev pub IsSatisfiedBelow : List Variable → List Kind → ℕ → Type 0
-IsSatisfiedBelow vars best i = (k : ℕ) → k < i → IsSatisfiedAt vars best (unfenced vars) k
+module _ (vars : List Variable) (best : List Kind) (kin : List Kin) (x : ℕ) (ds : List (List ℕ)) (linked : AreLinked vars kin) where
+  pub none_first : x < length vars → NonePresent vars best x ds (kin_at kin x).youngest
+  none_first inside = record {
+    bound = length vars;
+    low = omega arith;
+    last = linked.youngest x inside;
+    none = λ i le w. absurd (omega (arith, le, w));
+  }
 
-pub satisfied_more : (vars : List Variable) (best : List Kind) (i : ℕ) (a b : Bool) → (IsTrue a ↔ IsSatisfiedBelow vars best i) → (IsTrue b ↔ IsSatisfiedAt vars best (unfenced vars) i) → IsTrue (a && b) ↔ IsSatisfiedBelow vars best (i + 1)
-satisfied_more vars best i a b ia ib = (
-  λ t. let q = and_parts a b t in below_more _ _ (ia.0 q.0) (ib.0 q.1),
-  λ all. and_from a b (ia.1 (λ k w. all k (omega arith))) (ib.1 (all i (omega arith))),
-)
+  pub none_last : NonePresent vars best x ds None → ¬ ((m : ℕ) × (m < length vars) × IsPresentChild vars best x ds m)
+  none_last n child = elim (below_or child.0 n.bound) [
+    | inl low ↦ n.last child.0 low (name_in (var_at vars child.0).definition, child.2.0)
+    | inr le ↦ n.none child.0 le child.1 child.2
+  ]
 
--- a variable with no need of an entry is satisfied where its kind fits, and one with a need where it has one
-pub satisfied_without : (vars : List Variable) (best : List Kind) (i : ℕ) (f : Bool) → f ≡ has (var_at vars i).kinds (kind_at best i) → (var_at vars i).not_empty ≡ false → IsTrue f ↔ IsSatisfiedAt vars best (unfenced vars) i
-satisfied_without vars best i f e none = (
-  λ t. record { fits = sym e ∙ t; filled = λ l. let bad : true ≡ false = sym l ∙ none in absurd (cc) },
-  λ satisfied. e ∙ satisfied.fits,
-)
+  module _ (m : ℕ) (n : NonePresent vars best x ds (Some m)) where
+    pub present_inside : m < length vars
+    present_inside = let low = n.low in let below = n.last.0 in omega (arith, low, below)
 
-pub satisfied_with : (vars : List Variable) (best : List Kind) (i : ℕ) (f v : Bool) → f ≡ has (var_at vars i).kinds (kind_at best i) → (var_at vars i).not_empty ≡ true → (IsTrue v ↔ HasEntryOutside vars best (unfenced vars) i []) → IsTrue (f && v) ↔ IsSatisfiedAt vars best (unfenced vars) i
-satisfied_with vars best i f v e some iv = (
-  λ t. let q = and_parts f v t in record { fits = sym e ∙ q.0; filled = λ l. iv.0 q.1 },
-  λ satisfied. and_from f v (e ∙ satisfied.fits) (iv.1 (satisfied.filled some)),
-)
+    pub present_falls : left_of (kin_at kin m).older < left_of (Some m)
+    present_falls = left_falls vars x m (kin_at kin m).older (linked.older m x present_inside n.last.1)
+
+    pub none_next : ¬ (IsPresentChild vars best x ds m) → NonePresent vars best x ds (kin_at kin m).older
+    none_next absent = record {
+      bound = m;
+      low = let w = present_inside in omega (arith, w);
+      last = linked.older m x present_inside n.last.1;
+      none = λ i le w child. elim (nat_cases i m) [
+        | inl e ↦ absent (subst (IsPresentChild vars best x ds) e child)
+        | inr ne ↦ elim (below_or i n.bound) [
+          | inl low ↦ n.last.2 i (omega (arith, le, ne)) low (name_in (var_at vars i).definition, child.0)
+          | inr past ↦ n.none i past w child
+        ]
+      ];
+    }

@@ -80,6 +80,16 @@ chosen_dir a r l o false h = cc
 pub choose_dir : (s : Kinds) → IsTrue (has s Dir) → choose s ≡ Dir
 choose_dir s h = chosen_dir s.absent s.reg s.link s.other s.dir h
 
+chosen_is : (a r l o d : Bool) → choose (set_of a r l o d) ≡ Dir → IsTrue d
+chosen_is a r l o true e = refl
+chosen_is a true l o false e = let bad : Reg ≡ Dir = e in absurd (cc)
+chosen_is a false true o false e = let bad : Link ≡ Dir = e in absurd (cc)
+chosen_is a false false true false e = let bad : Other ≡ Dir = e in absurd (cc)
+chosen_is a false false false false e = let bad : Absent ≡ Dir = e in absurd (cc)
+
+pub choose_is_dir : (s : Kinds) → choose s ≡ Dir → IsTrue (has s Dir)
+choose_is_dir s e = chosen_is s.absent s.reg s.link s.other s.dir e
+
 pub is_dir_cases : (k : Kind) → (k ≡ Dir) ⊎ (is_dir k ≡ false)
 is_dir_cases Absent = inr refl
 is_dir_cases Reg = inr refl

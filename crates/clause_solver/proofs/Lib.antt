@@ -17,7 +17,10 @@ pub mod Covering
 pub mod Opens
 pub mod Built
 pub mod Moved
+pub mod Falling
+pub mod Deciding
 pub mod Redecided
+pub mod ListSteps
 pub mod Excluded
 pub mod Filled
 pub mod Emptied

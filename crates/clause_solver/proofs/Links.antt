@@ -16,7 +16,7 @@ use Rattle.clause_solver.proofs.Names.{nat_cases, last_cases}
 use Rattle.clause_solver.proofs.OneMore.{longer, old_at, new_at}
 use Rattle.clause_solver.proofs.Limited.{limited_definition}
 
-below_or : (i n : ℕ) → (i < n) ⊎ (n ≤ i)
+pub below_or : (i n : ℕ) → (i < n) ⊎ (n ≤ i)
 below_or i zero = inr (omega arith)
 below_or zero (suc n) = inl (omega arith)
 below_or (suc i) (suc n) = elim (below_or i n) [ inl w ↦ inl (omega (arith, w)) | inr le ↦ inr (omega (arith, le)) ]

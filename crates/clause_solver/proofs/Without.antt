@@ -1,35 +1,16 @@
 -- A variable without entries: the stages put together.
-use Rattle.std.proofs.Common.{◌≡◌, ℕ, ◌<◌, IsTrue, List, length, take, refl, sym, ap, ◌∙◌, arith, length-set, subst}
+use Rattle.std.proofs.Common.{◌≡◌, ℕ, ◌<◌, List, length, take, refl, sym, ap, ◌∙◌, arith, length-set, subst}
 use Rattle.std.proofs.lemmas.List.{take_all, get_or-take, length-take-le}
-use Rattle.feature_trees.specs.declared.kind.Kind.{Kind}
 use Rattle.feature_trees.specs.declared.value.Value.TheVariants as value
 use Rattle.feature_trees.specs.Tree.{kind_of}
 use Rattle.tree_clauses.specs.Literals.{value_of_variable}
-use Rattle.clause_solver.specs.declared.kin.Kin.{Kin}
 use Rattle.clause_solver.specs.declared.variable.Variable.{Variable}
 use Rattle.clause_solver.specs.Stands.{Empties, HasNone}
-use Rattle.clause_solver.specs.Variables.{var_at, Listed, AllFit, Ordered, AlwaysDir, is_node}
-use Rattle.clause_solver.specs.Emptied.{IsNarrower, ComesTo, IsEmptied, StandTogether, HasMore, HasItsVariable, IsClosed, IsWithout, fenced}
+use Rattle.clause_solver.specs.Variables.{AllFit, Ordered, AlwaysDir}
+use Rattle.clause_solver.specs.Emptied.{ComesTo, IsEmptied, HasMore, IsClosed, IsWithout, fenced}
 use Rattle.clause_solver.proofs.Pairs.{fits_from, fits_to}
 use Rattle.clause_solver.proofs.OneMore.{seen_of, sound_take}
-use Rattle.clause_solver.proofs.Links.{same_linked}
-use Rattle.clause_solver.proofs.Fenced.{fenced_fits, fits_fenced, fenced_only, fenced_order, fenced_linked}
-
-pub narrower_together : (old new : List Variable) (best : List Kind) (kin : List Kin) → StandTogether old best kin → IsNarrower old new → StandTogether new best kin
-narrower_together old new best kin t n = record {
-  order = n.order;
-  same = t.same ∙ sym n.long;
-  linked = same_linked old new kin n.long n.definition t.linked;
-  small = rw n.long t.small;
-}
-
-pub fenced_together : (vars : List Variable) (best : List Kind) (kin : List Kin) (n : ℕ) (names : List (List ℕ)) → n < length vars → IsTrue (is_node (var_at vars n).definition) → ((f : List ℕ) → Listed f names → HasItsVariable vars n f) → StandTogether vars best kin → StandTogether (fenced vars n names) best kin
-fenced_together vars best kin n names inside node known t = record {
-  order = fenced_order vars n names inside node known t.order;
-  same = t.same ∙ sym (length-set vars n _);
-  linked = fenced_linked vars n names inside kin t.linked;
-  small = rw length-set t.small;
-}
+use Rattle.clause_solver.proofs.Fenced.{fenced_fits, fits_fenced, fenced_only}
 
 pub fenced_closed : (old vars : List Variable) (n : ℕ) (names : List (List ℕ)) → 0 < length old → n < length old → HasMore old vars → IsClosed old n names (fenced vars n names)
 fenced_closed old vars n names some inside m =

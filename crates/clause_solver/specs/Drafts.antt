@@ -9,7 +9,7 @@ use Rattle.tree_clauses.specs.Plain.{PlainOrder}
 use Rattle.clause_solver.specs.declared.drafts.Draft.{Draft}
 use Rattle.clause_solver.specs.declared.variable.Definition.{Definition}
 use Rattle.clause_solver.specs.declared.variable.Variable.{Variable}
-use Rattle.clause_solver.specs.Emptied.{StandTogether}
+use Rattle.clause_solver.specs.Decided.{AreDecided}
 use Rattle.clause_solver.specs.Variables.{AllFit, OnlyDir, defined}
 
 -- the store's variables that variables of a case stand for
@@ -38,24 +38,22 @@ pub record Narrows (old new : List Variable) (P : Valuation → Type 0) : Type 0
   pub up : (g : Valuation) → length g ≡ length old → IsSound g → AllFit old g → P g
       → (h : Valuation) × (length h ≡ length new) × IsSound h × AllFit new h × (take (length old) h ≡ g)
 
--- the lists stand together, and the places are variables of them
+-- the lists stand, and the places are variables of them
 pub record IsSteady (draft : Draft) : Type 0 where
-  pub together : StandTogether draft.vars draft.best draft.kin
-  pub inside : (x n : ℕ) → place_in draft x ≡ Some n → n < length draft.vars
+  pub decided : AreDecided draft.lists
+  pub inside : (x n : ℕ) → place_in draft x ≡ Some n → n < length draft.lists.vars
 
 -- one literal on variables that have a place is left to hold, which is `here` on the store's variables
 pub record Says (old new : Draft) (literal : Literal) : Type 0 where
   pub here : Literal
   pub same : new.places ≡ old.places
   pub steady : IsSteady new
-  pub narrows : Narrows old.vars new.vars (λ g. Meets g here)
+  pub narrows : Narrows old.lists.vars new.lists.vars (λ g. Meets g here)
   pub is : (g h : Valuation) → Agrees (place_in old) g h → Meets g here ↔ Meets h literal
 
 -- the case's variable v has the place y now, and all else is as before
 pub record IsPut (old new : Draft) (v y : ℕ) : Type 0 where
-  pub vars : new.vars ≡ old.vars
-  pub best : new.best ≡ old.best
-  pub kin : new.kin ≡ old.kin
+  pub lists : new.lists ≡ old.lists
   pub here : place_in new v ≡ Some y
   pub other : (x : ℕ) → x ≢ v → place_in new x ≡ place_in old x
 
@@ -65,8 +63,8 @@ pub record Adds (old new : Draft) (v : ℕ) (d : Definition) : Type 0 where
   pub here : place_in new v ≡ Some place
   pub other : (x : ℕ) → x ≢ v → place_in new x ≡ place_in old x
   pub steady : IsSteady new
-  pub keeps : Narrows old.vars new.vars (λ g. Unit {0})
-  pub is : (g : Valuation) → length g ≡ length new.vars → IsSound g → AllFit new.vars g
+  pub keeps : Narrows old.lists.vars new.lists.vars (λ g. Unit {0})
+  pub is : (g : Valuation) → length g ≡ length new.lists.vars → IsSound g → AllFit new.lists.vars g
       → value_of_variable g place ≡ defined g d
 
 -- the same by a definition from the case's variables
@@ -75,8 +73,8 @@ pub record Makes (old new : Draft) (v : ℕ) (d : Definition) : Type 0 where
   pub here : place_in new v ≡ Some place
   pub other : (x : ℕ) → x ≢ v → place_in new x ≡ place_in old x
   pub steady : IsSteady new
-  pub keeps : Narrows old.vars new.vars (λ g. Unit {0})
-  pub is : (g h : Valuation) → length g ≡ length new.vars → IsSound g → AllFit new.vars g
+  pub keeps : Narrows old.lists.vars new.lists.vars (λ g. Unit {0})
+  pub is : (g h : Valuation) → length g ≡ length new.lists.vars → IsSound g → AllFit new.lists.vars g
       → Agrees (place_in old) g h → value_of_variable g place ≡ defined h d
 
 -- what literals of a case leave of the old variables, of which `now` stands for the case's variable 0
@@ -102,7 +100,7 @@ pub record Goes (old : List Variable) (now : ℕ) (literals : List Literal) (aft
   pub order : PlainOrder before known rest after
   pub split : (h : Valuation) → MeetsAll h literals ↔ (MeetsAll h before × MeetsAll h rest)
   pub placed : (x : ℕ) → Contains known x ↔ IsPlaced (place_in draft x)
-  pub leaves : Leaves old now before (place_in draft) draft.vars
+  pub leaves : Leaves old now before (place_in draft) draft.lists.vars
   pub steady : IsSteady draft
 
 -- these literals can be the rest
@@ -120,6 +118,6 @@ GoesOn old_draft rest new_draft more =
 -- the draft is what the case leaves of the old variables, of which `now` stands for its variable 0, and each variable
 -- of the case has a place
 pub record IsDrafted (old : List Variable) (now : ℕ) (made : Case) (draft : Draft) : Type 0 where
-  pub leaves : Leaves old now made.literals (place_in draft) draft.vars
+  pub leaves : Leaves old now made.literals (place_in draft) draft.lists.vars
   pub placed : (x : ℕ) → IsPlaced (place_in draft x) ↔ (x ≤ made.locals)
   pub steady : IsSteady draft

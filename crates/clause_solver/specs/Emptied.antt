@@ -9,10 +9,9 @@ use Rattle.feature_trees.specs.Kinds.{has, of}
 use Rattle.feature_trees.specs.Tree.{entry}
 use Rattle.tree_clauses.specs.Literals.{Valuation, value_of_variable, IsSound}
 use Rattle.clause_solver.specs.declared.variable.Variable.{Variable}
-use Rattle.clause_solver.specs.declared.kin.Kin.{Kin}
-use Rattle.clause_solver.specs.Linked.{AreLinked}
 use Rattle.clause_solver.specs.Stands.{HasNone}
-use Rattle.clause_solver.specs.Variables.{var_at, Listed, member, allowed, limited, is_node, AllFit, Ordered, IsChild, OnlyDir}
+use Rattle.clause_solver.specs.Variables.{var_at, Listed, member, allowed, limited, is_node, AllFit, Ordered, IsChild}
+use Rattle.clause_solver.specs.Variables.{OnlyDir}
 
 -- the value has no entry under another name than these
 abbrev pub HasNoneOutside : Value → List (List ℕ) → Type 0
@@ -63,13 +62,6 @@ let_in fence names = filter (allowed fence) names
 abbrev pub fenced : List Variable → ℕ → List (List ℕ) → List Variable
 fenced vars n names =
     slice_set vars n (record (var_at vars n) { fence = Some (let_in (var_at vars n).fence names) })
-
--- the variables, their greatest kinds and their links stand together
-pub record StandTogether (vars : List Variable) (best : List Kind) (kin : List Kin) : Type 0 where
-  pub order : Ordered vars
-  pub same : length best ≡ length vars
-  pub linked : AreLinked vars kin
-  pub small : length vars ≤ 4294967295
 
 -- the old variables, and further ones whose values they decide
 pub record HasMore (old new : List Variable) : Type 0 where

@@ -45,10 +45,6 @@ best_of vars best i = best_by vars best (var_at vars i).kinds (var_at vars i).de
 abbrev pub IsBest : List Variable → List Kind → Type 0
 IsBest vars best = (i : ℕ) → i < length vars → kind_at best i ≡ best_of vars best i
 
--- each variable but one has its greatest kind
-abbrev pub IsBestBut : List Variable → List Kind → ℕ → Type 0
-IsBestBut vars best x = (i : ℕ) → i < length vars → i ≢ x → kind_at best i ≡ best_of vars best i
-
 -- whether there is no fence
 abbrev pub is_unfenced : Option (List (List ℕ)) → Bool
 is_unfenced None = true

@@ -14,5 +14,7 @@ pub mod Pairs
 pub mod Opens
 pub mod Builds
 pub mod Adds
+pub mod Settled
+pub mod Decided
 pub mod Drafts
 pub mod Looking

@@ -1,36 +1,28 @@
-//! What a case adds to a store: its literals in their order, each by a step of a draft, and one decision at the end.
+//! What a case adds to a store: its literals in their order, each by a step of a draft.
 
 ghost use Rattle.std.specs.Prelude.{◌≡◌, ◌≤◌, ◌<◌, ◌∷◌, length, drop, IfOk};
 ghost use Rattle.tree_clauses.specs.declared.clause.Literal.TheVariants as literal;
 ghost use Rattle.tree_clauses.specs.Plain.{IsPlain};
 ghost use Rattle.tree_clauses.specs.Solved.{subject};
 ghost use Rattle.clause_solver.specs.Drafts.{CanGo, GoesOn, IsDrafted};
-ghost use Rattle.clause_solver.specs.Emptied.{StandTogether};
+ghost use Rattle.clause_solver.specs.Decided.{AreDecided};
 
 use crate::drafts::Draft;
-use crate::kin::Kin;
-use crate::variable::{MadeValue, Variable};
+use crate::lists::Lists;
+use crate::variable::MadeValue;
 use feature_trees::{Kind, Kinds};
 use script_names::{Copied, Memory, Name};
-use shared_table::Shared;
 use std::alloc::Global;
 use tree_clauses::{Case, Literal, Var};
 
 /// The lists of a store with what the literals of a case leave, whose variable 0 stands for the tree now.
-pub(crate) fn drafted(
-    alloc: Global,
-    vars: &Shared<Variable>,
-    best: &Shared<Kind>,
-    kin: &Shared<Kin>,
-    now: u32,
-    case: &Case,
-) -> Result<Draft, Memory>
+pub(crate) fn drafted(alloc: Global, lists: &Lists, now: u32, case: &Case) -> Result<Draft, Memory>
     requires plain { IsPlain case.now }
-    requires together { StandTogether vars.now best.now kin.now }
-    requires inside { now < length vars.now }
-    ensures { IfOk result (IsDrafted vars.now now case.now) }
+    requires decided { AreDecided lists.now }
+    requires inside { now < length lists.now.vars }
+    ensures { IfOk result (IsDrafted lists.now.vars now case.now) }
 {
-    let mut draft = Draft::of(alloc, vars, best, kin, now)?;
+    let mut draft = Draft::of(alloc, lists, now)?;
     let mut left = case.literals.as_slice();
     while let [literal, rest @ ..] = left {
         left = pass(alloc, &mut draft, literal, rest)?;

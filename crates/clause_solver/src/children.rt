@@ -13,8 +13,8 @@ use crate::variable::{Definition, Variable};
 use script_names::{Memory, Name};
 use shared_table::{Shared, fork_alone, push_alone, set_alone};
 
-// The links of the variable with this number.
-fn kin_at(kin: &Shared<Kin>, i: usize) -> Kin
+/// The links of the variable with this number.
+pub(crate) fn kin_at(kin: &Shared<Kin>, i: usize) -> Kin
     requires { i < length kin.now }
     ensures { result ≡ kin_at kin.now i }
 {

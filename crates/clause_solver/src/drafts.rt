@@ -1,5 +1,5 @@
 //! A store in the making: the variables of a store, which literals of a case narrow and add to. Whether a pair is left
-//! is not decided on the way.
+//! is known after each of them.
 
 ghost use Rattle.std.specs.Prelude.{◌≡◌, ◌≢◌, ◌↔◌, ℕ, IsTrue, IfOk, OnOk, Some, None, [], length};
 ghost use Rattle.tree_clauses.specs.declared.clause.Literal.TheVariants as literal;
@@ -11,12 +11,10 @@ ghost use Rattle.clause_solver.specs.Appends.{IsSingle};
 use crate::appended::{Found, append, resolve};
 use crate::children::find;
 use crate::emptying::without_entries;
-use crate::facts::{fill, narrow};
-use crate::kin::Kin;
-use crate::variable::{Definition, MadeValue, Variable};
-use feature_trees::{Kind, Kinds};
+use crate::lists::Lists;
+use crate::variable::{Definition, MadeValue};
+use feature_trees::Kinds;
 use script_names::{Copied, Memory, Name};
-use shared_table::{Shared, fork_alone};
 use std::alloc::Global;
 use std::collections::BTreeMap;
 use tree_clauses::Var;
@@ -24,35 +22,20 @@ use tree_clauses::Var;
 /// The lists of a store, with the variables of it that variables of a case stand for.
 #[derive(Drop)]
 pub(crate) struct Draft {
-    pub(crate) vars: Shared<Variable>,
-    pub(crate) best: Shared<Kind>,
-    pub(crate) kin: Shared<Kin>,
+    pub(crate) lists: Lists,
     pub(crate) places: BTreeMap<u32, u32>,
 }
 
 impl Draft {
     /// The lists of a store, with a place for variable 0 of a case.
-    pub(crate) fn of(
-        alloc: Global,
-        vars: &Shared<Variable>,
-        best: &Shared<Kind>,
-        kin: &Shared<Kin>,
-        now: u32,
-    ) -> Result<Draft, Memory>
-        ensures { IfOk result (λ draft. (draft.vars ≡ vars.now) × (draft.best ≡ best.now) × (draft.kin ≡ kin.now)
-            × (place_in draft 0 ≡ Some now) × ((x : ℕ) → x ≢ 0 → place_in draft x ≡ None)) }
+    pub(crate) fn of(alloc: Global, lists: &Lists, now: u32) -> Result<Draft, Memory>
+        ensures { IfOk result (λ draft. (draft.lists ≡ lists.now) × (place_in draft 0 ≡ Some now)
+            × ((x : ℕ) → x ≢ 0 → place_in draft x ≡ None)) }
     {
-        let vars = fork_alone(vars)?;
-        let best = fork_alone(best)?;
-        let kin = fork_alone(kin)?;
+        let lists = lists.fork()?;
         let mut places = BTreeMap::new(alloc);
         places.insert(0, now)?;
-        Ok(Draft {
-            vars,
-            best,
-            kin,
-            places,
-        })
+        Ok(Draft { lists, places })
     }
 
     /// Whether a variable of the case has a place.
@@ -83,7 +66,7 @@ impl Draft {
         ensures { OnOk result (Says self.old self.new (literal.Kind x k)) }
     {
         let n = self.place(x);
-        narrow(alloc, &mut self.vars, n as usize, k)?;
+        self.lists.limit(alloc, n, k)?;
         Ok(())
     }
 
@@ -94,7 +77,7 @@ impl Draft {
         ensures { OnOk result (Says self.old self.new (literal.NotEmpty x)) }
     {
         let n = self.place(x);
-        fill(alloc, &mut self.vars, n as usize)?;
+        self.lists.fill(alloc, n)?;
         Ok(())
     }
 
@@ -105,10 +88,8 @@ impl Draft {
         ensures { OnOk result (Says self.old self.new (literal.Fence x [])) }
     {
         let n = self.place(x);
-        let new = without_entries(alloc, &self.vars, &self.best, &self.kin, n)?;
-        self.vars = new.vars;
-        self.best = new.best;
-        self.kin = new.kin;
+        let new = without_entries(alloc, &self.lists, n)?;
+        self.lists = new;
         Ok(())
     }
 
@@ -123,11 +104,17 @@ impl Draft {
     // A variable of the case stands for a new one with this definition.
     fn define(&mut self, alloc: Global, v: Var, d: Definition) -> Result<(), Memory>
         requires steady { IsSteady self.old }
-        requires before { Earlier self.old.vars (length self.old.vars) d }
-        requires single { IsSingle self.old.vars d }
+        requires before { Earlier self.old.lists.vars (length self.old.lists.vars) d }
+        requires single { IsSingle self.old.lists.vars d }
         ensures { OnOk result (Adds self.old self.new v.0 d) }
     {
-        let y = append(alloc, &mut self.vars, &mut self.best, &mut self.kin, d)?;
+        let y = append(
+            alloc,
+            &mut self.lists.vars,
+            &mut self.lists.best,
+            &mut self.lists.kin,
+            d,
+        )?;
         self.put(v, y)?;
         Ok(())
     }
@@ -140,7 +127,7 @@ impl Draft {
     {
         f.is_sound();
         let n = self.place(x);
-        match resolve(&self.vars, n, f) {
+        match resolve(&self.lists.vars, n, f) {
             Found::Known(y) => {
                 self.put(v, y)?;
                 Ok(())
@@ -150,7 +137,7 @@ impl Draft {
                 Ok(())
             }
             Found::At(m) => {
-                if let Some(y) = find(&self.vars, &self.kin, m, f) {
+                if let Some(y) = find(&self.lists.vars, &self.lists.kin, m, f) {
                     self.put(v, y)?;
                     return Ok(());
                 }

@@ -1,27 +1,28 @@
 //! How a variable is left without entries: along its definitions, down to a place of the start tree.
 
 ghost use Rattle.std.specs.Prelude.{◌≡◌, ℕ, List, ◌<◌, [], length, IfOk, OnOk, IsTrue, Some};
-ghost use Rattle.clause_solver.specs.Variables.{Listed, Ordered, is_node, var_at};
-ghost use Rattle.clause_solver.specs.Emptied.{EndsAt, HasItsVariable, HasMore, IsClosed, IsWithout, StandTogether};
+ghost use Rattle.clause_solver.specs.Variables.{Listed, is_node, var_at};
+ghost use Rattle.clause_solver.specs.Decided.{AreDecided};
+ghost use Rattle.clause_solver.specs.Emptied.{EndsAt, HasItsVariable, HasMore, IsClosed, IsWithout};
 ghost use Rattle.clause_solver.specs.Emptied.{fenced, let_in, names_past, vars_past};
 
 use crate::appended::append;
 use crate::children::find;
-use crate::facts::narrow;
 use crate::greatest::{allows, is_member};
-use crate::kin::Kin;
+use crate::lists::{Lists, have_entries};
 use crate::places::var_at;
+use crate::settling::settle_entries;
 use crate::variable::{Definition, Variable};
 use feature_trees::{Kind, Kinds};
 use script_names::{Copied, List, Memory, Name};
-use shared_table::{Shared, fork_alone, set_alone};
+use shared_table::{Shared, set_alone};
 use std::alloc::Global;
 
-/// The way down from a variable that has no entry: the variables, of which those replaced on the way are absent, and
-/// the names that they were replaced under.
+/// The way down from a variable that has no entry: the lists, in which the variables that were replaced on the way are
+/// absent, and the names that they were replaced under.
 #[derive(Drop)]
 pub(crate) struct WayDown {
-    pub(crate) vars: Shared<Variable>,
+    pub(crate) lists: Lists,
     pub(crate) names: List<Name>,
     /// The place of the start tree that it ends at; else it ends at a made value.
     pub(crate) place: Option<u32>,
@@ -30,58 +31,61 @@ pub(crate) struct WayDown {
 // Goes past an entry that is replaced: where its name is a new one, nothing stands there.
 fn go_past(
     alloc: Global,
-    vars: &mut Shared<Variable>,
+    lists: &mut Lists,
     names: &mut List<Name>,
     f: &Name,
-    y: usize,
+    y: u32,
 ) -> Result<(), Memory>
-    requires { y < length vars.old }
-    ensures vars { OnOk result (vars.new ≡ vars_past vars.old names.old f.now y) }
+    requires decided { AreDecided lists.old }
+    requires inside { y < length lists.old.vars }
+    ensures decided { OnOk result (AreDecided lists.new) }
+    ensures vars { OnOk result (lists.new.vars ≡ vars_past lists.old.vars names.old f.now y) }
     ensures names { OnOk result (names.new ≡ names_past names.old f.now) }
 {
     if is_member(names.as_slice(), f) {
         return Ok(());
     }
-    narrow(alloc, vars, y, Kinds::of(Kind::Absent))?;
+    lists.limit(alloc, y, Kinds::of(Kind::Absent))?;
     let name = f.copy(alloc)?;
     names.add(name)?;
     Ok(())
 }
 
 /// The way down from a variable that has no entry.
-pub(crate) fn way_down(alloc: Global, vars: &Shared<Variable>, x: u32) -> Result<WayDown, Memory>
-    requires order { Ordered vars.now }
-    requires inside { x < length vars.now }
-    ensures { IfOk result (λ way. EndsAt vars.now x way.vars way.names way.place) }
+pub(crate) fn way_down(alloc: Global, lists: &Lists, x: u32) -> Result<WayDown, Memory>
+    requires decided { AreDecided lists.now }
+    requires inside { x < length lists.now.vars }
+    ensures decided { IfOk result (λ way. AreDecided way.lists) }
+    ensures ends { IfOk result (λ way. EndsAt lists.now.vars x way.lists.vars way.names way.place) }
 {
-    let mut new = fork_alone(vars)?;
+    let mut new = lists.fork()?;
     let mut names = List::new(alloc);
     let mut here = x;
     'down: loop {
-        let definition = var_at(&new, here as usize).definition.fork()?;
+        let definition = var_at(&new.vars, here as usize).definition.fork()?;
         match definition.get() {
             Definition::Start => {
                 return Ok(WayDown {
-                    vars: new,
+                    lists: new,
                     names,
                     place: Some(here),
                 });
             }
             Definition::Child(_, _) => {
                 return Ok(WayDown {
-                    vars: new,
+                    lists: new,
                     names,
                     place: Some(here),
                 });
             }
             Definition::Derived(of, f, y) => {
-                go_past(alloc, &mut new, &mut names, f, *y as usize)?;
+                go_past(alloc, &mut new, &mut names, f, *y)?;
                 here = *of;
             }
             Definition::Ensured(of) => here = *of,
             Definition::Made(_) => {
                 return Ok(WayDown {
-                    vars: new,
+                    lists: new,
                     names,
                     place: None,
                 });
@@ -91,65 +95,43 @@ pub(crate) fn way_down(alloc: Global, vars: &Shared<Variable>, x: u32) -> Result
 }
 
 // Gives an entry of a place its variable, where it has none.
-fn enter(
-    alloc: Global,
-    vars: &mut Shared<Variable>,
-    best: &mut Shared<Kind>,
-    kin: &mut Shared<Kin>,
-    n: u32,
-    f: &Name,
-) -> Result<(), Memory>
-    requires together { StandTogether vars.old best.old kin.old }
-    requires inside { n < length vars.old }
-    requires node { IsTrue (is_node (var_at vars.old n).definition) }
-    ensures together { OnOk result (StandTogether vars.new best.new kin.new) }
-    ensures more { OnOk result (HasMore vars.old vars.new) }
-    ensures known { OnOk result (HasItsVariable vars.new n f.now) }
+fn enter(alloc: Global, lists: &mut Lists, n: u32, f: &Name) -> Result<(), Memory>
+    requires decided { AreDecided lists.old }
+    requires inside { n < length lists.old.vars }
+    requires node { IsTrue (is_node (var_at lists.old.vars n).definition) }
+    ensures decided { OnOk result (AreDecided lists.new) }
+    ensures more { OnOk result (HasMore lists.old.vars lists.new.vars) }
+    ensures known { OnOk result (HasItsVariable lists.new.vars n f.now) }
 {
     f.is_sound();
-    if let Some(_) = find(vars, kin, n, f) {
+    if let Some(_) = find(&lists.vars, &lists.kin, n, f) {
         return Ok(());
     }
     let name = f.copy(alloc)?;
-    let _y = append(alloc, vars, best, kin, Definition::Child(n, name))?;
+    let _y = append(
+        alloc,
+        &mut lists.vars,
+        &mut lists.best,
+        &mut lists.kin,
+        Definition::Child(n, name),
+    )?;
     Ok(())
 }
 
-/// The variables of a store, their greatest kinds and their links.
-#[derive(Drop)]
-pub(crate) struct Lists {
-    pub(crate) vars: Shared<Variable>,
-    pub(crate) best: Shared<Kind>,
-    pub(crate) kin: Shared<Kin>,
-}
-
 // Gives the entries of a place under these names their variables.
-fn with_entries(
-    alloc: Global,
-    old: &Shared<Variable>,
-    best: &Shared<Kind>,
-    kin: &Shared<Kin>,
-    n: u32,
-    names: &[Name],
-) -> Result<Lists, Memory>
-    requires together { StandTogether old.now best.now kin.now }
-    requires inside { n < length old.now }
-    requires node { IsTrue (is_node (var_at old.now n).definition) }
-    ensures together { IfOk result (λ new. StandTogether new.vars new.best new.kin) }
-    ensures more { IfOk result (λ new. HasMore old.now new.vars) }
+fn with_entries(alloc: Global, lists: &Lists, n: u32, names: &[Name]) -> Result<Lists, Memory>
+    requires decided { AreDecided lists.now }
+    requires inside { n < length lists.now.vars }
+    requires node { IsTrue (is_node (var_at lists.now.vars n).definition) }
+    ensures decided { IfOk result (λ new. AreDecided new) }
+    ensures more { IfOk result (λ new. HasMore lists.now.vars new.vars) }
     ensures known { IfOk result (λ new. (f : List ℕ) → Listed f names.now → HasItsVariable new.vars n f) }
 {
-    let mut new = fork_alone(old)?;
-    let mut kinds = fork_alone(best)?;
-    let mut links = fork_alone(kin)?;
+    let mut new = lists.fork()?;
     for i in 0..names.len() {
-        enter(alloc, &mut new, &mut kinds, &mut links, n, &names[i])?;
+        enter(alloc, &mut new, n, &names[i])?;
     }
-    Ok(Lists {
-        vars: new,
-        best: kinds,
-        kin: links,
-    })
+    Ok(new)
 }
 
 // The names that a fence lets in.
@@ -204,57 +186,35 @@ fn enclosed_at(
 }
 
 // The lists, with further variables, where a place has entries under these names alone.
-fn closed(
-    alloc: Global,
-    vars: &Shared<Variable>,
-    best: &Shared<Kind>,
-    kin: &Shared<Kin>,
-    n: u32,
-    names: &[Name],
-) -> Result<Lists, Memory>
-    requires together { StandTogether vars.now best.now kin.now }
-    requires inside { n < length vars.now }
-    requires node { IsTrue (is_node (var_at vars.now n).definition) }
-    ensures together { IfOk result (λ new. StandTogether new.vars new.best new.kin) }
-    ensures closed { IfOk result (λ new. IsClosed vars.now n names.now new.vars) }
+fn closed(alloc: Global, lists: &Lists, n: u32, names: &[Name]) -> Result<Lists, Memory>
+    requires decided { AreDecided lists.now }
+    requires inside { n < length lists.now.vars }
+    requires node { IsTrue (is_node (var_at lists.now.vars n).definition) }
+    ensures decided { IfOk result (λ new. AreDecided new) }
+    ensures closed { IfOk result (λ new. IsClosed lists.now.vars n names.now new.vars) }
 {
-    let entered = with_entries(alloc, vars, best, kin, n, names)?;
-    let mut new = fork_alone(&entered.vars)?;
-    enclose(alloc, &mut new, n as usize, names)?;
-    Ok(Lists {
-        vars: new,
-        best: entered.best,
-        kin: entered.kin,
-    })
+    let mut new = with_entries(alloc, lists, n, names)?;
+    enclose(alloc, &mut new.vars, n as usize, names)?;
+    let settled = settle_entries(&new.vars, &new.kin, &new.best, n as usize)?;
+    let have = have_entries(&new.vars, &settled.best, &new.kin, &new.filled);
+    new.alive = (new.alive & settled.fits) & have;
+    new.best = settled.best;
+    Ok(new)
 }
 
-/// The lists, with further variables, where x has no entry. The greatest kinds are those of before, or of no account.
-pub(crate) fn without_entries(
-    alloc: Global,
-    vars: &Shared<Variable>,
-    best: &Shared<Kind>,
-    kin: &Shared<Kin>,
-    x: u32,
-) -> Result<Lists, Memory>
-    requires together { StandTogether vars.now best.now kin.now }
-    requires inside { x < length vars.now }
-    ensures together { IfOk result (λ new. StandTogether new.vars new.best new.kin) }
-    ensures without { IfOk result (λ new. IsWithout vars.now x new.vars) }
+/// The lists, with further variables, where x has no entry.
+pub(crate) fn without_entries(alloc: Global, lists: &Lists, x: u32) -> Result<Lists, Memory>
+    requires decided { AreDecided lists.now }
+    requires inside { x < length lists.now.vars }
+    ensures decided { IfOk result (λ new. AreDecided new) }
+    ensures without { IfOk result (λ new. IsWithout lists.now.vars x new.vars) }
 {
-    let way = way_down(alloc, vars, x)?;
+    let way = way_down(alloc, lists, x)?;
     match way.place {
         Some(n) => {
-            let new = closed(alloc, &way.vars, best, kin, n, way.names.as_slice())?;
+            let new = closed(alloc, &way.lists, n, way.names.as_slice())?;
             Ok(new)
         }
-        None => {
-            let kinds = fork_alone(best)?;
-            let links = fork_alone(kin)?;
-            Ok(Lists {
-                vars: way.vars,
-                best: kinds,
-                kin: links,
-            })
-        }
+        None => Ok(way.lists),
     }
 }

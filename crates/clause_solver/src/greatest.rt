@@ -1,21 +1,20 @@
-ghost use Rattle.std.specs.Prelude.{◌≡◌, ℕ, ◌<◌, ◌↔◌, List, [], ◌∷◌, length, IsTrue, ◌≢◌, slice_set, IfOk, OnOk};
-ghost use Rattle.tree_clauses.specs.Literals.{Valuation, IsSound};
-ghost use Rattle.clause_solver.specs.Variables.{Ordered, Listed, member, allowed, var_at, is_node, made_value, AllFit};
-ghost use Rattle.clause_solver.specs.Greatest.{IsBest, IsBestBut, HasEntryOutside, IsSatisfied, IsSatisfiedAt, IsOpen};
-ghost use Rattle.clause_solver.specs.Greatest.{IsPresentChild, kind_at, best_by, best_of, choose, unfenced};
-ghost use Rattle.clause_solver.specs.Greatest.{unfenced_if};
+ghost use Rattle.std.specs.Prelude.{◌≡◌, ℕ, ◌<◌, ◌↔◌, List, [], ◌∷◌, length, IsTrue, ◌≢◌};
+ghost use Rattle.clause_solver.specs.Variables.{Ordered, Listed, member, allowed, var_at, is_node, made_value};
+ghost use Rattle.clause_solver.specs.Greatest.{HasEntryOutside, IsOpen, IsPresentChild, kind_at, best_by, best_of};
+ghost use Rattle.clause_solver.specs.Greatest.{choose, unfenced_if};
 ghost use Rattle.clause_solver.specs.Appends.{Within};
+ghost use Rattle.clause_solver.specs.Linked.{AreLinked};
 ghost use Rattle.clause_solver.specs.ReplacedNames.{names};
-ghost use Rattle.clause_solver.specs.declared.variable.Definition.TheVariants.{Child};
 ghost use Rattle.feature_trees.specs.Tree.{kind_of};
-ghost use Rattle.feature_trees.specs.Kinds.{has};
 ghost use Rattle.feature_trees.specs.declared.kind.Kind.TheVariants.{Absent};
 
+use crate::children::kin_at;
+use crate::kin::Kin;
 use crate::places::{definition_at, kind_at, var_at};
 use crate::variable::{Definition, MadeValue, Variable};
 use feature_trees::{Kind, Kinds};
-use script_names::{List, Memory, Name};
-use shared_table::{Shared, fork_alone, set_alone};
+use script_names::{List, Name};
+use shared_table::Shared;
 use std::cmp::Ordering;
 
 // The greatest kind of a set: a directory where it may be one, and absent last.
@@ -91,8 +90,8 @@ pub(crate) fn greatest_by(
     }
 }
 
-// The greatest kind of a variable, given those of the earlier ones.
-fn greatest(vars: &Shared<Variable>, best: &Shared<Kind>, i: usize) -> Kind
+/// The greatest kind of a variable, given those of the earlier ones.
+pub(crate) fn greatest(vars: &Shared<Variable>, best: &Shared<Kind>, i: usize) -> Kind
     requires same { length best.now ≡ length vars.now }
     requires order { Ordered vars.now }
     requires inside { i < length vars.now }
@@ -101,59 +100,11 @@ fn greatest(vars: &Shared<Variable>, best: &Shared<Kind>, i: usize) -> Kind
     greatest_by(vars, best, var_at(vars, i).kinds, definition_at(vars, i))
 }
 
-// Whether two kinds are the same.
-fn is_same(a: Kind, b: Kind) -> bool
+/// Whether two kinds are the same.
+pub(crate) fn is_same(a: Kind, b: Kind) -> bool
     ensures { IsTrue result ↔ (a ≡ b) }
 {
     a == b
-}
-
-// Gives a variable its greatest kind; where it has it, nothing is written.
-fn settle_one(vars: &Shared<Variable>, best: &mut Shared<Kind>, i: usize) -> Result<(), Memory>
-    requires same { length best.old ≡ length vars.now }
-    requires order { Ordered vars.now }
-    requires inside { i < length vars.now }
-    ensures { OnOk result (best.new ≡ slice_set best.old i (best_of vars.now best.old i)) }
-{
-    let k = greatest(vars, best, i);
-    if is_same(kind_at(best, i), k) {
-        return Ok(());
-    }
-    set_alone(best, i, k)?;
-    Ok(())
-}
-
-// The greatest kinds, where each variable but one has its greatest kind: those of the variables before it stay.
-fn settled(vars: &Shared<Variable>, best: &Shared<Kind>, x: usize) -> Result<Shared<Kind>, Memory>
-    requires same { length best.now ≡ length vars.now }
-    requires order { Ordered vars.now }
-    requires inside { x < length vars.now }
-    requires others { IsBestBut vars.now best.now x }
-    ensures same { IfOk result (λ new. length new ≡ length vars.now) }
-    ensures best { IfOk result (λ new. IsBest vars.now new) }
-{
-    let mut new = fork_alone(best)?;
-    for i in x..vars.len() {
-        settle_one(vars, &mut new, i)?;
-    }
-    Ok(new)
-}
-
-/// The greatest kinds, whatever they were before.
-pub(crate) fn settled_all(
-    vars: &Shared<Variable>,
-    best: &Shared<Kind>,
-) -> Result<Shared<Kind>, Memory>
-    requires same { length best.now ≡ length vars.now }
-    requires order { Ordered vars.now }
-    ensures same { IfOk result (λ new. length new ≡ length vars.now) }
-    ensures best { IfOk result (λ new. IsBest vars.now new) }
-{
-    let mut new = fork_alone(best)?;
-    for i in 0..vars.len() {
-        settle_one(vars, &mut new, i)?;
-    }
-    Ok(new)
 }
 
 /// The names whose entries were replaced on the way down to a variable, the last one first.
@@ -206,31 +157,42 @@ fn is_present_child(
 fn some_present_child(
     vars: &Shared<Variable>,
     best: &Shared<Kind>,
+    kin: &Shared<Kin>,
     x: usize,
     replaced: &ReplacedNames,
 ) -> bool
     requires same { length best.now ≡ length vars.now }
+    requires linked { AreLinked vars.now kin.now }
+    requires inside { x < length vars.now }
     ensures { IsTrue result
         ↔ ((m : ℕ) × (m < length vars.now) × IsPresentChild vars.now best.now x (names replaced.now) m) }
 {
-    for m in 0..vars.len() {
-        if is_present_child(vars, best, x, &*replaced, m) {
-            return true;
+    let mut here = kin_at(kin, x).youngest;
+    'entries: loop {
+        match here {
+            None => return false,
+            Some(m) => {
+                if is_present_child(vars, best, x, &*replaced, m as usize) {
+                    return true;
+                }
+                here = kin_at(kin, m as usize).older;
+            }
         }
     }
-    false
 }
 
 // Whether a place has an entry outside the replaced names, among the greatest kinds.
 fn node_has_entry(
     vars: &Shared<Variable>,
     best: &Shared<Kind>,
+    kin: &Shared<Kin>,
     counted: bool,
     x: usize,
     replaced: &ReplacedNames,
 ) -> bool
     requires same { length best.now ≡ length vars.now }
     requires order { Ordered vars.now }
+    requires linked { AreLinked vars.now kin.now }
     requires inside { x < length vars.now }
     requires node { IsTrue (is_node (var_at vars.now x).definition) }
     ensures { IsTrue result ↔ HasEntryOutside vars.now best.now (unfenced_if vars.now counted) x (names replaced.now) }
@@ -238,7 +200,7 @@ fn node_has_entry(
     if is_open(vars, best, counted, x) {
         return true;
     }
-    some_present_child(vars, best, x, &*replaced)
+    some_present_child(vars, best, kin, x, &*replaced)
 }
 
 // Whether the entry f, which is y's value, is outside the replaced names and is there.
@@ -254,102 +216,36 @@ fn is_shown(best: &Shared<Kind>, y: usize, replaced: &ReplacedNames, f: &Name) -
 pub(crate) fn has_entry_outside(
     vars: &Shared<Variable>,
     best: &Shared<Kind>,
+    kin: &Shared<Kin>,
     counted: bool,
     x: usize,
     replaced: &ReplacedNames,
 ) -> bool
     requires same { length best.now ≡ length vars.now }
     requires order { Ordered vars.now }
+    requires linked { AreLinked vars.now kin.now }
     requires inside { x < length vars.now }
     ensures { IsTrue result ↔ HasEntryOutside vars.now best.now (unfenced_if vars.now counted) x (names replaced.now) }
 {
     match definition_at(vars, x) {
-        Definition::Start => node_has_entry(vars, best, counted, x, &*replaced),
-        Definition::Child(_, _) => node_has_entry(vars, best, counted, x, &*replaced),
+        Definition::Start => node_has_entry(vars, best, kin, counted, x, &*replaced),
+        Definition::Child(_, _) => node_has_entry(vars, best, kin, counted, x, &*replaced),
         Definition::Derived(of, f, y) => {
             let of = *of as usize;
             if is_shown(best, *y as usize, &*replaced, f) {
                 return true;
             }
             let deeper = ReplacedNames::Also(f, &*replaced);
-            has_entry_outside(vars, best, counted, of, &deeper)
+            has_entry_outside(vars, best, kin, counted, of, &deeper)
         }
-        Definition::Ensured(of) => has_entry_outside(vars, best, counted, *of as usize, &*replaced),
+        Definition::Ensured(of) => has_entry_outside(
+            vars,
+            best,
+            kin,
+            counted,
+            *of as usize,
+            &*replaced,
+        ),
         Definition::Made(_) => false,
     }
-}
-
-// Whether the greatest kind of a variable fits, and it has an entry where it must.
-fn is_satisfied_at(vars: &Shared<Variable>, best: &Shared<Kind>, i: usize) -> bool
-    requires same { length best.now ≡ length vars.now }
-    requires order { Ordered vars.now }
-    requires inside { i < length vars.now }
-    ensures { IsTrue result ↔ IsSatisfiedAt vars.now best.now (unfenced vars.now) i }
-{
-    let v = var_at(vars, i);
-    let fits = v.kinds.has(kind_at(best, i));
-    if v.not_empty {
-        let replaced = ReplacedNames::Nothing;
-        let filled = has_entry_outside(vars, best, true, i, &replaced);
-        fits & filled
-    } else {
-        fits
-    }
-}
-
-/// Whether some valuation is left, where each variable has its greatest kind.
-pub(crate) fn is_satisfied(vars: &Shared<Variable>, best: &Shared<Kind>) -> bool
-    requires same { length best.now ≡ length vars.now }
-    requires order { Ordered vars.now }
-    ensures { IsTrue result ↔ IsSatisfied vars.now best.now (unfenced vars.now) }
-{
-    let mut satisfied = true;
-    for i in 0..vars.len() {
-        let here = is_satisfied_at(vars, best, i);
-        satisfied = satisfied & here;
-    }
-    satisfied
-}
-
-/// The greatest kinds, and whether some valuation is left.
-#[derive(Drop)]
-pub(crate) struct Decided {
-    pub(crate) best: Shared<Kind>,
-    pub(crate) alive: bool,
-}
-
-/// The greatest kinds after one variable was limited, and whether some valuation is left, where it is known whether
-/// some was left before: where the variable's greatest kind stays, so do all others.
-pub(crate) fn redecide(
-    vars: &Shared<Variable>,
-    best: &Shared<Kind>,
-    alive: bool,
-    x: usize,
-) -> Result<Decided, Memory>
-    requires same { length best.now ≡ length vars.now }
-    requires order { Ordered vars.now }
-    requires inside { x < length vars.now }
-    requires others { IsBestBut vars.now best.now x }
-    requires alive { IsBest vars.now best.now → IsTrue (has (var_at vars.now x).kinds (kind_at best.now x))
-        → (IsTrue alive ↔ IsSatisfied vars.now best.now (unfenced vars.now)) }
-    ensures same { IfOk result (λ new. length new.best ≡ length vars.now) }
-    ensures best { IfOk result (λ new. IsBest vars.now new.best) }
-    ensures satisfied { IfOk result (λ new. IsTrue new.alive ↔ IsSatisfied vars.now new.best (unfenced vars.now)) }
-{
-    let k = greatest(vars, best, x);
-    let old = kind_at(best, x);
-    if is_same(old, k) {
-        let new = fork_alone(best)?;
-        let fits = var_at(vars, x).kinds.has(k);
-        return Ok(Decided {
-            best: new,
-            alive: alive & fits,
-        });
-    }
-    let new = settled(vars, best, x)?;
-    let left = is_satisfied(vars, &new);
-    Ok(Decided {
-        best: new,
-        alive: left,
-    })
 }

@@ -3,12 +3,14 @@ ghost use Rattle.feature_trees.specs.declared.value.Value.TheVariants as value;
 ghost use Rattle.tree_clauses.specs.Literals.{value_of_variable};
 ghost use Rattle.clause_solver.specs.Variables.{Ordered, var_at};
 ghost use Rattle.clause_solver.specs.Greatest.{IsSatisfied, HasEntryOutside, unfenced, kind_at};
+ghost use Rattle.clause_solver.specs.Linked.{AreLinked};
 ghost use Rattle.clause_solver.specs.Grown.{values, grown, some_target, extra};
 ghost use Rattle.clause_solver.specs.NewNames.{beginning, begins, name_used, IsNew};
 ghost use Rattle.clause_solver.specs.Opens.{mark_at, opened, IsRoot};
 ghost use Rattle.clause_solver.specs.Builds.{AreWithoutChildren, with_entry, moved_to_parent, ParentBelow};
 
 use crate::greatest::{ReplacedNames, has_entry_outside};
+use crate::kin::Kin;
 use crate::places::{definition_at, kind_at, var_at};
 use crate::variable::{Definition, Variable};
 use feature_trees::{Entries, Kind, Value};
@@ -142,10 +144,17 @@ fn root(vars: &Shared<Variable>, x: usize) -> Option<usize>
 }
 
 // Marks the place that a variable is made from, where the variable needs an entry and has none otherwise.
-fn open_for(vars: &Shared<Variable>, best: &Shared<Kind>, marks: &mut [bool], i: usize)
+fn open_for(
+    vars: &Shared<Variable>,
+    best: &Shared<Kind>,
+    kin: &Shared<Kin>,
+    marks: &mut [bool],
+    i: usize,
+)
     requires same { length best.now ≡ length vars.now }
     requires marks { length marks.old ≡ length vars.now }
     requires order { Ordered vars.now }
+    requires linked { AreLinked vars.now kin.now }
     requires inside { i < length vars.now }
     requires has_entry { IsTrue (var_at vars.now i).not_empty
         → HasEntryOutside vars.now best.now (unfenced vars.now) i [] }
@@ -158,7 +167,7 @@ fn open_for(vars: &Shared<Variable>, best: &Shared<Kind>, marks: &mut [bool], i:
         return;
     }
     let replaced = ReplacedNames::Nothing;
-    if has_entry_outside(vars, best, false, i, &replaced) {
+    if has_entry_outside(vars, best, kin, false, i, &replaced) {
         return;
     }
     let r = match root(vars, i) {
@@ -173,16 +182,18 @@ pub(crate) fn open_places(
     alloc: Global,
     vars: &Shared<Variable>,
     best: &Shared<Kind>,
+    kin: &Shared<Kin>,
 ) -> Result<Vec<bool>, Memory>
     requires same { length best.now ≡ length vars.now }
     requires order { Ordered vars.now }
+    requires linked { AreLinked vars.now kin.now }
     requires satisfied { IsSatisfied vars.now best.now (unfenced vars.now) }
     ensures same { IfOk result (λ v. length v.items ≡ length vars.now) }
     ensures satisfied { IfOk result (λ v. IsSatisfied vars.now best.now (opened vars.now v.items)) }
 {
     let mut marks = vec![in alloc; false; vars.len()]?;
     for i in 0..vars.len() {
-        open_for(vars, best, &mut marks, i);
+        open_for(vars, best, kin, &mut marks, i);
     }
     Ok(marks)
 }

@@ -19,9 +19,9 @@ use crate::add_case::drafted;
 use crate::appended::{Found, append, resolve};
 use crate::children::find;
 use crate::emptying::without_entries;
-use crate::facts::{fill, narrow};
-use crate::greatest::{is_satisfied, kind_made, redecide, settled_all};
+use crate::greatest::kind_made;
 use crate::kin::Kin;
+use crate::lists::Lists;
 use crate::literals::write_literals;
 use crate::looking::is_excluded;
 use crate::new_name::new_name;
@@ -30,7 +30,7 @@ use crate::start_tree::{grow, open_places};
 use crate::variable::{Definition, MadeValue, Variable};
 use feature_trees::{Kind, Kinds, Value};
 use script_names::{Bytes, Common, Copied, Memory, Name};
-use shared_table::{Shared, fork_alone, push_alone};
+use shared_table::{Shared, push_alone};
 use std::alloc::Global;
 use std::marker::Model;
 use tree_clauses::{Case, Clause, Var};
@@ -39,11 +39,8 @@ use tree_clauses::{Case, Clause, Var};
 /// so that a start tree decides the values of all.
 #[derive(Debug, Drop)]
 pub struct Store {
-    vars: Shared<Variable>,
-    best: Shared<Kind>,
-    kin: Shared<Kin>,
+    lists: Lists,
     current: u32,
-    alive: bool,
     alloc: Global,
 }
 
@@ -82,12 +79,16 @@ impl Store {
             older: None,
         };
         push_alone(&mut kin, links)?;
-        Ok(Store {
+        let lists = Lists {
             vars,
             best,
             kin,
-            current: 0,
+            filled: Shared::new(alloc),
             alive: true,
+        };
+        Ok(Store {
+            lists,
+            current: 0,
             alloc,
         })
     }
@@ -97,15 +98,10 @@ impl Store {
     pub fn fork(&self) -> Result<Store, Memory>
         ensures { IfOk result (λ fork. fork ≡ self.now) }
     {
-        let vars = fork_alone(&self.vars)?;
-        let best = fork_alone(&self.best)?;
-        let kin = fork_alone(&self.kin)?;
+        let lists = self.lists.fork()?;
         Ok(Store {
-            vars,
-            best,
-            kin,
+            lists,
             current: self.current,
-            alive: self.alive,
             alloc: self.alloc,
         })
     }
@@ -129,13 +125,11 @@ impl Store {
         ensures alive { IfOk result (λ left. IsTrue left ↔ Alive self.new) }
         ensures unchanged { OnErr result (self.new ≡ self.old) }
     {
-        let mut vars = fork_alone(&self.vars)?;
-        narrow(self.alloc, &mut vars, x.0 as usize, k)?;
-        let decided = redecide(&vars, &self.best, self.alive, x.0 as usize)?;
-        self.vars = vars;
-        self.best = decided.best;
-        self.alive = decided.alive;
-        Ok(decided.alive)
+        let mut new = self.lists.fork()?;
+        new.limit(self.alloc, x.0, k)?;
+        let left = new.alive;
+        self.lists = new;
+        Ok(left)
     }
 
     /// Whether the variable alone tells that no pair has a kind of this set there. Where it does not, there may be
@@ -145,7 +139,7 @@ impl Store {
         ensures { IsTrue result → (t : Value) (g : Valuation) → Stands self.now t g
             → IsTrue (has k (kind_of (value_of_variable g x.0))) → ⊥ }
     {
-        allows_none(&self.vars, x.0 as usize, k)
+        allows_none(&self.lists.vars, x.0 as usize, k)
     }
 
     /// The variable of an entry, where some variable stands for it. It takes no memory.
@@ -153,11 +147,11 @@ impl Store {
         requires { x.0 < self.now.count }
         ensures { IfSome result (λ y. HasEntry self.now x.0 f.now y.0) }
     {
-        match resolve(&self.vars, x.0, f) {
+        match resolve(&self.lists.vars, x.0, f) {
             Found::Known(y) => Some(Var(y)),
             Found::Nothing => None,
             Found::At(n) => {
-                if let Some(y) = find(&self.vars, &self.kin, n, f) {
+                if let Some(y) = find(&self.lists.vars, &self.lists.kin, n, f) {
                     return Some(Var(y));
                 }
                 None
@@ -174,29 +168,29 @@ impl Store {
         ensures count { self.new.count ≤ self.old.count + 1 }
     {
         f.is_sound();
-        match resolve(&self.vars, x.0, f) {
+        match resolve(&self.lists.vars, x.0, f) {
             Found::Known(y) => Ok(Var(y)),
             Found::Nothing => {
                 let made = Definition::Made(MadeValue::Absent);
                 let y = append(
                     self.alloc,
-                    &mut self.vars,
-                    &mut self.best,
-                    &mut self.kin,
+                    &mut self.lists.vars,
+                    &mut self.lists.best,
+                    &mut self.lists.kin,
                     made,
                 )?;
                 Ok(Var(y))
             }
             Found::At(n) => {
-                if let Some(y) = find(&self.vars, &self.kin, n, f) {
+                if let Some(y) = find(&self.lists.vars, &self.lists.kin, n, f) {
                     return Ok(Var(y));
                 }
                 let name = f.copy(self.alloc)?;
                 let y = append(
                     self.alloc,
-                    &mut self.vars,
-                    &mut self.best,
-                    &mut self.kin,
+                    &mut self.lists.vars,
+                    &mut self.lists.best,
+                    &mut self.lists.kin,
                     Definition::Child(n, name),
                 )?;
                 Ok(Var(y))
@@ -219,9 +213,9 @@ impl Store {
         let derived = Definition::Derived(x.0, name, y.0);
         let z = append(
             self.alloc,
-            &mut self.vars,
-            &mut self.best,
-            &mut self.kin,
+            &mut self.lists.vars,
+            &mut self.lists.best,
+            &mut self.lists.kin,
             derived,
         )?;
         Ok(Var(z))
@@ -279,9 +273,9 @@ impl Store {
     {
         let y = append(
             self.alloc,
-            &mut self.vars,
-            &mut self.best,
-            &mut self.kin,
+            &mut self.lists.vars,
+            &mut self.lists.best,
+            &mut self.lists.kin,
             Definition::Ensured(x.0),
         )?;
         Ok(Var(y))
@@ -297,11 +291,10 @@ impl Store {
         ensures alive { IfOk result (λ left. IsTrue left ↔ Alive self.new) }
         ensures unchanged { OnErr result (self.new ≡ self.old) }
     {
-        let mut vars = fork_alone(&self.vars)?;
-        fill(self.alloc, &mut vars, x.0 as usize)?;
-        let left = is_satisfied(&vars, &self.best);
-        self.vars = vars;
-        self.alive = left;
+        let mut new = self.lists.fork()?;
+        new.fill(self.alloc, x.0)?;
+        let left = new.alive;
+        self.lists = new;
         Ok(left)
     }
 
@@ -313,13 +306,9 @@ impl Store {
         ensures alive { IfOk result (λ left. IsTrue left ↔ Alive self.new) }
         ensures unchanged { OnErr result (self.new ≡ self.old) }
     {
-        let new = without_entries(self.alloc, &self.vars, &self.best, &self.kin, x.0)?;
-        let best = settled_all(&new.vars, &new.best)?;
-        let left = is_satisfied(&new.vars, &best);
-        self.vars = new.vars;
-        self.best = best;
-        self.kin = new.kin;
-        self.alive = left;
+        let new = without_entries(self.alloc, &self.lists, x.0)?;
+        let left = new.alive;
+        self.lists = new;
         Ok(left)
     }
 
@@ -333,26 +322,15 @@ impl Store {
         if is_excluded(self, case) {
             return Ok(None);
         }
-        let draft = drafted(
-            self.alloc,
-            &self.vars,
-            &self.best,
-            &self.kin,
-            self.current,
-            case,
-        )?;
+        let draft = drafted(self.alloc, &self.lists, self.current, case)?;
         let current = draft.place(case.root);
-        let best = settled_all(&draft.vars, &draft.best)?;
-        let left = is_satisfied(&draft.vars, &best);
+        let left = draft.lists.alive;
         if !left {
             return Ok(None);
         }
         Ok(Some(Store {
-            vars: draft.vars,
-            best,
-            kin: draft.kin,
+            lists: draft.lists,
             current,
-            alive: true,
             alloc: self.alloc,
         }))
     }
@@ -366,9 +344,9 @@ impl Store {
     {
         let y = append(
             self.alloc,
-            &mut self.vars,
-            &mut self.best,
-            &mut self.kin,
+            &mut self.lists.vars,
+            &mut self.lists.best,
+            &mut self.lists.kin,
             Definition::Made(value),
         )?;
         Ok(Var(y))
@@ -390,9 +368,9 @@ impl Store {
         requires { Alive self.now }
         ensures { IfOk result (λ t. (g : Valuation) × Stands self.now t g) }
     {
-        let marks = open_places(alloc, &self.vars, &self.best)?;
-        let z = new_name(alloc, &self.vars)?;
-        let tree = grow(alloc, &self.vars, &self.best, &marks, &z)?;
+        let marks = open_places(alloc, &self.lists.vars, &self.lists.best, &self.lists.kin)?;
+        let z = new_name(alloc, &self.lists.vars)?;
+        let tree = grow(alloc, &self.lists.vars, &self.lists.best, &marks, &z)?;
         Ok(tree)
     }
 
@@ -403,7 +381,7 @@ impl Store {
         ensures covers { IfOk result (λ c. (t u : Value) → Covers c t u ↔ HasPair self.now t u) }
         ensures solved { IfOk result IsSolved }
     {
-        let literals = write_literals(self.alloc, &self.vars)?;
+        let literals = write_literals(self.alloc, &self.lists.vars)?;
         Ok(Clause {
             literals,
             start: Var(0),

@@ -1,10 +1,12 @@
 pub mod Took
 pub mod Refused
 pub mod Parts
-pub mod PartsSoFar
+pub mod Settled
+pub mod Shared
 pub mod OneRefusal
 pub mod Quiet
 pub mod Fitting
 pub mod Calls
 pub mod Failures
 pub mod Runs
+pub mod WholeReports

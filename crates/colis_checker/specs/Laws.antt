@@ -1,5 +1,5 @@
 -- The laws that src/theorems.rt proves of reports and refusals.
-use Rattle.std.specs.Prelude.{◌≡◌, ℕ, ◌+◌, List, Some, slice_get}
+use Rattle.std.specs.Prelude.{◌≡◌, ℕ, ◌+◌, List, Option, Some, slice_get}
 use Rattle.feature_trees.specs.declared.value.Value.{Value}
 use Rattle.dpkg_scenarios.specs.declared.scenario.Scenario.{Scenario}
 use Rattle.dpkg_scenarios.specs.declared.scenario.Ending.{Ending}
@@ -13,9 +13,11 @@ use Rattle.package_jobs.specs.Written.{written_run}
 use Rattle.package_jobs.specs.StartTrees.{IsStartTree}
 use Rattle.outcome_report.specs.declared.outcome_report.ReportEntry.{ReportEntry}
 use Rattle.outcome_report.specs.declared.outcome_report.ReportPart.{ReportPart}
+use Rattle.outcome_report.specs.declared.outcome_report.Report.{Report}
 use Rattle.outcome_report.specs.Kept.{replay_of}
+use Rattle.outcome_report.specs.Whole.{IsWhole}
 use Rattle.colis_checker.specs.declared.faults.Refusal.{Refusal}
-use Rattle.colis_checker.specs.Reports.{IsPartOf, IsReportOf}
+use Rattle.colis_checker.specs.Reports.{AreParts, IsPartOf, IsReportOf, chosen}
 use Rattle.colis_checker.specs.Top.{FilesGiveOver, IsRequestRefusal}
 
 -- the ending is success
@@ -90,6 +92,13 @@ abbrev pub FailedReport : Type 0
 FailedReport =
     (packages : Packages) (turns limit : ℕ) (scenarios : List Scenario) (layout : Layout) (text : List ℕ)
     → IsReportOf packages turns limit scenarios layout text 1 → FailsSomewhere packages turns scenarios
+
+-- what is reported of the chosen scenarios is a whole report: its trees are directories, each replay ends as its
+-- outcome says, the outcomes of a scenario are numbered from 1, and the scenarios are different and in their order
+abbrev pub WholeReports : Type 0
+WholeReports =
+    (packages : Packages) (turns limit : ℕ) (which : Option Scenario) (report : Report)
+    → AreParts packages turns limit (chosen which) report.parts → IsWhole report
 
 -- over files of the same contents a request is refused for one reason
 abbrev pub OneRefusal : Type 0

@@ -1,4 +1,5 @@
 pub mod CommandLine
+pub mod Settled
 pub mod Reports
 pub mod Tasks
 pub mod ErrorLines

@@ -16,6 +16,7 @@ pub mod theorems;
 mod top;
 mod written;
 
+use case_pool::Open;
 use checker_io::{DirShelf, OutSink};
 use std::env;
 use std::process::ExitCode;
@@ -25,5 +26,13 @@ fn main(rt: HostRuntime) -> ExitCode {
     let mut shelf = DirShelf::new(&rt);
     let mut out = OutSink::new(rt.stdout());
     let mut err = OutSink::new(rt.stderr());
-    top::finish(rt.alloc(), &words, &mut shelf, &mut out, &mut err)
+    top::finish(
+        &rt,
+        rt.alloc(),
+        &Open::new(),
+        &words,
+        &mut shelf,
+        &mut out,
+        &mut err,
+    )
 }

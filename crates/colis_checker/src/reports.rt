@@ -1,10 +1,13 @@
 //! The report on packages, scenario by scenario.
 
 ghost use Rattle.std.specs.Prelude.{◌≡◌, IfOk};
+ghost use Rattle.std.specs.List.{AllZip};
 ghost use Rattle.colis_checker.specs.Reports.{chosen, layout_text, PartGives, PartsGive, ReportGives};
+ghost use Rattle.colis_checker.specs.Settled.{settled};
 
 use crate::faults::{Refusal, TaskFault};
 use crate::written::Written;
+use case_pool::{Gate, map_jobs};
 use checker_input::Packages;
 use command_words::Layout;
 use dpkg_scenarios::Scenario;
@@ -14,16 +17,7 @@ use report_json::render_json;
 use scenario_outcomes::OutcomesFault;
 use script_names::{Bytes, List, Memory};
 use std::alloc::Global;
-
-// All scenarios, in the order in which they are reported.
-const SCENARIOS: &[Scenario] = &[
-    Scenario::Install,
-    Scenario::InstallAgain,
-    Scenario::Upgrade,
-    Scenario::Remove,
-    Scenario::Purge,
-    Scenario::PurgeLater,
-];
+use std::thread::Threads;
 
 // The part of a report on a scenario, or why there is none.
 fn report_scenario(
@@ -45,27 +39,73 @@ fn report_scenario(
     }
 }
 
-// The report on these scenarios, or why the first of them that has none is refused.
-fn report_scenarios(
+// The scenarios that are chosen: one, or else all, in the order in which they are reported.
+fn chosen_scenarios(alloc: Global, scenario: Option<Scenario>) -> Result<List<Scenario>, Memory>
+    ensures { IfOk result (λ scenarios. scenarios ≡ chosen scenario) }
+{
+    let mut scenarios = List::new(alloc);
+    match scenario {
+        Some(scenario) => {
+            scenarios.add(scenario)?;
+            Ok(scenarios)
+        }
+        None => {
+            scenarios.add(Scenario::Install)?;
+            scenarios.add(Scenario::InstallAgain)?;
+            scenarios.add(Scenario::Upgrade)?;
+            scenarios.add(Scenario::Remove)?;
+            scenarios.add(Scenario::Purge)?;
+            scenarios.add(Scenario::PurgeLater)?;
+            Ok(scenarios)
+        }
+    }
+}
+
+// What workers answer of each scenario, in the scenarios' order: the part of a report, or why there is none. A worker
+// enters the gate when it takes up a scenario.
+fn answer_scenarios<R: Threads + Sync, G: Gate>(
+    rt: &R,
     alloc: Global,
+    gate: &G,
     packages: &Packages,
     turns: u32,
     limit: u32,
-    scenarios: &[Scenario],
-) -> Result<Report, TaskFault>
-    ensures { PartsGive packages.now turns limit scenarios.now result }
+    scenarios: &List<Scenario>,
+) -> Result<List<Result<ReportPart, TaskFault>>, Memory>
+    ensures { IfOk result (AllZip (PartGives packages.now turns limit) scenarios.now) }
 {
-    let mut parts = List::new(alloc);
-    for scenario in scenarios {
-        let part = report_scenario(alloc, packages, turns, limit, *scenario)?;
-        parts.add(part)?;
-    }
-    Ok(Report { parts })
+    let answer = move |scenario: &Scenario| -> Result<Result<ReportPart, TaskFault>, Memory>
+        ensures { IfOk result (PartGives packages.entry.now turns limit scenario.now) }
+    {
+        gate.enter();
+        Ok(report_scenario(alloc, packages, turns, limit, *scenario))
+    };
+    let answers = map_jobs(rt, alloc, scenarios, &answer)?;
+    Ok(answers)
 }
 
-// The report on one scenario, or on all.
-fn make_report(
+// The values of results, or the first fault in their order.
+fn settle<T: Drop, E: Drop>(
     alloc: Global,
+    results: List<Result<T, E>>,
+) -> Result<Result<List<T>, E>, Memory>
+    ensures { IfOk result (λ all. all ≡ settled results) }
+{
+    let mut values = List::new(alloc);
+    for result in results.into_vec() {
+        match result {
+            Ok(value) => values.add(value)?,
+            Err(fault) => return Ok(Err(fault)),
+        }
+    }
+    Ok(Ok(values))
+}
+
+// The report on one scenario, or on all; or why the first of them that has none is refused.
+fn make_report<R: Threads + Sync, G: Gate>(
+    rt: &R,
+    alloc: Global,
+    gate: &G,
     packages: &Packages,
     turns: u32,
     limit: u32,
@@ -73,9 +113,12 @@ fn make_report(
 ) -> Result<Report, TaskFault>
     ensures { PartsGive packages.now turns limit (chosen scenario) result }
 {
-    match scenario {
-        Some(scenario) => report_scenarios(alloc, packages, turns, limit, &[scenario]),
-        None => report_scenarios(alloc, packages, turns, limit, SCENARIOS),
+    let scenarios = chosen_scenarios(alloc, scenario)?;
+    let answers = answer_scenarios(rt, alloc, gate, packages, turns, limit, &scenarios)?;
+    let all = settle(alloc, answers)?;
+    match all {
+        Ok(parts) => Ok(Report { parts }),
+        Err(fault) => Err(fault),
     }
 }
 
@@ -91,8 +134,10 @@ fn render(alloc: Global, report: &Report, layout: Layout) -> Result<Bytes, Memor
 }
 
 /// The report on packages in a layout, and its verdict; or why there is none.
-pub fn write_report(
+pub fn write_report<R: Threads + Sync, G: Gate>(
+    rt: &R,
     alloc: Global,
+    gate: &G,
     packages: &Packages,
     turns: u32,
     limit: u32,
@@ -101,7 +146,7 @@ pub fn write_report(
 ) -> Result<Written, TaskFault>
     ensures { ReportGives packages.now turns limit (chosen scenario) layout result }
 {
-    let report = make_report(alloc, packages, turns, limit, scenario)?;
+    let report = make_report(rt, alloc, gate, packages, turns, limit, scenario)?;
     let text = render(alloc, &report, layout)?;
     let status = verdict(&report);
     Ok(Written { text, status })

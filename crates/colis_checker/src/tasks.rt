@@ -7,6 +7,7 @@ ghost use Rattle.colis_checker.specs.Tasks.{Fits, IsRunOf, IsProgramOf, TaskGive
 use crate::faults::TaskFault;
 use crate::reports::write_report;
 use crate::written::Written;
+use case_pool::Gate;
 use checker_input::{Packages, Task};
 use colis_syntax::print_program;
 use command_words::Request;
@@ -19,6 +20,7 @@ use script_names::Memory;
 use shell_forms::Accepted;
 use shell_to_colis::translate;
 use std::alloc::Global;
+use std::thread::Threads;
 
 // The run of a scenario from a tree.
 fn write_run(
@@ -49,7 +51,13 @@ fn write_program(alloc: Global, script: &Accepted) -> Result<Written, Memory>
 }
 
 // The text of what a request asks for, and the status that goes with it; or why there is none.
-fn write_task(alloc: Global, request: &Request, task: &Task) -> Result<Written, TaskFault>
+fn write_task<R: Threads + Sync, G: Gate>(
+    rt: &R,
+    alloc: Global,
+    gate: &G,
+    request: &Request,
+    task: &Task,
+) -> Result<Written, TaskFault>
     requires { Fits request.now task.now }
     ensures { TaskGives request.now task.now result }
 {
@@ -62,7 +70,9 @@ fn write_task(alloc: Global, request: &Request, task: &Task) -> Result<Written, 
             ..
         } => match task {
             Task::Check(packages) => {
-                write_report(alloc, packages, *turns, *limit, *scenario, *layout)
+                write_report(
+                    rt, alloc, gate, packages, *turns, *limit, *scenario, *layout,
+                )
             }
             Task::Run(..) | Task::Translate(..) => unreachable!(),
         },
@@ -89,9 +99,15 @@ fn write_task(alloc: Global, request: &Request, task: &Task) -> Result<Written, 
 
 /// The text of what a request asks for, and the status that goes with it; or why there is none. The task is let go
 /// here, in one place.
-pub fn carry_out(alloc: Global, request: &Request, task: Task) -> Result<Written, TaskFault>
+pub fn carry_out<R: Threads + Sync, G: Gate>(
+    rt: &R,
+    alloc: Global,
+    gate: &G,
+    request: &Request,
+    task: Task,
+) -> Result<Written, TaskFault>
     requires { Fits request.now task }
     ensures { TaskGives request.now task result }
 {
-    write_task(alloc, request, &task)
+    write_task(rt, alloc, gate, request, &task)
 }

@@ -1,6 +1,7 @@
 //! What a report means for those who read it, and what holds of refusals.
 
 ghost use Rattle.colis_checker.specs.Laws.{QuietScenario, QuietReport, FailedScenario, FailedReport, OneRefusal};
+ghost use Rattle.colis_checker.specs.Laws.{WholeReports};
 
 use checker_input::theorems::one_answer;
 use package_jobs::theorems::more_turns_change_no_written_run;
@@ -24,6 +25,13 @@ pub fn a_failure_is_real()
 {
     more_turns_change_no_written_run();
 }
+
+/// What is reported of the chosen scenarios is a whole report: each shown tree and each tree that is left is a
+/// directory, each replay ends as its outcome says, the outcomes of a scenario are numbered from 1, and the scenarios
+/// are different and in the order of the tables.
+pub fn reports_are_whole()
+    ensures { WholeReports }
+{}
 
 /// A request is refused for one reason: the first file that is at fault, or else the first scenario that cannot be
 /// reported.

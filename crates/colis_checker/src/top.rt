@@ -10,6 +10,7 @@ use crate::error_lines::{read_failed_line, refusal_line, usage_line};
 use crate::faults::{Refusal, TaskFault};
 use crate::tasks::carry_out;
 use crate::written::Written;
+use case_pool::Gate;
 use checker_input::read_task;
 use checker_input::theorems::one_answer;
 use checker_io::{Shelf, Sink, Stop};
@@ -17,14 +18,21 @@ use command_words::{Request, WordsFault, read_words};
 use script_names::{List, Memory, Text};
 use std::alloc::Global;
 use std::process::ExitCode;
+use std::thread::Threads;
 
 // What the request has to say.
-fn reply<S: Shelf>(alloc: Global, request: &Request, shelf: &mut S) -> Reply
+fn reply<R: Threads + Sync, G: Gate, S: Shelf>(
+    rt: &R,
+    alloc: Global,
+    gate: &G,
+    request: &Request,
+    shelf: &mut S,
+) -> Reply
     ensures kept { (S.state shelf.new).holds ≡ (S.state shelf.old).holds }
     ensures replies { Replies (Ok request.now) (S.state shelf.old) (S.state shelf.new) result }
 {
     match read_task(alloc, request, shelf) {
-        Ok(task) => match carry_out(alloc, request, task) {
+        Ok(task) => match carry_out(rt, alloc, gate, request, task) {
             Ok(Written { text, status }) => Reply::Text { text, status },
             Err(TaskFault::Refused(refusal)) => match refusal_line(alloc, request, refusal) {
                 Ok(line) => Reply::Refused { line },
@@ -45,12 +53,18 @@ fn reply<S: Shelf>(alloc: Global, request: &Request, shelf: &mut S) -> Reply
 }
 
 // What a call has to say.
-fn answer<S: Shelf>(alloc: Global, words: &List<Text>, shelf: &mut S) -> Reply
+fn answer<R: Threads + Sync, G: Gate, S: Shelf>(
+    rt: &R,
+    alloc: Global,
+    gate: &G,
+    words: &List<Text>,
+    shelf: &mut S,
+) -> Reply
     ensures kept { (S.state shelf.new).holds ≡ (S.state shelf.old).holds }
     ensures replies { Replies (form words.now) (S.state shelf.old) (S.state shelf.new) result }
 {
     match read_words(alloc, words) {
-        Ok(request) => reply(alloc, &request, shelf),
+        Ok(request) => reply(rt, alloc, gate, &request, shelf),
         Err(WordsFault::Usage { word }) => match usage_line(alloc, word) {
             Ok(line) => Reply::Refused { line },
             Err(_) => Reply::NoMemory,
@@ -59,9 +73,12 @@ fn answer<S: Shelf>(alloc: Global, words: &List<Text>, shelf: &mut S) -> Reply
     }
 }
 
-/// Does what the words ask for, and answers the status.
-pub fn run_words<S: Shelf, O: Sink, E: Sink>(
+/// Does what the words ask for, and answers the status. The scenarios that are checked are answered by workers; each
+/// enters the gate when it takes one up.
+pub fn run_words<R: Threads + Sync, G: Gate, S: Shelf, O: Sink, E: Sink>(
+    rt: &R,
     alloc: Global,
+    gate: &G,
     words: &List<Text>,
     shelf: &mut S,
     out: &mut O,
@@ -102,14 +119,16 @@ pub fn run_words<S: Shelf, O: Sink, E: Sink>(
         → Refuses (form words.now) (S.state shelf.old) result }
 {
     one_answer();
-    let reply = answer(alloc, words, shelf);
+    let reply = answer(rt, alloc, gate, words, shelf);
     deliver(&reply, out, err)
 }
 
 /// Does what the words ask for, where they were had, and ends the program with the status. Where memory was missing
 /// for the words that is 6, and nothing was read or written.
-pub fn finish<S: Shelf, O: Sink, E: Sink>(
+pub fn finish<R: Threads + Sync, G: Gate, S: Shelf, O: Sink, E: Sink>(
+    rt: &R,
     alloc: Global,
+    gate: &G,
     words: &Result<List<Text>, Memory>,
     shelf: &mut S,
     out: &mut O,
@@ -145,7 +164,7 @@ pub fn finish<S: Shelf, O: Sink, E: Sink>(
         → IfOk words.now (λ had. Refuses (form had) (S.state shelf.old) (exit_status result)) }
 {
     match words {
-        Ok(words) => ExitCode::from(run_words(alloc, words, shelf, out, err)),
+        Ok(words) => ExitCode::from(run_words(rt, alloc, gate, words, shelf, out, err)),
         Err(_) => ExitCode::from(OUT_OF_MEMORY),
     }
 }

@@ -28,35 +28,42 @@ use Rattle.shell_rules.specs.Whole.{Ended, whole_run}
 
 -- ---- what the parts of a statement do, where functions are defined
 
--- a string, a piece of a word, and what gives fields
+-- a string
 abbrev pub StrDoes : Type 0
 StrDoes = Funs → Doing Text
 
+-- a piece of a word
 abbrev pub PieceDoes : Type 0
 PieceDoes = Funs → Doing PieceParts
 
+-- what gives fields
 abbrev pub FieldsDo : Type 0
 FieldsDo = Funs → Doing (List Text)
 
--- a member of an and-or list, an arm of `case`, an assignment, and an arm of `if`
+-- a member of an and-or list: whether it stands behind `&&`, and what it does
 abbrev pub LinkDoes : Type 0
 LinkDoes = Funs → Bool × Action
 
+-- an arm of `case`: its patterns and its body
 abbrev pub CaseArmDoes : Type 0
 CaseArmDoes = Funs → List (List (Doing PieceParts)) × Action
 
+-- an assignment: a name and its value
 abbrev pub SetDoes : Type 0
 SetDoes = Funs → Text × Doing Text
 
+-- an arm of `if`: its condition and its body
 abbrev pub ArmDoes : Type 0
 ArmDoes = Funs → Action × Action
 
 -- ---- the rules, a line for each construct, over its parts
 
+-- what gives fields
 abbrev pub fields_layer : o.Fields-F FieldsDo Does StrDoes PieceDoes LinkDoes CaseArmDoes SetDoes ArmDoes → FieldsDo
 fields_layer (o.Word pieces) f = word.do_word (with f pieces)
 fields_layer o.Args f = word.do_arguments
 
+-- a statement
 abbrev pub stmt_layer : o.Stmt-F FieldsDo Does StrDoes PieceDoes LinkDoes CaseArmDoes SetDoes ArmDoes → Does
 stmt_layer o.Skip f = rule.do_skip
 stmt_layer (o.Set at sets) f = calls.do_set at (with f sets)
@@ -82,6 +89,7 @@ stmt_layer (o.Export at fields) f = calls.do_export at (with f fields)
 stmt_layer (o.Unset at fields) f = calls.do_unset at (with f fields)
 stmt_layer (o.Stop at reason) f = rule.do_stop at reason
 
+-- a string
 abbrev pub str_layer : o.Str-F FieldsDo Does StrDoes PieceDoes LinkDoes CaseArmDoes SetDoes ArmDoes → StrDoes
 str_layer (o.Lit bytes) f = word.do_literal bytes
 str_layer (o.Var name) f = word.do_variable name
@@ -91,21 +99,26 @@ str_layer (o.Or first other) f = word.do_default (first f) other
 str_layer (o.Output body) f = word.do_output (body f)
 str_layer (o.Join parts) f = word.do_join (with f parts)
 
+-- a piece of a word
 abbrev pub piece_layer : o.StrPiece-F FieldsDo Does StrDoes PieceDoes LinkDoes CaseArmDoes SetDoes ArmDoes → PieceDoes
 piece_layer (o.Plain string) f = word.do_plain (string f)
 piece_layer (o.Quoted string) f = word.do_quoted (string f)
 piece_layer (o.Split string) f = word.do_split (string f)
 
+-- a member of an and-or list: whether it stands behind `&&`, and what it does
 abbrev pub link_layer : o.ChainPart-F FieldsDo Does StrDoes PieceDoes LinkDoes CaseArmDoes SetDoes ArmDoes → LinkDoes
 link_layer link f = (link.and, link.stmt f)
 
+-- an arm of `case`
 abbrev pub case_arm_layer : o.PatArm-F FieldsDo Does StrDoes PieceDoes LinkDoes CaseArmDoes SetDoes ArmDoes
     → CaseArmDoes
 case_arm_layer arm f = (map (with f) arm.patterns, arm.body f)
 
+-- an assignment
 abbrev pub set_layer : o.SetTo-F FieldsDo Does StrDoes PieceDoes LinkDoes CaseArmDoes SetDoes ArmDoes → SetDoes
 set_layer set f = (set.name, set.value f)
 
+-- an arm of `if`
 abbrev pub arm_layer : o.StmtArm-F FieldsDo Does StrDoes PieceDoes LinkDoes CaseArmDoes SetDoes ArmDoes → ArmDoes
 arm_layer arm f = (arm.cond f, arm.body f)
 

@@ -1,4 +1,4 @@
-ghost use Rattle.std.specs.Prelude.{◌≡◌, IsTrue};
+ghost use Rattle.std.specs.Prelude.{◌≡◌, IsTrue, Some};
 ghost use Rattle.colis_syntax.specs.WellFormed.{is_well_formed, program_of};
 
 use crate::def::Def;
@@ -44,6 +44,14 @@ impl Program {
             return None;
         }
         Some(Program { strict, defs, body })
+    }
+
+    /// The program of these parts, which are known to be well formed, so that none of them is looked at.
+    pub fn from_well_formed(strict: bool, defs: List<Def>, body: Stmt) -> Program
+        requires { IsTrue (is_well_formed defs body) }
+        ensures { Some result ≡ program_of strict defs body }
+    {
+        Program { strict, defs, body }
     }
 
     /// Whether the strict flag is set before the program is run.

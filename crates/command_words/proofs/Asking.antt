@@ -17,7 +17,8 @@ use Rattle.command_words.specs.declared.request.Layout.TheVariants.{Plain, Brief
 use Rattle.command_words.specs.declared.request.Request.{Request}
 use Rattle.command_words.specs.declared.request.Request.TheVariants.{Check, Run, Translate}
 use Rattle.command_words.specs.Fields.{takes, texts, first, given, is_field, command_name}
-use Rattle.command_words.specs.Values.{number_in, scenario_name, scenario_named, is_value}
+use Rattle.dpkg_scenarios.specs.Names.{scenario_name, scenario_named}
+use Rattle.command_words.specs.Values.{number_in, is_value}
 use Rattle.command_words.specs.Requests.{number_or, scenario_said, layout_by, folders_said, check_of, run_from}
 use Rattle.command_words.specs.Requests.{request_by, request_of}
 use Rattle.command_words.specs.CommandLines.{Texts, listed, IsNumberOr, layout_words, NamesFolders, AsksCheck, AsksRun, AsksTranslate, Asks, command_of}

@@ -15,7 +15,8 @@ use Rattle.command_words.specs.declared.read.Place.{Place}
 use Rattle.command_words.specs.declared.read.Place.TheVariants.{Options, Value, Ended}
 use Rattle.command_words.specs.declared.request.Request.{Request}
 use Rattle.command_words.specs.Fields.{takes, may, is_given, given, texts, first}
-use Rattle.command_words.specs.Values.{is_name, is_value, scenario_named}
+use Rattle.dpkg_scenarios.specs.Names.{scenario_named}
+use Rattle.command_words.specs.Values.{is_name, is_value}
 use Rattle.command_words.specs.Looks.{look}
 use Rattle.command_words.specs.Requests.{request_by, run_from, check_of, request_of}
 use Rattle.command_words.specs.Words.{is_ready, say, step, after, finished_at, finished}

@@ -14,7 +14,8 @@ use Rattle.command_words.specs.declared.setting.Setting.{Setting}
 use Rattle.command_words.specs.declared.look.Look.{Look}
 use Rattle.command_words.specs.declared.look.Look.TheVariants.{Says, Awaits, Ends, Unknown}
 use Rattle.command_words.specs.Fields.{option_name, option_named, command_name, command_named}
-use Rattle.command_words.specs.Values.{is_name, is_flag, scenario_name, scenario_named}
+use Rattle.dpkg_scenarios.specs.Names.{scenario_name, scenario_named}
+use Rattle.command_words.specs.Values.{is_name, is_flag}
 use Rattle.command_words.specs.Looks.{cut, put_before, awaits, says, parted, option_look, look}
 use Rattle.command_words.specs.CommandLines.{Item, item_words, item_setting, IsItem, HasValue}
 use Rattle.command_words.specs.CommandLines.Item.{joined, json, brief, name}

@@ -17,7 +17,8 @@ use Rattle.command_words.specs.declared.read.Place.TheVariants.{Options, Value, 
 use Rattle.command_words.specs.declared.request.Request.{Request}
 use Rattle.command_words.specs.declared.request.Request.TheVariants.{Check, Run, Translate}
 use Rattle.command_words.specs.Fields.{may, is_given, option_name, texts, first, command_name, command_named}
-use Rattle.command_words.specs.Values.{is_value, scenario_name}
+use Rattle.dpkg_scenarios.specs.Names.{scenario_name}
+use Rattle.command_words.specs.Values.{is_value}
 use Rattle.command_words.specs.Looks.{look}
 use Rattle.command_words.specs.Requests.{request_of}
 use Rattle.command_words.specs.Words.{is_ready, at, say, open_step, step, after, start, finished_at, finished, ended_form, line_form, command_form, form}

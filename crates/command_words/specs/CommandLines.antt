@@ -11,8 +11,10 @@ use Rattle.command_words.specs.declared.request.Layout.TheVariants.{Plain, Brief
 use Rattle.command_words.specs.declared.request.Request.{Request}
 use Rattle.command_words.specs.declared.request.Request.TheVariants.{Check, Run, Translate}
 use Rattle.command_words.specs.Fields.{option_name, texts}
-use Rattle.command_words.specs.Values.{is_name, number_in, scenario_name}
+use Rattle.dpkg_scenarios.specs.Names.{scenario_name}
+use Rattle.command_words.specs.Values.{is_name, number_in}
 
+-- words of a line, or what is said of a field, in order
 abbrev pub Texts : Type 0
 Texts = List (List ℕ)
 
@@ -55,10 +57,12 @@ IsItem json = Unit {0}
 IsItem brief = Unit {0}
 IsItem (name word) = IsTrue (is_name word)
 
+-- items, of which each is one
 abbrev pub AreItems : List Item → Type 0
 AreItems [] = Unit {0}
 AreItems (item ∷ items) = IsItem item × AreItems items
 
+-- the words of items
 abbrev pub items_words : List Item → Texts
 items_words [] = []
 items_words (item ∷ items) = item_words item ++ items_words items
@@ -73,21 +77,25 @@ pub record Line : Type 0 where
   pub items : List Item
   pub ended : Option Texts
 
+-- the words from `--` on, where it is there
 abbrev pub ended_words : Option Texts → Texts
 ended_words None = []
 ended_words (Some words) = codes "--" ∷ words
 
+-- the words behind `--`
 abbrev pub ended_names : Option Texts → Texts
 ended_names None = []
 ended_names (Some words) = words
 
+-- the words of a line
 abbrev pub line_words : Line → Texts
 line_words line = items_words line.items ++ ended_words line.ended
 
--- what the line says, in order
+-- what a word behind `--` says
 abbrev pub name_setting : List ℕ → Setting
 name_setting word = record { field = field.Named; text = word }
 
+-- what a line says, in order
 abbrev pub line_settings : Line → List Setting
 line_settings line = map item_setting line.items ++ map name_setting (ended_names line.ended)
 
@@ -141,6 +149,7 @@ pub record AsksTranslate (said : Field → Texts) (file : List ℕ) : Type 0 whe
   pub of_file : said field.Named ≡ file ∷ []
   pub of_others : (f : Field) → f ≢ field.Named → said f ≡ []
 
+-- they ask for this request
 abbrev pub Asks : (Field → Texts) → Request → Type 0
 Asks said (Check folders scenario turns limit layout) = AsksCheck said folders scenario turns limit layout
 Asks said (Run folders tree scenario turns) = AsksRun said folders tree scenario turns
@@ -152,8 +161,8 @@ command_of (Check folders scenario turns limit layout) = codes "check"
 command_of (Run folders tree scenario turns) = codes "run"
 command_of (Translate file) = codes "translate"
 
--- The words are a valid line for a request: its command and a line that asks for it. So each option stands there once at
--- most, and `--json` and `--brief` exclude each other.
+-- The words are a valid line for a request: its command and a line that asks for it. So each option stands there once
+-- at most, and `--json` and `--brief` exclude each other.
 pub record IsLine (words : Texts) (request : Request) : Type 0 where
   pub line : Line
   pub is : words ≡ command_of request ∷ line_words line

@@ -13,7 +13,8 @@ use Rattle.command_words.specs.declared.request.Layout.TheVariants.{Plain, Brief
 use Rattle.command_words.specs.declared.request.Request.{Request}
 use Rattle.command_words.specs.declared.request.Request.TheVariants.{Check, Run, Translate}
 use Rattle.command_words.specs.Fields.{given}
-use Rattle.command_words.specs.Values.{number_in, scenario_named}
+use Rattle.dpkg_scenarios.specs.Names.{scenario_named}
+use Rattle.command_words.specs.Values.{number_in}
 
 -- the number that a text spells, or the usual one
 abbrev pub number_or : ℕ → ℕ → Option (List ℕ) → ℕ
@@ -29,6 +30,7 @@ abbrev pub layout_by : Option (List ℕ) → Layout
 layout_by None = Plain
 layout_by (Some word) = if bytes_eq word (codes "--json") then Json else Brief
 
+-- how the report is to be written, of what was said
 abbrev pub layout_said : List Setting → Layout
 layout_said said = layout_by (given field.Layout said)
 
@@ -49,6 +51,7 @@ run_from dir said (Some scenario) None = None
 run_from dir said (Some scenario) (Some tree) =
     Some (Run (folders_said dir said) tree scenario (number_or 10000 100 (given field.Turns said)))
 
+-- a run of the package in a folder; None where no scenario or no tree was said
 abbrev pub run_of : List ℕ → List Setting → Option Request
 run_of dir said = run_from dir said (scenario_said said) (given field.Tree said)
 

@@ -5,8 +5,7 @@ use Rattle.std.specs.List.{list_all}
 use Rattle.std.specs.Option.{is_some}
 use Rattle.std.specs.Str.{bytes_eq}
 use Rattle.std.specs.Str.Parse.{digits_value}
-use Rattle.dpkg_scenarios.specs.declared.scenario.Scenario.{Scenario}
-use Rattle.dpkg_scenarios.specs.declared.scenario.Scenario.TheVariants as scenario
+use Rattle.dpkg_scenarios.specs.Names.{scenario_named}
 use Rattle.command_words.specs.declared.field.Field.{Field}
 use Rattle.command_words.specs.declared.field.Field.TheVariants as field
 
@@ -31,25 +30,6 @@ is_number most text = list_all is_digit text && (is_within 1 6 (length text) && 
 -- that number
 abbrev pub number_in : ℕ → List ℕ → Option ℕ
 number_in most text = if is_number most text then Some (digits_value 10 text) else None
-
--- the name of a scenario
-abbrev pub scenario_name : Scenario → List ℕ
-scenario_name scenario.Install = codes "install"
-scenario_name scenario.InstallAgain = codes "install-again"
-scenario_name scenario.Upgrade = codes "upgrade"
-scenario_name scenario.Remove = codes "remove"
-scenario_name scenario.Purge = codes "purge"
-scenario_name scenario.PurgeLater = codes "purge-later"
-
--- the scenario of a name
-abbrev pub scenario_named : List ℕ → Option Scenario
-scenario_named name =
-    if bytes_eq name (codes "install") then Some scenario.Install
-    else (if bytes_eq name (codes "install-again") then Some scenario.InstallAgain
-    else (if bytes_eq name (codes "upgrade") then Some scenario.Upgrade
-    else (if bytes_eq name (codes "remove") then Some scenario.Remove
-    else (if bytes_eq name (codes "purge") then Some scenario.Purge
-    else (if bytes_eq name (codes "purge-later") then Some scenario.PurgeLater else None)))))
 
 -- a word that says how a report is written
 abbrev pub is_flag : List ℕ → Bool

@@ -73,6 +73,7 @@ finished_at command said Options = request_of command said
 finished_at command said (Value f) = None
 finished_at command said Ended = request_of command said
 
+-- the request of a line behind which no word follows; None where it is none
 abbrev pub finished : Command → Begun → Option Request
 finished command begun = finished_at command begun.said begun.place
 

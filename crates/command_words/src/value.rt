@@ -1,7 +1,8 @@
 // The values of options.
 ghost use Rattle.std.specs.Prelude.{◌≡◌};
 ghost use Rattle.std.specs.List.{list_all};
-ghost use Rattle.command_words.specs.Values.{is_name, is_digit, number_in, scenario_named, is_flag, is_value};
+ghost use Rattle.dpkg_scenarios.specs.Names.{scenario_named};
+ghost use Rattle.command_words.specs.Values.{is_name, is_digit, number_in, is_flag, is_value};
 
 use crate::field::Field;
 use dpkg_scenarios::Scenario;

@@ -1,11 +1,11 @@
 -- A directory that is put where it stands changes nothing.
-use Rattle.std.proofs.Common.{◌≡◌, true, List, ℕ, [], ◌∷◌, ◌++◌, refl, sym, ap, subst, ◌∙◌}
+use Rattle.std.proofs.Common.{◌≡◌, true, List, ℕ, [], ◌∷◌, ◌++◌, refl, sym, ap, ◌∙◌}
 use Rattle.std.specs.declared.cmp.Ordering.{Ordering}
 use Rattle.std.specs.declared.cmp.Ordering.TheVariants.{Less, Equal, Greater}
 use Rattle.feature_trees.specs.declared.shape.Entry.{Entry}
 use Rattle.feature_trees.specs.declared.value.Value.{Value}
 use Rattle.feature_trees.specs.declared.value.Value.TheVariants.{Absent, Reg, Link, Other, Dir}
-use Rattle.feature_trees.specs.Tree.{find, name_cmp, by_order, at, put, entry, update, entry_if_present, is_dir, entries_of}
+use Rattle.feature_trees.specs.Tree.{find, name_cmp, by_order, at, put, update, entry_if_present, is_dir, entries_of}
 use Rattle.feature_trees.specs.View.{IsThere, node_of, value_of}
 use Rattle.feature_trees.proofs.Found.{same_name}
 use Rattle.feature_trees.proofs.Kept.{node_of-value_of, value_there}

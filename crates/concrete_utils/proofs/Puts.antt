@@ -1,9 +1,7 @@
 -- Puts below a path, and what stands below a link.
-use Rattle.std.proofs.Common.{◌≡◌, Bool, true, false, Result, Ok, Err, OnOk, ◌≤◌, length, get_or, arith, List, ℕ, [], ◌∷◌, ◌++◌, refl, sym, ap, ◌∙◌}
+use Rattle.std.proofs.Common.{◌≡◌, true, false, Result, Ok, Err, OnOk, ◌≤◌, length, get_or, arith, List, ℕ, [], ◌∷◌, ◌++◌, refl, sym, ap, ◌∙◌}
 use Rattle.feature_trees.specs.declared.value.Value.{Value}
 use Rattle.feature_trees.specs.declared.value.Value.TheVariants as value
-use Rattle.feature_trees.specs.declared.kind.Kind.{Kind}
-use Rattle.feature_trees.specs.declared.kind.Kind.TheVariants as kind
 use Rattle.feature_trees.specs.Tree.{entry, at, put, update, entries_of, kind_of}
 use Rattle.utility_calls.specs.Ways.{in_dir}
 use Rattle.concrete_utils.specs.Ways.{is_link}

@@ -1,21 +1,23 @@
-ghost use Rattle.std.specs.Prelude.{◌≡◌, ◌≢◌, ◌||◌, if◌then◌else◌, None, [], ◌∷◌, ◌++◌, IfOk, OnOk, OnErr};
+ghost use Rattle.std.specs.Prelude.{◌≡◌, ◌≢◌, ◌||◌, if◌then◌else◌, None, [], ◌∷◌, ◌++◌, IfOk, OnOk, OnErr, IsTrue};
 ghost use Rattle.feature_trees.specs.declared.value.Value.{Value};
 ghost use Rattle.feature_trees.specs.declared.value.Value.TheVariants.{Absent, Dir, Link};
-ghost use Rattle.feature_trees.specs.Tree.{at, is_dir, kind_of, put, update, entries_of};
+ghost use Rattle.feature_trees.specs.Tree.{at, is_dir, kind_of, put, update, entries_of, has_parents};
 ghost use Rattle.utility_calls.specs.declared.sights.Effect.TheVariants.{Nothing, Moves, MovesInside};
 ghost use Rattle.utility_calls.specs.Acts.{path_of, place_of, target_of, source_of, inner_name, inner_at, second_link};
 ghost use Rattle.utility_calls.specs.Acts.{own_row, by_way, by_slash, slash_row, is_there, row as row_of, effect_on};
 ghost use Rattle.utility_calls.specs.Acts.{tree_after, with_name, IsPerformed};
+ghost use Rattle.utility_calls.specs.ActChanges.{IsInDirectory};
 ghost use Rattle.utility_calls.specs.Sights.{sight_of};
 ghost use Rattle.utility_calls.specs.Table.{stop};
+ghost use Rattle.utility_calls.specs.Ways.{in_dir};
 
 use crate::walks::{Seen, entry_or, has_entry, walk};
-use feature_trees::{Entries, Kind, Value};
+use feature_trees::{Entries, Kind, PutFault, Value};
 use script_names::{Copied, Done, Memory, Name, Path, Reason};
 use std::alloc::Global;
 use utility_calls::acts::Act;
 use utility_calls::sights::{Effect, Row, Sight};
-use utility_calls::theorems::acts_change_trees;
+use utility_calls::theorems::{acts_change_trees, changes_are_in_directories};
 
 // The row of a link on the way.
 fn link_row(number: u8) -> Row
@@ -116,8 +118,8 @@ fn second_link(looks: bool, link: Option<u8>) -> Option<u8>
     if looks { link } else { None }
 }
 
-// The row of the act's own, or of a link on the way of a move's second path.
-fn later_row(a: &Act, tree: &Value, source: Kind, nothing: &Value) -> Row
+// The row of a move's own, or of a link on the way of its second path.
+fn move_row(a: &Act, tree: &Value, source: Kind, nothing: &Value) -> Row
     requires nothing { nothing.now ≡ Absent }
     requires source { source ≡ source_of a.now tree.now }
     ensures { result ≡ by_way (second_link a.now tree.now) (own_row a.now tree.now) }
@@ -133,6 +135,23 @@ fn later_row(a: &Act, tree: &Value, source: Kind, nothing: &Value) -> Row
     }
 }
 
+// The row of the act's own, or of a link on the way of a move's second path. Where nothing is moved, what is seen at
+// the end of the act's own path is all that it looks at.
+fn later_row(a: &Act, tree: &Value, first: &Seen, nothing: &Value) -> Row
+    requires nothing { nothing.now ≡ Absent }
+    requires in_dir { first.now.in_dir ≡ in_dir tree.now (path_of a.now).names }
+    requires here { first.now.here.now ≡ at tree.now (path_of a.now).names }
+    ensures { result ≡ by_way (second_link a.now tree.now) (own_row a.now tree.now) }
+{
+    match a.moved() {
+        Some(_) => move_row(a, tree, source(a, first.here.kind()), nothing),
+        None => {
+            let inner = inner(a, first.here, nothing);
+            a.own_row(false, Kind::Absent, &sight_of(first, inner))
+        }
+    }
+}
+
 // The row that the act takes on a tree.
 fn row_on(a: &Act, tree: &Value) -> Row
     ensures { result ≡ row_of a.now tree.now }
@@ -144,22 +163,23 @@ fn row_on(a: &Act, tree: &Value) -> Row
         Some(number) => link_row(number),
         None => {
             let kind = first.here.kind();
-            let later = later_row(a, tree, source(a, kind), &nothing);
+            let later = later_row(a, tree, &first, &nothing);
             by_slash(path.slash(), kind, later)
         }
     }
 }
 
-// Puts a value at a path that has a name.
+// Puts a value at a path that has a name and is in a directory.
 fn put_at(path: &Path, value: Value, tree: &mut Value) -> Result<(), Memory>
-    requires { path.now.names ≢ [] }
+    requires named { path.now.names ≢ [] }
+    requires parents { IsTrue (has_parents tree.old path.now.names) }
     ensures ok { OnOk result (tree.new ≡ put tree.old path.now.names value) }
     ensures kept { OnErr result (tree.new ≡ tree.old) }
 {
     match tree.put(path, value) {
         Ok(()) => Ok(()),
-        // every row that changes the tree has a directory above the path
-        Err(_) => Err(Memory),
+        Err(PutFault::Memory) => Err(Memory),
+        Err(PutFault::NoParent) => unreachable!(),
     }
 }
 
@@ -186,7 +206,8 @@ fn has_dir(tree: &Value, path: &Path) -> bool
 
 // Leaves a directory at a path as it is, and puts one without entries where none stands.
 fn keep_dir(alloc: Global, path: &Path, tree: &mut Value) -> Result<(), Memory>
-    requires { path.now.names ≢ [] }
+    requires named { path.now.names ≢ [] }
+    requires parents { IsTrue (has_parents tree.old path.now.names) }
     ensures ok { let names = path.now.names in
         OnOk result (tree.new ≡ put tree.old names (Dir (entries_of (at tree.old names)))) }
     ensures kept { OnErr result (tree.new ≡ tree.old) }
@@ -219,7 +240,7 @@ fn with_entry(entries: Entries, f: &Name, inner: Value) -> Result<Value, Memory>
     Ok(Value::Dir(changed))
 }
 
-// Puts a value under a name of what stands at a path, which becomes a directory with it.
+// Puts a value under a name of the directory at a path.
 fn put_under(
     alloc: Global,
     path: &Path,
@@ -227,7 +248,8 @@ fn put_under(
     value: Value,
     tree: &mut Value,
 ) -> Result<(), Memory>
-    requires { path.now.names ≢ [] }
+    requires named { path.now.names ≢ [] }
+    requires parents { IsTrue (has_parents tree.old (path.now.names ++ f.now ∷ [])) }
     ensures ok { OnOk result (tree.new ≡ put tree.old (path.now.names ++ f.now ∷ []) value) }
     ensures kept { OnErr result (tree.new ≡ tree.old) }
 {
@@ -244,7 +266,8 @@ fn put_inside(
     value: Value,
     tree: &mut Value,
 ) -> Result<(), Memory>
-    requires { path.now.names ≢ [] }
+    requires named { path.now.names ≢ [] }
+    requires parents { IsTrue (has_parents tree.old (with_name path.now.names (inner_name a.now))) }
     ensures ok { OnOk result (tree.new ≡ put tree.old (with_name path.now.names (inner_name a.now)) value) }
     ensures kept { OnErr result (tree.new ≡ tree.old) }
 {
@@ -256,7 +279,8 @@ fn put_inside(
 
 // A copy of the tree without what stands at the act's path.
 fn copy_without(alloc: Global, a: &Act, tree: &Value) -> Result<Value, Memory>
-    requires { (path_of a.now).names ≢ [] }
+    requires named { (path_of a.now).names ≢ [] }
+    requires parents { IsTrue (has_parents tree.now (path_of a.now).names) }
     ensures { IfOk result (λ copy. copy ≡ put tree.now (path_of a.now).names Absent) }
 {
     let mut copy = tree.copy(alloc)?;
@@ -269,6 +293,7 @@ fn copy_without(alloc: Global, a: &Act, tree: &Value) -> Result<Value, Memory>
 fn move_to(alloc: Global, a: &Act, tree: &mut Value) -> Result<(), Memory>
     requires path { (path_of a.now).names ≢ [] }
     requires place { place_of a.now ≢ [] }
+    requires parents { IsInDirectory Moves a.now tree.old }
     ensures ok { OnOk result (tree.new ≡ effect_on Moves a.now tree.old) }
     ensures kept { OnErr result (tree.new ≡ tree.old) }
 {
@@ -283,6 +308,7 @@ fn move_to(alloc: Global, a: &Act, tree: &mut Value) -> Result<(), Memory>
 fn move_inside(alloc: Global, a: &Act, tree: &mut Value) -> Result<(), Memory>
     requires path { (path_of a.now).names ≢ [] }
     requires place { place_of a.now ≢ [] }
+    requires parents { IsInDirectory MovesInside a.now tree.old }
     ensures ok { OnOk result (tree.new ≡ effect_on MovesInside a.now tree.old) }
     ensures kept { OnErr result (tree.new ≡ tree.old) }
 {
@@ -302,7 +328,8 @@ fn link(alloc: Global, a: &Act) -> Result<Value, Memory>
 
 // Leaves the tree that an effect of the act leaves.
 fn change(alloc: Global, a: &Act, effect: Effect, tree: &mut Value) -> Result<(), Memory>
-    requires { effect ≢ Nothing → ((path_of a.now).names ≢ []) × (place_of a.now ≢ []) }
+    requires named { effect ≢ Nothing → ((path_of a.now).names ≢ []) × (place_of a.now ≢ []) }
+    requires parents { IsInDirectory effect a.now tree.old }
     ensures ok { OnOk result (tree.new ≡ effect_on effect a.now tree.old) }
     ensures kept { OnErr result (tree.new ≡ tree.old) }
 {
@@ -336,6 +363,8 @@ pub fn act(alloc: Global, a: &Act, tree: &mut Value) -> Result<(u8, Done), Memor
     ensures kept { OnErr result (tree.new ≡ tree.old) }
 {
     acts_change_trees();
+    changes_are_in_directories();
+    tree.is_sound();
     let row = row_on(a, tree);
     change(alloc, a, row.effect, tree)?;
     Ok((row.number, row.answer))

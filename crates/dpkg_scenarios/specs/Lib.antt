@@ -1,3 +1,4 @@
+pub mod Names
 pub mod Scenarios
 pub mod Steps
 pub mod Lines

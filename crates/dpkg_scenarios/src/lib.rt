@@ -5,11 +5,13 @@
 #![tactic(auto)]
 
 mod call;
+mod names;
 mod scenario;
 mod steps;
 mod tables;
 pub mod theorems;
 
 pub use call::call_words;
+pub use names::{scenario_name, script_name};
 pub use scenario::{Ending, Scenario, ScriptKind, State, StepNext, StepWork};
 pub use steps::{next, work};

@@ -1,11 +1,13 @@
-//! Tests of checker_input: what a request comes to over files in memory, and why it is refused. They stand apart from
-//! checker_input, so that it is not proved twice.
+//! Tests of checker_input: what a request comes to over files in memory, and why it is refused; and of load_maker: made
+//! packages. They stand apart from these crates, so that none is proved twice.
 #![tactic(auto)]
 
 #[cfg(test)]
 mod answers;
 #[cfg(test)]
 mod faults;
+#[cfg(test)]
+mod made;
 #[cfg(test)]
 mod refusals;
 #[cfg(test)]

@@ -1,4 +1,4 @@
-ghost use Rattle.std.specs.Prelude.{◌≡◌, ◌||◌, ℕ, List as ListOf, false, OnOk};
+ghost use Rattle.std.specs.Prelude.{◌≡◌, ◌||◌, ℕ, List as ListOf, false, OnOk, OnErr};
 ghost use Rattle.std.specs.List.{list_any};
 ghost use Rattle.std.specs.Str.{bytes_eq};
 ghost use Rattle.package_lists.specs.PathSets.{has};
@@ -32,9 +32,11 @@ impl PathSet {
         self.paths.contains(path)
     }
 
-    /// One more path.
+    /// One more path; for want of memory the set has what it had.
     pub fn add(&mut self, path: &[u8]) -> Result<(), Memory>
-        ensures { OnOk result ((other : ListOf ℕ) → has self.new other ≡ (bytes_eq path.now other || has self.old other)) }
+        ensures ok { OnOk result ((other : ListOf ℕ)
+            → has self.new other ≡ (bytes_eq path.now other || has self.old other)) }
+        ensures kept { OnErr result ((other : ListOf ℕ) → has self.new other ≡ has self.old other) }
     {
         let key = Vec::from_slice(self.alloc, path)?;
         self.paths.insert(key)?;

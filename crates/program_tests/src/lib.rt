@@ -1,5 +1,6 @@
-//! Tests of whole scripts that are run: read, accepted, translated, and run on one tree; and of programs as text. They
-//! stand above shell_to_colis, colis_interp and colis_reader, and apart from these, so that no crate is proved twice.
+//! Tests of whole scripts that are run: read, accepted, translated, and run on one tree; and of programs as text, that
+//! are printed again, and run from a given state. They stand above shell_to_colis, colis_interp and colis_reader, and
+//! apart from these, so that no crate is proved twice.
 #![tactic(auto)]
 
 #[cfg(test)]

@@ -2,12 +2,14 @@
 
 mod programs;
 mod rows;
+mod states;
+mod written;
 mod wrong;
 
 use colis_interp::run;
 use colis_syntax::Program;
 use feature_trees::{print_tree, read_tree};
-use rows::{CALLS, CASES_AND_FUNCTIONS, LOOPS, STATUS, WORDS, WORKED};
+use rows::{CALLS, CASES_AND_FUNCTIONS, LOOPS, REDIRECTED, STATUS, WORDS, WORKED};
 use script_names::{Bytes, List, Mark, Memory};
 use shell_forms::{Accepted, FormFault, accept};
 use shell_lexer::lex;
@@ -90,19 +92,31 @@ fn translated(alloc: Global, script: &[u8]) -> Result<Program, Fail> {
     Ok(program)
 }
 
-// What a program comes to on a tree: the end, the trace, the turns that are left, and the tree after.
-fn answer(alloc: Global, turns: u32, tree_text: &[u8], program: &Program) -> Result<Bytes, Fail> {
-    let mut conc = begun(alloc, program.strict(), turns)?;
+// How a program runs from a state, on a tree, behind the marks of a trace: the end and the trace, and the tree after.
+fn run_on(
+    alloc: Global,
+    tree_text: &[u8],
+    program: &Program,
+    conc: &mut Conc,
+    marks: List<Mark>,
+) -> Result<(Bytes, Bytes), Fail> {
     let mut tree = read_tree(alloc, tree_text)?;
-    let mut trace = List::new(alloc);
-    let ran = run(alloc, program, 3, &mut conc, &mut tree, &mut trace)?;
+    let mut trace = marks;
+    let ran = run(alloc, program, 3, conc, &mut tree, &mut trace)?;
     let mut text = Bytes::new(alloc);
     put_end(&mut text, ran.end)?;
     put_marks(&mut text, trace.as_slice())?;
+    let after = print_tree(alloc, &tree)?;
+    Ok((text, after))
+}
+
+// What a program comes to on a tree: the end, the trace, the turns that are left, and the tree after.
+fn answer(alloc: Global, turns: u32, tree_text: &[u8], program: &Program) -> Result<Bytes, Fail> {
+    let mut conc = begun(alloc, program.strict(), turns)?;
+    let (mut text, after) = run_on(alloc, tree_text, program, &mut conc, List::new(alloc))?;
     text.extend(b"turns ")?;
     push_number(&mut text, conc.turns as u64)?;
     text.extend(b"\nafter\n")?;
-    let after = print_tree(alloc, &tree)?;
     text.extend(after.as_slice())?;
     Ok(text)
 }
@@ -145,10 +159,11 @@ fn scripts_come_to_what_their_rows_say(rt: HostRuntime) -> Result<(), Fail> {
     let tables = [
         (WORKED, 7u32),
         (STATUS, 28),
+        (REDIRECTED, 29),
         (WORDS, 30),
         (LOOPS, 18),
         (CASES_AND_FUNCTIONS, 20),
-        (CALLS, 31),
+        (CALLS, 33),
     ];
     for (table, count) in tables {
         let held = count_held(rt.alloc(), table)?;

@@ -8,3 +8,4 @@ mod render;
 mod values;
 
 pub use render::render_json;
+pub use values::report_value;

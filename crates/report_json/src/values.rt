@@ -134,9 +134,9 @@ fn parts_value(alloc: Global, parts: &[ReportPart]) -> Result<Value, Memory>
     Ok(Value::Array(list))
 }
 
-// A report.
+/// The JSON value of a report.
 #[tactic(auto, unfolding(crate::specs::ReportJson::json_of))]
-pub(crate) fn report_value(alloc: Global, report: &Report) -> Result<Value, Memory>
+pub fn report_value(alloc: Global, report: &Report) -> Result<Value, Memory>
     ensures { IfOk result (λ value. view value ≡ json_of report.now) }
 {
     let scenarios = parts_value(alloc, report.parts.as_slice())?;

@@ -1,6 +1,8 @@
-//! Tests of outcome_report and report_json. They stand apart from these, so that none is proved twice.
+//! Tests of outcome_report, report_json and report_reader. They stand apart from these, so that none is proved twice.
 #![tactic(auto)]
 
+#[cfg(test)]
+mod json_readings;
 #[cfg(test)]
 mod json_texts;
 #[cfg(test)]

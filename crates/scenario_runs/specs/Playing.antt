@@ -1,10 +1,10 @@
 -- Steps and runs of scenarios that are decisions.
-use Rattle.std.proofs.Common.{◌≡◌, ℕ, List, [], ◌∷◌, ◌++◌, refl, sym, ap, ◌∙◌, append_assoc, append-nil}
+use Rattle.std.proofs.Common.{◌≡◌, ℕ, List, [], ◌++◌, refl, sym, ap, ◌∙◌}
 use Rattle.script_names.specs.declared.mark.Mark.{Mark}
 use Rattle.feature_trees.specs.declared.value.Value.{Value}
 use Rattle.utility_calls.specs.declared.acts.Act.{Act}
-use Rattle.utility_calls.specs.Acts.{row, tree_after}
-use Rattle.act_decisions.specs.Decisions.{Decision, Decided, Asks, Played, play, mark_at, AllPerformed}
+use Rattle.act_decisions.specs.Decisions.{Decision, Decided, Played, play, AllPerformed}
+use Rattle.act_decisions.proofs.Playing.{plays_behind as behind_what_was}
 use Rattle.colis_decisions.proofs.Playing.{bind, bind_plays, bind_performed}
 use Rattle.scenario_runs.specs.declared.call.ScriptCall.{ScriptCall}
 use Rattle.scenario_runs.specs.declared.course.Course.{Course}
@@ -15,18 +15,10 @@ use Rattle.scenario_runs.specs.declared.course.Course.{Course}
 abbrev pub with_front : {A : Type 0} → List Act → Played A → Played A
 with_front front p = record p { acts = front ++ p.acts }
 
-front_plays : {A : Type 0} (d : Decision A) (tree : Value) (trace : List Mark) (front acts : List Act)
-    → play d tree trace (front ++ acts) ≡ with_front front (play d tree trace acts)
-front_plays (Decided value) tree trace front acts = refl
-front_plays (Asks site act after) tree trace front acts =
-    ap (play (after (row act tree).answer) (tree_after act tree) (trace ++ mark_at site act tree ∷ []))
-    (append_assoc front acts (act ∷ []))
-    ∙ front_plays (after (row act tree).answer) (tree_after act tree) (trace ++ mark_at site act tree ∷ []) front
-    (acts ++ act ∷ [])
-
 pub plays_behind : {A : Type 0} (d : Decision A) (tree : Value) (trace : List Mark) (acts : List Act)
     → play d tree trace acts ≡ with_front acts (play d tree trace [])
-plays_behind d tree trace acts = ap (play d tree trace) (sym (append-nil acts)) ∙ front_plays d tree trace acts []
+plays_behind d tree trace acts =
+    behind_what_was d tree trace acts ∙ ap (with_front acts) (sym (behind_what_was d tree trace []))
 
 -- ---- what goes by a course
 

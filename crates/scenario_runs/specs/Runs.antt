@@ -26,6 +26,7 @@ use Rattle.dpkg_scenarios.specs.declared.scenario.StepWork.TheVariants as work
 use Rattle.dpkg_scenarios.specs.declared.scenario.StepNext.{StepNext}
 use Rattle.dpkg_scenarios.specs.declared.scenario.StepNext.TheVariants.{Go, Stop}
 use Rattle.dpkg_scenarios.specs.declared.scenario.Ending.TheVariants as ending
+use Rattle.dpkg_scenarios.specs.Names.{script_name}
 use Rattle.dpkg_scenarios.specs.Scenarios.{Step, table}
 use Rattle.dpkg_scenarios.specs.Steps.{line, follows}
 use Rattle.scenario_runs.specs.declared.job.Scripts.{Scripts}
@@ -63,13 +64,6 @@ pub record Plan : Type 0 where
   pub turns : ℕ
 
 -- ---- a step that calls a script
-
--- the name of a script
-abbrev pub script_name : ScriptKind → List ℕ
-script_name Preinst = codes "preinst"
-script_name Postinst = codes "postinst"
-script_name Prerm = codes "prerm"
-script_name Postrm = codes "postrm"
 
 -- the shell in which a script is called: its name is the one variable, the words are the arguments, and as many turns
 -- are left as the run has left

@@ -1,30 +1,18 @@
 ghost use Rattle.std.specs.Prelude.{◌≡◌, ◌++◌, IfOk, OnOk, Some};
 ghost use Rattle.feature_trees.specs.declared.kind.Kind.TheVariants.{Dir};
 ghost use Rattle.feature_trees.specs.Tree.{kind_of};
-ghost use Rattle.scenario_runs.specs.Runs.{script_name, begun_shell, script_end, call_script, program_meaning};
+ghost use Rattle.scenario_runs.specs.Runs.{begun_shell, script_end, call_script, program_meaning};
 
 use crate::call::{ScriptCall, call_end};
 use crate::course::{Course, WorkEnd, Worked};
 use colis_interp::{Ran, run};
 use colis_syntax::Program;
-use dpkg_scenarios::{Ending, ScriptKind};
+use dpkg_scenarios::{Ending, ScriptKind, script_name};
 use script_names::{Bytes, Copied, List, Memory};
 use shell_rules::{Conc, End};
 use shell_words::Env;
 use std::alloc::Global;
 use utility_calls::acts::Act;
-
-// The name of a script.
-fn script_name(script: ScriptKind) -> &'static [u8]
-    ensures { result.now ≡ script_name script }
-{
-    match script {
-        ScriptKind::Preinst => b"preinst",
-        ScriptKind::Postinst => b"postinst",
-        ScriptKind::Prerm => b"prerm",
-        ScriptKind::Postrm => b"postrm",
-    }
-}
 
 // The shell in which a script is called with these words.
 fn begun_shell(
@@ -37,7 +25,7 @@ fn begun_shell(
     ensures { IfOk result (λ shell. shell ≡ begun_shell script words.now strict turns) }
 {
     let mut vars = Env::new(alloc);
-    let name = Bytes::from_slice(alloc, script_name(script))?;
+    let name = Bytes::from_slice(alloc, script_name(script).as_bytes())?;
     vars.set(b"DPKG_MAINTSCRIPT_NAME", name)?;
     let args = words.copy(alloc)?;
     Ok(Conc {

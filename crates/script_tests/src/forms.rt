@@ -1,4 +1,4 @@
-//! Scripts of tests/rows.rt, read and accepted.
+//! Scripts of forms/rows.rt, read and accepted.
 
 mod rows;
 

@@ -19,6 +19,10 @@ x=$y"z 1" ->  x=${y}"z 1"
 a $1 ${x:-y} "$#" "$@" ->  a ${1} ${x:-y} "${#}" "$@"
 a >/dev/null 2>&1 ->  >/dev/null 2>&1 a
 >/dev/null if ->  >/dev/null if
+echo } ->  echo }
+>/dev/null } ->  >/dev/null }
+B} } ->  B} }
+! { ! echo }; } ->  ! { ! echo }N }
 { a; } </dev/null ->  </dev/null a
 { a; b; } >&2 ->  { aN bN } >&2
 a | b | c ->  a | b | c
@@ -57,7 +61,7 @@ fn spelled(alloc: Global, text: &str) -> Result<Bytes, Memory> {
 }
 
 // What a text's script is printed as.
-fn printed(alloc: Global, text: &[u8]) -> Result<Bytes, Fail> {
+pub(crate) fn printed(alloc: Global, text: &[u8]) -> Result<Bytes, Fail> {
     let lexed = lex(alloc, text)?;
     let script = parse(alloc, &lexed)?;
     let printed = print_script(alloc, &script)?;

@@ -256,7 +256,7 @@ production_redirects None = record { signs = []; tree = λ v. [] }
 
 -- the production of a rule, by what stands first among the tokens
 abbrev pub production : (n : Rule) → Look → Production n
--- XCU 2.10.2 program, linebreak, complete_commands, compound_list
+-- XCU 2.10.2 program, linebreak, complete_commands, compound_list; 2.9.3 Lists
 production Script l = record { signs = Of Newlines ∷ Of Body ∷ Is AtEnd ∷ []; tree = λ v. v.1.0 }
 production Body AtEnd = record { signs = []; tree = λ v. c.Seq [] }
 production Body l = record { signs = Of Members ∷ []; tree = λ v. v.0 }
@@ -266,7 +266,7 @@ production Block l = record { signs = Of Newlines ∷ Of Members ∷ []; tree = 
 production Members l = record { signs = Of AndOr ∷ Of More ∷ []; tree = λ v. seq_of (v.0 ∷ v.1.0) }
 production More l = production_more l (is_separator l)
 production Behind l = production_behind (starts l)
--- XCU 2.10.2 and_or, pipeline, pipe_sequence, command
+-- XCU 2.10.2 and_or, pipeline, pipe_sequence, command; 2.9.2 Pipelines, 2.9.3 Lists; 2.4 for `!`
 production AndOr l = record { signs = Of Pipeline ∷ Of Links ∷ []; tree = λ v. chain_of v.0 v.1.0 }
 production Links l = production_links l (link_and l)
 production Pipeline (Keyword Bang) = record { signs = Is (Keyword Bang) ∷ Of Piped ∷ []; tree = λ v. c.Not v.0 v.1.0 }
@@ -277,7 +277,8 @@ production Bars Bar =
 production Bars l = record { signs = []; tree = λ v. [] }
 production ACommand l = production_command (command_form l)
 production Compound l = production_compound (compound_form l)
--- XCU 2.10.2 if_clause, else_part, while_clause, until_clause, do_group
+-- XCU 2.10.2 if_clause, else_part, while_clause, until_clause, do_group; 2.9.4.4 The if Conditional Construct, 2.9.4.5
+-- The while Loop, 2.9.4.6 The until Loop; 2.4 for their reserved words
 production Clause l =
     record {
       signs = Of Block ∷ Is (Keyword Then) ∷ Of Block ∷ Of Arms ∷ [];
@@ -287,7 +288,7 @@ production Arms (Keyword Elif) = record { signs = Is (Keyword Elif) ∷ Of Claus
 production Arms (Keyword Else) = record { signs = Is (Keyword Else) ∷ Of Block ∷ []; tree = λ v. ([], Some v.1.0) }
 production Arms l = record { signs = []; tree = λ v. ([], None) }
 production Loop l = record { signs = Of Block ∷ Is (Keyword Do) ∷ Of Block ∷ []; tree = λ v. (v.0, v.1.1.0) }
--- XCU 2.10.2 for_clause, name, in, wordlist, sequential_sep, do_group
+-- XCU 2.10.2 for_clause, name, in, wordlist, sequential_sep, do_group; 2.9.4.2 The for Loop; 2.4 for `in`, `do`
 production ForRest l =
     record {
       signs = Of ForName ∷ Of Newlines ∷ Of ForWords ∷ Is (Keyword Do) ∷ Of Block ∷ [];
@@ -300,7 +301,8 @@ production ForWords Semi = record { signs = Is Semi ∷ Of Newlines ∷ []; tree
 production ForWords l = record { signs = []; tree = λ v. None }
 production Each l = production_each (is_word l)
 production Apart l = production_apart l (is_separator l)
--- XCU 2.10.2 case_clause, case_list, case_list_ns, case_item, case_item_ns, pattern
+-- XCU 2.10.2 case_clause, case_list, case_list_ns, case_item, case_item_ns, pattern; 2.9.4.3 Case Conditional
+-- Construct; 2.4 for `in`, `esac`
 production CaseRest l =
     record {
       signs = AWord ∷ Of Newlines ∷ Is (Keyword In) ∷ Of Newlines ∷ Of CaseArms ∷ [];
@@ -319,7 +321,8 @@ production Patterns l = record { signs = AWord ∷ Of MorePatterns ∷ []; tree 
 production MorePatterns Bar = record { signs = Is Bar ∷ AWord ∷ Of MorePatterns ∷ []; tree = λ v. v.1.0 ∷ v.1.1.0 }
 production MorePatterns l = record { signs = []; tree = λ v. [] }
 production ArmBody l = production_arm_body (ends_arm l)
--- XCU 2.10.2 brace_group, function_definition, function_body, simple_command, redirect_list
+-- XCU 2.10.2 brace_group, function_definition, function_body, simple_command, redirect_list; 2.9.1 Simple Commands,
+-- 2.9.4.1 Grouping Commands, 2.9.5 Function Definition Command; 2.4 for `{`, `}`
 production Braces l =
     record { signs = Opens (Keyword Open) ∷ Inside Block ∷ Is (Keyword Close) ∷ []; tree = λ v. v.1.0 }
 production Named LeftParen =

@@ -1,5 +1,5 @@
 -- Steps of commands, groups, `if` and loops with a condition.
-use Rattle.std.proofs.Common.{◌≡◌, ℕ, ◌+◌, Bool, List, [], ◌∷◌, ◌++◌, Option, Some, None, refl, sym, ap, ◌∙◌, subst, drop, append-nil, append_assoc}
+use Rattle.std.proofs.Common.{◌≡◌, ℕ, ◌+◌, Result, Ok, Err, Bool, List, [], ◌∷◌, ◌++◌, Option, Some, None, refl, sym, ap, ◌∙◌, subst, drop, append-nil, append_assoc}
 use Rattle.shell_grammar.specs.declared.fault.ParseFault.{ParseFault}
 use Rattle.shell_grammar.specs.declared.fault.ParseFault.TheVariants.{Syntax}
 use Rattle.shell_grammar.specs.declared.look.Look.{Look}
@@ -18,9 +18,9 @@ use Rattle.shell_grammar.specs.Grammar as g
 use Rattle.shell_grammar.specs.Grammar.{Rule, Sign, Is, Opens, AWord, Here, Never, Of, Inside, Tree, Value, Values, Production, production}
 use Rattle.shell_grammar.specs.Reading.{Out, Whole, Stop, turned, IsRule, rule, IsSign, here, never, of}
 use Rattle.shell_grammar.specs.Spelling.{deep_64}
-use Rattle.shell_parser.specs.Reads.{Stops}
+use Rattle.shell_parser.specs.Reads.{Stops, Reads}
 use Rattle.shell_parser.specs.Reads.{ArmsFrom, armed}
-use Rattle.shell_parser.proofs.Steps.{made, ruled, made_stops, rule_stops, more_of, stop_later, stop_here, all_done, there, in_one}
+use Rattle.shell_parser.proofs.Steps.{made, ruled, made_stops, rule_stops, more_of, stop_later, stop_here, all_done, there, in_one, passed_on}
 
 moved_arms : (xs : List IfArm) (x : IfArm) (q : Out (List IfArm × Option Command)) → turned (armed xs) (turned (armed (x ∷ [])) q) ≡ turned (armed (xs ++ x ∷ [])) q
 moved_arms xs x (Whole us r) = ap (λ l. Whole (l, us.1) r) (sym (append_assoc xs (x ∷ []) us.0))
@@ -60,14 +60,14 @@ module _ {d end : ℕ} where
   pub braces_last : {ts r r2 r3 : Tokens} (v : ℕ) (x : Command) (f : ParseFault) → IsSign deep_64 d end (Opens (Keyword Open)) ts (Whole v r) → IsRule deep_64 (d + 1) end g.Block r (Whole x r2) → IsSign deep_64 d end (Is (Keyword Close)) r2 (Stop f r3) → IsRule deep_64 d end g.Braces ts (Stop f r3)
   braces_last {r3 = r3} v x f o b e = rule (Stop f r3) (stop_later v o (stop_later x (in_one b) (stop_here e))) refl
 
-  pub group_ok : {ts r : Tokens} (x : Command) → form.compound_form (look ts) ≡ compound.Braces → IsRule deep_64 d end g.Braces ts (Whole x r) → IsRule deep_64 d end g.Compound ts (Whole x r)
+  group_ok : {ts r : Tokens} (x : Command) → form.compound_form (look ts) ≡ compound.Braces → IsRule deep_64 d end g.Braces ts (Whole x r) → IsRule deep_64 d end g.Compound ts (Whole x r)
   group_ok {r = r} x e b = made (g.production_compound compound.Braces) (ap g.production_compound e) (Whole (x, tt) r) (more_of x tt (of b) all_done)
 
-  pub group_stops : {ts r : Tokens} (f : ParseFault) → form.compound_form (look ts) ≡ compound.Braces → IsRule deep_64 d end g.Braces ts (Stop f r) → IsRule deep_64 d end g.Compound ts (Stop f r)
+  group_stops : {ts r : Tokens} (f : ParseFault) → form.compound_form (look ts) ≡ compound.Braces → IsRule deep_64 d end g.Braces ts (Stop f r) → IsRule deep_64 d end g.Compound ts (Stop f r)
   group_stops f e b = made_stops (g.production_compound compound.Braces) (ap g.production_compound e) (stop_here (of b))
 
-  pub subshell_ok : {ts r r2 r3 : Tokens} (v v2 : ℕ) (x y : Command) (n : ℕ) → n ≡ v → y ≡ x → form.compound_form (look ts) ≡ compound.Subshell → IsSign deep_64 d end (Opens LeftParen) ts (Whole v r) → IsRule deep_64 (d + 1) end g.Block r (Whole x r2) → IsSign deep_64 d end (Is RightParen) r2 (Whole v2 r3) → IsRule deep_64 d end g.Compound ts (Whole (c.Sub n y) r3)
-  subshell_ok {ts = ts} {r3 = r3} v v2 x y n h k l o b e = subst (λ t. IsRule deep_64 d end g.Compound ts (Whole t r3)) (ap (λ n. c.Sub n x) (sym h) ∙ ap (c.Sub n) (sym k)) (made (g.production_compound compound.Subshell) (ap g.production_compound l) (Whole (v, (x, (v2, tt))) r3) (more_of v (x, (v2, tt)) o (more_of x (v2, tt) (in_one b) (more_of v2 tt e all_done))))
+  pub subshell_ok : {ts r r2 r3 : Tokens} (v v2 : ℕ) (x : Command) (n : ℕ) → n ≡ v → form.compound_form (look ts) ≡ compound.Subshell → IsSign deep_64 d end (Opens LeftParen) ts (Whole v r) → IsRule deep_64 (d + 1) end g.Block r (Whole x r2) → IsSign deep_64 d end (Is RightParen) r2 (Whole v2 r3) → IsRule deep_64 d end g.Compound ts (Whole (c.Sub n x) r3)
+  subshell_ok {ts = ts} {r3 = r3} v v2 x n h l o b e = subst (λ n. IsRule deep_64 d end g.Compound ts (Whole (c.Sub n x) r3)) (sym h) (made (g.production_compound compound.Subshell) (ap g.production_compound l) (Whole (v, (x, (v2, tt))) r3) (more_of v (x, (v2, tt)) o (more_of x (v2, tt) (in_one b) (more_of v2 tt e all_done))))
 
   pub subshell_first : {ts r : Tokens} (f : ParseFault) → form.compound_form (look ts) ≡ compound.Subshell → IsSign deep_64 d end (Opens LeftParen) ts (Stop f r) → IsRule deep_64 d end g.Compound ts (Stop f r)
   subshell_first f l o = made_stops (g.production_compound compound.Subshell) (ap g.production_compound l) (stop_here o)
@@ -93,6 +93,9 @@ module _ {d end : ℕ} where
   pub arm_body : {ts r r2 r3 : Tokens} (x : Command) (v : ℕ) (f : ParseFault) → IsRule deep_64 d end g.Block ts (Whole x r) → IsSign deep_64 d end (Is (Keyword Then)) r (Whole v r2) → IsRule deep_64 d end g.Block r2 (Stop f r3) → IsRule deep_64 d end g.Clause ts (Stop f r3)
   arm_body {r3 = r3} x v f a s b = rule (Stop f r3) (stop_later x (of a) (stop_later v s (stop_here (of b)))) refl
 
+  pub arms_begin : (all r : Tokens) (x : IfArm) (none xs : List IfArm) → none ≡ [] → xs ≡ none ++ x ∷ [] → ArmsFrom d end all r (x ∷ []) → ArmsFrom d end all r xs
+  arms_begin all r x none xs e f a = subst (ArmsFrom d end all r) (sym (f ∙ ap (λ l. l ++ x ∷ []) e)) a
+
   arms_elif : (ts : Tokens) (q : Out (List IfArm × Option Command)) (at : ℕ) → look (drop at ts) ≡ Keyword Elif → IsRule deep_64 d end g.Clause (drop (at + 1) ts) q → IsRule deep_64 d end g.Arms (drop at ts) q
   arms_elif ts (Whole w r2) at e m = ruled (Keyword Elif) e (Whole (place end (drop at ts), (w, tt)) r2) (more_of _ (w, tt) (there ts at e) (more_of w tt (of m) all_done))
   arms_elif ts (Stop f r2) at e m = rule_stops (Keyword Elif) e (stop_later _ (there ts at e) (stop_here (of m)))
@@ -105,8 +108,8 @@ module _ {d end : ℕ} where
   pub arms_stops : (all ts : Tokens) (at : ℕ) (r : Tokens) (f : ParseFault) (xs : List IfArm) → ArmsFrom d end all (drop at ts) xs → look (drop at ts) ≡ Keyword Elif → IsRule deep_64 d end g.Clause (drop (at + 1) ts) (Stop f r) → IsRule deep_64 d end g.Clause all (Stop f r)
   arms_stops all ts at r f xs inv e a = inv (Stop f r) (arms_elif ts (Stop f r) at e a)
 
-  pub clause_else : (all ts : Tokens) (at : ℕ) (r : Tokens) (x y : Command) (xs : List IfArm) → ArmsFrom d end all (drop at ts) xs → look (drop at ts) ≡ Keyword Else → IsRule deep_64 d end g.Block (drop (at + 1) ts) (Whole x r) → y ≡ x → IsRule deep_64 d end g.Clause all (Whole (xs, Some y) r)
-  clause_else all ts at r x y xs inv e m h = subst (λ v. IsRule deep_64 d end g.Clause all (Whole v r)) (ap (λ l. (l, Some x)) (append-nil xs) ∙ ap (λ x. (xs, Some x)) (sym h)) (inv (Whole ([], Some x) r) (ruled (Keyword Else) e (Whole (place end (drop at ts), (x, tt)) r) (more_of _ (x, tt) (there ts at e) (more_of x tt (of m) all_done))))
+  pub clause_else : (all ts : Tokens) (at : ℕ) (r : Tokens) (x : Command) (xs : List IfArm) → ArmsFrom d end all (drop at ts) xs → look (drop at ts) ≡ Keyword Else → IsRule deep_64 d end g.Block (drop (at + 1) ts) (Whole x r) → IsRule deep_64 d end g.Clause all (Whole (xs, Some x) r)
+  clause_else all ts at r x xs inv e m = subst (λ l. IsRule deep_64 d end g.Clause all (Whole (l, Some x) r)) (append-nil xs) (inv (Whole ([], Some x) r) (ruled (Keyword Else) e (Whole (place end (drop at ts), (x, tt)) r) (more_of _ (x, tt) (there ts at e) (more_of x tt (of m) all_done))))
 
   pub clause_bad : (all ts : Tokens) (at : ℕ) (r : Tokens) (f : ParseFault) (xs : List IfArm) → ArmsFrom d end all (drop at ts) xs → look (drop at ts) ≡ Keyword Else → IsRule deep_64 d end g.Block (drop (at + 1) ts) (Stop f r) → IsRule deep_64 d end g.Clause all (Stop f r)
   clause_bad all ts at r f xs inv e m = inv (Stop f r) (rule_stops (Keyword Else) e (stop_later _ (there ts at e) (stop_here (of m))))
@@ -141,8 +144,8 @@ module _ {d end : ℕ} where
   turn_body {r3 = r3} x v f a s b = rule (Stop f r3) (stop_later x (of a) (stop_later v s (stop_here (of b)))) refl
 
   -- the word as a variable, since the code computes it
-  pub while_ok : (b : Bool) {ts r r2 r3 : Tokens} (w : Look) (v v2 n : ℕ) (x y x2 y2 : Command) → w ≡ form.loop_word b → n ≡ v → x2 ≡ x → y2 ≡ y → form.compound_form (look ts) ≡ compound.Loop b → IsSign deep_64 d end (Opens w) ts (Whole v r) → IsRule deep_64 (d + 1) end g.Loop r (Whole (x, y) r2) → IsSign deep_64 d end (Is (Keyword Done)) r2 (Whole v2 r3) → IsRule deep_64 d end g.Compound ts (Whole (c.While n b x2 y2) r3)
-  while_ok b {ts = ts} {r = r} {r3 = r3} w v v2 n x y x2 y2 i h j k l o m e = subst (λ t. IsRule deep_64 d end g.Compound ts (Whole t r3)) (ap (λ n. c.While n b x y) (sym h) ∙ ap (λ x. c.While n b x y) (sym j) ∙ ap (c.While n b x2) (sym k)) (made (g.production_compound (compound.Loop b)) (ap g.production_compound l) (Whole (v, ((x, y), (v2, tt))) r3) (more_of v ((x, y), (v2, tt)) (subst (λ w. IsSign deep_64 d end (Opens w) ts (Whole v r)) i o) (more_of (x, y) (v2, tt) (in_one m) (more_of v2 tt e all_done))))
+  pub while_ok : (b : Bool) {ts r r2 r3 : Tokens} (w : Look) (v v2 n : ℕ) (x y : Command) → w ≡ form.loop_word b → n ≡ v → form.compound_form (look ts) ≡ compound.Loop b → IsSign deep_64 d end (Opens w) ts (Whole v r) → IsRule deep_64 (d + 1) end g.Loop r (Whole (x, y) r2) → IsSign deep_64 d end (Is (Keyword Done)) r2 (Whole v2 r3) → IsRule deep_64 d end g.Compound ts (Whole (c.While n b x y) r3)
+  while_ok b {ts = ts} {r = r} {r3 = r3} w v v2 n x y i h l o m e = subst (λ n. IsRule deep_64 d end g.Compound ts (Whole (c.While n b x y) r3)) (sym h) (made (g.production_compound (compound.Loop b)) (ap g.production_compound l) (Whole (v, ((x, y), (v2, tt))) r3) (more_of v ((x, y), (v2, tt)) (subst (λ w. IsSign deep_64 d end (Opens w) ts (Whole v r)) i o) (more_of (x, y) (v2, tt) (in_one m) (more_of v2 tt e all_done))))
 
   pub while_first : (b : Bool) {ts r : Tokens} (w : Look) (f : ParseFault) → w ≡ form.loop_word b → form.compound_form (look ts) ≡ compound.Loop b → IsSign deep_64 d end (Opens w) ts (Stop f r) → IsRule deep_64 d end g.Compound ts (Stop f r)
   while_first b {ts = ts} {r = r} w f i l o = made_stops (g.production_compound (compound.Loop b)) (ap g.production_compound l) (stop_here (subst (λ w. IsSign deep_64 d end (Opens w) ts (Stop f r)) i o))
@@ -152,3 +155,10 @@ module _ {d end : ℕ} where
 
   pub while_last : (b : Bool) {ts r r2 r3 : Tokens} (w : Look) (v : ℕ) (u : Command × Command) (f : ParseFault) → w ≡ form.loop_word b → form.compound_form (look ts) ≡ compound.Loop b → IsSign deep_64 d end (Opens w) ts (Whole v r) → IsRule deep_64 (d + 1) end g.Loop r (Whole u r2) → IsSign deep_64 d end (Is (Keyword Done)) r2 (Stop f r3) → IsRule deep_64 d end g.Compound ts (Stop f r3)
   while_last b {ts = ts} {r = r} w v u f i l o m e = made_stops (g.production_compound (compound.Loop b)) (ap g.production_compound l) (stop_later v (subst (λ w. IsSign deep_64 d end (Opens w) ts (Whole v r)) i o) (stop_later u (in_one m) (stop_here e)))
+
+-- ---- what is read as what one of its signs is read as, with either outcome
+
+-- braces as a command are read as they stand
+pub group_reads : (d end : ℕ) (ts : Tokens) (at : ℕ) (result : Result (Command × ℕ) ParseFault) → form.compound_form (look (drop at ts)) ≡ compound.Braces → Reads d end g.Braces ts at result → Reads d end g.Compound ts at result
+group_reads d end ts at (Ok v) e x = (x.0, x.1, group_ok v.0 e x.2)
+group_reads d end ts at (Err fault) e x = passed_on (λ f r x. group_stops f e x) fault x

@@ -1,5 +1,5 @@
 -- Steps over newlines, lists, and-or lists, pipelines and redirections, and a script as a whole.
-use Rattle.std.proofs.Common.{◌≡◌, ℕ, ◌+◌, Bool, true, false, List, [], ◌∷◌, ◌++◌, Some, None, refl, sym, ap, ◌∙◌, subst, drop, append-nil}
+use Rattle.std.proofs.Common.{◌≡◌, ◌≤◌, ℕ, ◌+◌, Result, Ok, Err, arith, Bool, true, false, List, [], ◌∷◌, ◌++◌, Some, None, refl, sym, ap, ◌∙◌, subst, drop, append-nil}
 use Rattle.shell_grammar.specs.declared.fault.ParseFault.{ParseFault}
 use Rattle.shell_grammar.specs.declared.fault.ParseFault.TheVariants.{Syntax}
 use Rattle.shell_grammar.specs.declared.look.Look.{Look}
@@ -16,9 +16,9 @@ use Rattle.shell_grammar.specs.Grammar as g
 use Rattle.shell_grammar.specs.Grammar.{Rule, Sign, Is, Opens, AWord, Here, Never, Of, Inside, Tree, Value, Values, Production, production}
 use Rattle.shell_grammar.specs.Reading.{Out, Whole, Stop, turned, IsRule, rule, is, is_not, here, of}
 use Rattle.shell_grammar.specs.Spelling.{deep_64}
-use Rattle.shell_parser.specs.Reads.{Stops, Gives}
+use Rattle.shell_parser.specs.Reads.{Stops, Gives, Reads}
 use Rattle.shell_parser.specs.Reads.{MembersFrom, LinksFrom, BarsFrom, RedirectsFrom}
-use Rattle.shell_parser.proofs.Steps.{list_begins, list_goes, made, ruled, made_stops, rule_stops, more_of, stop_later, stop_here, all_done, there}
+use Rattle.shell_parser.proofs.Steps.{list_begins, list_goes, made, ruled, made_stops, rule_stops, more_of, stop_later, stop_here, all_done, there, passed_on}
 
 redirect_at : (l : Look) (which : Redirect) → form.redirection l ≡ Some which → l ≡ Redirection which
 redirect_at (Redirection w) which e = ap Redirection (cc e)
@@ -147,16 +147,16 @@ module _ {d end : ℕ} where
   pub piped_one : (all ts : Tokens) (x : Command) → IsRule deep_64 d end g.ACommand all (Whole x ts) → (look ts ≡ Bar → ⊥) → IsRule deep_64 d end g.Piped all (Whole x ts)
   piped_one all ts x a s = bars_end all ts (x ∷ []) (place end all) x refl refl (bars_begin all ts x [] (x ∷ []) refl refl a) s
 
-  pub pipeline_bang : (ts : Tokens) (at : ℕ) (r : Tokens) (x y : Command) (n : ℕ) → n ≡ place end (drop at ts) → y ≡ x → look (drop at ts) ≡ Keyword Bang → IsRule deep_64 d end g.Piped (drop (at + 1) ts) (Whole x r) → IsRule deep_64 d end g.Pipeline (drop at ts) (Whole (c.Not n y) r)
-  pipeline_bang ts at r x y n h k e a = subst (λ t. IsRule deep_64 d end g.Pipeline (drop at ts) (Whole t r)) (ap (λ n. c.Not n x) (sym h) ∙ ap (c.Not n) (sym k)) (ruled (Keyword Bang) e (Whole (place end (drop at ts), (x, tt)) r) (more_of _ (x, tt) (there ts at e) (more_of x tt (of a) all_done)))
+  pub pipeline_bang : (ts : Tokens) (at : ℕ) (r : Tokens) (x : Command) (n : ℕ) → n ≡ place end (drop at ts) → look (drop at ts) ≡ Keyword Bang → IsRule deep_64 d end g.Piped (drop (at + 1) ts) (Whole x r) → IsRule deep_64 d end g.Pipeline (drop at ts) (Whole (c.Not n x) r)
+  pipeline_bang ts at r x n h e a = subst (λ n. IsRule deep_64 d end g.Pipeline (drop at ts) (Whole (c.Not n x) r)) (sym h) (ruled (Keyword Bang) e (Whole (place end (drop at ts), (x, tt)) r) (more_of _ (x, tt) (there ts at e) (more_of x tt (of a) all_done)))
 
   pub bang_stops : (ts : Tokens) (at : ℕ) (r : Tokens) (f : ParseFault) → look (drop at ts) ≡ Keyword Bang → IsRule deep_64 d end g.Piped (drop (at + 1) ts) (Stop f r) → IsRule deep_64 d end g.Pipeline (drop at ts) (Stop f r)
   bang_stops ts at r f e a = rule_stops (Keyword Bang) e (stop_later _ (there ts at e) (stop_here (of a)))
 
-  pub pipeline_plain : {ts r : Tokens} (x : Command) → (look ts ≡ Keyword Bang → ⊥) → IsRule deep_64 d end g.Piped ts (Whole x r) → IsRule deep_64 d end g.Pipeline ts (Whole x r)
+  pipeline_plain : {ts r : Tokens} (x : Command) → (look ts ≡ Keyword Bang → ⊥) → IsRule deep_64 d end g.Piped ts (Whole x r) → IsRule deep_64 d end g.Pipeline ts (Whole x r)
   pipeline_plain {r = r} x e a = made _ (plain_pipeline _ e) (Whole (x, tt) r) (more_of x tt (of a) all_done)
 
-  pub plain_stops : {ts r : Tokens} (f : ParseFault) → (look ts ≡ Keyword Bang → ⊥) → IsRule deep_64 d end g.Piped ts (Stop f r) → IsRule deep_64 d end g.Pipeline ts (Stop f r)
+  plain_stops : {ts r : Tokens} (f : ParseFault) → (look ts ≡ Keyword Bang → ⊥) → IsRule deep_64 d end g.Piped ts (Stop f r) → IsRule deep_64 d end g.Pipeline ts (Stop f r)
   plain_stops {r = r} f e a = made _ (plain_pipeline _ e) (Stop f r) (stop_here (of a))
 
   -- ---- redirections
@@ -176,17 +176,17 @@ module _ {d end : ℕ} where
 
   -- ---- blocks and scripts
 
-  pub block_ok : {ts r r2 : Tokens} (x : Command) → IsRule deep_64 d end g.Newlines ts (Whole tt r) → IsRule deep_64 d end g.Members r (Whole x r2) → IsRule deep_64 d end g.Block ts (Whole x r2)
+  block_ok : {ts r r2 : Tokens} (x : Command) → IsRule deep_64 d end g.Newlines ts (Whole tt r) → IsRule deep_64 d end g.Members r (Whole x r2) → IsRule deep_64 d end g.Block ts (Whole x r2)
   block_ok {r2 = r2} x n m = rule (Whole (tt, (x, tt)) r2) (more_of tt (x, tt) (of n) (more_of x tt (of m) all_done)) refl
 
-  pub block_stops : {ts r r2 : Tokens} (f : ParseFault) → IsRule deep_64 d end g.Newlines ts (Whole tt r) → IsRule deep_64 d end g.Members r (Stop f r2) → IsRule deep_64 d end g.Block ts (Stop f r2)
+  block_stops : {ts r r2 : Tokens} (f : ParseFault) → IsRule deep_64 d end g.Newlines ts (Whole tt r) → IsRule deep_64 d end g.Members r (Stop f r2) → IsRule deep_64 d end g.Block ts (Stop f r2)
   block_stops {r2 = r2} f n m = rule (Stop f r2) (stop_later tt (of n) (stop_here (of m))) refl
 
   script_empty : (ts r : Tokens) → IsRule deep_64 d end g.Newlines ts (Whole tt r) → look r ≡ AtEnd → IsRule deep_64 d end g.Script ts (Whole (c.Seq []) (behind r))
   script_empty ts r n e = rule (Whole (tt, (c.Seq [], (place end r, tt))) (behind r)) (more_of tt _ (of n) (more_of (c.Seq []) (place end r, tt) (of (ruled AtEnd e (Whole tt r) all_done)) (more_of (place end r) tt (is e refl) all_done))) refl
 
-  pub script_none : (ts r : Tokens) (xs : List Command) → xs ≡ [] → IsRule deep_64 d end g.Newlines ts (Whole tt r) → look r ≡ AtEnd → Gives d end g.Script ts (c.Seq xs)
-  script_none ts r xs f n e = record { rest = behind r; reads = subst (λ xs. IsRule deep_64 d end g.Script ts (Whole (c.Seq xs) (behind r))) (sym f) (script_empty ts r n e) }
+  pub script_none : (ts r : Tokens) (xs : List Command) (t : Command) → xs ≡ [] → t ≡ tree.seq_of xs → IsRule deep_64 d end g.Newlines ts (Whole tt r) → look r ≡ AtEnd → Gives d end g.Script ts t
+  script_none ts r xs t f h n e = record { rest = behind r; reads = subst (λ t. IsRule deep_64 d end g.Script ts (Whole t (behind r))) (ap tree.seq_of (sym f) ∙ sym h) (script_empty ts r n e) }
 
   pub script_ok : (ts r r2 : Tokens) (x : Command) → IsRule deep_64 d end g.Newlines ts (Whole tt r) → (look r ≡ AtEnd → ⊥) → IsRule deep_64 d end g.Members r (Whole x r2) → look r2 ≡ AtEnd → Gives d end g.Script ts x
   script_ok ts r r2 x n h m e = record { rest = behind r2; reads = rule (Whole (tt, (x, (place end r2, tt))) (behind r2)) (more_of tt _ (of n) (more_of x (place end r2, tt) (of (made _ (a_body _ h) (Whole (x, tt) r2) (more_of x tt (of m) all_done))) (more_of (place end r2) tt (is e refl) all_done))) refl }
@@ -196,3 +196,15 @@ module _ {d end : ℕ} where
 
   pub script_more : (ts r r2 : Tokens) (x : Command) (n : ℕ) → IsRule deep_64 d end g.Newlines ts (Whole tt r) → (look r ≡ AtEnd → ⊥) → IsRule deep_64 d end g.Members r (Whole x r2) → (look r2 ≡ AtEnd → ⊥) → n ≡ place end r2 → Stops d end g.Script ts (Syntax n)
   script_more ts r r2 x n nl h m e f = record { rest = r2; reads = rule (Stop (Syntax n) r2) (stop_later tt (of nl) (stop_later x (of (made _ (a_body _ h) (Whole (x, tt) r2) (more_of x tt (of m) all_done))) (stop_here (is_not e (ap (λ n. Stop (Syntax n) r2) f))))) refl }
+
+-- ---- what is read as what one of its signs is read as, with either outcome
+
+-- a block is read as the list behind its newlines
+pub block_reads : (d end : ℕ) (ts : Tokens) (at first : ℕ) (result : Result (Command × ℕ) ParseFault) → at ≤ first → IsRule deep_64 d end g.Newlines (drop at ts) (Whole tt (drop first ts)) → Reads d end g.Members ts first result → Reads d end g.Block ts at result
+block_reads d end ts at first (Ok v) le n x = (omega (arith, le, x.0), x.1, block_ok v.0 n x.2)
+block_reads d end ts at first (Err fault) le n x = passed_on (λ f r x. block_stops f n x) fault x
+
+-- a pipeline without `!` is read as its commands are
+pub plain_reads : (d end : ℕ) (ts : Tokens) (at : ℕ) (result : Result (Command × ℕ) ParseFault) → (look (drop at ts) ≡ Keyword Bang → ⊥) → Reads d end g.Piped ts at result → Reads d end g.Pipeline ts at result
+plain_reads d end ts at (Ok v) e x = (x.0, x.1, pipeline_plain v.0 e x.2)
+plain_reads d end ts at (Err fault) e x = passed_on (λ f r x. plain_stops f e x) fault x

@@ -1,5 +1,5 @@
 -- Steps of `for` and `case`.
-use Rattle.std.proofs.Common.{◌≡◌, ℕ, ◌+◌, true, false, List, [], ◌∷◌, ◌++◌, Option, Some, None, refl, sym, ap, ◌∙◌, subst, drop, append-nil}
+use Rattle.std.proofs.Common.{◌≡◌, ℕ, ◌+◌, Result, Ok, Err, true, false, List, [], ◌∷◌, ◌++◌, Option, Some, None, refl, sym, ap, ◌∙◌, subst, drop, append-nil}
 use Rattle.shell_grammar.specs.declared.fault.ParseFault.{ParseFault}
 use Rattle.shell_grammar.specs.declared.fault.ParseFault.TheVariants.{Syntax}
 use Rattle.shell_grammar.specs.declared.look.Look.{Look}
@@ -17,9 +17,9 @@ use Rattle.shell_grammar.specs.Grammar as g
 use Rattle.shell_grammar.specs.Grammar.{Rule, Sign, Is, Opens, AWord, Here, Never, Of, Inside, Tree, Value, Values, Production, production}
 use Rattle.shell_grammar.specs.Reading.{Out, Whole, Stop, turned, IsRule, rule, IsSign, never, of}
 use Rattle.shell_grammar.specs.Spelling.{deep_64}
-use Rattle.shell_parser.specs.Reads.{Stops}
+use Rattle.shell_parser.specs.Reads.{Stops, Reads}
 use Rattle.shell_parser.specs.Reads.{EachFrom, PatternsFrom, CaseArmsFrom}
-use Rattle.shell_parser.proofs.Steps.{list_begins, list_goes, made, ruled, made_stops, rule_stops, more_of, stop_later, stop_here, all_done, there, in_one}
+use Rattle.shell_parser.proofs.Steps.{list_begins, list_goes, made, ruled, made_stops, rule_stops, more_of, stop_later, stop_here, all_done, there, in_one, passed_on}
 
 bare_words : (l : Look) → (l ≡ Keyword In → ⊥) → (l ≡ Semi → ⊥) → production g.ForWords l ≡ record { signs = []; tree = λ v. None }
 bare_words (Keyword In) e f = absurd (e refl)
@@ -45,8 +45,8 @@ no_patterns l e = refl
 module _ {d end : ℕ} where
   -- ---- `for`
 
-  pub for_ok : {ts r r2 r3 : Tokens} (v v2 n : ℕ) (name : Text) (words : Option (List Word)) (x y : Command) → n ≡ v → y ≡ x → form.compound_form (look ts) ≡ compound.For → IsSign deep_64 d end (Opens (Keyword For)) ts (Whole v r) → IsRule deep_64 (d + 1) end g.ForRest r (Whole (name, words, x) r2) → IsSign deep_64 d end (Is (Keyword Done)) r2 (Whole v2 r3) → IsRule deep_64 d end g.Compound ts (Whole (c.For n name words y) r3)
-  for_ok {ts = ts} {r3 = r3} v v2 n name words x y h k l o b e = subst (λ t. IsRule deep_64 d end g.Compound ts (Whole t r3)) (ap (λ n. c.For n name words x) (sym h) ∙ ap (c.For n name words) (sym k)) (made (g.production_compound compound.For) (ap g.production_compound l) (Whole (v, ((name, words, x), (v2, tt))) r3) (more_of v ((name, words, x), (v2, tt)) o (more_of (name, words, x) (v2, tt) (in_one b) (more_of v2 tt e all_done))))
+  pub for_ok : {ts r r2 r3 : Tokens} (v v2 n : ℕ) (name : Text) (words : Option (List Word)) (x : Command) → n ≡ v → form.compound_form (look ts) ≡ compound.For → IsSign deep_64 d end (Opens (Keyword For)) ts (Whole v r) → IsRule deep_64 (d + 1) end g.ForRest r (Whole (name, words, x) r2) → IsSign deep_64 d end (Is (Keyword Done)) r2 (Whole v2 r3) → IsRule deep_64 d end g.Compound ts (Whole (c.For n name words x) r3)
+  for_ok {ts = ts} {r3 = r3} v v2 n name words x h l o b e = subst (λ n. IsRule deep_64 d end g.Compound ts (Whole (c.For n name words x) r3)) (sym h) (made (g.production_compound compound.For) (ap g.production_compound l) (Whole (v, ((name, words, x), (v2, tt))) r3) (more_of v ((name, words, x), (v2, tt)) o (more_of (name, words, x) (v2, tt) (in_one b) (more_of v2 tt e all_done))))
 
   pub for_first : {ts r : Tokens} (f : ParseFault) → form.compound_form (look ts) ≡ compound.For → IsSign deep_64 d end (Opens (Keyword For)) ts (Stop f r) → IsRule deep_64 d end g.Compound ts (Stop f r)
   for_first f l o = made_stops (g.production_compound compound.For) (ap g.production_compound l) (stop_here o)
@@ -216,11 +216,18 @@ module _ {d end : ℕ} where
   pub patterns_end : (all ts : Tokens) (xs : List Word) → PatternsFrom d end all ts xs → (look ts ≡ Bar → ⊥) → IsRule deep_64 d end g.Patterns all (Whole xs ts)
   patterns_end all ts xs inv e = subst (λ ys. IsRule deep_64 d end g.Patterns all (Whole ys ts)) (append-nil xs) (inv (Whole [] ts) (made _ (no_patterns _ e) (Whole tt ts) all_done))
 
-  pub arm_body_none : {ts : Tokens} (xs : List Command) → xs ≡ [] → form.ends_arm (look ts) ≡ true → IsRule deep_64 d end g.ArmBody ts (Whole (c.Seq xs) ts)
-  arm_body_none {ts} xs f e = subst (λ xs. IsRule deep_64 d end g.ArmBody ts (Whole (c.Seq xs) ts)) (sym f) (made (g.production_arm_body true) (ap g.production_arm_body e) (Whole tt ts) all_done)
+  pub arm_body_none : {ts : Tokens} (xs : List Command) (t : Command) → xs ≡ [] → t ≡ tree.seq_of xs → form.ends_arm (look ts) ≡ true → IsRule deep_64 d end g.ArmBody ts (Whole t ts)
+  arm_body_none {ts} xs t f h e = subst (λ t. IsRule deep_64 d end g.ArmBody ts (Whole t ts)) (ap tree.seq_of (sym f) ∙ sym h) (made (g.production_arm_body true) (ap g.production_arm_body e) (Whole tt ts) all_done)
 
-  pub arm_body_ok : {ts r : Tokens} (x : Command) → form.ends_arm (look ts) ≡ false → IsRule deep_64 d end g.Members ts (Whole x r) → IsRule deep_64 d end g.ArmBody ts (Whole x r)
+  arm_body_ok : {ts r : Tokens} (x : Command) → form.ends_arm (look ts) ≡ false → IsRule deep_64 d end g.Members ts (Whole x r) → IsRule deep_64 d end g.ArmBody ts (Whole x r)
   arm_body_ok {r = r} x e m = made (g.production_arm_body false) (ap g.production_arm_body e) (Whole (x, tt) r) (more_of x tt (of m) all_done)
 
-  pub arm_body_stops : {ts r : Tokens} (f : ParseFault) → form.ends_arm (look ts) ≡ false → IsRule deep_64 d end g.Members ts (Stop f r) → IsRule deep_64 d end g.ArmBody ts (Stop f r)
+  arm_body_stops : {ts r : Tokens} (f : ParseFault) → form.ends_arm (look ts) ≡ false → IsRule deep_64 d end g.Members ts (Stop f r) → IsRule deep_64 d end g.ArmBody ts (Stop f r)
   arm_body_stops f e m = made_stops (g.production_arm_body false) (ap g.production_arm_body e) (stop_here (of m))
+
+-- ---- what is read as what one of its signs is read as, with either outcome
+
+-- the body of an arm that has one is read as a list
+pub arm_body_reads : (d end : ℕ) (ts : Tokens) (at : ℕ) (result : Result (Command × ℕ) ParseFault) → form.ends_arm (look (drop at ts)) ≡ false → Reads d end g.Members ts at result → Reads d end g.ArmBody ts at result
+arm_body_reads d end ts at (Ok v) e x = (x.0, x.1, arm_body_ok v.0 e x.2)
+arm_body_reads d end ts at (Err fault) e x = passed_on (λ f r x. arm_body_stops f e x) fault x

@@ -115,8 +115,8 @@ module _ {d end : ℕ} where
   named_stops : {ts r r2 : Tokens} (w : Word) (f : ParseFault) → form.command_form (look ts) ≡ Some command.Named → IsSign deep_64 d end AWord ts (Whole w r) → IsRule deep_64 d end g.Named r (Stop f r2) → IsRule deep_64 d end g.ACommand ts (Stop f r2)
   named_stops {ts = ts} w f e s m = made_stops (g.production_command (Some command.Named)) (ap g.production_command e) (stop_later (place end ts) (here refl) (stop_later w s (stop_here (of m))))
 
-  pub define_ok : {ts r r2 : Tokens} (w : Word) (x y : Command) (n : ℕ) (name : Text) → n ≡ place end ts → name ≡ tree.word_text w → y ≡ x → form.command_form (look ts) ≡ Some command.Named → IsSign deep_64 d end AWord ts (Whole w r) → IsRule deep_64 d end g.Named r (Whole (tree.Defines x) r2) → IsRule deep_64 d end g.ACommand ts (Whole (c.Define n name y) r2)
-  define_ok {ts = ts} {r2 = r2} w x y n name h i k e s m = subst (λ t. IsRule deep_64 d end g.ACommand ts (Whole t r2)) (ap (λ n. c.Define n (tree.word_text w) x) (sym h) ∙ ap (λ t. c.Define n t x) (sym i) ∙ ap (c.Define n name) (sym k)) (by_name w (tree.Defines x) e s m)
+  pub define_ok : {ts r r2 : Tokens} (w : Word) (x : Command) (n : ℕ) (name : Text) → n ≡ place end ts → name ≡ tree.word_text w → form.command_form (look ts) ≡ Some command.Named → IsSign deep_64 d end AWord ts (Whole w r) → IsRule deep_64 d end g.Named r (Whole (tree.Defines x) r2) → IsRule deep_64 d end g.ACommand ts (Whole (c.Define n name x) r2)
+  define_ok {ts = ts} {r2 = r2} w x n name h i e s m = subst (λ t. IsRule deep_64 d end g.ACommand ts (Whole t r2)) (ap (λ n. c.Define n (tree.word_text w) x) (sym h) ∙ ap (λ t. c.Define n t x) (sym i)) (by_name w (tree.Defines x) e s m)
 
   pub define_stops : {ts r r2 : Tokens} (w : Word) (f : ParseFault) → form.command_form (look ts) ≡ Some command.Named → IsSign deep_64 d end AWord ts (Whole w r) → IsRule deep_64 d end g.Named r (Stop f r2) → IsRule deep_64 d end g.ACommand ts (Stop f r2)
   define_stops w f e s m = named_stops w f e s m

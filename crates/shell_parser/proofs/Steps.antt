@@ -89,6 +89,10 @@ module _ {d end : ℕ} where
   pub all_done : {ts : Tokens} → IsAll deep_64 d end [] ts (Whole tt ts)
   all_done = no_more refl
 
+  -- what a rule gives, made as a value of its own
+  pub built : {n : Rule} {ts r : Tokens} {t u : Tree n} → t ≡ u → IsRule deep_64 d end n ts (Whole u r) → IsRule deep_64 d end n ts (Whole t r)
+  built {n} {ts} {r} e x = subst (λ t. IsRule deep_64 d end n ts (Whole t r)) (sym e) x
+
   -- ---- single signs
 
   pub there : {l : Look} (ts : Tokens) (at : ℕ) → look (drop at ts) ≡ l → IsSign deep_64 d end (Is l) (drop at ts) (Whole (place end (drop at ts)) (drop (at + 1) ts))

@@ -69,14 +69,14 @@ module _ (d : ℕ) (p : RawPart) where
   pub part_quoted : (w w2 : List ℕ) → p ≡ rawv.Quoted w → w2 ≡ w → (raws : List RawPart) (q : Judged) → IsParts deep_64 d raws q → IsParts deep_64 d (p ∷ raws) (after (part.Quoted w2) q)
   part_quoted w w2 e f raws q k = plain_part (part.Quoted w2) q (ap plainly (ap out-RawPart e ∙ seen_quoted w) ∙ ap (λ w. Some (part.Quoted w)) (sym f)) k refl
 
-  pub part_param : (n n2 : Key) (v v2 : Option (List ℕ)) (b : Bool) → p ≡ rawv.Param n v b → n2 ≡ n → v2 ≡ v → (raws : List RawPart) (q : Judged) → IsParts deep_64 d raws q → IsParts deep_64 d (p ∷ raws) (after (part.Param n2 v2 b) q)
-  part_param n n2 v v2 b e f h raws q k = plain_part (part.Param n2 v2 b) q (ap plainly (ap out-RawPart e ∙ seen_param n v b) ∙ ap (λ n. Some (part.Param n v b)) (sym f) ∙ ap (λ v. Some (part.Param n2 v b)) (sym h)) k refl
+  pub part_param : (n : Key) (v : Option (List ℕ)) (b : Bool) (x : Part) → p ≡ rawv.Param n v b → x ≡ part.Param n v b → (raws : List RawPart) (q : Judged) → IsParts deep_64 d raws q → IsParts deep_64 d (p ∷ raws) (after x q)
+  part_param n v b x e f raws q k = plain_part x q (ap plainly (ap out-RawPart e ∙ seen_param n v b) ∙ ap Some (sym f)) k refl
 
   pub part_all : p ≡ rawv.All → (raws : List RawPart) (q : Judged) → IsParts deep_64 d raws q → IsParts deep_64 d (p ∷ raws) (after part.All q)
   part_all e raws q k = plain_part part.All q (ap plainly (ap out-RawPart e ∙ seen_all)) k refl
 
-  pub part_run : (at : ℕ) (ts : Tokens) (b : Bool) (body body2 : Command) → p ≡ rawv.Run at ts b → d < 64 → body2 ≡ body → Gives (d + 1) at g.Script ts body → (raws : List RawPart) (q : Judged) → IsParts deep_64 d raws q → IsParts deep_64 d (p ∷ raws) (after (part.Run at body2 b) q)
-  part_run at ts b body body2 e lt f y raws q k = run_part at ts b body2 y.rest q (ap out-RawPart e ∙ seen_run at ts b) (shallow d lt) (subst (λ d. IsRule deep_64 d at g.Script ts (Whole body2 y.rest)) (add-one d) (subst (λ x. IsRule deep_64 (d + 1) at g.Script ts (Whole x y.rest)) (sym f) y.reads)) k refl
+  pub part_run : (at : ℕ) (ts : Tokens) (b : Bool) (body : Command) → p ≡ rawv.Run at ts b → d < 64 → Gives (d + 1) at g.Script ts body → (raws : List RawPart) (q : Judged) → IsParts deep_64 d raws q → IsParts deep_64 d (p ∷ raws) (after (part.Run at body b) q)
+  part_run at ts b body e lt y raws q k = run_part at ts b body y.rest q (ap out-RawPart e ∙ seen_run at ts b) (shallow d lt) (subst (λ d. IsRule deep_64 d at g.Script ts (Whole body y.rest)) (add-one d) y.reads) k refl
 
   pub part_deep : (at : ℕ) (ts : Tokens) (b : Bool) → p ≡ rawv.Run at ts b → d ≡ 64 → (raws : List RawPart) → IsParts deep_64 d (p ∷ raws) (Faulty (Deep at))
   part_deep at ts b e f raws = run_deep at ts b (ap out-RawPart e ∙ seen_run at ts b) (ap deep_64 f) refl

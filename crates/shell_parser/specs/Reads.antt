@@ -20,7 +20,7 @@ use Rattle.shell_grammar.specs.declared.form.Item.{Item}
 use Rattle.shell_grammar.specs.declared.items.Items.{Items}
 use Rattle.shell_grammar.specs.Look.{Text, Tokens, place}
 use Rattle.shell_grammar.specs.Forms.{has_word}
-use Rattle.shell_grammar.specs.Trees.{seq_of, chain_of, pipe_of, joined, assigned, Defines}
+use Rattle.shell_grammar.specs.Trees.{seq_of, chain_of, pipe_of, if_arm, case_arm, joined, assigned, Defines}
 use Rattle.shell_grammar.specs.Grammar.{Rule, Script, Members, More, AndOr, Links, Piped, Bars, Redirects, Arms}
 use Rattle.shell_grammar.specs.Grammar.{Clause, Each, Apart, OneArm, ArmRest, CaseArms, MorePatterns, Patterns, Named}
 use Rattle.shell_grammar.specs.Grammar.{SimpleItems, Sign, AWord, Tree, Value}
@@ -213,8 +213,14 @@ abbrev pub ArmsFrom : ℕ → ℕ → Tokens → Tokens → List IfArm → Type 
 ArmsFrom d end all ts xs = (q : Out (List IfArm × Option Command)) → IsRule deep_64 d end Arms ts q
     → IsRule deep_64 d end Clause all (turned (armed xs) q)
 
--- an arm of an `if`, before others
-abbrev pub ArmRead : ℕ → ℕ → Tokens → ℕ → Result (IfArm × ℕ) ParseFault → Type 0
+-- the condition and the body of an arm of an `if`, before others
+abbrev pub ArmRead : ℕ → ℕ → Tokens → ℕ → Result ((Command × Command) × ℕ) ParseFault → Type 0
 ArmRead d end ts at (Ok v) =
-    (at ≤ v.1) × (v.1 ≤ length ts) × ArmsFrom d end (drop at ts) (drop v.1 ts) (v.0 ∷ [])
+    (at ≤ v.1) × (v.1 ≤ length ts) × ArmsFrom d end (drop at ts) (drop v.1 ts) (if_arm v.0.0 v.0.1 ∷ [])
 ArmRead d end ts at (Err fault) = Caused (Stops d end Clause (drop at ts)) fault
+
+-- the patterns and the body of an arm of a `case`
+abbrev pub CaseArmRead : ℕ → ℕ → Tokens → ℕ → Result ((List Word × Command) × ℕ) ParseFault → Type 0
+CaseArmRead d end ts at (Ok v) = (at ≤ v.1) × (v.1 ≤ length ts)
+    × IsRule deep_64 d end OneArm (drop at ts) (Whole (case_arm v.0.0 v.0.1) (drop v.1 ts))
+CaseArmRead d end ts at (Err fault) = Caused (Stops d end OneArm (drop at ts)) fault

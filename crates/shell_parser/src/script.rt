@@ -27,6 +27,6 @@ pub fn parse(alloc: Global, lexed: &Lexed) -> Result<Script, ParseFault>
     };
     Ok(Script {
         strict: lexed.strict,
-        body,
+        body: body.into_inner(),
     })
 }

@@ -1,14 +1,16 @@
 //! A command's tree from those of its members.
 
-ghost use Rattle.std.specs.Prelude.{◌≡◌, [], ◌∷◌, length, IfOk};
+ghost use Rattle.std.specs.Prelude.{◌≡◌, [], ◌∷◌, ◌++◌, length, IfOk};
 ghost use Rattle.shell_grammar.specs.Trees.{seq_of as seq_tree, chain_of as chain_tree, pipe_of as pipe_tree};
+ghost use Rattle.shell_grammar.specs.Trees.{link, if_arm, case_arm};
+ghost use Rattle.shell_syntax.specs.declared.syntax.Part.TheVariants.{Param};
 ghost use Rattle.shell_grammar.specs.Trees.{redirected as redirected_tree, simple as simple_tree};
 ghost use Rattle.shell_grammar.specs.Trees.{no_items as no_items_of, an_assign, a_word, a_redirect, joined};
 ghost use Rattle.shell_grammar.specs.Trees.{word_text as word_text_of};
 
-use script_names::{Boxed, Bytes, List, Memory};
+use script_names::{Boxed, Bytes, Copied, List, Memory};
 use shell_grammar::Items;
-use shell_syntax::{Assign, Command, Link, Part, Redirect, Word};
+use shell_syntax::{Assign, CaseArm, Command, IfArm, Key, Link, Part, Redirect, Word};
 use std::alloc::Global;
 
 /// The one command of a list.
@@ -23,59 +25,63 @@ fn only(trees: List<Command>) -> Command
 }
 
 /// A list of commands; one command is itself.
-pub fn seq_of(trees: List<Command>) -> Command
-    ensures { result ≡ seq_tree trees }
+pub fn seq_of(alloc: Global, trees: List<Command>) -> Result<Boxed<Command>, Memory>
+    ensures { IfOk result (λ tree. tree ≡ seq_tree trees) }
 {
     if trees.len() == 1 {
-        return only(trees);
+        return Ok(Boxed::new(alloc, only(trees))?);
     }
-    Command::Seq(trees)
+    Ok(Boxed::new(alloc, Command::Seq(trees))?)
 }
 
 /// A pipeline; one command is itself.
-pub fn pipe_of(at: u32, trees: List<Command>) -> Command
-    ensures { result ≡ pipe_tree at trees }
+pub fn pipe_of(alloc: Global, at: u32, trees: List<Command>) -> Result<Boxed<Command>, Memory>
+    ensures { IfOk result (λ tree. tree ≡ pipe_tree at trees) }
 {
     if trees.len() == 1 {
-        return only(trees);
+        return Ok(Boxed::new(alloc, only(trees))?);
     }
-    Command::Pipe { at, parts: trees }
+    Ok(Boxed::new(alloc, Command::Pipe { at, parts: trees })?)
 }
 
 /// A command with those behind `&&` and `||`.
-pub fn chain_of(alloc: Global, first: Command, rest: List<Link>) -> Result<Command, Memory>
+pub fn chain_of(
+    alloc: Global,
+    first: Boxed<Command>,
+    rest: List<Link>,
+) -> Result<Boxed<Command>, Memory>
     ensures { IfOk result (λ tree. tree ≡ chain_tree first rest) }
 {
     if rest.len() == 0 {
         return Ok(first);
     }
-    Ok(Command::Chain {
-        first: Boxed::new(alloc, first)?,
-        rest,
-    })
+    Ok(Boxed::new(alloc, Command::Chain { first, rest })?)
 }
 
 /// A command under redirections.
 pub fn redirected(
     alloc: Global,
     at: u32,
-    body: Command,
+    body: Boxed<Command>,
     redirects: List<Redirect>,
-) -> Result<Command, Memory>
+) -> Result<Boxed<Command>, Memory>
     ensures { IfOk result (λ tree. tree ≡ redirected_tree at body redirects) }
 {
     if redirects.len() == 0 {
         return Ok(body);
     }
-    Ok(Command::Redirected {
-        at,
-        body: Boxed::new(alloc, body)?,
-        redirects,
-    })
+    Ok(Boxed::new(
+        alloc,
+        Command::Redirected {
+            at,
+            body,
+            redirects,
+        },
+    )?)
 }
 
 /// A simple command.
-pub fn simple_of(alloc: Global, at: u32, items: Items) -> Result<Command, Memory>
+pub fn simple_of(alloc: Global, at: u32, items: Items) -> Result<Boxed<Command>, Memory>
     ensures { IfOk result (λ tree. tree ≡ simple_tree at items) }
 {
     let Items {
@@ -83,8 +89,56 @@ pub fn simple_of(alloc: Global, at: u32, items: Items) -> Result<Command, Memory
         words,
         redirects,
     } = items;
-    let body = Command::Simple { at, assigns, words };
-    redirected(alloc, at, body, redirects)
+    let body = Boxed::new(alloc, Command::Simple { at, assigns, words })?;
+    Ok(redirected(alloc, at, body, redirects)?)
+}
+
+/// Commands, and one more.
+pub fn with_command(trees: List<Command>, tree: Boxed<Command>) -> Result<List<Command>, Memory>
+    ensures { IfOk result (λ all. all ≡ trees ++ tree ∷ []) }
+{
+    let mut all = trees;
+    all.add(tree.into_inner())?;
+    Ok(all)
+}
+
+/// Commands behind `&&` and `||`, and one more.
+pub fn with_link(links: List<Link>, and: bool, tree: Boxed<Command>) -> Result<List<Link>, Memory>
+    ensures { IfOk result (λ all. all ≡ links ++ link and tree ∷ []) }
+{
+    let mut all = links;
+    let command = tree.into_inner();
+    all.add(Link { and, command })?;
+    Ok(all)
+}
+
+/// Arms of an `if`, and one more.
+pub fn with_if_arm(
+    arms: List<IfArm>,
+    cond: Boxed<Command>,
+    body: Boxed<Command>,
+) -> Result<List<IfArm>, Memory>
+    ensures { IfOk result (λ all. all ≡ arms ++ if_arm cond body ∷ []) }
+{
+    let mut all = arms;
+    let cond = cond.into_inner();
+    let body = body.into_inner();
+    all.add(IfArm { cond, body })?;
+    Ok(all)
+}
+
+/// Arms of a `case`, and one more.
+pub fn with_case_arm(
+    arms: List<CaseArm>,
+    patterns: List<Word>,
+    body: Boxed<Command>,
+) -> Result<List<CaseArm>, Memory>
+    ensures { IfOk result (λ all. all ≡ arms ++ case_arm patterns body ∷ []) }
+{
+    let mut all = arms;
+    let body = body.into_inner();
+    all.add(CaseArm { patterns, body })?;
+    Ok(all)
 }
 
 pub fn no_items(alloc: Global) -> Items
@@ -145,6 +199,24 @@ pub fn with_redirect(items: Items, redirect: Redirect) -> Result<Items, Memory>
         assigns,
         words,
         redirects,
+    })
+}
+
+/// The part that a parameter expansion is.
+pub fn param_of(
+    alloc: Global,
+    key: &Key,
+    default: &Option<Bytes>,
+    quoted: bool,
+) -> Result<Part, Memory>
+    ensures { IfOk result (λ part. part ≡ Param key.now default.now quoted) }
+{
+    let key = key.copy(alloc)?;
+    let default = default.copy(alloc)?;
+    Ok(Part::Param {
+        key,
+        default,
+        quoted,
     })
 }
 

@@ -39,11 +39,11 @@ answered done.Ok p s = Go true s
 answered done.Failed p s = Go false s
 answered (done.Stopped reason) p s = stopped reason p s
 
--- an act is done
+-- an act of a utility is done on the tree (XCU 2.9.1.1 Command Search and Execution; XCU 4 Utilities)
 abbrev pub do_act : Act → Doing Bool
 do_act act p s = answered (row act s.tree).answer p (acted act p s)
 
--- a list of acts, up to its first failure
+-- a list of acts, up to its first failure: what one operand of a utility comes to (XCU 4)
 abbrev pub do_acts : List Act → Doing Bool
 do_acts [] p s = Go true s
 do_acts (act ∷ acts) p s = then_do (do_act act p s) (λ ok s. if ok then do_acts acts p s else Go false s)
@@ -132,6 +132,7 @@ do_function at body words p s =
 
 -- ---- `exit` and `return` (XCU 2.14 exit, return)
 
+-- a decimal digit
 abbrev pub is_digit : ℕ → Bool
 is_digit b = nat_le 48 b && nat_le b 57
 
@@ -153,6 +154,7 @@ leave_with how (text ∷ []) p s =
     if is_status text then Left how (with_status (nat_eq (number_behind 0 text) 0) s) else stopped reason.Status p s
 leave_with how (text ∷ other ∷ more) p s = stopped reason.Status p s
 
+-- what both do with the fields of their words
 abbrev pub do_leave : Leave → List (Doing (List Text)) → Action
 do_leave how words p s = then_do (do_fields words p s) (λ fields s. leave_with how fields p s)
 
@@ -199,6 +201,7 @@ abbrev pub export_one : Text × Option Text → Action
 export_one operand p s =
     if is_changeable operand.0 then Go tt (assign_some operand.0 operand.1 s) else stopped reason.Call p s
 
+-- the operands of `export`, in order
 abbrev pub export_each : List Text → Action
 export_each [] p s = Go tt s
 export_each (field ∷ fields) p s = then_do (export_one (cut_at_equals field) p s) (λ _ s. export_each fields p s)
@@ -220,6 +223,7 @@ unset_one name p s =
     if is_changeable name && not (list_any (bytes_eq name) p.functions)
     then Go tt (unassign name s) else stopped reason.Call p s
 
+-- the operands of `unset`, in order
 abbrev pub unset_each : List Text → Action
 unset_each [] p s = Go tt s
 unset_each (field ∷ fields) p s = then_do (unset_one field p s) (λ _ s. unset_each fields p s)

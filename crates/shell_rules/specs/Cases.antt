@@ -28,6 +28,7 @@ item_matches Any others text = byte_matches Any others text
 item_matches Star others text = list_any others (tails text)
 item_matches (Set negated letters) others text = byte_matches (Set negated letters) others text
 
+-- a text without bytes
 abbrev pub is_empty : Text → Bool
 is_empty [] = true
 is_empty (b ∷ rest) = false
@@ -56,7 +57,7 @@ first_arm subject [] p s = Go tt (with_status true s)
 first_arm subject ((patterns, body) ∷ arms) p s =
     then_do (some_pattern subject patterns p s) (λ fits s. if fits then body p s else first_arm subject arms p s)
 
--- a `case`: the subject is expanded to one string, which is not split
+-- a `case` (XCU 2.9.4.3): the subject is expanded to one string, which is not split
 abbrev pub do_case : ℕ → Doing Text → List (List (List (Doing PieceParts)) × Action) → Action
 do_case at subject arms p s =
     let q : Place = at_command at p in then_do (do_short subject q s) (λ text s. first_arm text arms q s)

@@ -11,14 +11,16 @@ use Rattle.shell_rules.specs.State.{Action, with_status, with_strict, success_if
 abbrev pub do_skip : Action
 do_skip p s = Go tt (with_status true s)
 
--- the run stops at the command for this reason: what it does is not specified here
+-- the run stops at the command for this reason: what it does is not specified here (where XCU 2.9.1 would search for
+-- a command, or a form is outside of this subset)
 abbrev pub do_stop : ℕ → Reason → Action
 do_stop at reason p s = stopped reason (at_command at p) s
 
--- `set -e` and `set +e` (XCU 2.14 set): the strict flag is on or off, with success
+-- `set -e` (XCU 2.14 set): the strict flag is on, with success
 abbrev pub do_strict : Action
 do_strict p s = Go tt (with_status true (with_strict true s))
 
+-- `set +e` (XCU 2.14 set): the strict flag is off, with success
 abbrev pub do_lax : Action
 do_lax p s = Go tt (with_status true (with_strict false s))
 
@@ -93,6 +95,7 @@ do_subshell at body p s =
 
 -- ---- redirections (XCU 2.7 Redirection)
 
+-- with this as the captured output; None where output is not captured
 abbrev pub with_captured : Option Text → State → State
 with_captured captured s = record s { conc = record s.conc { captured = captured } }
 
@@ -100,11 +103,13 @@ with_captured captured s = record s { conc = record s.conc { captured = captured
 abbrev pub do_quiet : Action → Action
 do_quiet body p s = closed_off by_nothing no_value (with_captured s.conc.captured) (body p (with_captured None s))
 
--- a command whose standard error is joined to its standard output. While that is captured, the messages of utilities
--- would be captured too, and these differ: the run stops at the command, before its words are looked at
+-- a command whose standard error is joined to its standard output, by what is captured. While that is captured, the
+-- messages of utilities would be captured too, and these differ: the run stops at the command, before its words are
+-- looked at
 abbrev pub joined_error : Option Text → Action → Action
 joined_error None body p s = body p s
 joined_error (Some text) body p s = stopped reason.Message p s
 
+-- a command at this offset, whose standard error is joined to its standard output
 abbrev pub do_error_joined : ℕ → Action → Action
 do_error_joined at body p s = joined_error s.conc.captured body (at_command at p) s

@@ -20,25 +20,31 @@ use Rattle.shell_rules.specs.Whole.{Ended, whole_run}
 
 -- ---- commands; each begins at the offset that is its number here
 
+-- a word of plain text
 abbrev pub word : Text → Doing (List Text)
 word text = do_word (do_plain (do_literal text) ∷ [])
 
+-- a string outside quotes, which is cut at blanks
 abbrev pub unquoted : Doing Text → Doing (List Text)
 unquoted string = do_word (do_split string ∷ [])
 
+-- a string in double quotes
 abbrev pub in_quotes : Doing Text → Doing (List Text)
 in_quotes string = do_word (do_quoted string ∷ [])
 
--- `true`, `false`, `echo WORD`, `mkdir WORD`
+-- `true`
 abbrev pub succeeds : Action
 succeeds = do_call 1 (word (codes "true") ∷ [])
 
+-- `false`
 abbrev pub fails : Action
 fails = do_call 2 (word (codes "false") ∷ [])
 
+-- `echo WORD`
 abbrev pub echoes : Text → Action
 echoes text = do_call 3 (word (codes "echo") ∷ word text ∷ [])
 
+-- `mkdir WORD`
 abbrev pub makes : Text → Action
 makes text = do_call 4 (word (codes "mkdir") ∷ word text ∷ [])
 
@@ -50,10 +56,11 @@ tests words = do_call 5 (word (codes "test") ∷ words)
 abbrev pub sets : Doing Text → Action
 sets string = do_set 6 ((codes "x", string) ∷ [])
 
--- `exit`, and `exit WORD`
+-- `exit`
 abbrev pub exits : Action
 exits = do_exit 7 []
 
+-- `exit WORD`
 abbrev pub exits_with : Text → Action
 exits_with text = do_exit 7 (word text ∷ [])
 
@@ -61,24 +68,27 @@ exits_with text = do_exit 7 (word text ∷ [])
 abbrev pub two : Action → Action → Action
 two first second = do_all (first ∷ second ∷ [])
 
--- `first && second` and `first || second`
+-- `first && second`
 abbrev pub both : Action → Action → Action
 both first second = do_chain first ((true, second) ∷ [])
 
+-- `first || second`
 abbrev pub either : Action → Action → Action
 either first second = do_chain first ((false, second) ∷ [])
 
--- `( body )`, and a call of a function with this body
+-- `( body )`
 abbrev pub sub : Action → Action
 sub body = do_subshell 8 body
 
+-- a call of a function with this body
 abbrev pub calls : Action → Action
 calls body = do_function 9 (Some body) (word (codes "f") ∷ [])
 
--- `while condition; do body; done`, and `for x in WORD ..; do body; done`
+-- `while condition; do body; done`
 abbrev pub while_loop : Action → Action → Action
 while_loop condition body = do_while 10 condition body
 
+-- `for x in WORD ..; do body; done`
 abbrev pub for_loop : List (Doing (List Text)) → Action → Action
 for_loop words body = do_for 11 (codes "x") words body
 
@@ -88,6 +98,7 @@ case_of string patterns =
     do_case 12 string
     (map (λ strings. (map (λ one. do_plain one ∷ []) strings, exits_with (codes "0"))) patterns)
 
+-- `exit 0` where the string is the text, else `false`
 abbrev pub is_text : Doing Text → Text → Action
 is_text string text = two (case_of string ((do_literal text ∷ []) ∷ [])) fails
 
@@ -106,19 +117,23 @@ pub record Example : Type 0 where
   pub end : End
   pub rows : List ℕ
 
+-- the run of an example
 abbrev pub run_of : Example → Ended
 run_of e = whole_run e.body 1 (codes "f" ∷ []) (shell e.strict e.turns) (value.Dir []) []
 
--- what an example comes to, and what is wanted
+-- what an example comes to: its end, and the rows of its acts
 abbrev pub comes : Example → End × List ℕ
 comes e = ((run_of e).end, map (λ mark. mark.row) (run_of e).trace)
 
+-- what an example is to come to
 abbrev pub wanted : Example → End × List ℕ
 wanted e = (e.end, e.rows)
 
+-- the site of the command with this number
 abbrev pub site : ℕ → Site
 site at = record { step = 1; at = at }
 
+-- an end for this reason at the command with this number
 abbrev pub stops : Reason → ℕ → End
 stops why at = Stopped why (site at)
 

@@ -31,7 +31,7 @@ given (Err fault) p s = stopped (reason_of fault) p s
 
 -- ---- strings
 
--- bytes that stand for themselves
+-- bytes that stand for themselves (XCU 2.6, behind the removal of quotes, 2.6.7)
 abbrev pub do_literal : Text → Doing Text
 do_literal text p s = Go text s
 
@@ -70,11 +70,11 @@ join_behind before [] p s = Go before s
 join_behind before (string ∷ strings) p s =
     then_do (string p s) (λ text s. join_behind (before ++ text) strings p s)
 
--- strings, one behind another, expanded from left to right
+-- strings, one behind another, expanded from left to right (XCU 2.6: beginning to end)
 abbrev pub do_join : List (Doing Text) → Doing Text
 do_join strings = join_behind [] strings
 
--- a string that may have at most 65,536 bytes: an assigned value, or the subject of a `case`
+-- a string that may have at most 65,536 bytes: an assigned value (XCU 2.9.1), or the subject of a `case` (2.9.4.3)
 abbrev pub do_short : Doing Text → Doing Text
 do_short string p s = then_do (string p s) (λ text s. given (short text) p s)
 
@@ -116,13 +116,15 @@ do_output body p s = closed_off by_exit output_of (after_output s) (body (in_sub
 
 -- ---- fields (XCU 2.6.5 Field Splitting)
 
--- a piece of a word with its marks
+-- a plain piece of a word
 abbrev pub plain_piece : Text → PieceParts
 plain_piece text = record { text = text; split = false; quoted = false }
 
+-- a piece in quotes
 abbrev pub quoted_piece : Text → PieceParts
 quoted_piece text = record { text = text; split = false; quoted = true }
 
+-- a piece that is cut at blanks
 abbrev pub split_piece : Text → PieceParts
 split_piece text = record { text = text; split = true; quoted = false }
 

@@ -6,13 +6,15 @@ use Rattle.shell_rules.specs.State.{Left, then_do, Place, at_command, except, si
 use Rattle.shell_rules.specs.State.{success_if_none}
 use Rattle.shell_rules.specs.Expansion.{do_fields}
 
--- `break` ends the innermost loop and `continue` its turn; both succeed (XCU 2.14 break, continue)
+-- `break` ends the innermost loop, with success (XCU 2.14 break, continue)
 abbrev pub do_break : Action
 do_break p s = Left Broke (with_status true s)
 
+-- `continue` ends a turn of the innermost loop, with success (XCU 2.14 continue)
 abbrev pub do_continue : Action
 do_continue p s = Left Continued (with_status true s)
 
+-- with so many turns left
 abbrev pub with_turns : ℕ → State → State
 with_turns n s = record s { conc = record s.conc { turns = n } }
 

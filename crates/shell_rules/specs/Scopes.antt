@@ -57,22 +57,25 @@ pub record IsBehindQuiet (before inner behind : State) : Type 0 where
   pub trace : behind.trace ≡ inner.trace
   pub acts : behind.acts ≡ inner.acts
 
--- however they end
+-- every subshell, however its body ends
 abbrev pub SubshellsClose : Type 0
 SubshellsClose =
     (at : ℕ) (body : Action) (p : Place) (s : State)
     → IsBehindSubshell s (state_of (body p s)) (state_of (do_subshell at body p s))
 
+-- every substitution, however its command ends
 abbrev pub OutputsClose : Type 0
 OutputsClose =
     (body : Action) (p : Place) (s : State)
     → IsBehindOutput s (state_of (body (in_substitution p) (capturing s))) (state_of (do_output body p s))
 
+-- every function, however its body ends
 abbrev pub FunctionsClose : Type 0
 FunctionsClose =
     (body : Action) (fields : List Text) (p : Place) (s : State)
     → IsBehindBody s (state_of (body p (with_arguments fields s))) (state_of (do_body (Some body) fields p s))
 
+-- every command without output, however it ends
 abbrev pub QuietsClose : Type 0
 QuietsClose =
     (body : Action) (p : Place) (s : State)

@@ -95,10 +95,11 @@ site_of p = record { step = p.step; at = p.at }
 abbrev pub stopped : {A : Type 0} → Reason → Place → State → Run A
 stopped reason p s = Left (Stopped reason (site_of p)) s
 
--- what gives a value, and what a command does
+-- what gives a value
 abbrev pub Doing : Type 0 → Type 0
 Doing A = Place → State → Run A
 
+-- what a command does
 abbrev pub Action : Type 0
 Action = Doing (Unit {0})
 
@@ -117,12 +118,15 @@ with f (part ∷ parts) = part f ∷ with f parts
 
 -- ---- parts of the state
 
+-- with this status; true is success
 abbrev pub with_status : Bool → State → State
 with_status ok s = record s { conc = record s.conc { status = ok } }
 
+-- with this strict flag
 abbrev pub with_strict : Bool → State → State
 with_strict on s = record s { conc = record s.conc { strict = on } }
 
+-- with these arguments
 abbrev pub with_arguments : List Text → State → State
 with_arguments arguments s = record s { conc = record s.conc { args = arguments } }
 

@@ -18,7 +18,7 @@ use script_names::{Bytes, Memory};
 use std::alloc::Global;
 
 /// The text of a script, by which it is meant to be read again as it is, but for byte offsets. That is proved of
-/// scripts that some text spells (shell_printing, `printed_scripts_read_back`).
+/// scripts that some text spells in which no token is too deep (shell_printing, `printed_scripts_read_back`).
 pub fn print_script(alloc: Global, script: &Script) -> Result<Bytes, Memory>
     ensures { IfOk result (λ text. text ≡ script_text script.now) }
 {

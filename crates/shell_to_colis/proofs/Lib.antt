@@ -8,3 +8,4 @@ mod Nodes
 mod Same
 mod SameScript
 mod Made
+mod DefNames

@@ -135,6 +135,10 @@ module _ (first : Text → Option ℕ) where
   whole : (x : Command) → forms_of first x script_place ≡ [] → Whole (members_of x)
   whole x e = subst (λ y. Whole (layer_members y (out-Command x))) (roll-out-Command x) (layer_whole (out-Command x) (ap (λ y. forms_of first y script_place) (roll-out-Command x) ∙ e))
 
--- a script in which no unsupported form stands has a well formed program
+-- a script in which no unsupported form stands has well formed parts
+pub are_parts : (script : Script) → script_forms script.body ≡ [] → is_well_formed (defs_to (members_of script.body) []) (seq_to (body_statements (members_of script.body) [])) ≡ true
+are_parts script e = whole (first_of (definitions script.body)) script.body e
+
+-- and so has a program
 pub is_program : (script : Script) → script_forms script.body ≡ [] → checked script.strict (defs_to (members_of script.body) []) (seq_to (body_statements (members_of script.body) [])) ≡ Some (program_of script)
-is_program script e = ap (λ b. if b then Some (program_of script) else None) (whole (first_of (definitions script.body)) script.body e)
+is_program script e = ap (λ b. if b then Some (program_of script) else None) (are_parts script e)

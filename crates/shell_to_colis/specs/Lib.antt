@@ -2,3 +2,4 @@ pub mod Members
 pub mod Translated
 pub mod Shell
 pub mod Laws
+pub mod DefNames

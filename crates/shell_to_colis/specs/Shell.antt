@@ -51,15 +51,19 @@ pub record PartDoes : Type 0 where
 abbrev pub WordDoes : Type 0
 WordDoes = List PartDoes
 
+-- what an assignment does: its name, and its value under the functions that are there
 abbrev pub AssignDoes : Type 0
 AssignDoes = Funs → Text × Doing Text
 
+-- what an arm of `case` does: its patterns, and its body
 abbrev pub CaseArmDoes : Type 0
 CaseArmDoes = Funs → List (List (Doing PieceParts)) × Action
 
+-- what an arm of `if` does: its condition, and its body
 abbrev pub IfArmDoes : Type 0
 IfArmDoes = Funs → Action × Action
 
+-- what a further pipeline of an and-or list does: whether it stands behind `&&`, and the pipeline
 abbrev pub LinkDoes : Type 0
 LinkDoes = Funs → Bool × Action
 
@@ -97,6 +101,7 @@ fields words f = map (λ parts. fields_of parts f) words
 abbrev pub is_digit : ℕ → Bool
 is_digit number = nat_le 1 number && nat_le number 9
 
+-- the value of a parameter (XCU 2.5 Parameters and Variables)
 abbrev pub parameter : Key → Doing Text
 parameter (key.Named name) = word.do_variable name
 parameter (key.Arg number) = if is_digit number then word.do_argument number else word.do_join []

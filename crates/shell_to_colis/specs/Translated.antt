@@ -294,6 +294,7 @@ arm_of [] body defs = []
 arm_of (pattern ∷ patterns) body defs =
     roll-PatArm (record { patterns = map (λ word. pieces_to word defs) (pattern ∷ patterns); body = body }) ∷ []
 
+-- an arm of `case`, by its patterns and its body
 abbrev pub case_arm_layer :
     o.CaseArm-F (To Stmt) PartTo (To SetTo) (To (List PatArm)) (To StmtArm) (To ChainPart) WordTo → To (List PatArm)
 case_arm_layer arm defs = arm_of arm.patterns (arm.body defs) defs

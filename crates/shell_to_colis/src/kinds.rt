@@ -1,10 +1,9 @@
 ghost use Rattle.std.specs.Prelude.{◌≡◌, [], ◌∷◌, Some, map, IfOk};
 ghost use Rattle.std.specs.Str.{bytes_eq};
-ghost use Rattle.colis_syntax.specs.WellFormed.{is_def};
 ghost use Rattle.shell_to_colis.specs.Translated.{flag_kind, called_kind, variable_kind, leaving_kind};
 ghost use Rattle.shell_to_colis.specs.Translated.{named_kind, kind_of, static_word};
 
-use colis_syntax::Def;
+use crate::defs::Defs;
 use script_names::{Bytes, Memory};
 use shell_forms::static_text;
 use shell_syntax::Word;
@@ -32,15 +31,8 @@ pub(crate) enum Kind {
     Utility,
 }
 
-/// Whether one of the functions has this name.
-pub(crate) fn is_def(name: &[u8], defs: &[Def]) -> bool
-    ensures { result ≡ is_def name.now defs.now }
-{
-    defs.iter().any(|def| def.name.as_slice() == name)
-}
-
 /// Which statement a simple command becomes, where these functions are defined before it.
-pub(crate) fn kind_of(alloc: Global, words: &[Word], defs: &[Def]) -> Result<Kind, Memory>
+pub(crate) fn kind_of(alloc: Global, words: &[Word], defs: &Defs) -> Result<Kind, Memory>
     ensures { IfOk result (λ kind. kind ≡ kind_of (map static_word words.now) defs.now) }
 {
     match words {
@@ -53,7 +45,7 @@ pub(crate) fn kind_of(alloc: Global, words: &[Word], defs: &[Def]) -> Result<Kin
 }
 
 // A command of this static name.
-fn named(alloc: Global, name: &[u8], operands: &[Word], defs: &[Def]) -> Result<Kind, Memory>
+fn named(alloc: Global, name: &[u8], operands: &[Word], defs: &Defs) -> Result<Kind, Memory>
     ensures { IfOk result (λ kind. kind ≡ named_kind name.now (map static_word operands.now) defs.now) }
 {
     if is(name, b"set") {
@@ -70,7 +62,7 @@ fn is(name: &[u8], one: &[u8]) -> bool
 }
 
 // A command of this static name, which is not `set`.
-fn leaving(alloc: Global, name: &[u8], defs: &[Def]) -> Result<Kind, Memory>
+fn leaving(alloc: Global, name: &[u8], defs: &Defs) -> Result<Kind, Memory>
     ensures { IfOk result (λ kind. kind ≡ leaving_kind name.now defs.now) }
 {
     if is(name, b"exit") {
@@ -89,7 +81,7 @@ fn leaving(alloc: Global, name: &[u8], defs: &[Def]) -> Result<Kind, Memory>
 }
 
 // A command of this static name, which leaves nothing.
-fn on_variables(alloc: Global, name: &[u8], defs: &[Def]) -> Result<Kind, Memory>
+fn on_variables(alloc: Global, name: &[u8], defs: &Defs) -> Result<Kind, Memory>
     ensures { IfOk result (λ kind. kind ≡ variable_kind name.now defs.now) }
 {
     if is(name, b"export") {
@@ -125,10 +117,10 @@ fn flag_of(flag: &[u8]) -> Kind
 }
 
 // A function or a utility.
-fn called(alloc: Global, name: &[u8], defs: &[Def]) -> Result<Kind, Memory>
+fn called(alloc: Global, name: &[u8], defs: &Defs) -> Result<Kind, Memory>
     ensures { IfOk result (λ kind. kind ≡ called_kind name.now defs.now) }
 {
-    if is_def(name, defs) {
+    if defs.has(name) {
         return Ok(Kind::Function(Bytes::from_slice(alloc, name)?));
     }
     Ok(Kind::Utility)

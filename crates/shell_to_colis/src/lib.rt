@@ -3,6 +3,7 @@
 //! becomes, and with specs/Shell.antt for what a script does.
 #![tactic(auto)]
 
+mod defs;
 mod kinds;
 mod redirections;
 mod statements;

@@ -7,10 +7,11 @@ ghost use Rattle.shell_to_colis.specs.Translated.{word_to, field_to, fields_to, 
 ghost use Rattle.shell_to_colis.specs.Translated.{if_arm_to, case_arm_to, otherwise_to, condition_to, body_to};
 ghost use Rattle.shell_to_colis.specs.Translated.{assigned_to, simple_to, seq_to, chain_to, if_to};
 
+use crate::defs::Defs;
 use crate::kinds::{Kind, kind_of};
 use crate::redirections::redirected;
 use crate::words::{expanded, is_all_alone, piece, quoting_of};
-use colis_syntax::{ChainPart, Def, Fields, PatArm, SetTo, Stmt, StmtArm, Str, StrPiece};
+use colis_syntax::{ChainPart, Fields, PatArm, SetTo, Stmt, StmtArm, Str, StrPiece};
 use script_names::{Boxed as Box, Bytes, Copied, List, Memory, Reason};
 use shell_syntax::{Assign, CaseArm, Command, IfArm, Link, Part, Word};
 use std::alloc::Global;
@@ -91,7 +92,7 @@ fn turned(alloc: Global, until: bool, body: Box<Stmt>) -> Result<Box<Stmt>, Memo
 
 /// The statement of a command, where these functions are defined before it.
 #[cycle(translating)]
-pub(crate) fn command(alloc: Global, node: &Command, defs: &[Def]) -> Result<Stmt, Memory>
+pub(crate) fn command(alloc: Global, node: &Command, defs: &Defs) -> Result<Stmt, Memory>
     ensures { IfOk result (λ stmt. stmt ≡ translated node.now defs.now) }
 {
     match node {
@@ -138,7 +139,7 @@ pub(crate) fn command(alloc: Global, node: &Command, defs: &[Def]) -> Result<Stm
 }
 
 #[cycle(translating)]
-fn boxed(alloc: Global, body: &Box<Command>, defs: &[Def]) -> Result<Box<Stmt>, Memory>
+fn boxed(alloc: Global, body: &Box<Command>, defs: &Defs) -> Result<Box<Stmt>, Memory>
     ensures { IfOk result (λ stmt. stmt ≡ translated body.now defs.now) }
 {
     Box::new(alloc, command(alloc, body.get(), defs)?)
@@ -150,7 +151,7 @@ fn simple(
     at: u32,
     assigns: &List<Assign>,
     words: &List<Word>,
-    defs: &[Def],
+    defs: &Defs,
 ) -> Result<Stmt, Memory>
     ensures { IfOk result (λ stmt. stmt ≡ translated (Simple at assigns.now words.now) defs.now) }
 {
@@ -165,7 +166,7 @@ fn of_kind(
     kind: Kind,
     assigns: &List<Assign>,
     words: &List<Word>,
-    defs: &[Def],
+    defs: &Defs,
 ) -> Result<Stmt, Memory>
     ensures { let made = simple_to at kind (map assign_to assigns.now) (map word_to words.now) defs.now in
         IfOk result (λ stmt. stmt ≡ made) }
@@ -209,7 +210,7 @@ fn chain(
     alloc: Global,
     first: &Box<Command>,
     rest: &List<Link>,
-    defs: &[Def],
+    defs: &Defs,
 ) -> Result<Stmt, Memory>
     ensures { IfOk result (λ stmt. stmt ≡ translated (Chain first.now rest.now) defs.now) }
 {
@@ -224,7 +225,7 @@ fn branches(
     at: u32,
     arms: &List<IfArm>,
     otherwise: &Option<Box<Command>>,
-    defs: &[Def],
+    defs: &Defs,
 ) -> Result<Stmt, Memory>
     ensures { IfOk result (λ stmt. stmt ≡ translated (If at arms.now otherwise.now) defs.now) }
 {
@@ -248,7 +249,7 @@ fn each_field(
     name: &Bytes,
     words: &Option<List<Word>>,
     body: &Box<Command>,
-    defs: &[Def],
+    defs: &Defs,
 ) -> Result<Stmt, Memory>
     ensures { IfOk result (λ stmt. stmt ≡ translated (For at name.now words.now body.now) defs.now) }
 {
@@ -284,7 +285,7 @@ fn repeated(
     until: bool,
     cond: &Box<Command>,
     body: &Box<Command>,
-    defs: &[Def],
+    defs: &Defs,
 ) -> Result<Stmt, Memory>
     ensures { IfOk result (λ stmt. stmt ≡ translated (While at until cond.now body.now) defs.now) }
 {
@@ -301,7 +302,7 @@ fn cases(
     at: u32,
     subject: &Word,
     arms: &List<CaseArm>,
-    defs: &[Def],
+    defs: &Defs,
 ) -> Result<Stmt, Memory>
     ensures { IfOk result (λ stmt. stmt ≡ translated (Case at subject.now arms.now) defs.now) }
 {
@@ -311,7 +312,7 @@ fn cases(
 }
 
 #[cycle(translating)]
-fn commands_of(alloc: Global, commands: &[Command], defs: &[Def]) -> Result<List<Stmt>, Memory>
+fn commands_of(alloc: Global, commands: &[Command], defs: &Defs) -> Result<List<Stmt>, Memory>
     ensures { IfOk result (λ stmts. stmts ≡ each (map translated commands.now) defs.now) }
 {
     let mut stmts = List::new(alloc);
@@ -323,7 +324,7 @@ fn commands_of(alloc: Global, commands: &[Command], defs: &[Def]) -> Result<List
 }
 
 #[cycle(translating)]
-fn links_of(alloc: Global, links: &[Link], defs: &[Def]) -> Result<List<ChainPart>, Memory>
+fn links_of(alloc: Global, links: &[Link], defs: &Defs) -> Result<List<ChainPart>, Memory>
     ensures { IfOk result (λ parts. parts ≡ each (map link_to links.now) defs.now) }
 {
     let mut parts = List::new(alloc);
@@ -335,7 +336,7 @@ fn links_of(alloc: Global, links: &[Link], defs: &[Def]) -> Result<List<ChainPar
 }
 
 #[cycle(translating)]
-fn linked(alloc: Global, link: &Link, defs: &[Def]) -> Result<ChainPart, Memory>
+fn linked(alloc: Global, link: &Link, defs: &Defs) -> Result<ChainPart, Memory>
     ensures { IfOk result (λ part. part ≡ link_to link.now defs.now) }
 {
     let stmt = command(alloc, &link.command, defs)?;
@@ -346,7 +347,7 @@ fn linked(alloc: Global, link: &Link, defs: &[Def]) -> Result<ChainPart, Memory>
 }
 
 #[cycle(translating)]
-fn if_arms(alloc: Global, arms: &[IfArm], defs: &[Def]) -> Result<List<StmtArm>, Memory>
+fn if_arms(alloc: Global, arms: &[IfArm], defs: &Defs) -> Result<List<StmtArm>, Memory>
     ensures { IfOk result (λ parts. parts ≡ each (map if_arm_to arms.now) defs.now) }
 {
     let mut parts = List::new(alloc);
@@ -358,7 +359,7 @@ fn if_arms(alloc: Global, arms: &[IfArm], defs: &[Def]) -> Result<List<StmtArm>,
 }
 
 #[cycle(translating)]
-fn if_arm(alloc: Global, arm: &IfArm, defs: &[Def]) -> Result<StmtArm, Memory>
+fn if_arm(alloc: Global, arm: &IfArm, defs: &Defs) -> Result<StmtArm, Memory>
     ensures { IfOk result (λ part. part ≡ if_arm_to arm.now defs.now) }
 {
     let cond = command(alloc, &arm.cond, defs)?;
@@ -367,7 +368,7 @@ fn if_arm(alloc: Global, arm: &IfArm, defs: &[Def]) -> Result<StmtArm, Memory>
 }
 
 #[cycle(translating)]
-fn case_arms(alloc: Global, arms: &[CaseArm], defs: &[Def]) -> Result<List<PatArm>, Memory>
+fn case_arms(alloc: Global, arms: &[CaseArm], defs: &Defs) -> Result<List<PatArm>, Memory>
     ensures { IfOk result (λ parts. parts ≡ flat_map (λ arm. arm defs.now) (map case_arm_to arms.now)) }
 {
     let mut parts = List::new(alloc);
@@ -381,7 +382,7 @@ fn case_arms(alloc: Global, arms: &[CaseArm], defs: &[Def]) -> Result<List<PatAr
 fn add_case_arm(
     alloc: Global,
     arm: &CaseArm,
-    defs: &[Def],
+    defs: &Defs,
     parts: &mut List<PatArm>,
 ) -> Result<(), Memory>
     ensures { OnOk result (parts.new ≡ parts.old ++ case_arm_to arm.now defs.now) }
@@ -394,7 +395,7 @@ fn add_case_arm(
 }
 
 #[cycle(translating)]
-fn case_arm(alloc: Global, arm: &CaseArm, defs: &[Def]) -> Result<PatArm, Memory>
+fn case_arm(alloc: Global, arm: &CaseArm, defs: &Defs) -> Result<PatArm, Memory>
     requires { 0 < length (out-CaseArm arm.now).patterns }
     ensures { IfOk result (λ part. part ∷ [] ≡ case_arm_to arm.now defs.now) }
 {
@@ -404,7 +405,7 @@ fn case_arm(alloc: Global, arm: &CaseArm, defs: &[Def]) -> Result<PatArm, Memory
 }
 
 #[cycle(translating)]
-fn patterns_of(alloc: Global, words: &[Word], defs: &[Def]) -> Result<List<List<StrPiece>>, Memory>
+fn patterns_of(alloc: Global, words: &[Word], defs: &Defs) -> Result<List<List<StrPiece>>, Memory>
     ensures { IfOk result (λ patterns. patterns ≡ map (λ word. pieces_to word defs.now) (map word_to words.now)) }
 {
     let mut patterns = List::new(alloc);
@@ -416,7 +417,7 @@ fn patterns_of(alloc: Global, words: &[Word], defs: &[Def]) -> Result<List<List<
 }
 
 #[cycle(translating)]
-fn sets_of(alloc: Global, assigns: &[Assign], defs: &[Def]) -> Result<List<SetTo>, Memory>
+fn sets_of(alloc: Global, assigns: &[Assign], defs: &Defs) -> Result<List<SetTo>, Memory>
     ensures { IfOk result (λ sets. sets ≡ each (map assign_to assigns.now) defs.now) }
 {
     let mut sets = List::new(alloc);
@@ -428,7 +429,7 @@ fn sets_of(alloc: Global, assigns: &[Assign], defs: &[Def]) -> Result<List<SetTo
 }
 
 #[cycle(translating)]
-fn assignment(alloc: Global, assign: &Assign, defs: &[Def]) -> Result<SetTo, Memory>
+fn assignment(alloc: Global, assign: &Assign, defs: &Defs) -> Result<SetTo, Memory>
     ensures { IfOk result (λ set. set ≡ assign_to assign.now defs.now) }
 {
     let name = assign.name.copy(alloc)?;
@@ -437,7 +438,7 @@ fn assignment(alloc: Global, assign: &Assign, defs: &[Def]) -> Result<SetTo, Mem
 }
 
 #[cycle(translating)]
-fn operands_of(alloc: Global, words: &[Word], defs: &[Def]) -> Result<List<Fields>, Memory>
+fn operands_of(alloc: Global, words: &[Word], defs: &Defs) -> Result<List<Fields>, Memory>
     ensures { IfOk result (λ fields. fields ≡ rest_of (fields_to (map word_to words.now) defs.now)) }
 {
     match words {
@@ -447,7 +448,7 @@ fn operands_of(alloc: Global, words: &[Word], defs: &[Def]) -> Result<List<Field
 }
 
 #[cycle(translating)]
-fn fields_of(alloc: Global, words: &[Word], defs: &[Def]) -> Result<List<Fields>, Memory>
+fn fields_of(alloc: Global, words: &[Word], defs: &Defs) -> Result<List<Fields>, Memory>
     ensures { IfOk result (λ fields. fields ≡ fields_to (map word_to words.now) defs.now) }
 {
     let mut fields = List::new(alloc);
@@ -459,7 +460,7 @@ fn fields_of(alloc: Global, words: &[Word], defs: &[Def]) -> Result<List<Fields>
 }
 
 #[cycle(translating)]
-fn field(alloc: Global, word: &Word, defs: &[Def]) -> Result<Fields, Memory>
+fn field(alloc: Global, word: &Word, defs: &Defs) -> Result<Fields, Memory>
     ensures { IfOk result (λ field. field ≡ field_to (word_to word.now) defs.now) }
 {
     if is_all_alone(word.parts.as_slice()) {
@@ -469,7 +470,7 @@ fn field(alloc: Global, word: &Word, defs: &[Def]) -> Result<Fields, Memory>
 }
 
 #[cycle(translating)]
-fn pieces_of(alloc: Global, word: &Word, defs: &[Def]) -> Result<List<StrPiece>, Memory>
+fn pieces_of(alloc: Global, word: &Word, defs: &Defs) -> Result<List<StrPiece>, Memory>
     ensures { IfOk result (λ pieces. pieces ≡ pieces_to (word_to word.now) defs.now) }
 {
     let mut pieces = List::new(alloc);
@@ -481,7 +482,7 @@ fn pieces_of(alloc: Global, word: &Word, defs: &[Def]) -> Result<List<StrPiece>,
 }
 
 #[cycle(translating)]
-fn joined(alloc: Global, word: &Word, defs: &[Def]) -> Result<Str, Memory>
+fn joined(alloc: Global, word: &Word, defs: &Defs) -> Result<Str, Memory>
     ensures { IfOk result (λ value. value ≡ joined_to (word_to word.now) defs.now) }
 {
     let mut values = List::new(alloc);
@@ -493,7 +494,7 @@ fn joined(alloc: Global, word: &Word, defs: &[Def]) -> Result<Str, Memory>
 }
 
 #[cycle(translating)]
-fn value(alloc: Global, part: &Part, defs: &[Def]) -> Result<Str, Memory>
+fn value(alloc: Global, part: &Part, defs: &Defs) -> Result<Str, Memory>
     ensures { IfOk result (λ value. value ≡ (part_to part.now).value defs.now) }
 {
     match part {

@@ -1,10 +1,10 @@
-ghost use Rattle.std.specs.Prelude.{◌≡◌, [], ◌∷◌, IfOk, OnOk};
+ghost use Rattle.std.specs.Prelude.{◌≡◌, [], ◌∷◌, IfOk};
 ghost use Rattle.shell_to_colis.specs.Laws.{DoesTheSame};
 ghost use Rattle.shell_to_colis.specs.Members.{defined_by, members_of};
 ghost use Rattle.shell_to_colis.specs.Translated.{def_to, defs_behind, defs_to, body_statements};
 ghost use Rattle.shell_to_colis.specs.Translated.{program_of, of_option};
 
-use crate::kinds::is_def;
+use crate::defs::Defs;
 use crate::statements::{command, sequence};
 use colis_syntax::{Def, Program, Stmt};
 use script_names::{Copied, List, Memory};
@@ -13,12 +13,12 @@ use shell_syntax::Command;
 use std::alloc::Global;
 
 // The function that a member of the script's list defines, behind those.
-fn define(alloc: Global, member: &Command, defs: &[Def]) -> Result<Option<Def>, Memory>
+fn define(alloc: Global, member: &Command, defs: &Defs) -> Result<Option<Def>, Memory>
     ensures { IfOk result (λ def. of_option def ≡ def_to (defined_by member.now) defs.now) }
 {
     match member {
         Command::Define { name, body, .. } => {
-            if is_def(name.as_slice(), defs) {
+            if defs.has(name.as_slice()) {
                 return Ok(None);
             }
             let body = command(alloc, body.get(), defs)?;
@@ -36,13 +36,13 @@ fn define(alloc: Global, member: &Command, defs: &[Def]) -> Result<Option<Def>, 
     }
 }
 
-// Adds the function that a member of the script's list defines.
-fn add_def(alloc: Global, member: &Command, defs: &mut List<Def>) -> Result<(), Memory>
-    ensures { OnOk result (defs.new ≡ defs_behind member.now defs.old) }
+// The functions, behind them the one that a member of the script's list defines.
+fn with_member(alloc: Global, member: &Command, defs: Defs) -> Result<Defs, Memory>
+    ensures { IfOk result (λ more. more ≡ defs_behind member.now defs) }
 {
-    match define(alloc, member, defs.as_slice())? {
-        None => Ok(()),
-        Some(def) => defs.add(def),
+    match define(alloc, member, &defs)? {
+        None => Ok(defs),
+        Some(def) => defs.with(def),
     }
 }
 
@@ -50,14 +50,14 @@ fn add_def(alloc: Global, member: &Command, defs: &mut List<Def>) -> Result<(), 
 fn whole(alloc: Global, members: &[Command]) -> Result<(List<Def>, List<Stmt>), Memory>
     ensures { IfOk result (λ parts. parts ≡ (defs_to members.now [], body_statements members.now [])) }
 {
-    let mut defs = List::new(alloc);
+    let mut defs = Defs::new(alloc);
     let mut stmts = List::new(alloc);
     for member in members {
-        let stmt = command(alloc, member, defs.as_slice())?;
+        let stmt = command(alloc, member, &defs)?;
         stmts.add(stmt)?;
-        add_def(alloc, member, &mut defs)?;
+        defs = with_member(alloc, member, defs)?;
     }
-    Ok((defs, stmts))
+    Ok((defs.into_list(), stmts))
 }
 
 // The functions and the statements of a script's body.
@@ -84,12 +84,12 @@ fn one(alloc: Global, member: &Command) -> Result<(List<Def>, List<Stmt>), Memor
     ensures { let members = member.now ∷ [] in
         IfOk result (λ parts. parts ≡ (defs_to members [], body_statements members [])) }
 {
-    let mut defs = List::new(alloc);
+    let defs = Defs::new(alloc);
     let mut stmts = List::new(alloc);
-    let stmt = command(alloc, member, &[])?;
+    let stmt = command(alloc, member, &defs)?;
     stmts.add(stmt)?;
-    add_def(alloc, member, &mut defs)?;
-    Ok((defs, stmts))
+    let defs = with_member(alloc, member, defs)?;
+    Ok((defs.into_list(), stmts))
 }
 
 /// The CoLiS program of an accepted script. It does what the script does, and begins with the strict flag exactly
@@ -102,8 +102,5 @@ pub fn translate(alloc: Global, script: &Accepted) -> Result<Program, Memory>
     let script = script.script();
     let (defs, stmts) = parts(alloc, &script.body)?;
     let body = sequence(stmts);
-    match Program::new(script.strict, defs, body) {
-        Some(program) => Ok(program),
-        None => unreachable!(),
-    }
+    Ok(Program::from_well_formed(script.strict, defs, body))
 }

@@ -1,19 +1,12 @@
 //! Calls one after the other, by the rows that they take.
 
-ghost use Rattle.std.specs.Prelude.{All, IfOk};
-ghost use Rattle.tree_clauses.specs.Plain.{IsPlain};
-
-use crate::call_words::words;
-use act_cases::cases;
+use crate::call_words::call_cases;
 use clause_solver::{Store, print_clause};
-use script_names::{Bytes, List, Memory};
+use script_names::{Bytes, Memory};
 use shown_texts::push_number;
 use std::alloc::Global;
 use std::process::Abort;
 use std::test::Fail;
-use tree_clauses::Case;
-use utility_calls::acts::Act;
-use utility_calls::calls::{Planned, plan};
 
 // Calls with the row that each takes, from all trees on; a call behind them; and the rows that are left of it.
 const LEFT: &str = "; | mkdir /a | 67 68
@@ -50,34 +43,6 @@ mkdir -p /a 68; -> now v3|kind v0 dir|entry v0 a v1|kind v1 absent,dir|similar v
 touch /a 67; -> now v3|kind v0 dir|entry v0 a v1|kind v1 absent,reg|kind v2 reg|similar v3 {a} v0|entry v3 a v2|
 ln -s t /a 68; -> now v3|kind v0 dir|entry v0 a v1|kind v1 absent|target v2 t|similar v3 {a} v0|entry v3 a v2|
 mkdir /a 68; mkdir /a/b 68; -> now v7|kind v0 dir|entry v0 a v1|kind v1 absent|kind v2 dir|fence v2 {}|similar v3 {a} v0|entry v3 a v2|kind v4 absent|kind v5 dir|fence v5 {}|similar v6 {b} v2|entry v6 b v5|similar v7 {a} v3|entry v7 a v6|";
-
-// The cases of an act.
-fn act_cases<R: Abort + AllocGlobal>(rt: &R, act: &Act) -> Result<List<Case>, Fail>
-    ensures { IfOk result (All IsPlain) }
-{
-    assert!(rt; act.is_performed());
-    Ok(cases(rt.alloc(), act)?)
-}
-
-// The cases of the act of a call.
-fn call_cases<R: Abort + AllocGlobal>(rt: &R, text: &str) -> Result<List<Case>, Fail>
-    ensures { IfOk result (All IsPlain) }
-{
-    let list = words(rt.alloc(), text)?;
-    assert!(rt; list.len() > 0);
-    match plan(rt.alloc(), &list)? {
-        Planned::Ask { act, negate: _ } => act_cases(rt, &act),
-        Planned::Change(all) => {
-            for acts in &all.into_vec() {
-                if let Some(last) = acts.as_slice().last() {
-                    return act_cases(rt, last);
-                }
-            }
-            Ok(List::new(rt.alloc()))
-        }
-        _ => Ok(List::new(rt.alloc())),
-    }
-}
 
 // The rows that are left of a call, each with a blank before it.
 fn rows_left<R: Abort + AllocGlobal>(rt: &R, store: &Store, text: &str) -> Result<Bytes, Fail> {

@@ -1,19 +1,56 @@
-//! Cases of the last act of a call: the row, its answer, and the clause of the trees that take it.
+//! Cases of the last act of a call, and of acts of a package manager: the row, its answer, and the clause of the trees
+//! that take it.
 
-use crate::call_words::words;
-use act_cases::cases;
-use script_names::{Copied, Done, Reason};
+use crate::call_words::{call_cases, placed_cases};
+use script_names::{Copied, Done, List, Reason};
 use std::process::Abort;
 use std::test::Fail;
 use tree_clauses::{Case, Clause, Var, print_clause};
-use utility_calls::acts::Act;
-use utility_calls::calls::{Planned, plan};
 
-// A call, a row of its last act, the answer there, how many further variables the case has, and its clause.
+// A call or an act of a package manager, a row of its last act, the answer there, how many further variables the case
+// has, and its clause.
 type Printed = (&'static str, u8, &'static str, u32, &'static str);
 
 // Questions.
 const QUESTIONS: &[Printed] = &[
+    (
+        "test -e /a/b",
+        66,
+        "failed",
+        2,
+        "clause start v0 now v0
+kind v0 dir
+kind v0 absent,reg,other,dir
+entry v0 a v1
+kind v1 absent,reg,other,dir
+entry v1 b v2
+kind v2 absent
+",
+    ),
+    (
+        "test -h /a",
+        67,
+        "ok",
+        1,
+        "clause start v0 now v0
+kind v0 dir
+kind v0 dir
+entry v0 a v1
+kind v1 link
+",
+    ),
+    (
+        "test -x /a",
+        68,
+        "run",
+        1,
+        "clause start v0 now v0
+kind v0 dir
+kind v0 dir
+entry v0 a v1
+kind v1 reg,other
+",
+    ),
     (
         "test -f /a/b",
         1,
@@ -159,6 +196,84 @@ entry v3 a v2
 ",
     ),
     (
+        "rm /a",
+        68,
+        "ok",
+        3,
+        "clause start v0 now v3
+kind v0 dir
+kind v0 dir
+entry v0 a v1
+kind v1 reg,link,other
+kind v2 absent
+similar v3 {a} v0
+entry v3 a v2
+",
+    ),
+    (
+        "rm -rf /a/b",
+        70,
+        "ok",
+        2,
+        "clause start v0 now v0
+kind v0 dir
+kind v0 absent,reg,other,dir
+entry v0 a v1
+kind v1 absent,reg,other
+entry v1 b v2
+kind v2 absent,reg,link,other,dir
+",
+    ),
+    (
+        "touch /a",
+        67,
+        "ok",
+        3,
+        "clause start v0 now v3
+kind v0 dir
+kind v0 dir
+entry v0 a v1
+kind v1 absent,reg
+kind v2 reg
+similar v3 {a} v0
+entry v3 a v2
+",
+    ),
+    (
+        "ln -s /x/t /a",
+        68,
+        "ok",
+        3,
+        "clause start v0 now v3
+kind v0 dir
+kind v0 dir
+entry v0 a v1
+kind v1 absent
+target v2 /x/t
+similar v3 {a} v0
+entry v3 a v2
+",
+    ),
+    (
+        "ln -sf ../t /a/b",
+        69,
+        "ok",
+        5,
+        "clause start v0 now v5
+kind v0 dir
+kind v0 dir
+entry v0 a v1
+kind v1 dir
+entry v1 b v2
+kind v2 absent,reg,other
+target v3 ../t
+similar v4 {b} v1
+entry v4 b v3
+similar v5 {a} v0
+entry v5 a v4
+",
+    ),
+    (
         "ln -s /x/t /a",
         71,
         "ok",
@@ -179,7 +294,8 @@ entry v5 a v4
     ),
 ];
 
-// Moves: to the place, below it, below what is moved, and past a link on the way of the place.
+// Moves: to the place, to one beside a directory on the way of what is moved, below the place, below what is moved,
+// and past a link on the way of the place.
 const MOVES: &[Printed] = &[
     (
         "mv /a /b",
@@ -215,6 +331,33 @@ entry v4 b v5
 kind v5 absent,reg,link,other,dir
 similar v6 {b} v4
 entry v6 b v1
+",
+    ),
+    (
+        "mv /a/b /c",
+        68,
+        "ok",
+        8,
+        "clause start v0 now v8
+kind v0 dir
+kind v0 dir
+entry v0 a v1
+kind v1 dir
+entry v1 b v2
+kind v2 reg,link,other
+kind v0 dir
+entry v0 c v3
+kind v3 absent
+kind v4 absent
+similar v5 {b} v1
+entry v5 b v4
+similar v6 {a} v0
+entry v6 a v5
+kind v6 dir
+entry v6 c v7
+kind v7 absent,reg,link,other,dir
+similar v8 {c} v6
+entry v8 c v2
 ",
     ),
     (
@@ -281,12 +424,94 @@ kind v2 link
     ),
 ];
 
+// Acts of a package manager.
+const PLACED: &[Printed] = &[
+    (
+        "PlaceFile /a",
+        68,
+        "ok",
+        3,
+        "clause start v0 now v3
+kind v0 dir
+kind v0 dir
+entry v0 a v1
+kind v1 absent,reg,link,other
+kind v2 reg
+similar v3 {a} v0
+entry v3 a v2
+",
+    ),
+    (
+        "PlaceLink /a/b",
+        68,
+        "ok",
+        5,
+        "clause start v0 now v5
+kind v0 dir
+kind v0 dir
+entry v0 a v1
+kind v1 dir
+entry v1 b v2
+kind v2 absent,reg,link,other
+target v3 t
+similar v4 {b} v1
+entry v4 b v3
+similar v5 {a} v0
+entry v5 a v4
+",
+    ),
+    (
+        "PlaceConf /a",
+        69,
+        "conffile",
+        1,
+        "clause start v0 now v0
+kind v0 dir
+kind v0 dir
+entry v0 a v1
+kind v1 link,other
+",
+    ),
+    (
+        "Discard /a/b",
+        66,
+        "ok",
+        2,
+        "clause start v0 now v0
+kind v0 dir
+kind v0 absent,reg,other,dir
+entry v0 a v1
+kind v1 absent,reg,other
+entry v1 b v2
+kind v2 absent,reg,link,other,dir
+",
+    ),
+    (
+        "DiscardDir /a",
+        68,
+        "ok",
+        3,
+        "clause start v0 now v3
+kind v0 dir
+kind v0 dir
+entry v0 a v1
+kind v1 dir
+fence v1 {}
+kind v2 absent
+similar v3 {a} v0
+entry v3 a v2
+",
+    ),
+];
+
 fn answer_text(answer: Done) -> &'static str {
     match answer {
         Done::Ok => "ok",
         Done::Failed => "failed",
         Done::Stopped(Reason::Link) => "link",
         Done::Stopped(Reason::Slash) => "slash",
+        Done::Stopped(Reason::Run) => "run",
+        Done::Stopped(Reason::Conffile) => "conffile",
         Done::Stopped(_) => "another",
     }
 }
@@ -306,10 +531,8 @@ fn expect_case<R: Abort + AllocGlobal>(rt: &R, made: &Case, row: &Printed) -> Re
     Ok(())
 }
 
-// One case of the act is the row's.
-fn expect<R: Abort + AllocGlobal>(rt: &R, act: &Act, row: &Printed) -> Result<(), Fail> {
-    assert!(rt; act.is_performed());
-    let list = cases(rt.alloc(), act)?;
+// One of the cases is the row's.
+fn expect<R: Abort + AllocGlobal>(rt: &R, list: &List<Case>, row: &Printed) -> Result<(), Fail> {
     let mut found = 0u32;
     for made in list.as_slice() {
         if made.row == row.1 && found < 100 {
@@ -321,47 +544,35 @@ fn expect<R: Abort + AllocGlobal>(rt: &R, act: &Act, row: &Printed) -> Result<()
     Ok(())
 }
 
-// One case of the last act of a call is the row's.
-fn expect_call<R: Abort + AllocGlobal>(rt: &R, row: &Printed) -> Result<(), Fail> {
-    let list = words(rt.alloc(), row.0)?;
-    assert!(rt; list.len() > 0);
-    match plan(rt.alloc(), &list)? {
-        Planned::Ask { act, negate: _ } => expect(rt, &act, row),
-        Planned::Change(all) => {
-            for acts in &all.into_vec() {
-                if let Some(last) = acts.as_slice().last() {
-                    expect(rt, last, row)?;
-                }
-            }
-            Ok(())
-        }
-        _ => {
-            assert!(rt; false, "{}", row.0);
-            Ok(())
-        }
+// So it is for each call of a table.
+fn expect_calls<R: Abort + AllocGlobal>(rt: &R, rows: &[Printed]) -> Result<(), Fail> {
+    for row in rows {
+        let list = call_cases(rt, row.0)?;
+        expect(rt, &list, row)?;
     }
+    Ok(())
 }
 
 #[test]
 fn cases_of_questions(rt: HostRuntime) -> Result<(), Fail> {
-    for row in QUESTIONS {
-        expect_call(&rt, row)?;
-    }
-    Ok(())
+    expect_calls(&rt, QUESTIONS)
 }
 
 #[test]
 fn cases_of_changes(rt: HostRuntime) -> Result<(), Fail> {
-    for row in CHANGES {
-        expect_call(&rt, row)?;
-    }
-    Ok(())
+    expect_calls(&rt, CHANGES)
 }
 
 #[test]
 fn cases_of_moves(rt: HostRuntime) -> Result<(), Fail> {
-    for row in MOVES {
-        expect_call(&rt, row)?;
+    expect_calls(&rt, MOVES)
+}
+
+#[test]
+fn cases_of_a_package_manager(rt: HostRuntime) -> Result<(), Fail> {
+    for row in PLACED {
+        let list = placed_cases(&rt, row.0)?;
+        expect(&rt, &list, row)?;
     }
     Ok(())
 }

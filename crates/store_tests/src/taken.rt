@@ -1,15 +1,14 @@
-//! On a tree exactly one case of an act holds, and it is that of the row that the act takes there.
+//! On a tree exactly one case of an act holds, and it is that of the row that the act takes there. Each row that an act
+//! has of its own stands here at least once; of the general rows that of a slash, for each act whose path can end in
+//! one, and some of links on the way.
 
-use crate::call_words::words;
-use act_cases::cases;
+use crate::call_words::{call_cases, placed_cases};
 use feature_trees::{Value, read_tree};
-use script_names::{Copied, Memory};
+use script_names::{Copied, List, Memory};
 use std::alloc::Global;
 use std::process::Abort;
 use std::test::Fail;
 use tree_clauses::{Case, Clause, Var, meets};
-use utility_calls::acts::Act;
-use utility_calls::calls::{Planned, plan};
 
 // The tree of these tests: `d` is a directory, `f` a file, `o` another thing, `l` a link.
 const SAMPLE: &str = "d /d
@@ -32,36 +31,95 @@ d /x/g
 f /x/g/a
 l /x/o t";
 
-// Calls whose last act takes each row of a question or of a change at one path.
-const TAKEN: &[(&str, u8)] = &[
+// A call, or an act of a package manager, and the row that its last act takes on that tree.
+type Taken = (&'static str, u8);
+
+// Questions.
+const QUESTIONS: &[Taken] = &[
     ("test -e /l/a", 1),
     ("test -e /d/l/a", 2),
     ("test -e /f/", 64),
-    ("test -x /f", 68),
+    ("test -e /l", 65),
+    ("test -e /n", 66),
+    ("test -e /f", 67),
+    ("test -f /f/", 64),
+    ("test -f /l", 65),
+    ("test -f /d", 66),
+    ("test -f /f", 67),
+    ("test -d /o/", 64),
+    ("test -d /l", 65),
+    ("test -d /f", 66),
+    ("test -d /d/", 67),
+    ("test -h /l/", 64),
+    ("test -h /f", 66),
     ("test -h /l", 67),
+    ("test -x /f/", 64),
+    ("test -x /l", 65),
+    ("test -x /n", 66),
+    ("test -x /d", 67),
+    ("test -x /f", 68),
+];
+
+// Directories that are made or taken away, and what is removed.
+const PLACES: &[Taken] = &[
+    ("mkdir /l/a", 1),
+    ("mkdir /f/", 64),
     ("mkdir /f/a", 66),
+    ("mkdir /l", 67),
     ("mkdir /n", 68),
+    ("mkdir -p /l/", 64),
+    ("mkdir -p /l", 65),
+    ("mkdir -p /f/a", 66),
+    ("mkdir -p /f", 67),
     ("mkdir -p /d", 68),
+    ("rmdir /f/", 64),
+    ("rmdir /f", 66),
     ("rmdir /d", 67),
     ("rmdir /e", 68),
+    ("rm /f/", 64),
+    ("rm /n", 66),
+    ("rm /d", 67),
+    ("rm /l", 68),
+    ("rm -r /f/", 64),
+    ("rm -r /n", 66),
+    ("rm -r /d", 69),
+    ("rm -f /f/", 64),
+    ("rm -f /d", 67),
     ("rm -f /f/a", 70),
+    ("rm -f /f", 71),
+    ("rm -rf /f/", 64),
+    ("rm -rf /f/a", 70),
     ("rm -rf /n", 72),
+];
+
+// Files and links that are made.
+const MADE: &[Taken] = &[
+    ("touch /d/l/a", 2),
+    ("touch /l", 65),
+    ("touch /f/a", 66),
+    ("touch /n", 67),
     ("touch /d", 68),
+    ("ln -s t /l/a", 1),
+    ("ln -s t /l", 65),
+    ("ln -s t /f/a", 66),
+    ("ln -s t /f", 67),
     ("ln -s t /n", 68),
     ("ln -s f /d", 70),
     ("ln -s t /e", 71),
+    ("ln -sf t /l", 65),
+    ("ln -sf t /f/a", 66),
+    ("ln -sf t /f", 69),
     ("ln -sf e /d", 72),
     ("ln -sf t /e", 73),
 ];
 
-// The same of moves.
-const MOVED: &[(&str, u8)] = &[
+// Moves; those of `/d` and `/l` to a path below them come last.
+const MOVED: &[Taken] = &[
     ("mv /l/a /n", 1),
     ("mv /f /l/a", 129),
-    ("mv /d /d/l/a", 130),
-    ("mv /n /l/a", 66),
-    ("mv /d /d/n", 66),
+    ("mv /f /d/l/a", 130),
     ("mv /f /l", 65),
+    ("mv /n /l/a", 66),
     ("mv /f /h/a", 67),
     ("mv /f /n", 68),
     ("mv /e /n", 69),
@@ -77,6 +135,37 @@ const MOVED: &[(&str, u8)] = &[
     ("mv /f /d", 79),
     ("mv /l /d", 80),
     ("mv /o /x", 81),
+    ("mv /d /d/l", 65),
+    ("mv /d /d/n", 66),
+    ("mv /l /l/a", 129),
+    ("mv /d /d/l/a", 130),
+];
+
+// What a package manager places and discards.
+const PLACED: &[Taken] = &[
+    ("PlaceFile /l/a", 1),
+    ("PlaceFile /f/", 64),
+    ("PlaceFile /f/a", 66),
+    ("PlaceFile /d", 67),
+    ("PlaceFile /l", 68),
+    ("PlaceLink /f/", 64),
+    ("PlaceLink /f/a", 66),
+    ("PlaceLink /d", 67),
+    ("PlaceLink /f", 68),
+    ("PlaceConf /f/", 64),
+    ("PlaceConf /f/a", 66),
+    ("PlaceConf /d", 67),
+    ("PlaceConf /n", 68),
+    ("PlaceConf /l", 69),
+    ("Discard /f/", 64),
+    ("Discard /f/a", 66),
+    ("Discard /d", 67),
+    ("Discard /f", 68),
+    ("DiscardDir /d/l/a", 2),
+    ("DiscardDir /f/", 64),
+    ("DiscardDir /f", 66),
+    ("DiscardDir /d", 67),
+    ("DiscardDir /e", 68),
 ];
 
 // Whether the case holds on a tree.
@@ -90,54 +179,50 @@ fn holds(alloc: Global, made: &Case, tree: &Value) -> Result<bool, Memory> {
     Ok(meets(alloc, &clause, tree)? == Some(true))
 }
 
-// Of the act's cases that of the row holds on the tree, and no other.
-fn expect<R: Abort + AllocGlobal>(rt: &R, act: &Act, row: &(&str, u8)) -> Result<(), Fail> {
+// Of these cases one holds on the tree, and it is that of the row.
+fn expect<R: Abort + AllocGlobal>(rt: &R, list: &List<Case>, row: &Taken) -> Result<(), Fail> {
     let tree = read_tree(rt.alloc(), SAMPLE.as_bytes())?;
-    assert!(rt; act.is_performed());
-    let list = cases(rt.alloc(), act)?;
     let mut found = false;
     for made in list.as_slice() {
         let here = holds(rt.alloc(), made, &tree)?;
         assert_eq!(rt; here, made.row == row.1, "{}", row.0);
+        assert!(rt; !here || !found, "{}", row.0);
         found = found || here;
     }
     assert!(rt; found, "{}", row.0);
     Ok(())
 }
 
-// So it is for the last act of a call.
-fn expect_call<R: Abort + AllocGlobal>(rt: &R, row: &(&str, u8)) -> Result<(), Fail> {
-    let list = words(rt.alloc(), row.0)?;
-    assert!(rt; list.len() > 0);
-    match plan(rt.alloc(), &list)? {
-        Planned::Ask { act, negate: _ } => expect(rt, &act, row),
-        Planned::Change(all) => {
-            for acts in &all.into_vec() {
-                if let Some(last) = acts.as_slice().last() {
-                    expect(rt, last, row)?;
-                }
-            }
-            Ok(())
-        }
-        _ => {
-            assert!(rt; false, "{}", row.0);
-            Ok(())
-        }
-    }
-}
-
-#[test]
-fn one_case_of_a_change_holds(rt: HostRuntime) -> Result<(), Fail> {
-    for row in TAKEN {
-        expect_call(&rt, row)?;
+// So it is for each call of a table.
+fn expect_calls<R: Abort + AllocGlobal>(rt: &R, rows: &[Taken]) -> Result<(), Fail> {
+    for row in rows {
+        let list = call_cases(rt, row.0)?;
+        expect(rt, &list, row)?;
     }
     Ok(())
 }
 
 #[test]
+fn one_case_of_a_question_holds(rt: HostRuntime) -> Result<(), Fail> {
+    expect_calls(&rt, QUESTIONS)
+}
+
+#[test]
+fn one_case_of_a_change_holds(rt: HostRuntime) -> Result<(), Fail> {
+    expect_calls(&rt, PLACES)?;
+    expect_calls(&rt, MADE)
+}
+
+#[test]
 fn one_case_of_a_move_holds(rt: HostRuntime) -> Result<(), Fail> {
-    for row in MOVED {
-        expect_call(&rt, row)?;
+    expect_calls(&rt, MOVED)
+}
+
+#[test]
+fn one_case_of_a_package_manager_holds(rt: HostRuntime) -> Result<(), Fail> {
+    for row in PLACED {
+        let list = placed_cases(&rt, row.0)?;
+        expect(&rt, &list, row)?;
     }
     Ok(())
 }

@@ -154,20 +154,20 @@ fn long_line(alloc: Global, names: usize) -> Result<Bytes, Fail> {
     Ok(text)
 }
 
-// How a text of one line is refused.
-fn why(alloc: Global, text: &[u8]) -> u8 {
+// The line at which a text is refused, and why; zeros where it is not.
+fn fault(alloc: Global, text: &[u8]) -> (u32, u8) {
     match read_tree(alloc, text) {
-        Err(TreeFault::Line { line: _, why }) => why,
-        _ => 0,
+        Err(TreeFault::Line { line, why }) => (line, why),
+        _ => (0, 0),
     }
 }
 
 #[test]
 fn paths_have_at_most_4096_names(rt: HostRuntime) -> Result<(), Fail> {
     let longest = long_line(rt.alloc(), 4096)?;
-    assert_eq!(rt; why(rt.alloc(), longest.as_slice()), 3);
+    assert_eq!(rt; fault(rt.alloc(), longest.as_slice()), (1, 3));
     let longer = long_line(rt.alloc(), 4097)?;
-    assert_eq!(rt; why(rt.alloc(), longer.as_slice()), 1);
+    assert_eq!(rt; fault(rt.alloc(), longer.as_slice()), (1, 1));
     Ok(())
 }
 
@@ -184,11 +184,19 @@ fn nested(alloc: Global, names: usize) -> Result<Value, Fail> {
 }
 
 #[test]
-fn deep_trees_are_printed(rt: HostRuntime) -> Result<(), Fail> {
+fn a_tree_of_4096_names_is_read_again(rt: HostRuntime) -> Result<(), Fail> {
+    let tree = nested(rt.alloc(), 4096)?;
+    let printed = print_tree(rt.alloc(), &tree)?;
+    assert_eq!(rt; printed.len(), 16793600);
+    let read = read_tree(rt.alloc(), printed.as_slice())?;
+    assert!(rt; read.equal(&tree));
+    Ok(())
+}
+
+#[test]
+fn a_tree_of_4097_names_is_refused(rt: HostRuntime) -> Result<(), Fail> {
     let printed = print_tree(rt.alloc(), &nested(rt.alloc(), 4097)?)?;
     assert_eq!(rt; printed.len(), 16801797);
-    let printed = print_tree(rt.alloc(), &nested(rt.alloc(), 100)?)?;
-    let same = reads_as(rt.alloc(), printed.as_slice(), printed.as_slice())?;
-    assert!(rt; same);
+    assert_eq!(rt; fault(rt.alloc(), printed.as_slice()), (4097, 1));
     Ok(())
 }

@@ -79,31 +79,31 @@ some_row k s (o ∷ rs) one = some_by k s o rs (rule_holds k s o) refl one (some
 
 -- ---- tests of all sights
 
-abbrev all_bools : (Bool → Bool) → Bool
+abbrev pub all_bools : (Bool → Bool) → Bool
 all_bools f = f false && f true
 
-abbrev all_kinds : (Kind → Bool) → Bool
+abbrev pub all_kinds : (Kind → Bool) → Bool
 all_kinds f = f Absent && (f Reg && (f Link && (f Other && f Dir)))
 
 both_true : (a b : Bool) → (a && b) ≡ true → (a ≡ true) × (b ≡ true)
 both_true true b e = (refl, e)
 both_true false b e = absurd (cc)
 
-each_bool : (f : Bool → Bool) → all_bools f ≡ true → (b : Bool) → f b ≡ true
+pub each_bool : (f : Bool → Bool) → all_bools f ≡ true → (b : Bool) → f b ≡ true
 each_bool f h false = (both_true (f false) (f true) h).0
 each_bool f h true = (both_true (f false) (f true) h).1
 
-each_kind : (f : Kind → Bool) → all_kinds f ≡ true → (k : Kind) → f k ≡ true
+pub each_kind : (f : Kind → Bool) → all_kinds f ≡ true → (k : Kind) → f k ≡ true
 each_kind f h Absent = (both_true (f Absent) _ h).0
 each_kind f h Reg = (both_true (f Reg) _ (both_true (f Absent) _ h).1).0
 each_kind f h Link = (both_true (f Link) _ (both_true (f Reg) _ (both_true (f Absent) _ h).1).1).0
 each_kind f h Other = (both_true (f Other) _ (both_true (f Link) _ (both_true (f Reg) _ (both_true (f Absent) _ h).1).1).1).0
 each_kind f h Dir = (both_true (f Other) _ (both_true (f Link) _ (both_true (f Reg) _ (both_true (f Absent) _ h).1).1).1).1
 
-abbrev all_sights : (Sight → Bool) → Bool
+abbrev pub all_sights : (Sight → Bool) → Bool
 all_sights f = all_bools (λ d. all_kinds (λ k. all_bools (λ e. all_kinds (λ l. all_bools (λ m. f (sight d k e l m))))))
 
-each_sight : (f : Sight → Bool) → all_sights f ≡ true → (s : Sight) → f s ≡ true
+pub each_sight : (f : Sight → Bool) → all_sights f ≡ true → (s : Sight) → f s ≡ true
 each_sight f h s =
     each_bool (λ m. f (sight s.in_dir s.kind s.filled s.inner m))
     (each_kind (λ l. all_bools (λ m. f (sight s.in_dir s.kind s.filled l m)))
@@ -114,7 +114,7 @@ each_sight f h s =
 -- ---- exactly one row of each table holds
 
 -- below what is no directory nothing stands
-abbrev possible : Sight → Bool
+abbrev pub possible : Sight → Bool
 possible s = s.in_dir || has (of Absent) s.kind
 
 abbrev one : List Rule → Kind → Sight → Bool
@@ -123,7 +123,7 @@ one rs k s = nat_eq (count k s rs) 1
 abbrev one_if_possible : List Rule → Kind → Sight → Bool
 one_if_possible rs k s = not (possible s) || one rs k s
 
-given_possible : (p b : Bool) → p ≡ true → (not p || b) ≡ true → b ≡ true
+pub given_possible : (p b : Bool) → p ≡ true → (not p || b) ≡ true → b ≡ true
 given_possible true b p e = e
 given_possible false b p e = absurd (cc)
 
@@ -164,7 +164,7 @@ pub nothing_outside : (v : Value) (f : List ℕ) (p : List (List ℕ)) → in_di
 nothing_outside v f [] e = nothing_in v f e
 nothing_outside v f (g ∷ p) e = nothing_outside (entry v f) g p e
 
-seen_possible : (tree w : Value) (names : List (List ℕ)) → names ≢ [] → possible (sight_of (in_dir tree names) (at tree names) w) ≡ true
+pub seen_possible : (tree w : Value) (names : List (List ℕ)) → names ≢ [] → possible (sight_of (in_dir tree names) (at tree names) w) ≡ true
 seen_possible tree w [] ne = absurd (ne refl)
 seen_possible tree w (f ∷ p) ne = by (in_dir tree (f ∷ p)) refl
   where

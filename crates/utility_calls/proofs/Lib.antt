@@ -4,3 +4,5 @@ pub mod Plans
 pub mod ActRow
 pub mod ActChanges
 pub mod Performed
+pub mod Above
+pub mod InDirectories

@@ -4,11 +4,14 @@ use Rattle.script_names.specs.Names.{is_name}
 use Rattle.script_names.specs.declared.reason.Done.TheVariants as done
 use Rattle.feature_trees.specs.declared.value.Value.{Value}
 use Rattle.feature_trees.specs.declared.kind.Kind.TheVariants as kind
+use Rattle.feature_trees.specs.declared.value.Value.TheVariants.{Absent}
 use Rattle.feature_trees.specs.Sound.{sound}
-use Rattle.feature_trees.specs.Tree.{kind_of}
+use Rattle.feature_trees.specs.Tree.{kind_of, has_parents, put}
 use Rattle.utility_calls.specs.declared.acts.Act.{Act}
-use Rattle.utility_calls.specs.declared.sights.Effect.TheVariants.{Nothing}
-use Rattle.utility_calls.specs.Acts.{path_of, place_of, inner_name, is_question, IsPerformed, row, tree_after}
+use Rattle.utility_calls.specs.declared.sights.Effect.{Effect}
+use Rattle.utility_calls.specs.declared.sights.Effect.TheVariants.{Nothing, LinksInside, Moves, MovesInside}
+use Rattle.utility_calls.specs.Acts.{path_of, place_of, inner_name, with_name, is_question, IsPerformed, row}
+use Rattle.utility_calls.specs.Acts.{tree_after}
 
 -- a question has no effect
 abbrev pub QuestionsChangeNothing : Type 0
@@ -42,3 +45,24 @@ abbrev pub ChangesHaveNames : Type 0
 ChangesHaveNames =
     (act : Act) (tree : Value) → IsPerformed act → (row act tree).effect ≢ Nothing
     → ((path_of act).names ≢ []) × (place_of act ≢ [])
+
+-- the tree without what stands at the act's path
+abbrev pub without : Act → Value → Value
+without act tree = put tree (path_of act).names Absent
+
+-- Every strict prefix of a path at which an effect puts something, or takes it away, is a directory. What is moved is
+-- put into the tree without it, so of its new path this holds of that tree.
+abbrev pub IsInDirectory : Effect → Act → Value → Type 0
+IsInDirectory Nothing act tree = Unit {0}
+IsInDirectory LinksInside act tree = IsTrue (has_parents tree (with_name (path_of act).names (inner_name act)))
+IsInDirectory Moves act tree =
+    IsTrue (has_parents tree (path_of act).names) × IsTrue (has_parents (without act tree) (place_of act))
+IsInDirectory MovesInside act tree =
+    IsTrue (has_parents tree (path_of act).names)
+    × IsTrue (has_parents (without act tree) (with_name (place_of act) (inner_name act)))
+IsInDirectory effect act tree = IsTrue (has_parents tree (path_of act).names)
+
+-- what an act puts or takes away is in a directory
+abbrev pub ChangesAreInDirectories : Type 0
+ChangesAreInDirectories =
+    (act : Act) (tree : Value) → IsPerformed act → IsTrue (sound tree) → IsInDirectory (row act tree).effect act tree

@@ -3,7 +3,7 @@
 ghost use Rattle.utility_calls.specs.Ways.{ParentsAreDirs};
 ghost use Rattle.utility_calls.specs.ActRows.{RowApplies, NoOtherApplies};
 ghost use Rattle.utility_calls.specs.ActChanges.{QuestionsChangeNothing, OnlySuccessesChange, ActsKeepDirs};
-ghost use Rattle.utility_calls.specs.ActChanges.{ActsKeepSound, ChangesHaveNames};
+ghost use Rattle.utility_calls.specs.ActChanges.{ActsKeepSound, ChangesHaveNames, ChangesAreInDirectories};
 ghost use Rattle.utility_calls.specs.Performed.{CallsHavePerformedActs};
 
 use feature_trees::theorems::puts_are_local;
@@ -19,8 +19,8 @@ pub fn one_act_row()
     ensures alone { NoOtherApplies }
 {}
 
-/// A question has no effect, nor has an act that does not succeed; an act leaves a directory a directory and a sound tree
-/// sound, and the paths of one that has an effect have names.
+/// A question has no effect, nor has an act that does not succeed; an act leaves a directory a directory and a sound
+/// tree sound, and the paths of one that has an effect have names.
 pub fn acts_change_trees()
     ensures questions { QuestionsChangeNothing }
     ensures unchanged { OnlySuccessesChange }
@@ -30,6 +30,11 @@ pub fn acts_change_trees()
 {
     puts_are_local();
 }
+
+/// What an act puts or takes away is in a directory: every strict prefix of its path is one.
+pub fn changes_are_in_directories()
+    ensures { ChangesAreInDirectories }
+{}
 
 /// Each act that a call comes to meets the conditions of acts, whatever the call's words.
 pub fn planned_acts_are_performed()

@@ -1,7 +1,7 @@
 // A row has the words of a line, with "" for an empty one, and behind an arrow the request that they spell, or the
 // number of the word at which they stop to be one.
 use command_words::{Folders, Layout, Request, WordsFault, read_words};
-use dpkg_scenarios::Scenario;
+use dpkg_scenarios::{Scenario, scenario_name};
 use script_names::{List, Memory, Text};
 use std::alloc::{AllocError, Global};
 use std::process::Abort;
@@ -23,17 +23,6 @@ fn words_of(alloc: Global, row: &str) -> Result<List<Text>, Memory> {
 // A word as a row has it.
 fn shown_word(word: &str) -> &str {
     if word.is_empty() { "\"\"" } else { word }
-}
-
-fn scenario_name(scenario: Scenario) -> &'static str {
-    match scenario {
-        Scenario::Install => "install",
-        Scenario::InstallAgain => "install-again",
-        Scenario::Upgrade => "upgrade",
-        Scenario::Remove => "remove",
-        Scenario::Purge => "purge",
-        Scenario::PurgeLater => "purge-later",
-    }
 }
 
 fn layout_name(layout: Layout) -> &'static str {
@@ -125,7 +114,11 @@ fn check_row<R: Abort + AllocGlobal>(rt: &R, row: &str) -> Result<(), Fail> {
 }
 
 /// Each row's line is answered as the row says, and there are so many rows.
-pub fn check_rows<R: Abort + AllocGlobal>(rt: &R, rows: &str, count: usize) -> Result<(), Fail> {
+pub(crate) fn check_rows<R: Abort + AllocGlobal>(
+    rt: &R,
+    rows: &str,
+    count: usize,
+) -> Result<(), Fail> {
     let mut found = 0usize;
     for row in rows.lines() {
         if !row.is_empty() {

@@ -81,6 +81,7 @@ check p --turns 010000 -> check p 10000 10000 plain
 check p --turns 9999 -> check p 9999 10000 plain
 check p --turns 000001 -> check p 1 10000 plain
 check p --turns 07 -> check p 7 10000 plain
+check p --turns 007 -> check p 7 10000 plain
 check p --turns=1 -> check p 1 10000 plain
 check p --turns=10000 -> check p 10000 10000 plain
 check --turns 12 p -> check p 12 10000 plain
@@ -98,7 +99,7 @@ check --brief p --limit=6 --turns=5 --scenario=purge --base=b --old=o -- -> chec
 
 #[test]
 fn numbers_are_read(rt: HostRuntime) -> Result<(), Fail> {
-    check_rows(&rt, NUMBERS, 19)
+    check_rows(&rt, NUMBERS, 20)
 }
 
 const RUNS: &str = r#"

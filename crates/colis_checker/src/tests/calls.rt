@@ -1,6 +1,8 @@
 //! Whole calls: reports on packages, runs, and a program.
 
 use super::{File, QUIET, Wanted, call, see};
+use script_names::{Bytes, Memory};
+use std::alloc::Global;
 use std::test::Fail;
 
 // A package that asks one question, and a base that says nothing.
@@ -270,7 +272,7 @@ const CALLS: &[(&[&str], &[File<'static>], Wanted<'static>)] = &[
 #[test]
 fn calls_that_are_answered(rt: HostRuntime) -> Result<(), Fail> {
     for row in CALLS {
-        let ended = call(rt.alloc(), row.0, row.1, QUIET)?;
+        let ended = call(&rt, row.0, row.1, QUIET)?;
         see(&rt, &ended, row.2)?;
     }
     Ok(())
@@ -294,8 +296,78 @@ fn layouts(rt: HostRuntime) -> Result<(), Fail> {
         ),
     ];
     for row in rows {
-        let ended = call(rt.alloc(), row.0, &[("p/list", b"/.\n")], QUIET)?;
+        let ended = call(&rt, row.0, &[("p/list", b"/.\n")], QUIET)?;
         assert!(rt; ended.status == 0 && ended.out.as_slice().starts_with(row.1));
+    }
+    Ok(())
+}
+
+// A package with one configuration file, and a base that says little.
+const CONFIGURED: &[File<'static>] = &[
+    ("p/list", b"/.\n/etc\n/etc/foo\n/etc/foo/a.conf\n"),
+    ("p/conffiles", b"/etc/foo/a.conf\n"),
+    ("b", b"dir /etc\n"),
+];
+
+// The words, the status, and the lines of the report that `stated` keeps.
+const STATED: &[(&[&str], u8, &[u8])] = &[
+    // A foreign file keeps the directory; it goes with the configuration file; it was empty.
+    (
+        &["check", "p", "--scenario", "purge"],
+        0,
+        b"colis report 1\nscenario purge outcomes 3\n\
+        outcome 1 done Not-Installed\ntrace 2:0:67 4:0:68 4:1:67\nconfirmed yes\n\
+        outcome 2 done Not-Installed\ntrace 2:0:67 4:0:68 4:1:68\nconfirmed yes\n\
+        outcome 3 done Not-Installed\ntrace 2:0:68 4:0:66 4:1:66\nconfirmed yes\nverdict 0\n",
+    ),
+    (
+        &["check", "p", "--scenario", "install"],
+        0,
+        b"colis report 1\nscenario install outcomes 1\noutcome 1 done Installed\ntrace 2:0:68 2:1:68 2:2:68\n\
+        confirmed yes\nverdict 0\n",
+    ),
+    (
+        &["check", "p", "--scenario", "install", "--base", "b"],
+        2,
+        b"colis report 1\nscenario install outcomes 5\n\
+        outcome 1 incomplete link 2:1\ntrace 2:0:68 2:1:65\nconfirmed yes\n\
+        outcome 2 incomplete restore 2:1\ntrace 2:0:68 2:1:67\nconfirmed yes\n\
+        outcome 3 incomplete restore 2:2\ntrace 2:0:68 2:1:68 2:2:67\nconfirmed yes\n\
+        outcome 4 done Installed\ntrace 2:0:68 2:1:68 2:2:68\nconfirmed yes\n\
+        outcome 5 incomplete conffile 2:2\ntrace 2:0:68 2:1:68 2:2:69\nconfirmed yes\n\
+        place incomplete 2:1 2\nplace incomplete 2:2 2\nverdict 2\n",
+    ),
+];
+
+// The lines of a report without the clauses, and without the trees, which are not promised.
+fn stated(alloc: Global, report: &[u8]) -> Result<Bytes, Memory> {
+    let mut lines = Bytes::new(alloc);
+    for line in report.split(|b| *b == b'\n') {
+        if line.starts_with(b"colis ")
+            || line.starts_with(b"scenario ")
+            || line.starts_with(b"outcome ")
+            || line.starts_with(b"trace")
+            || line.starts_with(b"confirmed ")
+            || line.starts_with(b"call ")
+            || line.starts_with(b"place ")
+            || line.starts_with(b"verdict ")
+        {
+            lines.extend(line)?;
+            lines.push(b'\n')?;
+        }
+    }
+    Ok(lines)
+}
+
+// Reports that are not brief.
+#[test]
+fn reports_without_scripts(rt: HostRuntime) -> Result<(), Fail> {
+    let alloc = rt.alloc();
+    for row in STATED {
+        let ended = call(&rt, row.0, CONFIGURED, QUIET)?;
+        let lines = stated(alloc, ended.out.as_slice())?;
+        assert_eq!(rt; lines.as_slice(), row.2);
+        assert!(rt; ended.status == row.1 && ended.err.is_empty());
     }
     Ok(())
 }

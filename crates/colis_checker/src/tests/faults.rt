@@ -3,6 +3,13 @@
 use super::{Failing, File, QUIET, Wanted, call, see};
 use std::test::Fail;
 
+// A package that is on no system of the base, and whose script has four outcomes.
+const UNFIT: &[File<'static>] = &[
+    ("p/list", b"/.\n/usr\n/usr/bin\n/usr/bin/x\n"),
+    ("p/postrm", b"#!/bin/sh\n[ -e /srv/a ]\n"),
+    ("b", b"file /usr\n"),
+];
+
 // The words, the files, and the one line on standard error; the status is 3.
 const REFUSED: &[(&[&str], &[File<'static>], &[u8])] = &[
     (&[], &[], b"colis: usage: word 1\n"),
@@ -81,12 +88,42 @@ const REFUSED: &[(&[&str], &[File<'static>], &[u8])] = &[
         ],
         b"colis: more than 2 outcomes in upgrade\n",
     ),
+    // One scenario has no start tree, a later one too many outcomes, and what is told is the former.
+    (
+        &[
+            "check",
+            "p",
+            "--base",
+            "b",
+            "--limit",
+            "2",
+            "--scenario",
+            "purge-later",
+        ],
+        UNFIT,
+        b"colis: more than 2 outcomes in purge-later\n",
+    ),
+    (
+        &["check", "p", "--base", "b", "--limit", "2"],
+        UNFIT,
+        b"colis: no start tree for upgrade\n",
+    ),
+    // And the other way round.
+    (
+        &["check", "p", "--base", "b", "--limit", "2"],
+        &[
+            ("p/list", b"/.\n/usr\n/usr/bin\n/usr/bin/x\n"),
+            ("p/preinst", b"#!/bin/sh\n[ -e /srv/a ]\n"),
+            ("b", b"file /usr\n"),
+        ],
+        b"colis: more than 2 outcomes in install\n",
+    ),
 ];
 
 #[test]
 fn calls_that_are_refused(rt: HostRuntime) -> Result<(), Fail> {
     for row in REFUSED {
-        let ended = call(rt.alloc(), row.0, row.1, QUIET)?;
+        let ended = call(&rt, row.0, row.1, QUIET)?;
         see(&rt, &ended, (3, b"", row.2))?;
     }
     Ok(())
@@ -111,7 +148,7 @@ fn as_many_outcomes_as_the_limit(rt: HostRuntime) -> Result<(), Fail> {
             b"#!/bin/sh\nset -e\n[ -e /srv/a ] || mkdir /srv/a\n",
         ),
     ];
-    let ended = call(rt.alloc(), &words, &files, QUIET)?;
+    let ended = call(&rt, &words, &files, QUIET)?;
     assert_eq!(rt; ended.status, 2);
     Ok(())
 }
@@ -154,6 +191,7 @@ const FAILING: &[(&[&str], u32, u32, u32, u32, Wanted<'static>)] = &[
         10,
         (5, b"colis repo", b"colis: write failed\n"),
     ),
+    (CHECK, 0, 1, 0, 1, (5, b"c", b"colis: write failed\n")),
     (CHECK, 0, 1, 0, 0, (5, b"", b"colis: write failed\n")),
     (CHECK, 0, 1, 1, 10, (5, b"colis repo", b"colis: wri")),
     (&["check"], 0, 0, 1, 7, (5, b"", b"colis: ")),
@@ -168,7 +206,7 @@ fn reads_and_writes_that_fail(rt: HostRuntime) -> Result<(), Fail> {
             line: row.3,
             taken: row.4,
         };
-        let ended = call(rt.alloc(), row.0, &[("p/list", b"/.\n")], failing)?;
+        let ended = call(&rt, row.0, &[("p/list", b"/.\n")], failing)?;
         see(&rt, &ended, row.5)?;
     }
     Ok(())

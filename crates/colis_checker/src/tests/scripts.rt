@@ -1,14 +1,18 @@
 //! The ways in which one script can end, which is the postinst of a package that is installed and lists nothing.
 
-use super::{File, QUIET, call, see};
+use super::{Failing, File, INSTALL, QUIET, Strict, call, joined, see, see_scripts};
 use script_names::{Bytes, Memory};
 use std::alloc::Global;
 use std::test::Fail;
 
-const INSTALL: &[&str] = &["check", "p", "--scenario", "install", "--brief"];
+// The usual template of a maintainer script, behind its first two lines.
+pub const TEMPLATE: &[u8] = b"case \"$1\" in\n  configure)\n    mkdir -p /var/lib/foo\n  ;;\n  \
+    abort-upgrade|abort-remove|abort-deconfigure)\n  ;;\n  *)\n    \
+    echo \"postinst called with unknown argument \\`$1'\" >&2\n    exit 1\n  ;;\nesac\nexit 0\n";
 
-// The lines behind a script's first two, `#!/bin/sh` and `set -e`, and what is reported, from the number of outcomes on.
-const STRICT: &[(&[u8], u8, &[u8])] = &[
+const STRICT: &[Strict<'static>] = &[
+    // Nothing but the two lines.
+    (b"", 0, b"1\noutcome 1 done Installed\ntrace\nverdict 0\n"),
     // The base says that the directory is there.
     (
         b"test -d /etc\n",
@@ -26,6 +30,21 @@ const STRICT: &[(&[u8], u8, &[u8])] = &[
         1,
         b"4\noutcome 1 incomplete link 3:17\ntrace 3:17:2\noutcome 2 failed Half-Configured\ntrace 3:17:66\n\
         outcome 3 failed Half-Configured\ntrace 3:17:67\noutcome 4 done Installed\ntrace 3:17:68\nverdict 1\n",
+    ),
+    // Of what stands somewhere the next question asks more.
+    (
+        b"test -e /srv/a\ntest -d /srv/a\n",
+        1,
+        b"4\noutcome 1 incomplete link 3:17\ntrace 3:17:65\noutcome 2 failed Half-Configured\ntrace 3:17:66\n\
+        outcome 3 failed Half-Configured\ntrace 3:17:67 3:32:66\noutcome 4 done Installed\n\
+        trace 3:17:67 3:32:67\nverdict 1\n",
+    ),
+    // What was taken away is not there.
+    (
+        b"rm -f /srv/a\ntest -e /srv/a\n",
+        1,
+        b"2\noutcome 1 failed Half-Configured\ntrace 3:17:67\noutcome 2 failed Half-Configured\n\
+        trace 3:17:71 3:30:66\nverdict 1\n",
     ),
     // A directory in which something was made is not empty.
     (
@@ -70,11 +89,8 @@ const STRICT: &[(&[u8], u8, &[u8])] = &[
         1,
         b"1\noutcome 1 failed Half-Configured\ntrace\nverdict 1\n",
     ),
-    // The usual template of a maintainer script.
     (
-        b"case \"$1\" in\n  configure)\n    mkdir -p /var/lib/foo\n  ;;\n  \
-        abort-upgrade|abort-remove|abort-deconfigure)\n  ;;\n  *)\n    \
-        echo \"postinst called with unknown argument \\`$1'\" >&2\n    exit 1\n  ;;\nesac\nexit 0\n",
+        TEMPLATE,
         1,
         b"3\noutcome 1 incomplete link 3:47\ntrace 3:47:68 3:47:68 3:47:65\noutcome 2 failed Half-Configured\n\
         trace 3:47:68 3:47:68 3:47:67\noutcome 3 done Installed\ntrace 3:47:68 3:47:68 3:47:68\nverdict 1\n",
@@ -102,25 +118,9 @@ const STRICT: &[(&[u8], u8, &[u8])] = &[
     ),
 ];
 
-// Two texts, one behind the other.
-fn joined(alloc: Global, first: &[u8], second: &[u8]) -> Result<Bytes, Memory> {
-    let mut text = Bytes::new(alloc);
-    text.extend(first)?;
-    text.extend(second)?;
-    Ok(text)
-}
-
 #[test]
 fn scripts_that_are_strict(rt: HostRuntime) -> Result<(), Fail> {
-    let alloc = rt.alloc();
-    for row in STRICT {
-        let script = joined(alloc, b"#!/bin/sh\nset -e\n", row.0)?;
-        let out = joined(alloc, b"colis brief 1\nscenario install outcomes ", row.2)?;
-        let files: [File<'_>; 2] = [("p/list", b"/.\n"), ("p/postinst", script.as_slice())];
-        let ended = call(alloc, INSTALL, &files, QUIET)?;
-        see(&rt, &ended, (row.1, out.as_slice(), b""))?;
-    }
-    Ok(())
+    see_scripts(&rt, INSTALL, STRICT)
 }
 
 // A script that is refused, and what the one line on standard error says of it.
@@ -146,6 +146,13 @@ const REFUSED: &[(&[u8], &[u8])] = &[
         b"unsupported subst-case at 17\n",
     ),
     (b"#!/bin/sh\nfi\n", b"syntax at 10\n"),
+    (b"#!/bin/sh\nif true; fi\n", b"syntax at 19\n"),
+    (b"#!/bin/sh\nif true; then :\n", b"syntax at 26\n"),
+    (b"#!/bin/sh\na && ;\n", b"syntax at 15\n"),
+    (b"#!/bin/sh\nf() true\n", b"syntax at 14\n"),
+    (b"#!/bin/sh\n(true\n", b"syntax at 16\n"),
+    (b"#!/bin/sh\necho $(fi)\n", b"syntax at 17\n"),
+    (b"#!/bin/sh\necho $(if true)\n", b"syntax at 15\n"),
     (b"#!/bin/sh\nset -u\n", b"unsupported option at 10\n"),
     (b"#!/bin/sh\nIFS=x\n", b"unsupported ifs at 10\n"),
     (b"#!/bin/sh\nx=1 set -e\n", b"unsupported prefix at 10\n"),
@@ -168,6 +175,14 @@ const REFUSED: &[(&[u8], &[u8])] = &[
         b"#!/bin/sh\nf() { f; }\n",
         b"unsupported call-order at 16\n",
     ),
+    // Several faults, and the first of them in the order of refusals.
+    (b"#!/bin/zsh\nset -u\nfi\necho 'a\0", b"NUL byte at 28\n"),
+    (
+        b"#!/bin/zsh\nset -u\nfi\necho 'a",
+        b"interpreter not accepted\n",
+    ),
+    (b"#!/bin/sh\nset -u\nfi\necho 'a", b"open quote at 25\n"),
+    (b"#!/bin/sh\nset -u\nfi\n", b"syntax at 17\n"),
 ];
 
 #[test]
@@ -176,8 +191,25 @@ fn scripts_that_are_refused(rt: HostRuntime) -> Result<(), Fail> {
     for row in REFUSED {
         let err = joined(alloc, b"colis: p/postinst: ", row.1)?;
         let files: [File<'_>; 2] = [("p/list", b"/.\n"), ("p/postinst", row.0)];
-        let ended = call(alloc, INSTALL, &files, QUIET)?;
+        let ended = call(&rt, INSTALL, &files, QUIET)?;
         see(&rt, &ended, (3, b"", err.as_slice()))?;
+    }
+    Ok(())
+}
+
+// The line of which standard error takes only the first bytes.
+#[test]
+fn refusals_that_are_not_taken(rt: HostRuntime) -> Result<(), Fail> {
+    let failing = Failing {
+        read: 0,
+        write: 0,
+        line: 1,
+        taken: 7,
+    };
+    for row in REFUSED {
+        let files: [File<'_>; 2] = [("p/list", b"/.\n"), ("p/postinst", row.0)];
+        let ended = call(&rt, INSTALL, &files, failing)?;
+        see(&rt, &ended, (5, b"", b"colis: "))?;
     }
     Ok(())
 }
@@ -210,7 +242,7 @@ fn long_names(rt: HostRuntime) -> Result<(), Fail> {
     for row in rows {
         let script = touching(alloc, row.0)?;
         let files: [File<'_>; 2] = [("p/list", b"/.\n"), ("p/postinst", script.as_slice())];
-        let ended = call(alloc, INSTALL, &files, QUIET)?;
+        let ended = call(&rt, INSTALL, &files, QUIET)?;
         see(&rt, &ended, (2, row.1, b""))?;
     }
     Ok(())

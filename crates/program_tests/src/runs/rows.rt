@@ -107,6 +107,95 @@ end failure%trace%turns 100%after%d /srv%
 set -e%{ false; touch /srv/a; } || :%
 end success%trace 3:26:67%turns 100%after%d /srv%f /srv/a%"#;
 
+// The status of a command, a group and a function behind its redirections.
+pub const REDIRECTED: &str = r#"100 d /srv%
+false >/dev/null || touch /srv/a%
+end success%trace 3:30:67%turns 100%after%d /srv%f /srv/a%
+100 d /srv%
+false 2>&1 || touch /srv/b%
+end success%trace 3:24:67%turns 100%after%d /srv%f /srv/b%
+100 d /srv%
+false >&2 2>/dev/null </dev/null || touch /srv/c%
+end success%trace 3:46:67%turns 100%after%d /srv%f /srv/c%
+100 d /srv%
+if false >/dev/null; then touch /srv/a; else touch /srv/b; fi%
+end success%trace 3:55:67%turns 100%after%d /srv%f /srv/b%
+100 d /srv%
+if true 2>&1; then touch /srv/a; else touch /srv/b; fi%
+end success%trace 3:29:67%turns 100%after%d /srv%f /srv/a%
+100 d /srv%
+while false >/dev/null; do touch /srv/a; done; touch /srv/b%
+end success%trace 3:57:67%turns 100%after%d /srv%f /srv/b%
+100 d /srv%
+! false >/dev/null && touch /srv/a%
+end success%trace 3:32:67%turns 100%after%d /srv%f /srv/a%
+100 d /srv%
+false >/dev/null; exit%
+end failure%trace%turns 100%after%d /srv%
+100 d /srv%
+false; true 2>&1; exit%
+end success%trace%turns 100%after%d /srv%
+100 d /srv%
+{ false; } >/dev/null || touch /srv/a%
+end success%trace 3:35:67%turns 100%after%d /srv%f /srv/a%
+100 d /srv%
+{ true; false; } 2>&1 || touch /srv/a%
+end success%trace 3:35:67%turns 100%after%d /srv%f /srv/a%
+100 d /srv%
+(false) 2>/dev/null || touch /srv/a%
+end success%trace 3:33:67%turns 100%after%d /srv%f /srv/a%
+100 d /srv%
+f() { false; }; f >/dev/null || touch /srv/a%
+end success%trace 3:42:67%turns 100%after%d /srv%f /srv/a%
+100 d /srv%
+f() { return 1; }; f 2>&1 || touch /srv/a%
+end success%trace 3:39:67%turns 100%after%d /srv%f /srv/a%
+100 d /srv%
+f() { return 0; }; false; f >/dev/null && touch /srv/a%
+end success%trace 3:52:67%turns 100%after%d /srv%f /srv/a%
+100 d /srv%
+for i in a; do false; done >/dev/null || touch /srv/a%
+end success%trace 3:51:67%turns 99%after%d /srv%f /srv/a%
+100 d /srv%
+case a in a) false;; esac >/dev/null || touch /srv/a%
+end success%trace 3:50:67%turns 100%after%d /srv%f /srv/a%
+100 d /srv%
+if :; then false; fi 2>&1 || touch /srv/a%
+end success%trace 3:39:67%turns 100%after%d /srv%f /srv/a%
+100 d /srv%
+[ -e /srv/a ] 2>/dev/null || touch /srv/a%
+end success%trace 3:10:66 3:39:67%turns 100%after%d /srv%f /srv/a%
+100 d /srv%
+mkdir /srv >/dev/null 2>&1 || touch /srv/a%
+end success%trace 3:10:67 3:40:67%turns 100%after%d /srv%f /srv/a%
+100 d /srv%
+x=$(false) >/dev/null || touch /srv/a%
+end success%trace 3:35:67%turns 100%after%d /srv%f /srv/a%
+100 d /srv%
+x=$(echo a >&2; false) || touch "/srv/b$x"%
+end success%trace 3:36:67%turns 100%after%d /srv%f /srv/b%
+100 d /srv%
+x=$(false >/dev/null 2>&1 || echo b); touch "/srv/$x"%
+end success%trace 3:48:67%turns 100%after%d /srv%f /srv/b%
+100 d /srv%
+x=$({ echo a; false; } >/dev/null || echo b); touch "/srv/$x"%
+end success%trace 3:56:67%turns 100%after%d /srv%f /srv/b%
+100 d /srv%
+x=$(false 2>&1 || echo a)%
+end stopped message 3:14%trace%turns 100%after%d /srv%
+100 d /srv%
+set -e%false >/dev/null%touch /srv/a%
+end failure%trace%turns 100%after%d /srv%
+100 d /srv%
+set -e%{ false; } >/dev/null || touch /srv/a%
+end success%trace 3:42:67%turns 100%after%d /srv%f /srv/a%
+100 d /srv%
+set -e%f() { false; }%f 2>/dev/null%touch /srv/a%
+end failure%trace%turns 100%after%d /srv%
+100 d /srv%
+set -e%if false >/dev/null; then :; fi%touch /srv/a%
+end success%trace 3:49:67%turns 100%after%d /srv%f /srv/a%"#;
+
 pub const WORDS: &str = r#"100 d /srv%
 set -e%x=$(false)%touch /srv/a%
 end stopped strict 3:21%trace%turns 100%after%d /srv%
@@ -380,6 +469,12 @@ end stopped slash 3:10%trace%turns 100%after%d /srv%
 100 d /srv%
 mkdir ..%
 end stopped dotdot 3:10%trace%turns 100%after%d /srv%
+100 d /srv%
+touch /srv/a /srv/.%
+end stopped dot 3:10%trace%turns 100%after%d /srv%
+100 d /srv%
+. /srv/a%
+end stopped call 3:10%trace%turns 100%after%d /srv%
 100 d /srv%
 rm /%
 end stopped root 3:10%trace%turns 100%after%d /srv%

@@ -1,4 +1,4 @@
-//! Lists of many members: their reading needs no more stack than that of short ones.
+//! Lists of some 20,000 members are read whole: the outermost list of the tree has as many as that of the text.
 
 use super::show::Page;
 use shell_lexer::lex;

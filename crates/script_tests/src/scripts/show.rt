@@ -1,38 +1,41 @@
-//! A tree as text: a node is `(`, its name, its offset, its members with a blank before each, and `)`.
+//! A tree as text: a node is `(`, its name, its offset where offsets are shown, its members with a blank before
+//! each, and `)`.
 
 use script_names::{Boxed, Bytes, List};
 use shell_syntax::{Assign, CaseArm, Command, IfArm, Key, Link, Part, Redirect, Word};
 use std::alloc::Global;
 
-// A text that grows; `whole` where nothing of it was lost for want of memory.
+// A text that grows, with the offsets of nodes or without; `whole` where nothing of it was lost for want of memory.
 #[derive(Drop)]
-pub struct Page {
+pub(crate) struct Page {
     alloc: Global,
     pub text: Bytes,
+    pub with_offsets: bool,
     pub whole: bool,
 }
 
 impl Page {
-    pub fn new(alloc: Global) -> Page {
+    pub(crate) fn new(alloc: Global) -> Page {
         Page {
             alloc,
             text: Bytes::new(alloc),
+            with_offsets: true,
             whole: true,
         }
     }
 
-    pub fn put(&mut self, more: &[u8]) {
+    pub(crate) fn put(&mut self, more: &[u8]) {
         if self.text.extend(more).is_err() {
             self.whole = false;
         }
     }
 
-    pub fn byte(&mut self, byte: u8) {
+    pub(crate) fn byte(&mut self, byte: u8) {
         self.put(&[byte]);
     }
 
     // A number in decimal, behind a blank.
-    pub fn number(&mut self, number: u32) {
+    pub(crate) fn number(&mut self, number: u32) {
         match format!(in self.alloc; " {number}") {
             Ok(digits) => self.put(digits.as_bytes()),
             Err(_) => self.whole = false,
@@ -42,7 +45,9 @@ impl Page {
     // The beginning of a node.
     fn head(&mut self, head: &str, at: u32) {
         self.put(head.as_bytes());
-        self.number(at);
+        if self.with_offsets {
+            self.number(at);
+        }
     }
 
     // The end of a node.
@@ -294,7 +299,7 @@ fn show_redirected(page: &mut Page, at: u32, body: &Boxed<Command>, redirects: &
 }
 
 #[cycle(showing)]
-pub fn show_command(page: &mut Page, command: &Command) {
+pub(crate) fn show_command(page: &mut Page, command: &Command) {
     match command {
         Command::Simple { at, assigns, words } => {
             page.head(" (simple", *at);

@@ -3,16 +3,17 @@
 ghost use Rattle.std.specs.Prelude.{◌≡◌, ◌≤◌, length, drop};
 ghost use Rattle.shell_grammar.specs.Look.{look as look_of};
 ghost use Rattle.shell_grammar.specs.Forms.{compound_form as compound_form_of};
-ghost use Rattle.shell_grammar.specs.Grammar.{Compound, CaseRest, CaseArms, OneArm, Patterns, ArmBody};
+ghost use Rattle.shell_grammar.specs.Grammar.{Compound, CaseRest, CaseArms, Patterns, ArmBody};
 ghost use Rattle.shell_grammar.specs.declared.form.CompoundForm.TheVariants as a_compound;
-ghost use Rattle.shell_parser.specs.Reads.{Reads};
+ghost use Rattle.shell_parser.specs.Reads.{Reads, CaseArmRead};
 
 use crate::forms::ends_arm;
 use crate::looks::look;
 use crate::parser::lists::members;
 use crate::parser::words::word;
 use crate::tokens::{arm_begin, newlines, opens, place, stands, take};
-use script_names::List;
+use crate::trees::{seq_of, with_case_arm};
+use script_names::{Boxed, List};
 use shell_grammar::{Look, ParseFault, Reserved};
 use shell_lexer::Token;
 use shell_syntax::{CaseArm, Command, Word};
@@ -26,7 +27,7 @@ pub(super) fn choice(
     end: u32,
     ts: &[Token],
     at: usize,
-) -> Result<(Command, usize), ParseFault>
+) -> Result<(Boxed<Command>, usize), ParseFault>
     requires within { at ≤ length ts.now }
     requires shallow { level ≤ 64 }
     requires form { compound_form_of (look_of (drop at ts.now)) ≡ a_compound.Case }
@@ -44,14 +45,15 @@ pub(super) fn choice(
         Ok(next) => next,
         Err(fault) => return Err(fault),
     };
-    Ok((
+    let tree = Boxed::new(
+        alloc,
         Command::Case {
             at: place(ts, at, end),
             subject,
             arms,
         },
-        next,
-    ))
+    )?;
+    Ok((tree, next))
 }
 
 /// `word nl* in nl* ( arm ;; nl* )* [ arm ]`
@@ -100,11 +102,11 @@ fn case_arms(
     let mut arms = List::new(alloc);
     let mut now = at;
     while !stands(ts, now, Look::Keyword(Reserved::Esac)) {
-        let (arm, behind) = match case_arm(alloc, level, end, ts, now) {
+        let ((patterns, body), behind) = match case_arm(alloc, level, end, ts, now) {
             Ok(found) => found,
             Err(fault) => return Err(fault),
         };
-        arms.add(arm)?;
+        arms = with_case_arm(arms, patterns, body)?;
         if !stands(ts, behind, Look::DoubleSemi) {
             return Ok((arms, behind));
         }
@@ -113,7 +115,7 @@ fn case_arms(
     Ok((arms, now))
 }
 
-/// `[ ( ] word ( | word )* ) nl* [ list ]`
+/// `[ ( ] word ( | word )* ) nl* [ list ]`: an arm's patterns and its body.
 #[cycle(parser)]
 fn case_arm(
     alloc: Global,
@@ -121,10 +123,10 @@ fn case_arm(
     end: u32,
     ts: &[Token],
     at: usize,
-) -> Result<(CaseArm, usize), ParseFault>
+) -> Result<((List<Word>, Boxed<Command>), usize), ParseFault>
     requires within { at ≤ length ts.now }
     requires shallow { level ≤ 64 }
-    ensures { Reads level end OneArm ts.now at result }
+    ensures { CaseArmRead level end ts.now at result }
 {
     let first = arm_begin(level, end, ts, at);
     let (patterns, behind) = match patterns(alloc, level, end, ts, first) {
@@ -140,7 +142,7 @@ fn case_arm(
         Ok(found) => found,
         Err(fault) => return Err(fault),
     };
-    Ok((CaseArm { patterns, body }, stop))
+    Ok(((patterns, body), stop))
 }
 
 /// `word ( | word )*`
@@ -182,17 +184,14 @@ fn arm_body(
     end: u32,
     ts: &[Token],
     at: usize,
-) -> Result<(Command, usize), ParseFault>
+) -> Result<(Boxed<Command>, usize), ParseFault>
     requires within { at ≤ length ts.now }
     requires shallow { level ≤ 64 }
     ensures { Reads level end ArmBody ts.now at result }
 {
     if ends_arm(look(ts, at)) {
-        return Ok((Command::Seq(List::new(alloc)), at));
+        let none = seq_of(alloc, List::new(alloc))?;
+        return Ok((none, at));
     }
-    let (tree, behind) = match members(alloc, level, end, ts, at) {
-        Ok(found) => found,
-        Err(fault) => return Err(fault),
-    };
-    Ok((tree, behind))
+    members(alloc, level, end, ts, at)
 }

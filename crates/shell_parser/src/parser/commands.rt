@@ -31,7 +31,7 @@ pub(super) fn command(
     end: u32,
     ts: &[Token],
     at: usize,
-) -> Result<(Command, usize), ParseFault>
+) -> Result<(Boxed<Command>, usize), ParseFault>
     requires within { at ≤ length ts.now }
     requires shallow { level ≤ 64 }
     ensures { Reads level end ACommand ts.now at result }
@@ -57,7 +57,7 @@ fn compound_command(
     end: u32,
     ts: &[Token],
     at: usize,
-) -> Result<(Command, usize), ParseFault>
+) -> Result<(Boxed<Command>, usize), ParseFault>
     requires within { at ≤ length ts.now }
     requires shallow { level ≤ 64 }
     requires form { command_form_of (look_of (drop at ts.now)) ≡ Found a_command.Compound }
@@ -109,7 +109,7 @@ fn compound(
     end: u32,
     ts: &[Token],
     at: usize,
-) -> Result<(Command, usize), ParseFault>
+) -> Result<(Boxed<Command>, usize), ParseFault>
     requires within { at ≤ length ts.now }
     requires shallow { level ≤ 64 }
     ensures { Reads level end Compound ts.now at result }
@@ -132,7 +132,7 @@ fn subshell(
     end: u32,
     ts: &[Token],
     at: usize,
-) -> Result<(Command, usize), ParseFault>
+) -> Result<(Boxed<Command>, usize), ParseFault>
     requires within { at ≤ length ts.now }
     requires shallow { level ≤ 64 }
     requires form { compound_form_of (look_of (drop at ts.now)) ≡ a_compound.Subshell }
@@ -142,7 +142,7 @@ fn subshell(
         Ok(next) => next,
         Err(fault) => return Err(fault),
     };
-    let (tree, behind) = match block(alloc, level + 1, end, ts, first) {
+    let (body, behind) = match block(alloc, level + 1, end, ts, first) {
         Ok(found) => found,
         Err(fault) => return Err(fault),
     };
@@ -150,14 +150,14 @@ fn subshell(
         Ok(next) => next,
         Err(fault) => return Err(fault),
     };
-    let body = Boxed::new(alloc, tree)?;
-    Ok((
+    let tree = Boxed::new(
+        alloc,
         Command::Sub {
             at: place(ts, at, end),
             body,
         },
-        next,
-    ))
+    )?;
+    Ok((tree, next))
 }
 
 /// `{ block }`, with nothing of its own in the tree
@@ -168,17 +168,13 @@ fn group(
     end: u32,
     ts: &[Token],
     at: usize,
-) -> Result<(Command, usize), ParseFault>
+) -> Result<(Boxed<Command>, usize), ParseFault>
     requires within { at ≤ length ts.now }
     requires shallow { level ≤ 64 }
     requires form { compound_form_of (look_of (drop at ts.now)) ≡ a_compound.Braces }
     ensures { Reads level end Compound ts.now at result }
 {
-    let (tree, behind) = match braces(alloc, level, end, ts, at) {
-        Ok(found) => found,
-        Err(fault) => return Err(fault),
-    };
-    Ok((tree, behind))
+    braces(alloc, level, end, ts, at)
 }
 
 /// `{ block }`
@@ -189,7 +185,7 @@ pub(super) fn braces(
     end: u32,
     ts: &[Token],
     at: usize,
-) -> Result<(Command, usize), ParseFault>
+) -> Result<(Boxed<Command>, usize), ParseFault>
     requires within { at ≤ length ts.now }
     requires shallow { level ≤ 64 }
     ensures { Reads level end Braces ts.now at result }

@@ -9,6 +9,7 @@ ghost use Rattle.shell_parser.specs.Reads.{Reads, ArmRead};
 
 use crate::parser::lists::block;
 use crate::tokens::{opens, place, stands, take};
+use crate::trees::with_if_arm;
 use script_names::{Boxed, List};
 use shell_grammar::{Look, ParseFault, Reserved};
 use shell_lexer::Token;
@@ -23,7 +24,7 @@ pub(super) fn branches(
     end: u32,
     ts: &[Token],
     at: usize,
-) -> Result<(Command, usize), ParseFault>
+) -> Result<(Boxed<Command>, usize), ParseFault>
     requires within { at ≤ length ts.now }
     requires shallow { level ≤ 64 }
     requires form { compound_form_of (look_of (drop at ts.now)) ≡ a_compound.If }
@@ -41,14 +42,15 @@ pub(super) fn branches(
         Ok(next) => next,
         Err(fault) => return Err(fault),
     };
-    Ok((
+    let tree = Boxed::new(
+        alloc,
         Command::If {
             at: place(ts, at, end),
             arms,
             otherwise,
         },
-        next,
-    ))
+    )?;
+    Ok((tree, next))
 }
 
 /// The arms of an `if` behind its first word, and what is behind `else`.
@@ -64,33 +66,32 @@ fn clause(
     requires shallow { level ≤ 64 }
     ensures { Reads level end Clause ts.now at result }
 {
-    let (first, behind) = match if_arm(alloc, level, end, ts, at) {
+    let ((cond, body), behind) = match if_arm(alloc, level, end, ts, at) {
         Ok(found) => found,
         Err(fault) => return Err(fault),
     };
-    let mut arms = List::with_room(alloc, 1)?;
-    arms.add(first)?;
+    let none = List::with_room(alloc, 1)?;
+    let mut arms = with_if_arm(none, cond, body)?;
     let mut now = behind;
     while stands(ts, now, Look::Keyword(Reserved::Elif)) {
-        let (arm, behind) = match if_arm(alloc, level, end, ts, now + 1) {
+        let ((cond, body), behind) = match if_arm(alloc, level, end, ts, now + 1) {
             Ok(found) => found,
             Err(fault) => return Err(fault),
         };
-        arms.add(arm)?;
+        arms = with_if_arm(arms, cond, body)?;
         now = behind;
     }
     if stands(ts, now, Look::Keyword(Reserved::Else)) {
-        let (body, behind) = match block(alloc, level, end, ts, now + 1) {
+        let (otherwise, behind) = match block(alloc, level, end, ts, now + 1) {
             Ok(found) => found,
             Err(fault) => return Err(fault),
         };
-        let otherwise = Boxed::new(alloc, body)?;
         return Ok(((arms, Some(otherwise)), behind));
     }
     Ok(((arms, None), now))
 }
 
-/// `block then block`
+/// `block then block`: an arm's condition and its body.
 #[cycle(parser)]
 fn if_arm(
     alloc: Global,
@@ -98,7 +99,7 @@ fn if_arm(
     end: u32,
     ts: &[Token],
     at: usize,
-) -> Result<(IfArm, usize), ParseFault>
+) -> Result<((Boxed<Command>, Boxed<Command>), usize), ParseFault>
     requires within { at ≤ length ts.now }
     requires shallow { level ≤ 64 }
     ensures { ArmRead level end ts.now at result }
@@ -115,5 +116,5 @@ fn if_arm(
         Ok(found) => found,
         Err(fault) => return Err(fault),
     };
-    Ok((IfArm { cond, body }, last))
+    Ok(((cond, body), last))
 }

@@ -8,22 +8,28 @@ use crate::forms::{link_and, same_look, starts};
 use crate::looks::look;
 use crate::parser::commands::command;
 use crate::tokens::{newlines, place, separates, stands};
-use crate::trees::{chain_of, pipe_of, seq_of};
+use crate::trees::{chain_of, pipe_of, seq_of, with_command, with_link};
 use script_names::{Boxed, List};
 use shell_grammar::{Look, ParseFault, Reserved};
 use shell_lexer::Token;
-use shell_syntax::{Command, Link};
+use shell_syntax::Command;
 use std::alloc::Global;
 
 /// All tokens as a script.
 #[cycle(parser)]
-pub fn script(alloc: Global, level: usize, end: u32, ts: &[Token]) -> Result<Command, ParseFault>
+pub fn script(
+    alloc: Global,
+    level: usize,
+    end: u32,
+    ts: &[Token],
+) -> Result<Boxed<Command>, ParseFault>
     requires shallow { level ≤ 64 }
     ensures { Parses level end ts.now result }
 {
     let first = newlines(level, end, ts, 0);
     if same_look(look(ts, first), Look::AtEnd) {
-        return Ok(Command::Seq(List::new(alloc)));
+        let none = seq_of(alloc, List::new(alloc))?;
+        return Ok(none);
     }
     let (tree, behind) = match members(alloc, level, end, ts, first) {
         Ok(found) => found,
@@ -45,17 +51,13 @@ pub(super) fn block(
     end: u32,
     ts: &[Token],
     at: usize,
-) -> Result<(Command, usize), ParseFault>
+) -> Result<(Boxed<Command>, usize), ParseFault>
     requires within { at ≤ length ts.now }
     requires shallow { level ≤ 64 }
     ensures { Reads level end Block ts.now at result }
 {
     let first = newlines(level, end, ts, at);
-    let (tree, behind) = match members(alloc, level, end, ts, first) {
-        Ok(found) => found,
-        Err(fault) => return Err(fault),
-    };
-    Ok((tree, behind))
+    members(alloc, level, end, ts, first)
 }
 
 /// `andor ( sep andor )* [ sep ]`
@@ -66,7 +68,7 @@ pub(super) fn members(
     end: u32,
     ts: &[Token],
     at: usize,
-) -> Result<(Command, usize), ParseFault>
+) -> Result<(Boxed<Command>, usize), ParseFault>
     requires within { at ≤ length ts.now }
     requires shallow { level ≤ 64 }
     ensures { Reads level end Members ts.now at result }
@@ -75,22 +77,22 @@ pub(super) fn members(
         Ok(found) => found,
         Err(fault) => return Err(fault),
     };
-    let mut trees = List::with_room(alloc, 1)?;
-    trees.add(first)?;
+    let none = List::with_room(alloc, 1)?;
+    let mut trees = with_command(none, first)?;
     let mut now = behind;
     while separates(ts, now) {
         now = newlines(level, end, ts, now + 1);
         if !starts(look(ts, now)) {
-            return Ok((seq_of(trees), now));
+            return Ok((seq_of(alloc, trees)?, now));
         }
         let (next, behind) = match and_or(alloc, level, end, ts, now) {
             Ok(found) => found,
             Err(fault) => return Err(fault),
         };
-        trees.add(next)?;
+        trees = with_command(trees, next)?;
         now = behind;
     }
-    Ok((seq_of(trees), now))
+    Ok((seq_of(alloc, trees)?, now))
 }
 
 /// `pipe ( ( && | || ) nl* pipe )*`
@@ -101,7 +103,7 @@ fn and_or(
     end: u32,
     ts: &[Token],
     at: usize,
-) -> Result<(Command, usize), ParseFault>
+) -> Result<(Boxed<Command>, usize), ParseFault>
     requires within { at ≤ length ts.now }
     requires shallow { level ≤ 64 }
     ensures { Reads level end AndOr ts.now at result }
@@ -122,7 +124,7 @@ fn and_or(
             Ok(found) => found,
             Err(fault) => return Err(fault),
         };
-        links.add(Link { and, command })?;
+        links = with_link(links, and, command)?;
         now = behind;
     }
     Ok((chain_of(alloc, first, links)?, now))
@@ -136,30 +138,26 @@ fn pipeline(
     end: u32,
     ts: &[Token],
     at: usize,
-) -> Result<(Command, usize), ParseFault>
+) -> Result<(Boxed<Command>, usize), ParseFault>
     requires within { at ≤ length ts.now }
     requires shallow { level ≤ 64 }
     ensures { Reads level end Pipeline ts.now at result }
 {
     if stands(ts, at, Look::Keyword(Reserved::Bang)) {
-        let (tree, behind) = match piped(alloc, level, end, ts, at + 1) {
+        let (body, behind) = match piped(alloc, level, end, ts, at + 1) {
             Ok(found) => found,
             Err(fault) => return Err(fault),
         };
-        let body = Boxed::new(alloc, tree)?;
-        return Ok((
+        let turned = Boxed::new(
+            alloc,
             Command::Not {
                 at: place(ts, at, end),
                 body,
             },
-            behind,
-        ));
+        )?;
+        return Ok((turned, behind));
     }
-    let (body, behind) = match piped(alloc, level, end, ts, at) {
-        Ok(found) => found,
-        Err(fault) => return Err(fault),
-    };
-    Ok((body, behind))
+    piped(alloc, level, end, ts, at)
 }
 
 /// `command ( | nl* command )*`
@@ -170,7 +168,7 @@ fn piped(
     end: u32,
     ts: &[Token],
     at: usize,
-) -> Result<(Command, usize), ParseFault>
+) -> Result<(Boxed<Command>, usize), ParseFault>
     requires within { at ≤ length ts.now }
     requires shallow { level ≤ 64 }
     ensures { Reads level end Piped ts.now at result }
@@ -182,8 +180,7 @@ fn piped(
     if !stands(ts, behind, Look::Bar) {
         return Ok((first, behind));
     }
-    let mut parts = List::new(alloc);
-    parts.add(first)?;
+    let mut parts = with_command(List::new(alloc), first)?;
     let mut now = behind;
     while stands(ts, now, Look::Bar) {
         now = newlines(level, end, ts, now + 1);
@@ -191,8 +188,8 @@ fn piped(
             Ok(found) => found,
             Err(fault) => return Err(fault),
         };
-        parts.add(part)?;
+        parts = with_command(parts, part)?;
         now = behind;
     }
-    Ok((pipe_of(place(ts, at, end), parts), now))
+    Ok((pipe_of(alloc, place(ts, at, end), parts)?, now))
 }

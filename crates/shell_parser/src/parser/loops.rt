@@ -28,7 +28,7 @@ pub(super) fn turns(
     ts: &[Token],
     at: usize,
     until: bool,
-) -> Result<(Command, usize), ParseFault>
+) -> Result<(Boxed<Command>, usize), ParseFault>
     requires within { at ≤ length ts.now }
     requires shallow { level ≤ 64 }
     requires form { compound_form_of (look_of (drop at ts.now)) ≡ a_compound.Loop until }
@@ -47,17 +47,16 @@ pub(super) fn turns(
         Ok(next) => next,
         Err(fault) => return Err(fault),
     };
-    let cond = Boxed::new(alloc, cond)?;
-    let body = Boxed::new(alloc, body)?;
-    Ok((
+    let tree = Boxed::new(
+        alloc,
         Command::While {
             at: place(ts, at, end),
             until,
             cond,
             body,
         },
-        next,
-    ))
+    )?;
+    Ok((tree, next))
 }
 
 /// `block do block`
@@ -68,7 +67,7 @@ fn turn(
     end: u32,
     ts: &[Token],
     at: usize,
-) -> Result<((Command, Command), usize), ParseFault>
+) -> Result<((Boxed<Command>, Boxed<Command>), usize), ParseFault>
     requires within { at ≤ length ts.now }
     requires shallow { level ≤ 64 }
     ensures { Reads level end Loop ts.now at result }
@@ -96,7 +95,7 @@ pub(super) fn for_loop(
     end: u32,
     ts: &[Token],
     at: usize,
-) -> Result<(Command, usize), ParseFault>
+) -> Result<(Boxed<Command>, usize), ParseFault>
     requires within { at ≤ length ts.now }
     requires shallow { level ≤ 64 }
     requires form { compound_form_of (look_of (drop at ts.now)) ≡ a_compound.For }
@@ -114,16 +113,16 @@ pub(super) fn for_loop(
         Ok(next) => next,
         Err(fault) => return Err(fault),
     };
-    let body = Boxed::new(alloc, body)?;
-    Ok((
+    let tree = Boxed::new(
+        alloc,
         Command::For {
             at: place(ts, at, end),
             name,
             words,
             body,
         },
-        next,
-    ))
+    )?;
+    Ok((tree, next))
 }
 
 /// `NAME nl* [ in word* ] [ ; ] nl* do block`
@@ -134,7 +133,7 @@ fn for_rest(
     end: u32,
     ts: &[Token],
     at: usize,
-) -> Result<((Bytes, Option<List<Word>>, Command), usize), ParseFault>
+) -> Result<((Bytes, Option<List<Word>>, Boxed<Command>), usize), ParseFault>
     requires within { at ≤ length ts.now }
     requires shallow { level ≤ 64 }
     ensures { Reads level end ForRest ts.now at result }

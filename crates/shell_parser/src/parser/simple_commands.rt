@@ -28,7 +28,7 @@ pub(super) fn named(
     end: u32,
     ts: &[Token],
     at: usize,
-) -> Result<(Command, usize), ParseFault>
+) -> Result<(Boxed<Command>, usize), ParseFault>
     requires within { at ≤ length ts.now }
     requires shallow { level ≤ 64 }
     requires form { command_form_of (look_of (drop at ts.now)) ≡ Found a_command.Named }
@@ -39,20 +39,20 @@ pub(super) fn named(
         Err(fault) => return Err(fault),
     };
     if stands(ts, behind, Look::LeftParen) {
-        let (tree, last) = match definition(alloc, level, end, ts, behind) {
+        let (body, last) = match definition(alloc, level, end, ts, behind) {
             Ok(found) => found,
             Err(fault) => return Err(fault),
         };
-        let body = Boxed::new(alloc, tree)?;
         let name = name_of(alloc, &first)?;
-        return Ok((
+        let tree = Boxed::new(
+            alloc,
             Command::Define {
                 at: place(ts, at, end),
                 name,
                 body,
             },
-            last,
-        ));
+        )?;
+        return Ok((tree, last));
     }
     let begun = with_word(no_items(alloc), first)?;
     let (all, last) = match items(alloc, level, end, ts, behind, true, begun) {
@@ -70,7 +70,7 @@ fn definition(
     end: u32,
     ts: &[Token],
     at: usize,
-) -> Result<(Command, usize), ParseFault>
+) -> Result<(Boxed<Command>, usize), ParseFault>
     requires within { at ≤ length ts.now }
     requires shallow { level ≤ 64 }
     requires looks { look_of (drop at ts.now) ≡ LeftParen }
@@ -100,7 +100,7 @@ pub(super) fn simple(
     end: u32,
     ts: &[Token],
     at: usize,
-) -> Result<(Command, usize), ParseFault>
+) -> Result<(Boxed<Command>, usize), ParseFault>
     requires within { at ≤ length ts.now }
     requires shallow { level ≤ 64 }
     requires form { command_form_of (look_of (drop at ts.now)) ≡ Found a_command.Simple }

@@ -8,7 +8,8 @@ ghost use Rattle.shell_parser.specs.Reads.{PartsRead, PartRead, WordRead, Assign
 use crate::assignments::{behind_equals, plain_part, raw_text, rest_of, up_to_equals};
 use crate::parser::lists::script;
 use crate::tokens::{place, word_parts};
-use script_names::{Boxed, Bytes, Copied, List};
+use crate::trees::param_of;
+use script_names::{Bytes, Copied, List};
 use shell_grammar::ParseFault;
 use shell_lexer::{RawPart, Token};
 use shell_syntax::{Assign, Part, Word};
@@ -109,25 +110,16 @@ fn part(alloc: Global, level: usize, raw: &RawPart) -> Result<Part, ParseFault>
             key,
             default,
             quoted,
-        } => {
-            let key = key.copy(alloc)?;
-            let default = default.copy(alloc)?;
-            Ok(Part::Param {
-                key,
-                default,
-                quoted: *quoted,
-            })
-        }
+        } => Ok(param_of(alloc, key, default, *quoted)?),
         RawPart::All => Ok(Part::All),
         RawPart::Run { at, tokens, quoted } => {
             if level == 64 {
                 return Err(ParseFault::Deep { at: *at });
             }
-            let tree = match script(alloc, level + 1, *at, tokens.as_slice()) {
+            let body = match script(alloc, level + 1, *at, tokens.as_slice()) {
                 Ok(body) => body,
                 Err(fault) => return Err(fault),
             };
-            let body = Boxed::new(alloc, tree)?;
             Ok(Part::Run {
                 at: *at,
                 body,

@@ -1,7 +1,10 @@
-use Rattle.std.proofs.Common.{ℕ, ◌<◌}
-use Rattle.clause_solver.specs.Greatest.{IsPresentChild}
 use Rattle.clause_solver.specs.ReplacedNames.{names}
+use Rattle.clause_solver.proofs.HasEntries.{NonePresent}
+use Rattle.clause_solver.proofs.Links.{left_of}
 use Rattle.clause_solver.proofs.greatest.some_present_child.Given as goal
 
-abbrev pub invariant-loop-m : goal.invariant-loop-m
-invariant-loop-m l = (k : ℕ) → k < l.m → ¬ (IsPresentChild l.vars l.best l.x (names l.replaced) k)
+abbrev pub invariant-entries : goal.invariant-entries
+invariant-entries l = NonePresent l.vars l.best l.x (names l.replaced) l.here
+
+abbrev pub decreases-entries : goal.decreases-entries
+decreases-entries l = left_of l.here

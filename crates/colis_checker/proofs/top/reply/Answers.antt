@@ -3,8 +3,13 @@ use Rattle.colis_checker.proofs.Fitting.{fits}
 use Rattle.colis_checker.proofs.top.reply.Goals as goal
 
 pub carry_out-requires : goal.carry_out-requires
-carry_out-requires g c =
-    fits c.args.request.now c.in-Ok.task c.in-Ok.ensures.reads.ends.1.may c.in-Ok.ensures.tree
+carry_out-requires g c = (
+  c.type_bounds.sync-R,
+  (
+    c.type_bounds.sync-G,
+    fits c.args.request.now c.in-Ok.task c.in-Ok.ensures.reads.ends.1.may c.in-Ok.ensures.tree,
+  ),
+)
 
 pub returns-in-Ok-refusal_line-2-clause-replies : goal.returns-in-Ok-refusal_line-2-clause-replies
 returns-in-Ok-refusal_line-2-clause-replies g c =

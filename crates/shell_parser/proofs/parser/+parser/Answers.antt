@@ -1,7 +1,7 @@
-use Rattle.std.proofs.Common.{◌∙◌, ◌+◌, ◌<◌, ◌∷◌, [], ◌++◌, Some, length, drop, sym, ap, refl, subst, arith}
+use Rattle.std.proofs.Common.{◌∙◌, ◌+◌, ◌<◌, ◌∷◌, Some, length, drop, sym, ap, refl, subst, arith}
 use Rattle.std.proofs.lemmas.List.{drop_more, drop_all}
 use Rattle.shell_grammar.specs.Forms as form
-use Rattle.shell_parser.specs.Reads.{ArmsFrom, ItemsFrom, Caused, Gives, Stops}
+use Rattle.shell_parser.specs.Reads.{ItemsFrom, Caused, Gives, Stops}
 use Rattle.shell_grammar.specs.Grammar.{Script}
 use Rattle.shell_parser.proofs.Compounds as k
 use Rattle.shell_parser.proofs.Lists as m
@@ -26,18 +26,15 @@ pub lists::and_or-returns-in-Err-pipeline : goal.lists::and_or-returns-in-Err-pi
 lists::and_or-returns-in-Err-pipeline t c = s.passed_on (λ f r x. m.links_stops _ c.args.ts.now c.loop-now.now _ r _ f _ _ c.loop-now.invariant.2 (ap form.link_and (sym c.look.ensures) ∙ sym c.link_and.ensures ∙ c.in-Some.is) c.newlines-now.ensures.2 x) c.in-Err-pipeline.fault c.in-Err-pipeline.ensures
 
 pub lists::and_or-loop-now-preserved : goal.lists::and_or-loop-now-preserved
-lists::and_or-loop-now-preserved t c = (omega (arith, c.loop-now.invariant.0, c.newlines-now.ensures.0, c.in-Ok-pipeline.ensures.0), c.in-Ok-pipeline.ensures.1, m.links_goes _ c.args.ts.now c.loop-now.now _ _ _ _ _ _ _ c.loop-now.invariant.2 (ap form.link_and (sym c.look.ensures) ∙ sym c.link_and.ensures ∙ c.in-Some.is) c.newlines-now.ensures.2 c.in-Ok-pipeline.ensures.2 c.in_ok-add.ensures.ok)
+lists::and_or-loop-now-preserved t c = (omega (arith, c.loop-now.invariant.0, c.newlines-now.ensures.0, c.in-Ok-pipeline.ensures.0), c.in-Ok-pipeline.ensures.1, m.links_goes _ c.args.ts.now c.loop-now.now _ _ _ _ _ _ _ c.loop-now.invariant.2 (ap form.link_and (sym c.look.ensures) ∙ sym c.link_and.ensures ∙ c.in-Some.is) c.newlines-now.ensures.2 c.in-Ok-pipeline.ensures.2 c.in_ok-links.ensures)
 
 pub lists::and_or-returns : goal.lists::and_or-returns
 lists::and_or-returns t c = (c.loop-now.invariant.0, c.loop-now.invariant.1, m.links_end _ _ _ _ _ c.in_ok-chain_of.ensures c.loop-now.invariant.2 (ap form.link_and (s.end_of c.args.ts.now c.loop-now.now (omega (arith, c.loop-now-test.false)))))
 
 -- ---- blocks
 
-pub lists::block-returns-in-Err : goal.lists::block-returns-in-Err
-lists::block-returns-in-Err t c = s.passed_on (λ f r x. m.block_stops f c.newlines-first.ensures.2 x) c.in-Err.fault c.in-Err.ensures
-
 pub lists::block-returns : goal.lists::block-returns
-lists::block-returns t c = (omega (arith, c.newlines-first.ensures.0, c.in-Ok.ensures.0), c.in-Ok.ensures.1, m.block_ok _ c.newlines-first.ensures.2 c.in-Ok.ensures.2)
+lists::block-returns t c = m.block_reads _ _ c.args.ts.now c.args.at _ _ c.newlines-first.ensures.0 c.newlines-first.ensures.2 c.members.ensures
 
 -- ---- `{ }` and `( )`
 
@@ -53,11 +50,8 @@ commands::braces-returns-in-Err-take t c = s.passed_sign (λ f r x. k.braces_las
 pub commands::braces-returns : goal.commands::braces-returns
 commands::braces-returns t c = (omega (arith, c.in-Ok.ensures.takes.0, c.in-Ok-block.ensures.0, c.in-Ok-take.ensures.0), c.in-Ok-take.ensures.1, k.braces_ok _ _ _ c.in-Ok.ensures.takes.2 c.in-Ok-block.ensures.2 c.in-Ok-take.ensures.2)
 
-pub commands::group-returns-in-Err : goal.commands::group-returns-in-Err
-commands::group-returns-in-Err t c = s.passed_on (λ f r x. k.group_stops f c.requires.form x) c.in-Err.fault c.in-Err.ensures
-
 pub commands::group-returns : goal.commands::group-returns
-commands::group-returns t c = (c.in-Ok.ensures.0, c.in-Ok.ensures.1, k.group_ok _ c.requires.form c.in-Ok.ensures.2)
+commands::group-returns t c = k.group_reads _ _ _ _ _ c.requires.form c.braces.ensures
 
 pub commands::subshell-returns-in-Err : goal.commands::subshell-returns-in-Err
 commands::subshell-returns-in-Err t c = s.passed_sign (λ f r x. k.subshell_first f c.requires.form x) c.in-Err.fault c.in-Err.ensures.takes
@@ -69,27 +63,27 @@ pub commands::subshell-returns-in-Err-take : goal.commands::subshell-returns-in-
 commands::subshell-returns-in-Err-take t c = s.passed_sign (λ f r x. k.subshell_last _ _ f c.requires.form c.in-Ok.ensures.takes.2 c.in-Ok-block.ensures.2 x) c.in-Err-take.fault c.in-Err-take.ensures
 
 pub commands::subshell-returns : goal.commands::subshell-returns
-commands::subshell-returns t c = (omega (arith, c.in-Ok.ensures.takes.0, c.in-Ok-block.ensures.0, c.in-Ok-take.ensures.0), c.in-Ok-take.ensures.1, k.subshell_ok _ _ _ _ _ c.place.ensures c.in_ok-body.ensures c.requires.form c.in-Ok.ensures.takes.2 c.in-Ok-block.ensures.2 c.in-Ok-take.ensures.2)
+commands::subshell-returns t c = (omega (arith, c.in-Ok.ensures.takes.0, c.in-Ok-block.ensures.0, c.in-Ok-take.ensures.0), c.in-Ok-take.ensures.1, s.built c.in_ok-tree.ensures (k.subshell_ok _ _ _ _ c.place.ensures c.requires.form c.in-Ok.ensures.takes.2 c.in-Ok-block.ensures.2 c.in-Ok-take.ensures.2))
 
 -- ---- lists of commands
 
 pub lists::members-returns-in-Err : goal.lists::members-returns-in-Err
 lists::members-returns-in-Err t c = s.passed_on (λ f r x. m.members_stop x) c.in-Err.fault c.in-Err.ensures
 
-pub lists::members-loop-alloc-init : goal.lists::members-loop-alloc-init
-lists::members-loop-alloc-init t c = (c.in-Ok.ensures.0, c.in-Ok.ensures.1, m.members_begin _ _ _ _ _ c.in_ok-trees.ensures c.in_ok-add.ensures.ok c.in-Ok.ensures.2)
+pub lists::members-loop-now-init : goal.lists::members-loop-now-init
+lists::members-loop-now-init t c = (c.in-Ok.ensures.0, c.in-Ok.ensures.1, m.members_begin _ _ _ _ _ c.in_ok-none.ensures c.in_ok-trees.ensures c.in-Ok.ensures.2)
 
 pub lists::members-returns-then-not-starts : goal.lists::members-returns-then-not-starts
-lists::members-returns-then-not-starts t c = (omega (arith, c.loop-alloc.invariant.0, c.newlines-now.ensures.0), c.newlines-now.ensures.1, m.members_last _ c.args.ts.now c.loop-alloc.now _ c.loop-alloc.trees _ c.seq_of.ensures c.loop-alloc.invariant.2 (sym c.separates.ensures.looks ∙ c.loop-alloc-test.true) c.newlines-now.ensures.2 (ap form.starts (sym c.look.ensures) ∙ sym c.starts.ensures ∙ c.if-not-starts.true))
+lists::members-returns-then-not-starts t c = (omega (arith, c.loop-now.invariant.0, c.newlines-now.ensures.0), c.newlines-now.ensures.1, m.members_last _ c.args.ts.now c.loop-now.now _ c.loop-now.trees _ c.in_ok-seq_of.ensures c.loop-now.invariant.2 (sym c.separates.ensures.looks ∙ c.loop-now-test.true) c.newlines-now.ensures.2 (ap form.starts (sym c.look.ensures) ∙ sym c.starts.ensures ∙ c.if-not-starts.true))
 
 pub lists::members-returns-in-Err-and_or : goal.lists::members-returns-in-Err-and_or
-lists::members-returns-in-Err-and_or t c = s.passed_on (λ f r x. m.members_stops _ c.args.ts.now c.loop-alloc.now _ r f c.loop-alloc.trees c.loop-alloc.invariant.2 (sym c.separates.ensures.looks ∙ c.loop-alloc-test.true) c.newlines-now.ensures.2 (ap form.starts (sym c.look.ensures) ∙ sym c.starts.ensures ∙ c.if-not-starts.false) x) c.in-Err-and_or.fault c.in-Err-and_or.ensures
+lists::members-returns-in-Err-and_or t c = s.passed_on (λ f r x. m.members_stops _ c.args.ts.now c.loop-now.now _ r f c.loop-now.trees c.loop-now.invariant.2 (sym c.separates.ensures.looks ∙ c.loop-now-test.true) c.newlines-now.ensures.2 (ap form.starts (sym c.look.ensures) ∙ sym c.starts.ensures ∙ c.if-not-starts.false) x) c.in-Err-and_or.fault c.in-Err-and_or.ensures
 
-pub lists::members-loop-alloc-preserved : goal.lists::members-loop-alloc-preserved
-lists::members-loop-alloc-preserved t c = (omega (arith, c.loop-alloc.invariant.0, c.newlines-now.ensures.0, c.in-Ok-and_or.ensures.0), c.in-Ok-and_or.ensures.1, m.members_goes _ c.args.ts.now c.loop-alloc.now _ _ _ c.loop-alloc.trees _ c.loop-alloc.invariant.2 (sym c.separates.ensures.looks ∙ c.loop-alloc-test.true) c.newlines-now.ensures.2 (ap form.starts (sym c.look.ensures) ∙ sym c.starts.ensures ∙ c.if-not-starts.false) c.in-Ok-and_or.ensures.2 c.in_ok-add-2.ensures.ok)
+pub lists::members-loop-now-preserved : goal.lists::members-loop-now-preserved
+lists::members-loop-now-preserved t c = (omega (arith, c.loop-now.invariant.0, c.newlines-now.ensures.0, c.in-Ok-and_or.ensures.0), c.in-Ok-and_or.ensures.1, m.members_goes _ c.args.ts.now c.loop-now.now _ _ _ c.loop-now.trees _ c.loop-now.invariant.2 (sym c.separates.ensures.looks ∙ c.loop-now-test.true) c.newlines-now.ensures.2 (ap form.starts (sym c.look.ensures) ∙ sym c.starts.ensures ∙ c.if-not-starts.false) c.in-Ok-and_or.ensures.2 c.in_ok-trees-2.ensures)
 
 pub lists::members-returns : goal.lists::members-returns
-lists::members-returns t c = (c.loop-alloc.invariant.0, c.loop-alloc.invariant.1, m.members_end _ _ c.loop-alloc.trees _ c.seq_of-2.ensures c.loop-alloc.invariant.2 (sym c.separates.ensures.looks ∙ c.loop-alloc-test.false))
+lists::members-returns t c = (c.loop-now.invariant.0, c.loop-now.invariant.1, m.members_end _ _ c.loop-now.trees _ c.in_ok-seq_of-2.ensures c.loop-now.invariant.2 (sym c.separates.ensures.looks ∙ c.loop-now-test.false))
 
 -- ---- pipelines
 
@@ -99,29 +93,26 @@ lists::piped-returns-in-Err t c = s.passed_on (λ f r x. m.piped_stops x) c.in-E
 pub lists::piped-returns-then-not-stands : goal.lists::piped-returns-then-not-stands
 lists::piped-returns-then-not-stands t c = (c.in-Ok.ensures.0, c.in-Ok.ensures.1, m.piped_one _ _ _ c.in-Ok.ensures.2 (λ q. let t = c.stands.ensures.looks.1 q in let f = c.if-not-stands.true in cc))
 
-pub lists::piped-loop-alloc-init : goal.lists::piped-loop-alloc-init
-lists::piped-loop-alloc-init t c = (c.in-Ok.ensures.0, c.in-Ok.ensures.1, m.bars_begin _ _ _ _ _ c.new-parts.ensures c.in_ok-add.ensures.ok c.in-Ok.ensures.2)
+pub lists::piped-loop-now-init : goal.lists::piped-loop-now-init
+lists::piped-loop-now-init t c = (c.in-Ok.ensures.0, c.in-Ok.ensures.1, m.bars_begin _ _ _ _ _ c.new.ensures c.in_ok-parts.ensures c.in-Ok.ensures.2)
 
 pub lists::piped-returns-in-Err-command : goal.lists::piped-returns-in-Err-command
-lists::piped-returns-in-Err-command t c = s.passed_on (λ f r x. m.bars_stops _ c.args.ts.now c.loop-alloc.now _ r f c.loop-alloc.parts c.loop-alloc.invariant.2 (c.stands-in-loop-alloc.ensures.looks.0 c.loop-alloc-test.true) c.newlines-now.ensures.2 x) c.in-Err-command.fault c.in-Err-command.ensures
+lists::piped-returns-in-Err-command t c = s.passed_on (λ f r x. m.bars_stops _ c.args.ts.now c.loop-now.now _ r f c.loop-now.parts c.loop-now.invariant.2 (c.stands-in-loop-now.ensures.looks.0 c.loop-now-test.true) c.newlines-now.ensures.2 x) c.in-Err-command.fault c.in-Err-command.ensures
 
-pub lists::piped-loop-alloc-preserved : goal.lists::piped-loop-alloc-preserved
-lists::piped-loop-alloc-preserved t c = (omega (arith, c.loop-alloc.invariant.0, c.newlines-now.ensures.0, c.in-Ok-command.ensures.0), c.in-Ok-command.ensures.1, m.bars_goes _ c.args.ts.now c.loop-alloc.now _ _ _ c.loop-alloc.parts _ c.loop-alloc.invariant.2 (c.stands-in-loop-alloc.ensures.looks.0 c.loop-alloc-test.true) c.newlines-now.ensures.2 c.in-Ok-command.ensures.2 c.in_ok-add-2.ensures.ok)
+pub lists::piped-loop-now-preserved : goal.lists::piped-loop-now-preserved
+lists::piped-loop-now-preserved t c = (omega (arith, c.loop-now.invariant.0, c.newlines-now.ensures.0, c.in-Ok-command.ensures.0), c.in-Ok-command.ensures.1, m.bars_goes _ c.args.ts.now c.loop-now.now _ _ _ c.loop-now.parts _ c.loop-now.invariant.2 (c.stands-in-loop-now.ensures.looks.0 c.loop-now-test.true) c.newlines-now.ensures.2 c.in-Ok-command.ensures.2 c.in_ok-parts-2.ensures)
 
 pub lists::piped-returns : goal.lists::piped-returns
-lists::piped-returns t c = (c.loop-alloc.invariant.0, c.loop-alloc.invariant.1, m.bars_end _ _ c.loop-alloc.parts _ _ c.place.ensures c.pipe_of.ensures c.loop-alloc.invariant.2 (λ q. let t = c.stands-in-loop-alloc.ensures.looks.1 q in let f = c.loop-alloc-test.false in cc))
+lists::piped-returns t c = (c.loop-now.invariant.0, c.loop-now.invariant.1, m.bars_end _ _ c.loop-now.parts _ _ c.place.ensures c.in_ok-pipe_of.ensures c.loop-now.invariant.2 (λ q. let t = c.stands-in-loop-now.ensures.looks.1 q in let f = c.loop-now-test.false in cc))
 
 pub lists::pipeline-returns-in-Err : goal.lists::pipeline-returns-in-Err
 lists::pipeline-returns-in-Err t c = s.passed_on (λ f r x. m.bang_stops c.args.ts.now c.args.at r f (c.stands.ensures.looks.0 c.if-stands.true) x) c.in-Err.fault c.in-Err.ensures
 
 pub lists::pipeline-returns-then-stands : goal.lists::pipeline-returns-then-stands
-lists::pipeline-returns-then-stands t c = (omega (arith, c.in-Ok.ensures.0), c.in-Ok.ensures.1, m.pipeline_bang c.args.ts.now c.args.at _ _ _ _ c.place.ensures c.in_ok-body.ensures (c.stands.ensures.looks.0 c.if-stands.true) c.in-Ok.ensures.2)
-
-pub lists::pipeline-returns-in-Err-piped : goal.lists::pipeline-returns-in-Err-piped
-lists::pipeline-returns-in-Err-piped t c = s.passed_on (λ f r x. m.plain_stops f (λ q. let t = c.stands.ensures.looks.1 q in let f = c.if-stands.false in cc) x) c.in-Err-piped.fault c.in-Err-piped.ensures
+lists::pipeline-returns-then-stands t c = (omega (arith, c.in-Ok.ensures.0), c.in-Ok.ensures.1, s.built c.in_ok-turned.ensures (m.pipeline_bang c.args.ts.now c.args.at _ _ _ c.place.ensures (c.stands.ensures.looks.0 c.if-stands.true) c.in-Ok.ensures.2))
 
 pub lists::pipeline-returns : goal.lists::pipeline-returns
-lists::pipeline-returns t c = (c.in-Ok-piped.ensures.0, c.in-Ok-piped.ensures.1, m.pipeline_plain _ (λ q. let t = c.stands.ensures.looks.1 q in let f = c.if-stands.false in cc) c.in-Ok-piped.ensures.2)
+lists::pipeline-returns t c = m.plain_reads _ _ _ _ _ (λ q. let t = c.stands.ensures.looks.1 q in let f = c.if-stands.false in cc) c.piped-2.ensures
 
 -- ---- commands
 
@@ -161,25 +152,25 @@ pub conditionals::branches-returns-in-Err-take : goal.conditionals::branches-ret
 conditionals::branches-returns-in-Err-take t c = s.passed_sign (λ f r x. k.if_last _ _ f c.requires.form c.in-Ok.ensures.takes.2 c.in-Ok-clause.ensures.2 x) c.in-Err-take.fault c.in-Err-take.ensures
 
 pub conditionals::branches-returns : goal.conditionals::branches-returns
-conditionals::branches-returns t c = (omega (arith, c.in-Ok.ensures.takes.0, c.in-Ok-clause.ensures.0, c.in-Ok-take.ensures.0), c.in-Ok-take.ensures.1, k.if_ok _ _ _ _ _ c.place.ensures c.requires.form c.in-Ok.ensures.takes.2 c.in-Ok-clause.ensures.2 c.in-Ok-take.ensures.2)
+conditionals::branches-returns t c = (omega (arith, c.in-Ok.ensures.takes.0, c.in-Ok-clause.ensures.0, c.in-Ok-take.ensures.0), c.in-Ok-take.ensures.1, s.built c.in_ok-tree.ensures (k.if_ok _ _ _ _ _ c.place.ensures c.requires.form c.in-Ok.ensures.takes.2 c.in-Ok-clause.ensures.2 c.in-Ok-take.ensures.2))
 
 pub conditionals::clause-returns-in-Err : goal.conditionals::clause-returns-in-Err
 conditionals::clause-returns-in-Err t c = c.in-Err.ensures
 
 pub conditionals::clause-loop-arms-init : goal.conditionals::clause-loop-arms-init
-conditionals::clause-loop-arms-init t c = (c.in-Ok.ensures.0, c.in-Ok.ensures.1, subst (λ l. ArmsFrom c.args.level c.args.end (drop c.args.at c.args.ts.now) (drop c.in-Ok.found.1 c.args.ts.now) l) (sym (c.in_ok-add.ensures.ok ∙ ap (λ l. l ++ c.in-Ok.found.0 ∷ []) c.in_ok-arms.ensures)) c.in-Ok.ensures.2)
+conditionals::clause-loop-arms-init t c = (c.in-Ok.ensures.0, c.in-Ok.ensures.1, k.arms_begin _ _ _ _ _ c.in_ok-none.ensures c.in_ok-arms.ensures c.in-Ok.ensures.2)
 
 pub conditionals::clause-returns-in-Err-if_arm : goal.conditionals::clause-returns-in-Err-if_arm
 conditionals::clause-returns-in-Err-if_arm t c = s.passed_on (λ f r x. k.arms_stops _ c.args.ts.now c.loop-arms.now r f c.loop-arms.arms c.loop-arms.invariant.2 (c.stands.ensures.looks.0 c.loop-arms-test.true) x) c.in-Err-if_arm.fault c.in-Err-if_arm.ensures
 
 pub conditionals::clause-loop-arms-preserved : goal.conditionals::clause-loop-arms-preserved
-conditionals::clause-loop-arms-preserved t c = (omega (arith, c.loop-arms.invariant.0, c.in-Ok-if_arm.ensures.0), c.in-Ok-if_arm.ensures.1, k.arms_goes _ c.args.ts.now c.loop-arms.now _ _ c.loop-arms.arms _ c.loop-arms.invariant.2 (c.stands.ensures.looks.0 c.loop-arms-test.true) c.in-Ok-if_arm.ensures.2 c.in_ok-add-2.ensures.ok)
+conditionals::clause-loop-arms-preserved t c = (omega (arith, c.loop-arms.invariant.0, c.in-Ok-if_arm.ensures.0), c.in-Ok-if_arm.ensures.1, k.arms_goes _ c.args.ts.now c.loop-arms.now _ _ c.loop-arms.arms _ c.loop-arms.invariant.2 (c.stands.ensures.looks.0 c.loop-arms-test.true) c.in-Ok-if_arm.ensures.2 c.in_ok-arms-2.ensures)
 
 pub conditionals::clause-returns-in-Err-block : goal.conditionals::clause-returns-in-Err-block
 conditionals::clause-returns-in-Err-block t c = s.passed_on (λ f r x. k.clause_bad _ c.args.ts.now c.loop-arms.now r f c.loop-arms.arms c.loop-arms.invariant.2 (c.stands-2.ensures.looks.0 c.if-stands.true) x) c.in-Err-block.fault c.in-Err-block.ensures
 
 pub conditionals::clause-returns-then-stands : goal.conditionals::clause-returns-then-stands
-conditionals::clause-returns-then-stands t c = (omega (arith, c.loop-arms.invariant.0, c.in-Ok-block.ensures.0), c.in-Ok-block.ensures.1, k.clause_else _ c.args.ts.now c.loop-arms.now _ _ _ c.loop-arms.arms c.loop-arms.invariant.2 (c.stands-2.ensures.looks.0 c.if-stands.true) c.in-Ok-block.ensures.2 c.in_ok-otherwise.ensures)
+conditionals::clause-returns-then-stands t c = (omega (arith, c.loop-arms.invariant.0, c.in-Ok-block.ensures.0), c.in-Ok-block.ensures.1, k.clause_else _ c.args.ts.now c.loop-arms.now _ _ c.loop-arms.arms c.loop-arms.invariant.2 (c.stands-2.ensures.looks.0 c.if-stands.true) c.in-Ok-block.ensures.2)
 
 pub conditionals::clause-returns : goal.conditionals::clause-returns
 conditionals::clause-returns t c = (c.loop-arms.invariant.0, c.loop-arms.invariant.1, k.clause_end _ _ c.loop-arms.arms c.loop-arms.invariant.2 (λ q. let t = c.stands.ensures.looks.1 q in let f = c.loop-arms-test.false in cc) (λ q. let t = c.stands-2.ensures.looks.1 q in let f = c.if-stands.false in cc))
@@ -208,7 +199,7 @@ pub loops::turns-returns-in-Err-take : goal.loops::turns-returns-in-Err-take
 loops::turns-returns-in-Err-take t c = s.passed_sign (λ f r x. k.while_last c.args.until _ _ _ f c.loop_word-want.ensures.looks c.requires.form c.in-Ok.ensures.takes.2 c.in-Ok-turn.ensures.2 x) c.in-Err-take.fault c.in-Err-take.ensures
 
 pub loops::turns-returns : goal.loops::turns-returns
-loops::turns-returns t c = (omega (arith, c.in-Ok.ensures.takes.0, c.in-Ok-turn.ensures.0, c.in-Ok-take.ensures.0), c.in-Ok-take.ensures.1, k.while_ok c.args.until _ _ _ _ _ _ _ _ c.loop_word-want.ensures.looks c.place.ensures c.in_ok-cond.ensures c.in_ok-body.ensures c.requires.form c.in-Ok.ensures.takes.2 c.in-Ok-turn.ensures.2 c.in-Ok-take.ensures.2)
+loops::turns-returns t c = (omega (arith, c.in-Ok.ensures.takes.0, c.in-Ok-turn.ensures.0, c.in-Ok-take.ensures.0), c.in-Ok-take.ensures.1, s.built c.in_ok-tree.ensures (k.while_ok c.args.until _ _ _ _ _ _ c.loop_word-want.ensures.looks c.place.ensures c.requires.form c.in-Ok.ensures.takes.2 c.in-Ok-turn.ensures.2 c.in-Ok-take.ensures.2))
 
 -- ---- `for`
 
@@ -222,7 +213,7 @@ pub loops::for_loop-returns-in-Err-take : goal.loops::for_loop-returns-in-Err-ta
 loops::for_loop-returns-in-Err-take t c = s.passed_sign (λ f r x. o.for_last _ _ f c.requires.form c.in-Ok.ensures.takes.2 c.in-Ok-for_rest.ensures.2 x) c.in-Err-take.fault c.in-Err-take.ensures
 
 pub loops::for_loop-returns : goal.loops::for_loop-returns
-loops::for_loop-returns t c = (omega (arith, c.in-Ok.ensures.takes.0, c.in-Ok-for_rest.ensures.0, c.in-Ok-take.ensures.0), c.in-Ok-take.ensures.1, o.for_ok _ _ _ _ _ _ _ c.place.ensures c.in_ok-body.ensures c.requires.form c.in-Ok.ensures.takes.2 c.in-Ok-for_rest.ensures.2 c.in-Ok-take.ensures.2)
+loops::for_loop-returns t c = (omega (arith, c.in-Ok.ensures.takes.0, c.in-Ok-for_rest.ensures.0, c.in-Ok-take.ensures.0), c.in-Ok-take.ensures.1, s.built c.in_ok-tree.ensures (o.for_ok _ _ _ _ _ _ c.place.ensures c.requires.form c.in-Ok.ensures.takes.2 c.in-Ok-for_rest.ensures.2 c.in-Ok-take.ensures.2))
 
 pub loops::for_rest-returns-in-Err : goal.loops::for_rest-returns-in-Err
 loops::for_rest-returns-in-Err t c = s.passed_on (λ f r x. o.rest_name f x) c.in-Err.fault c.in-Err.ensures
@@ -281,7 +272,7 @@ pub cases::choice-returns-in-Err-take : goal.cases::choice-returns-in-Err-take
 cases::choice-returns-in-Err-take t c = s.passed_sign (λ f r x. o.case_last _ _ f c.requires.form c.in-Ok.ensures.takes.2 c.in-Ok-case_rest.ensures.2 x) c.in-Err-take.fault c.in-Err-take.ensures
 
 pub cases::choice-returns : goal.cases::choice-returns
-cases::choice-returns t c = (omega (arith, c.in-Ok.ensures.takes.0, c.in-Ok-case_rest.ensures.0, c.in-Ok-take.ensures.0), c.in-Ok-take.ensures.1, o.case_ok _ _ _ _ _ c.place.ensures c.requires.form c.in-Ok.ensures.takes.2 c.in-Ok-case_rest.ensures.2 c.in-Ok-take.ensures.2)
+cases::choice-returns t c = (omega (arith, c.in-Ok.ensures.takes.0, c.in-Ok-case_rest.ensures.0, c.in-Ok-take.ensures.0), c.in-Ok-take.ensures.1, s.built c.in_ok-tree.ensures (o.case_ok _ _ _ _ _ c.place.ensures c.requires.form c.in-Ok.ensures.takes.2 c.in-Ok-case_rest.ensures.2 c.in-Ok-take.ensures.2))
 
 pub cases::case_rest-returns-in-Err : goal.cases::case_rest-returns-in-Err
 cases::case_rest-returns-in-Err t c = s.passed_sign (λ f r x. o.choice_word f x) c.in-Err.fault c.in-Err.ensures
@@ -302,10 +293,10 @@ pub cases::case_arms-returns-in-Err : goal.cases::case_arms-returns-in-Err
 cases::case_arms-returns-in-Err t c = s.passed_on (λ f r x. o.case_arms_stop _ _ r f c.loop-alloc.arms c.loop-alloc.invariant.2 (λ q. let t = c.stands.ensures.looks.1 q in let f = c.loop-alloc-test.true in cc) x) c.in-Err.fault c.in-Err.ensures
 
 pub cases::case_arms-returns-then-not-stands : goal.cases::case_arms-returns-then-not-stands
-cases::case_arms-returns-then-not-stands t c = (omega (arith, c.loop-alloc.invariant.0, c.in-Ok.ensures.0), c.in-Ok.ensures.1, o.case_arms_last _ _ _ _ c.loop-alloc.arms _ c.loop-alloc.invariant.2 (λ q. let t = c.stands.ensures.looks.1 q in let f = c.loop-alloc-test.true in cc) c.in-Ok.ensures.2 (λ q. let t = c.stands-in-loop-alloc.ensures.looks.1 q in let f = c.if-not-stands.true in cc) c.in_ok-add.ensures.ok)
+cases::case_arms-returns-then-not-stands t c = (omega (arith, c.loop-alloc.invariant.0, c.in-Ok.ensures.0), c.in-Ok.ensures.1, o.case_arms_last _ _ _ _ c.loop-alloc.arms _ c.loop-alloc.invariant.2 (λ q. let t = c.stands.ensures.looks.1 q in let f = c.loop-alloc-test.true in cc) c.in-Ok.ensures.2 (λ q. let t = c.stands-in-loop-alloc.ensures.looks.1 q in let f = c.if-not-stands.true in cc) c.in_ok-arms.ensures)
 
 pub cases::case_arms-loop-alloc-preserved : goal.cases::case_arms-loop-alloc-preserved
-cases::case_arms-loop-alloc-preserved t c = (omega (arith, c.loop-alloc.invariant.0, c.in-Ok.ensures.0, c.newlines-now.ensures.0), c.newlines-now.ensures.1, o.case_arms_go _ _ c.args.ts.now c.in-Ok.found.1 _ _ c.loop-alloc.arms _ c.loop-alloc.invariant.2 (λ q. let t = c.stands.ensures.looks.1 q in let f = c.loop-alloc-test.true in cc) c.in-Ok.ensures.2 (c.stands-in-loop-alloc.ensures.looks.0 c.if-not-stands.false) c.newlines-now.ensures.2 c.in_ok-add.ensures.ok)
+cases::case_arms-loop-alloc-preserved t c = (omega (arith, c.loop-alloc.invariant.0, c.in-Ok.ensures.0, c.newlines-now.ensures.0), c.newlines-now.ensures.1, o.case_arms_go _ _ c.args.ts.now c.in-Ok.found.1 _ _ c.loop-alloc.arms _ c.loop-alloc.invariant.2 (λ q. let t = c.stands.ensures.looks.1 q in let f = c.loop-alloc-test.true in cc) c.in-Ok.ensures.2 (c.stands-in-loop-alloc.ensures.looks.0 c.if-not-stands.false) c.newlines-now.ensures.2 c.in_ok-arms.ensures)
 
 pub cases::case_arms-returns : goal.cases::case_arms-returns
 cases::case_arms-returns t c = (c.loop-alloc.invariant.0, c.loop-alloc.invariant.1, o.case_arms_end _ _ c.loop-alloc.arms c.loop-alloc.invariant.2 (c.stands.ensures.looks.0 c.loop-alloc-test.false))
@@ -338,13 +329,10 @@ pub cases::patterns-returns : goal.cases::patterns-returns
 cases::patterns-returns t c = (c.loop-alloc.invariant.0, c.loop-alloc.invariant.1, o.patterns_end _ _ c.loop-alloc.words c.loop-alloc.invariant.2 (λ q. let t = c.stands.ensures.looks.1 q in let f = c.loop-alloc-test.false in cc))
 
 pub cases::arm_body-returns-then-ends_arm : goal.cases::arm_body-returns-then-ends_arm
-cases::arm_body-returns-then-ends_arm t c = (omega arith, c.requires.within, o.arm_body_none _ c.new.ensures (ap form.ends_arm (sym c.look.ensures) ∙ sym c.ends_arm.ensures ∙ c.if-ends_arm.true))
-
-pub cases::arm_body-returns-in-Err : goal.cases::arm_body-returns-in-Err
-cases::arm_body-returns-in-Err t c = s.passed_on (λ f r x. o.arm_body_stops f (ap form.ends_arm (sym c.look.ensures) ∙ sym c.ends_arm.ensures ∙ c.if-ends_arm.false) x) c.in-Err.fault c.in-Err.ensures
+cases::arm_body-returns-then-ends_arm t c = (omega arith, c.requires.within, o.arm_body_none _ _ c.new.ensures c.in_ok-none.ensures (ap form.ends_arm (sym c.look.ensures) ∙ sym c.ends_arm.ensures ∙ c.if-ends_arm.true))
 
 pub cases::arm_body-returns : goal.cases::arm_body-returns
-cases::arm_body-returns t c = (c.in-Ok.ensures.0, c.in-Ok.ensures.1, o.arm_body_ok _ (ap form.ends_arm (sym c.look.ensures) ∙ sym c.ends_arm.ensures ∙ c.if-ends_arm.false) c.in-Ok.ensures.2)
+cases::arm_body-returns t c = o.arm_body_reads _ _ _ _ _ (ap form.ends_arm (sym c.look.ensures) ∙ sym c.ends_arm.ensures ∙ c.if-ends_arm.false) c.members.ensures
 
 -- ---- commands that begin with a name, and simple commands
 
@@ -355,7 +343,7 @@ pub simple_commands::named-returns-in-Err-definition : goal.simple_commands::nam
 simple_commands::named-returns-in-Err-definition t c = s.passed_on (λ f r x. i.define_stops _ f c.requires.form c.in-Ok.ensures.2 x) c.in-Err-definition.fault c.in-Err-definition.ensures
 
 pub simple_commands::named-returns-then-stands : goal.simple_commands::named-returns-then-stands
-simple_commands::named-returns-then-stands t c = (omega (arith, c.in-Ok.ensures.0, c.in-Ok-definition.ensures.0), c.in-Ok-definition.ensures.1, i.define_ok _ _ _ _ _ c.place.ensures c.in_ok-name.ensures c.in_ok-body.ensures c.requires.form c.in-Ok.ensures.2 c.in-Ok-definition.ensures.2)
+simple_commands::named-returns-then-stands t c = (omega (arith, c.in-Ok.ensures.0, c.in-Ok-definition.ensures.0), c.in-Ok-definition.ensures.1, s.built c.in_ok-tree.ensures (i.define_ok _ _ _ _ c.place.ensures c.in_ok-name.ensures c.requires.form c.in-Ok.ensures.2 c.in-Ok-definition.ensures.2))
 
 pub simple_commands::named-returns-in-Err-items : goal.simple_commands::named-returns-in-Err-items
 simple_commands::named-returns-in-Err-items t c = s.passed_on (λ f r x. i.continue_stops _ f c.requires.form c.in-Ok.ensures.2 (λ q. let t = c.stands.ensures.looks.1 q in let f = c.if-stands.false in cc) x) c.in-Err-items.fault c.in-Err-items.ensures
@@ -459,19 +447,19 @@ words::part-returns-in_ok-copy-in-Plain t c = w.part_plain _ _ _ _ c.in-Plain.is
 pub words::part-returns-in_ok-copy-in-Quoted : goal.words::part-returns-in_ok-copy-in-Quoted
 words::part-returns-in_ok-copy-in-Quoted t c = w.part_quoted _ _ _ _ c.in-Quoted.is c.in_ok-copy-in-Quoted.ensures
 
-pub words::part-returns-in_ok-default-in-Param : goal.words::part-returns-in_ok-default-in-Param
-words::part-returns-in_ok-default-in-Param t c = w.part_param _ _ _ _ _ _ _ c.in-Param.is c.in_ok-key-in-Param.ensures c.in_ok-default-in-Param.ensures
+pub words::part-returns-in_ok-param_of-in-Param : goal.words::part-returns-in_ok-param_of-in-Param
+words::part-returns-in_ok-param_of-in-Param t c = w.part_param _ _ _ _ _ _ c.in-Param.is c.in_ok-param_of-in-Param.ensures
 
 pub words::part-returns-in-All : goal.words::part-returns-in-All
 words::part-returns-in-All t c = w.part_all _ _ c.in-All.is
 
-pub words::part-returns-in_ok-body-in-Run : goal.words::part-returns-in_ok-body-in-Run
-words::part-returns-in_ok-body-in-Run t c = w.part_run _ _ _ _ _ _ _ c.in-Run.is (omega (arith, c.requires.shallow, c.if-level-eq64.false)) c.in_ok-body-in-Run.ensures (subst (λ ts. Gives (c.args.level + 1) c.in-Run.at Script ts c.in-Ok.body) c.as_slice.ensures c.in-Ok.ensures)
+pub words::part-returns-in-Ok : goal.words::part-returns-in-Ok
+words::part-returns-in-Ok t c = w.part_run _ _ _ _ _ _ c.in-Run.is (omega (arith, c.requires.shallow, c.if-level-eq64.false)) (subst (λ ts. Gives (c.args.level + 1) c.in-Run.at Script ts c.in-Ok.body) c.as_slice.ensures c.in-Ok.ensures)
 
 -- ---- a script
 
 pub lists::script-returns-then-same_look : goal.lists::script-returns-then-same_look
-lists::script-returns-then-same_look t c = m.script_none _ _ _ c.new.ensures c.newlines-first.ensures.2 (sym c.look.ensures ∙ c.same_look.ensures.0 c.if-same_look.true)
+lists::script-returns-then-same_look t c = m.script_none _ _ _ _ c.new.ensures c.in_ok-none.ensures c.newlines-first.ensures.2 (sym c.look.ensures ∙ c.same_look.ensures.0 c.if-same_look.true)
 
 pub lists::script-returns-in-Err : goal.lists::script-returns-in-Err
 lists::script-returns-in-Err t c = s.passed_on (λ f r x. m.script_stops _ _ r f c.newlines-first.ensures.2 (λ q. let t = c.same_look.ensures.1 (c.look.ensures ∙ q) in let f = c.if-same_look.false in cc) x) c.in-Err.fault c.in-Err.ensures

@@ -117,11 +117,11 @@ decreases-words::part l = 32 * (64 - l.level) + 2
 
 -- ---- loops
 
-abbrev pub invariant-lists::members-loop-alloc : goal.invariant-lists::members-loop-alloc
-invariant-lists::members-loop-alloc l = (l.fn.at ≤ l.now) × (l.now ≤ length l.ts) × MembersFrom l.level l.end (drop l.fn.at l.ts) (drop l.now l.ts) l.trees
+abbrev pub invariant-lists::members-loop-now : goal.invariant-lists::members-loop-now
+invariant-lists::members-loop-now l = (l.fn.at ≤ l.now) × (l.now ≤ length l.ts) × MembersFrom l.level l.end (drop l.fn.at l.ts) (drop l.now l.ts) l.trees
 
-abbrev pub decreases-lists::members-loop-alloc : goal.decreases-lists::members-loop-alloc
-decreases-lists::members-loop-alloc l = length l.ts - l.now
+abbrev pub decreases-lists::members-loop-now : goal.decreases-lists::members-loop-now
+decreases-lists::members-loop-now l = length l.ts - l.now
 
 abbrev pub invariant-lists::and_or-loop-now : goal.invariant-lists::and_or-loop-now
 invariant-lists::and_or-loop-now l = (l.fn.at ≤ l.now) × (l.now ≤ length l.ts) × LinksFrom l.level l.end (drop l.fn.at l.ts) (drop l.now l.ts) l.first l.links
@@ -129,11 +129,11 @@ invariant-lists::and_or-loop-now l = (l.fn.at ≤ l.now) × (l.now ≤ length l.
 abbrev pub decreases-lists::and_or-loop-now : goal.decreases-lists::and_or-loop-now
 decreases-lists::and_or-loop-now l = length l.ts - l.now
 
-abbrev pub invariant-lists::piped-loop-alloc : goal.invariant-lists::piped-loop-alloc
-invariant-lists::piped-loop-alloc l = (l.fn.at ≤ l.now) × (l.now ≤ length l.ts) × BarsFrom l.level l.end (drop l.fn.at l.ts) (drop l.now l.ts) l.parts
+abbrev pub invariant-lists::piped-loop-now : goal.invariant-lists::piped-loop-now
+invariant-lists::piped-loop-now l = (l.fn.at ≤ l.now) × (l.now ≤ length l.ts) × BarsFrom l.level l.end (drop l.fn.at l.ts) (drop l.now l.ts) l.parts
 
-abbrev pub decreases-lists::piped-loop-alloc : goal.decreases-lists::piped-loop-alloc
-decreases-lists::piped-loop-alloc l = length l.ts - l.now
+abbrev pub decreases-lists::piped-loop-now : goal.decreases-lists::piped-loop-now
+decreases-lists::piped-loop-now l = length l.ts - l.now
 
 abbrev pub invariant-conditionals::clause-loop-arms : goal.invariant-conditionals::clause-loop-arms
 invariant-conditionals::clause-loop-arms l = (l.fn.at ≤ l.now) × (l.now ≤ length l.ts) × ArmsFrom l.level l.end (drop l.fn.at l.ts) (drop l.now l.ts) l.arms

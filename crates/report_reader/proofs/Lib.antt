@@ -1,0 +1,14 @@
+pub mod JsonLaws
+pub mod LineLaws
+pub mod TextFacts
+pub mod TreeFacts
+pub mod ClauseFacts
+pub mod PieceFacts
+pub mod MemberLaws
+pub mod ReportLaws
+pub mod FoundFacts
+pub mod LowTexts
+pub mod LowPieces
+pub mod ValueDepth
+pub mod ValueLaws
+pub mod ReadBack

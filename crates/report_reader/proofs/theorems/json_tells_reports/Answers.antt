@@ -1,0 +1,8 @@
+use Rattle.report_reader.proofs.ReadBack.{values_tell, texts_tell}
+use Rattle.report_reader.proofs.theorems.json_tells_reports.Goals as goal
+
+pub returns-clause-values : goal.returns-clause-values
+returns-clause-values c = values_tell
+
+pub returns-clause-texts : goal.returns-clause-texts
+returns-clause-texts c = texts_tell

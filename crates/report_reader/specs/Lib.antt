@@ -1,0 +1,3 @@
+pub mod ReportRead
+pub mod JsonAnswers
+pub mod Laws

@@ -1,0 +1,10 @@
+mod Adding
+mod Counting
+mod StaticPieces
+mod Nodes
+mod Commutes
+mod WholeScript
+mod WellFormed
+mod FoldsKept
+mod Within
+mod NoForms

@@ -1,0 +1,6 @@
+pub mod Names
+pub mod Calls
+pub mod Defined
+pub mod Scripts
+pub mod Programs
+pub mod Laws

@@ -1,0 +1,169 @@
+ghost use Rattle.std.specs.Prelude.{◌≡◌, [], ◌∷◌, ◌++◌, IsTrue, OnOk, OnErr, IfOk};
+ghost use Rattle.std.specs.List.{list_any, list_all};
+ghost use Rattle.std.specs.Str.{bytes_eq};
+ghost use Rattle.shell_forms.specs.Names.{is_one_of, is_kept_name, special_names};
+ghost use Rattle.stated_calls.specs.Names.{is_name_byte, can_be_stated};
+ghost use Rattle.stated_calls.specs.Calls.{is_stated, are_stated, added_fault, AddGives};
+
+use crate::stated_call::{CallEnd, StatedCall};
+use script_names::{Bytes, Copied, List, Memory};
+use std::alloc::Global;
+use std::marker::Model;
+
+/// Stated calls, in the order in which they were stated. Each has a name that can be stated, and no two have one name.
+#[derive(Debug, Drop)]
+pub struct StatedCalls {
+    calls: List<StatedCall>,
+}
+
+impl Model for StatedCalls {
+    ghost use Rattle.std.specs.Prelude.{List, IsTrue};
+    ghost use Rattle.stated_calls.specs.declared.stated_call.StatedCall.{StatedCall};
+    ghost use Rattle.stated_calls.specs.Calls.{are_stated};
+
+    ghost Value = { List StatedCall };
+
+    ghost view = { λ s. s.calls };
+
+    ghost invariant = { λ s. IsTrue (are_stated s.calls) };
+}
+
+/// Why a call was not added.
+#[derive(Clone, Copy, Debug, PartialEq, Eq)]
+pub enum StatedFault {
+    /// Its name can't be stated (why 1).
+    NoName,
+    /// Its name was stated before (why 2).
+    Before,
+    Memory,
+}
+
+impl From<Memory> for StatedFault {
+    ghost use Rattle.std.specs.Prelude.{◌≡◌};
+    ghost use Rattle.stated_calls.specs.declared.stated_calls.StatedFault.TheVariants.{Memory as NoMemory};
+
+    ghost from_gives = { λ _ fault. fault ≡ NoMemory };
+
+    fn from(_refused: Memory) -> StatedFault {
+        StatedFault::Memory
+    }
+}
+
+impl StatedCalls {
+    /// No stated calls.
+    pub fn new(alloc: Global) -> StatedCalls
+        ensures { result ≡ [] }
+    {
+        StatedCalls {
+            calls: List::new(alloc),
+        }
+    }
+
+    /// One stated call more, behind the others. Its name is 1 to 255 bytes without blanks and NUL, and none that has a
+    /// meaning already (else NoName); no call of that name was stated before, whatever its end (else Before). Where it
+    /// is not added the calls are as before.
+    pub fn add(&mut self, alloc: Global, name: &[u8], end: CallEnd) -> Result<(), StatedFault>
+        ensures added { OnOk result (self.new ≡ self.old ++ record { name = name.now; end = end } ∷ []) }
+        ensures kept { OnErr result (self.new ≡ self.old) }
+        ensures answer { AddGives (added_fault self.old name.now) result }
+    {
+        if !can_be_stated(name) {
+            return Err(StatedFault::NoName);
+        }
+        if is_stated(self.calls.as_slice(), name) {
+            return Err(StatedFault::Before);
+        }
+        let name = Bytes::from_slice(alloc, name)?;
+        self.calls.add(StatedCall { name, end })?;
+        Ok(())
+    }
+
+    /// The calls, in the order in which they were stated.
+    pub fn as_slice(&self) -> &[StatedCall]
+        ensures calls { result.now ≡ self.now }
+        ensures stated { IsTrue (are_stated self.now) }
+    {
+        self.calls.as_slice()
+    }
+
+    /// Says of the calls that each has a name that can be stated, and that no two have one name. It does nothing.
+    pub fn is_sound(&self)
+        ensures { IsTrue (are_stated self.now) }
+    {
+        let _calls = &self.calls;
+    }
+}
+
+impl Copied for StatedCalls {
+    fn copy(&self, alloc: Global) -> Result<StatedCalls, Memory> {
+        let calls = self.calls.copy(alloc)?;
+        Ok(StatedCalls { calls })
+    }
+}
+
+// Whether one of the calls has this name.
+fn is_stated(calls: &[StatedCall], name: &[u8]) -> bool
+    ensures { result ≡ is_stated calls.now name.now }
+{
+    calls.iter().any(|call| call.name.as_slice() == name)
+}
+
+// Whether a name can be stated.
+fn can_be_stated(name: &[u8]) -> bool
+    ensures { result ≡ can_be_stated name.now }
+{
+    !name.is_empty() && name.len() <= 255 && are_name_bytes(name) && !is_kept_name(name)
+}
+
+// Whether no byte is a blank or NUL.
+fn are_name_bytes(name: &[u8]) -> bool
+    ensures { result ≡ list_all is_name_byte name.now }
+{
+    name.iter().all(|byte| is_name_byte(*byte))
+}
+
+// Whether a byte is neither a blank nor NUL.
+fn is_name_byte(byte: u8) -> bool
+    ensures { result ≡ is_name_byte byte }
+{
+    byte != 0 && byte != b' ' && byte != b'\t'
+}
+
+// Whether a name is this one.
+fn is(name: &[u8], one: &[u8]) -> bool
+    ensures { result ≡ bytes_eq name.now one.now }
+{
+    name == one
+}
+
+// Whether a name has a meaning already: that of a special built-in or of a utility.
+fn is_kept_name(name: &[u8]) -> bool
+    ensures { result ≡ is_kept_name name.now }
+{
+    is(name, b"true")
+        || is(name, b"false")
+        || is(name, b"echo")
+        || is(name, b"mkdir")
+        || is(name, b"rmdir")
+        || is(name, b"rm")
+        || is(name, b"touch")
+        || is(name, b"ln")
+        || is(name, b"mv")
+        || is(name, b"test")
+        || is(name, b"[")
+        || is_special(name)
+}
+
+// Whether a name is that of a special built-in.
+fn is_special(name: &[u8]) -> bool
+    ensures { result ≡ is_one_of name.now special_names }
+{
+    is(name, b":")
+        || is(name, b"break")
+        || is(name, b"continue")
+        || is(name, b"exit")
+        || is(name, b"return")
+        || is(name, b"set")
+        || is(name, b"export")
+        || is(name, b"unset")
+}
