@@ -3,6 +3,7 @@ mod cut_short;
 mod faults;
 mod limits;
 mod loops;
+mod most_outcomes;
 mod scripts;
 mod translations;
 mod workers;

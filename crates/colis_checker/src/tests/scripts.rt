@@ -127,7 +127,9 @@ fn scripts_that_are_strict(rt: HostRuntime) -> Result<(), Fail> {
 const REFUSED: &[(&[u8], &[u8])] = &[
     (b"", b"interpreter not accepted\n"),
     (b"#!/bin/zsh\0\n", b"NUL byte at 10\n"),
+    (b"#!/bin/sh\nset -e\ntrue\0\n", b"NUL byte at 21\n"),
     (b"#!/bin/sh\necho 'a\n", b"open quote at 15\n"),
+    (b"#!/bin/sh\nset -e\ntrue 'a\n", b"open quote at 22\n"),
     (b"#!/bin/sh\nx=$(true\n", b"open substitution at 12\n"),
     (
         b"#!/bin/sh\ncat <<EOF\nx\nEOF\n",
@@ -145,7 +147,12 @@ const REFUSED: &[(&[u8], &[u8])] = &[
         b"#!/bin/sh\necho $(case)\n",
         b"unsupported subst-case at 17\n",
     ),
+    (
+        b"#!/bin/sh\nset -e\nls; set -u\n",
+        b"unsupported option at 21\n",
+    ),
     (b"#!/bin/sh\nfi\n", b"syntax at 10\n"),
+    (b"#!/bin/sh\nset -e\ntrue ;; true\n", b"syntax at 22\n"),
     (b"#!/bin/sh\nif true; fi\n", b"syntax at 19\n"),
     (b"#!/bin/sh\nif true; then :\n", b"syntax at 26\n"),
     (b"#!/bin/sh\na && ;\n", b"syntax at 15\n"),
