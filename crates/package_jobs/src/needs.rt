@@ -4,7 +4,8 @@ ghost use Rattle.feature_trees.specs.declared.value.Value.{Value};
 ghost use Rattle.utility_calls.specs.Sights.{but, two};
 ghost use Rattle.start_trees.specs.Needs.{IsStart};
 ghost use Rattle.package_lists.specs.PathSets.{has};
-ghost use Rattle.package_jobs.specs.Needed.{kinds_asked, entry_needs, line_needs, needs_before, fit_needs, needs_to_fit};
+ghost use Rattle.package_jobs.specs.Needed.{kinds_asked, entry_needs, line_needs};
+ghost use Rattle.package_jobs.specs.Needed.{needs_before, fit_needs, needs_to_fit};
 ghost use Rattle.package_jobs.specs.StartTrees.{is_fits, is_to_fit, IsStartTree};
 
 use crate::sides::old_package;

@@ -5,7 +5,8 @@ ghost use Rattle.shell_to_colis.specs.Members.{defined_by, members_of};
 ghost use Rattle.std.specs.Option.{option_map};
 ghost use Rattle.stated_calls.specs.Calls.{name_of, read_as};
 ghost use Rattle.stated_calls.specs.Defined.{is_function, defines, in_script};
-ghost use Rattle.stated_calls.specs.Scripts.{renamed, static_read_as, named_word, named, stated_script, command_read, part_read};
+ghost use Rattle.stated_calls.specs.Scripts.{renamed, static_read_as, named_word, named};
+ghost use Rattle.stated_calls.specs.Scripts.{stated_script, command_read, part_read};
 ghost use Rattle.stated_calls.specs.Scripts.{assign_read, case_arm_read, if_arm_read, link_read, word_read};
 
 use crate::read::{end_of, name_of};
