@@ -2,6 +2,7 @@
 //! that take it.
 
 use crate::call_words::{call_cases, placed_cases};
+use crate::clause_texts::read_again;
 use script_names::{Copied, Done, List, Reason};
 use std::process::Abort;
 use std::test::Fail;
@@ -516,7 +517,7 @@ fn answer_text(answer: Done) -> &'static str {
     }
 }
 
-// The case is the row's.
+// The case is the row's, and its clause is read as it was printed.
 fn expect_case<R: Abort + AllocGlobal>(rt: &R, made: &Case, row: &Printed) -> Result<(), Fail> {
     let made = made.copy(rt.alloc())?;
     assert_eq!(rt; answer_text(made.done), row.2, "{}", row.0);
@@ -528,6 +529,8 @@ fn expect_case<R: Abort + AllocGlobal>(rt: &R, made: &Case, row: &Printed) -> Re
     };
     let text = print_clause(rt.alloc(), &clause)?;
     assert_eq!(rt; text.as_slice(), row.4.as_bytes(), "{}", row.0);
+    let again = read_again(rt.alloc(), &text)?;
+    assert_eq!(rt; again.as_slice(), row.4.as_bytes(), "{}", row.0);
     Ok(())
 }
 

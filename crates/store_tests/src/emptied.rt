@@ -1,11 +1,12 @@
-//! A directory without an entry that was taken away from it: it is empty, or has another entry.
+//! A directory without an entry that was taken away from it: it is empty, or has another entry. And the entry that is
+//! shown of a directory that is not empty.
 
 ghost use Rattle.std.specs.Prelude.{◌<◌, ◌≤◌, IfOk, IfSome, IsTrue};
 ghost use Rattle.clause_solver.specs.Stands.{Alive};
 
 use clause_solver::Store;
-use feature_trees::{Kind, Kinds, Value};
-use script_names::{Memory, Name};
+use feature_trees::{Kind, Kinds, Value, print_tree};
+use script_names::{Bytes, Memory, Name};
 use std::alloc::Global;
 use std::process::Abort;
 use std::test::Fail;
@@ -43,15 +44,15 @@ fn can_be_filled(s: &mut Store, x: Var, f: &Name, closed: bool) -> Result<bool, 
     }
 }
 
-// The store in which `/srv/a` is absent, and the variable of `/srv`.
-fn open_store(alloc: Global, srv: &Name, a: &Name) -> Result<(Store, Var), Memory>
+// The store in which an entry of `/srv` is of one of these kinds, and the variable of `/srv`.
+fn open_store(alloc: Global, srv: &Name, a: &Name, kinds: Kinds) -> Result<(Store, Var), Memory>
     ensures { IfOk result (λ found. found.1.0 < found.0.count) }
 {
     let mut s = Store::start(alloc)?;
     let now = s.now();
     let x = s.child(now, srv)?;
     let y = s.child(x, a)?;
-    s.limit(y, Kinds::of(Kind::Absent))?;
+    s.limit(y, kinds)?;
     Ok((s, x))
 }
 
@@ -67,7 +68,7 @@ fn has_another(value: Option<&Value>, a: &Name) -> bool {
 fn shows_another_entry(rt: HostRuntime) -> Result<(), Fail> {
     let srv = Name::read(rt.alloc(), b"srv")?;
     let a = Name::read(rt.alloc(), b"a")?;
-    let (mut s, x) = open_store(rt.alloc(), &srv, &a)?;
+    let (mut s, x) = open_store(rt.alloc(), &srv, &a, Kinds::of(Kind::Absent))?;
     let left = can_be_filled(&mut s, x, &a, false)?;
     assert!(rt; left);
     let tree = s.start_tree(rt.alloc())?;
@@ -79,8 +80,47 @@ fn shows_another_entry(rt: HostRuntime) -> Result<(), Fail> {
 fn knows_that_nothing_is_left(rt: HostRuntime) -> Result<(), Fail> {
     let srv = Name::read(rt.alloc(), b"srv")?;
     let a = Name::read(rt.alloc(), b"a")?;
-    let (mut s, x) = open_store(rt.alloc(), &srv, &a)?;
+    let (mut s, x) = open_store(rt.alloc(), &srv, &a, Kinds::of(Kind::Absent))?;
     let left = can_be_filled(&mut s, x, &a, true)?;
     assert!(rt; !left);
+    Ok(())
+}
+
+// Where `/srv` is not empty: two kinds of which `/srv/b` has one, and the shown tree. An entry is made up only where
+// `/srv/b` cannot stand there.
+const FILLED: &[(Kind, Kind, &str)] = &[
+    (Kind::Reg, Kind::Reg, "d /srv\nf /srv/b\n"),
+    (Kind::Link, Kind::Link, "d /srv\nl /srv/b x\n"),
+    (Kind::Other, Kind::Absent, "d /srv\no /srv/b\n"),
+    (Kind::Absent, Kind::Reg, "d /srv\nf /srv/b\n"),
+    (Kind::Reg, Kind::Dir, "d /srv\nd /srv/b\n"),
+    (
+        Kind::Absent,
+        Kind::Absent,
+        "d /srv\nf /srv/aaaaaaaaaaaaaaaaaaaaaaaaaaaaaaaa\n",
+    ),
+];
+
+// The shown tree where `/srv` is not empty and an entry of it is of one of these kinds; no text where no tree is so.
+fn filled_tree(alloc: Global, srv: &Name, b: &Name, kinds: Kinds) -> Result<Bytes, Memory> {
+    let (mut s, x) = open_store(alloc, srv, b, kinds)?;
+    let left = s.not_empty(x)?;
+    if !left {
+        return Ok(Bytes::new(alloc));
+    }
+    let tree = s.start_tree(alloc)?;
+    let text = print_tree(alloc, &tree)?;
+    Ok(text)
+}
+
+#[test]
+fn shows_an_entry_that_is_known(rt: HostRuntime) -> Result<(), Fail> {
+    let srv = Name::read(rt.alloc(), b"srv")?;
+    let b = Name::read(rt.alloc(), b"b")?;
+    for row in FILLED {
+        let kinds = Kinds::either(Kinds::of(row.0), Kinds::of(row.1));
+        let text = filled_tree(rt.alloc(), &srv, &b, kinds)?;
+        assert_eq!(rt; text.as_slice(), row.2.as_bytes());
+    }
     Ok(())
 }

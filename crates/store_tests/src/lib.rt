@@ -9,6 +9,8 @@ mod call_words;
 #[cfg(test)]
 mod cases;
 #[cfg(test)]
+mod clause_texts;
+#[cfg(test)]
 mod emptied;
 #[cfg(test)]
 mod starts;

@@ -3,9 +3,10 @@
 ghost use Rattle.std.specs.Prelude.{◌≡◌, ◌<◌, ◌≤◌, IfOk, IsTrue};
 ghost use Rattle.clause_solver.specs.Stands.{Alive};
 
+use crate::clause_texts::read_again;
 use clause_solver::Store;
 use feature_trees::{Kind, Kinds, Value, print_tree};
-use script_names::Name;
+use script_names::{Bytes, Name};
 use std::process::Abort;
 use std::test::Fail;
 use tree_clauses::{Var, print_clause};
@@ -22,10 +23,13 @@ fn walk<R: Abort + AllocGlobal>(rt: &R, s: &mut Store, words: &[&[u8]]) -> Resul
     Ok(here)
 }
 
+// The store has a clause of this text, which is read as it was printed.
 fn expect_clause<R: Abort + AllocGlobal>(rt: &R, s: &Store, text: &str) -> Result<(), Fail> {
     let clause = s.clause()?;
     let printed = print_clause(rt.alloc(), &clause)?;
     assert_eq!(rt; printed.as_slice(), text.as_bytes());
+    let again = read_again(rt.alloc(), &printed)?;
+    assert_eq!(rt; again.as_slice(), text.as_bytes());
     Ok(())
 }
 
@@ -52,13 +56,18 @@ fn is_none_left(s: &mut Store, x: Var, k: Kinds) -> bool
     }
 }
 
-// The tree of a store that has a pair, by a limit that leaves all pairs.
-fn expect_tree<R: Abort + AllocGlobal>(rt: &R, s: &mut Store, text: &str) -> Result<(), Fail> {
+/// The shown tree of a store that has a pair, by a limit that leaves all pairs.
+pub(crate) fn shown_tree<R: Abort + AllocGlobal>(rt: &R, s: &mut Store) -> Result<Bytes, Fail> {
     let now = s.now();
     assert!(rt; is_left(s, now, Kinds::all()));
     let tree = s.start_tree(rt.alloc())?;
     assert!(rt; matches!(tree, Value::Dir(_)));
     let printed = print_tree(rt.alloc(), &tree)?;
+    Ok(printed)
+}
+
+fn expect_tree<R: Abort + AllocGlobal>(rt: &R, s: &mut Store, text: &str) -> Result<(), Fail> {
+    let printed = shown_tree(rt, s)?;
     assert_eq!(rt; printed.as_slice(), text.as_bytes());
     Ok(())
 }
@@ -147,23 +156,27 @@ fn takes_deep_paths(rt: HostRuntime) -> Result<(), Fail> {
     Ok(())
 }
 
+// The last four digits of a number.
+fn digits(i: u32) -> [u8; 4] {
+    [
+        b'0' + (i / 1000 % 10) as u8,
+        b'0' + (i / 100 % 10) as u8,
+        b'0' + (i / 10 % 10) as u8,
+        b'0' + (i % 10) as u8,
+    ]
+}
+
 #[test]
 fn takes_many_entries(rt: HostRuntime) -> Result<(), Fail> {
     let mut wide = Store::start(rt.alloc())?;
-    for i in 0u32..500 {
-        let digits = [
-            b'0' + (i / 1000 % 10) as u8,
-            b'0' + (i / 100 % 10) as u8,
-            b'0' + (i / 10 % 10) as u8,
-            b'0' + (i % 10) as u8,
-        ];
-        let x = walk(&rt, &mut wide, &[&digits])?;
+    for i in 0u32..4000 {
+        let x = walk(&rt, &mut wide, &[&digits(i)])?;
         assert!(rt; is_left(&mut wide, x, Kinds::of(Kind::Reg)));
     }
     let now = wide.now();
     assert!(rt; is_left(&mut wide, now, Kinds::all()));
     match wide.start_tree(rt.alloc())? {
-        Value::Dir(entries) => assert_eq!(rt; entries.len(), 500),
+        Value::Dir(entries) => assert_eq!(rt; entries.len(), 4000),
         _ => assert!(rt; false),
     }
     Ok(())
@@ -297,4 +310,41 @@ fn derives_made_ones(rt: HostRuntime) -> Result<(), Fail> {
     let old = walk(&rt, &mut s, &[b"etc", b"c"])?;
     assert!(rt; is_none_left(&mut s, old, Kinds::of(Kind::Dir)));
     Ok(())
+}
+
+// The store in which as many entries of the tree now are taken away, one after the other.
+fn taken_away<R: Abort + AllocGlobal>(rt: &R, count: u32) -> Result<Store, Fail> {
+    let mut s = Store::start(rt.alloc())?;
+    for i in 0..count {
+        let gone = make(&mut s, false)?;
+        put_under(rt, &mut s, &digits(i), gone)?;
+    }
+    Ok(s)
+}
+
+#[test]
+fn derives_a_thousand_times(rt: HostRuntime) -> Result<(), Fail> {
+    let mut s = taken_away(&rt, 1000)?;
+    // the k-th entry, from 0 on, is variable 2 k + 1, and the directory without it 2 k + 2
+    assert_eq!(rt; s.now(), Var(2000));
+    let first = walk(&rt, &mut s, &[b"0000"])?;
+    let last = walk(&rt, &mut s, &[b"0999"])?;
+    assert_eq!(rt; (first, last), (Var(1), Var(1999)));
+    let x = walk(&rt, &mut s, &[b"x"])?;
+    assert_eq!(rt; x, Var(2001));
+    assert!(rt; is_left(&mut s, x, Kinds::of(Kind::Reg)));
+    // a kind of the start tree, three literals for each entry, and two for the last
+    assert_eq!(rt; s.clause()?.literals.len(), 3003);
+    expect_tree(&rt, &mut s, "f /x\n")
+}
+
+#[test]
+fn fills_what_is_derived_a_thousand_times(rt: HostRuntime) -> Result<(), Fail> {
+    let mut s = taken_away(&rt, 1000)?;
+    let now = s.now();
+    assert!(rt; s.not_empty(now)?);
+    expect_tree(&rt, &mut s, "f /aaaaaaaaaaaaaaaaaaaaaaaaaaaaaaaa\n")?;
+    let x = walk(&rt, &mut s, &[b"x"])?;
+    assert!(rt; is_left(&mut s, x, Kinds::of(Kind::Link)));
+    expect_tree(&rt, &mut s, "l /x x\n")
 }
