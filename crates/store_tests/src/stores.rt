@@ -169,14 +169,14 @@ fn digits(i: u32) -> [u8; 4] {
 #[test]
 fn takes_many_entries(rt: HostRuntime) -> Result<(), Fail> {
     let mut wide = Store::start(rt.alloc())?;
-    for i in 0u32..4000 {
+    for i in 0u32..2000 {
         let x = walk(&rt, &mut wide, &[&digits(i)])?;
         assert!(rt; is_left(&mut wide, x, Kinds::of(Kind::Reg)));
     }
     let now = wide.now();
     assert!(rt; is_left(&mut wide, now, Kinds::all()));
     match wide.start_tree(rt.alloc())? {
-        Value::Dir(entries) => assert_eq!(rt; entries.len(), 4000),
+        Value::Dir(entries) => assert_eq!(rt; entries.len(), 2000),
         _ => assert!(rt; false),
     }
     Ok(())
