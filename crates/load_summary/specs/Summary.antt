@@ -34,8 +34,8 @@ part_line part =
     line (scenario_name part.scenario ++ codes " outcomes " ++ decimal (length part.entries) ++ counts_text part.entries)
 
 -- the text: the number of the package, the scenarios, and the verdict of the report
-unfoldable pub load_text : ℕ → Report → List ℕ
-load_text number report =
+unfoldable pub summary_text : ℕ → Report → List ℕ
+summary_text number report =
     line (codes "load " ++ decimal number)
     ++ flat_map part_line report.parts
     ++ line (codes "status " ++ decimal (verdict_of report))

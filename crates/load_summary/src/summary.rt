@@ -2,7 +2,7 @@ ghost use Rattle.std.specs.Prelude.{◌≡◌, ◌++◌, IfOk, OnOk};
 ghost use Rattle.std.specs.List.{flat_map};
 ghost use Rattle.std.specs.Fmt.{decimal};
 ghost use Rattle.shown_texts.specs.Lines.{line};
-ghost use Rattle.load_summary.specs.Summary.{way_name, count_text, counts_text, part_line, load_text};
+ghost use Rattle.load_summary.specs.Summary.{way_name, count_text, counts_text, part_line, summary_text};
 
 use crate::counts::{EndWay, count};
 use outcome_report::{Report, ReportEntry, ReportPart, scenario_name, verdict};
@@ -76,9 +76,9 @@ fn put_numbered(text: &mut Bytes, word: &[u8], number: u32) -> Result<(), Memory
 }
 
 /// The summary of a report on the made package of this number: the number, a line for each scenario, and the verdict.
-#[tactic(auto, unfolding(crate::specs::Summary::load_text))]
+#[tactic(auto, unfolding(crate::specs::Summary::summary_text))]
 pub fn render_load(alloc: Global, number: u32, report: &Report) -> Result<Bytes, Memory>
-    ensures { IfOk result (λ text. text ≡ load_text number report.now) }
+    ensures { IfOk result (λ text. text ≡ summary_text number report.now) }
 {
     let mut text = Bytes::new(alloc);
     put_numbered(&mut text, b"load ", number)?;
