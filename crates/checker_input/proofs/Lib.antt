@@ -2,5 +2,5 @@ mod Files
 mod Texts
 mod Plans
 mod Requests
-mod OneScript
+pub mod OneScript
 mod OneAnswer

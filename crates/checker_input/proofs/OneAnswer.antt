@@ -165,6 +165,7 @@ input_single (request.Run folders tree scenario turns) =
     single_next (packages_in folders) before_start (packages_single folders) (λ packages.
     single_next start_in (after_start packages) start_single (λ start. tt))
 input_single (request.Translate name) = single_next translated_in after_translated translated_single (λ script. tt)
+input_single (request.Load number limit) = tt
 
 pub one_answer : (asked : Request) (contents : InputFile → Option (List ℕ)) (r s : Result Task InputRefusal)
     → IsAnswer contents (input asked) r → IsAnswer contents (input asked) s → r ≡ s

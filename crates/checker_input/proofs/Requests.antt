@@ -107,3 +107,10 @@ module _ (name : InputFile → List ℕ) (s t u : ShelfState) where
     unfolding input
     translate_stops stop reads =
         subst (λ (r : Request). Reads name s t (input r) (Err stop)) (sym is) (reads_stop name s t translated_in after_translated stop reads)
+
+  -- ---- a request for a load
+
+  module _ (asked : Request) (number limit : ℕ) (is : asked ≡ request.Load number limit) where
+    pub load_reads : Reads name s s (input asked) (Ok task.Load)
+    unfolding input
+    load_reads = subst (λ (r : Request). Reads name s s (input r) (Ok task.Load)) (sym is) (reads_done name s task.Load)

@@ -76,6 +76,7 @@ file_name (request.Translate name) (of_request.Old file) = []
 file_name (request.Translate name) (of_request.New file) = []
 file_name (request.Translate name) of_request.Tree = []
 file_name (request.Translate name) of_request.Script = name
+file_name (request.Load number limit) file = []
 
 -- a file of a package, by whose it is
 abbrev pub package_file : Whose → PackageFile → InputFile
@@ -192,7 +193,8 @@ start_in = one_file of_request.Tree (StartComes of_request.Tree)
 unfoldable pub translated_in : Input Script
 translated_in = one_file of_request.Script (TranslatedComes of_request.Script)
 
--- what a request reads: its packages, and behind them the tree of a run; or the script that is translated
+-- what a request reads: its packages, and behind them the tree of a run; or the script that is translated; or nothing,
+-- for a package that is made
 unfoldable pub input : Request → Input Task
 input (request.Check folders scenario turns limit layout) =
     and_then (packages_in folders) (λ packages. done (Ok (task.Check packages)))
@@ -201,9 +203,11 @@ input (request.Run folders tree scenario turns) =
     and_then start_in (λ start. done (Ok (task.Run packages start))))
 input (request.Translate name) =
     and_then translated_in (λ script. done (Ok (task.Translate script)))
+input (request.Load number limit) = done (Ok task.Load)
 
 -- the tree of a run is a tree of files
 abbrev pub HasTree : Task → Type 0
 HasTree (task.Check packages) = Unit {0}
 HasTree (task.Run packages tree) = IsTree tree
 HasTree (task.Translate script) = Unit {0}
+HasTree task.Load = Unit {0}

@@ -121,7 +121,7 @@ fn read_translated<S: Shelf>(
 
 /// Reads what the request names: what it asks for, or the first refusal. The order of files is the base, the old
 /// package, the new package, the tree; of a package it is control, list, conffiles, preinst, postinst, prerm, postrm.
-/// Each is read and then understood before the next is read.
+/// Each is read and then understood before the next is read. A load reads no file.
 pub fn read_task<S: Shelf>(
     alloc: Global,
     request: &Request,
@@ -149,5 +149,6 @@ pub fn read_task<S: Shelf>(
             Ok(script) => Ok(Task::Translate(script)),
             Err(stop) => Err(stop),
         },
+        Request::Load { .. } => Ok(Task::Load),
     }
 }

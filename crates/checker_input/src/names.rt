@@ -98,5 +98,6 @@ pub fn make_name(alloc: Global, request: &Request, file: InputFile) -> Result<Te
             InputFile::Tree => Text::from_text(alloc, ""),
             InputFile::Script => Text::from_text(alloc, name.as_str()),
         },
+        Request::Load { .. } => Text::from_text(alloc, ""),
     }
 }

@@ -11,4 +11,6 @@ pub enum Task {
     Run(Packages, Value),
     /// The program of a script.
     Translate(Accepted),
+    /// The endings of a made package, which is in no file.
+    Load,
 }

@@ -1,5 +1,5 @@
--- The files of a request come to a task that fits it.
-use Rattle.std.proofs.Common.{◌≡◌, Result, Ok, Err, inl, inr, subst, sym}
+-- What words spell is in range, and the files of a request come to a task that fits it.
+use Rattle.std.proofs.Common.{◌≡◌, ℕ, List, Result, Ok, Err, inl, inr, subst, sym}
 use Rattle.checker_io.specs.Reading.{Asking, done, ask, and_then, MayAnswer}
 use Rattle.command_words.specs.declared.request.Request.{Request}
 use Rattle.command_words.specs.declared.request.Request.TheVariants as words
@@ -7,7 +7,16 @@ use Rattle.checker_input.specs.declared.faults.InputRefusal.{InputRefusal}
 use Rattle.checker_input.specs.declared.task.Task.{Task}
 use Rattle.checker_input.specs.declared.task.Task.TheVariants as read
 use Rattle.checker_input.specs.Input.{input, packages_in, start_in, translated_in, HasTree}
-use Rattle.colis_checker.specs.Tasks.{Fits}
+use Rattle.command_words.specs.Words.{form}
+use Rattle.command_words.specs.Laws.{LoadsAreSmall}
+use Rattle.colis_checker.specs.Tasks.{IsInRange, Fits}
+
+-- what words spell is in range
+pub in_range : LoadsAreSmall → (words : List (List ℕ)) (request : Request) → form words ≡ Ok request → IsInRange request
+in_range small spoken (words.Check folders scenario turns limit layout) spelled = tt
+in_range small spoken (words.Run folders file scenario turns) spelled = tt
+in_range small spoken (words.Translate file) spelled = tt
+in_range small spoken (words.Load number limit) spelled = small spoken number limit spelled
 
 -- an answer of readings one after another is one of the last
 may_then : {F R A B : Type 0} (plan : Asking F R A) (more : A → Asking F R B) (value : B)
@@ -20,16 +29,18 @@ may_then (ask file comes next) more value (found, inr refused) = absurd (cc refu
 same_task : {a b : Task} → ◌≡◌ {A = Result Task InputRefusal} (Ok a) (Ok b) → a ≡ b
 same_task e = cc
 
-pub fits : (request : Request) (task : Task) → MayAnswer (Ok task) (input request) → HasTree task → Fits request task
+pub fits : (request : Request) (task : Task) → IsInRange request → MayAnswer (Ok task) (input request) → HasTree task
+    → Fits request task
 unfolding input
-fits (words.Check folders scenario turns limit layout) task may tree =
+fits (words.Check folders scenario turns limit layout) task range may tree =
     let packages = may_then (packages_in folders) (λ packages. done (Ok (read.Check packages))) task may in
     subst (Fits (words.Check folders scenario turns limit layout)) (same_task packages.1) tt
-fits (words.Run folders file scenario turns) task may tree =
+fits (words.Run folders file scenario turns) task range may tree =
     let packages = may_then (packages_in folders) (λ packages. and_then start_in (λ start. done (Ok (read.Run packages start)))) task may in
     let start = may_then start_in (λ start. done (Ok (read.Run packages.0 start))) task packages.1 in
     let same = same_task start.1 in
     subst (Fits (words.Run folders file scenario turns)) same (subst HasTree (sym same) tree)
-fits (words.Translate file) task may tree =
+fits (words.Translate file) task range may tree =
     let script = may_then translated_in (λ script. done (Ok (read.Translate script))) task may in
     subst (Fits (words.Translate file)) (same_task script.1) tt
+fits (words.Load number limit) task range may tree = subst (Fits (words.Load number limit)) (same_task may) range

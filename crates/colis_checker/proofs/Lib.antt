@@ -1,4 +1,5 @@
 pub mod Took
+pub mod Loaded
 pub mod Refused
 pub mod Parts
 pub mod Settled

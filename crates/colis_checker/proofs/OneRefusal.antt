@@ -1,5 +1,5 @@
 -- A request is refused for one reason.
-use Rattle.std.proofs.Common.{◌≡◌, ℕ, ◌<◌, List, [], ◌∷◌, ◌++◌, length, Option, Result, Ok, Err, inl, inr, sym, ap, subst, ◌∙◌, arith}
+use Rattle.std.proofs.Common.{◌≡◌, ℕ, ◌<◌, List, [], ◌∷◌, ◌++◌, length, Option, None, Result, Ok, Err, inl, inr, sym, ap, subst, ◌∙◌, arith}
 use Rattle.script_names.specs.declared.mark.Mark.{Mark}
 use Rattle.feature_trees.specs.declared.value.Value.{Value}
 use Rattle.dpkg_scenarios.specs.declared.scenario.Scenario.{Scenario}
@@ -18,8 +18,11 @@ use Rattle.scenario_outcomes.specs.Outcomes.{AreTraces, AreTooMany, SomeStarts}
 use Rattle.colis_checker.specs.declared.faults.Refusal.{Refusal}
 use Rattle.colis_checker.specs.declared.faults.Refusal.TheVariants.{Usage, Input, NoStart, Limit}
 use Rattle.colis_checker.specs.Reports.{chosen, CanReport, CanReportAll, IsRefused, IsFirstRefused}
+use Rattle.colis_checker.specs.declared.loads.TheConstants.{TURNS}
+use Rattle.colis_checker.specs.Loads.{IsLoadRefusal}
 use Rattle.colis_checker.specs.Tasks.{IsTaskRefusal}
 use Rattle.colis_checker.specs.Laws.{OneRefusal}
+use Rattle.colis_checker.proofs.Loaded.{one_loaded}
 use Rattle.colis_checker.proofs.Refused.{can_or_refused}
 
 -- ---- a scenario
@@ -83,14 +86,26 @@ module _ (packages : Packages) (turns limit : ℕ) where
 
 -- ---- a request
 
+load_refused_once : (number limit : ℕ) (one other : Refusal) → IsLoadRefusal number limit one → IsLoadRefusal number limit other
+    → one ≡ other
+load_refused_once number limit one other x y =
+    let same = one_loaded number x.packages y.packages x.loaded y.loaded in
+    first_once y.packages TURNS limit (chosen None) one other
+    (subst (λ (p : Packages). IsFirstRefused p TURNS limit (chosen None) one) same x.refused) y.refused
+
 task_refused_once : (request : Request) (task : Task) (one other : Refusal) → IsTaskRefusal request task one
     → IsTaskRefusal request task other → one ≡ other
 task_refused_once (words.Check folders scenario turns limit layout) (read.Check packages) one other x y =
     first_once packages turns limit (chosen scenario) one other x y
 task_refused_once (words.Check folders scenario turns limit layout) (read.Run packages tree) one other x y = absurd x
 task_refused_once (words.Check folders scenario turns limit layout) (read.Translate script) one other x y = absurd x
+task_refused_once (words.Check folders scenario turns limit layout) read.Load one other x y = absurd x
 task_refused_once (words.Run folders file scenario turns) task one other x y = absurd x
 task_refused_once (words.Translate file) task one other x y = absurd x
+task_refused_once (words.Load number limit) (read.Check packages) one other x y = absurd x
+task_refused_once (words.Load number limit) (read.Run packages tree) one other x y = absurd x
+task_refused_once (words.Load number limit) (read.Translate script) one other x y = absurd x
+task_refused_once (words.Load number limit) read.Load one other x y = load_refused_once number limit one other x y
 
 same_task : {a b : Task} → ◌≡◌ {A = Result Task InputRefusal} (Ok a) (Ok b) → a ≡ b
 same_task e = cc

@@ -1,5 +1,5 @@
 -- What is reported is not refused.
-use Rattle.std.proofs.Common.{ℕ, ◌≤◌, List, [], ◌∷◌, ◌++◌, subst, arith}
+use Rattle.std.proofs.Common.{ℕ, ◌≤◌, List, [], ◌∷◌, ◌++◌, None, subst, arith}
 use Rattle.dpkg_scenarios.specs.declared.scenario.Scenario.{Scenario}
 use Rattle.command_words.specs.declared.request.Request.{Request}
 use Rattle.command_words.specs.declared.request.Request.TheVariants as words
@@ -10,7 +10,10 @@ use Rattle.outcome_report.specs.declared.outcome_report.ReportPart.{ReportPart}
 use Rattle.colis_checker.specs.declared.faults.Refusal.{Refusal}
 use Rattle.colis_checker.specs.declared.faults.Refusal.TheVariants.{Usage, Input, NoStart, Limit}
 use Rattle.colis_checker.specs.Reports.{chosen, CanReport, CanReportAll, IsRefused, AreParts, IsFirstRefused}
+use Rattle.colis_checker.specs.Loads.{IsLoadOf, IsLoadRefusal, CanLoad}
+use Rattle.colis_checker.specs.declared.loads.TheConstants.{TURNS}
 use Rattle.colis_checker.specs.Tasks.{IsTextOf, IsTaskRefusal, CanComplete, MayEnd}
+use Rattle.colis_checker.proofs.Loaded.{one_loaded}
 
 module _ (packages : Packages) (turns limit : ℕ) where
   -- a scenario that can be reported is not refused
@@ -41,6 +44,20 @@ module _ (packages : Packages) (turns limit : ℕ) where
   parts_can (scenario ∷ scenarios) [] are = absurd are
   parts_can (scenario ∷ scenarios) (part ∷ parts) are = (are.0.bounded, parts_can scenarios parts are.1)
 
+-- a load whose summary was written is not refused
+load_or_refusal : (number limit : ℕ) (text : List ℕ) (status : ℕ) (refusal : Refusal) → IsLoadOf number limit text status
+    → IsLoadRefusal number limit refusal → ⊥
+load_or_refusal number limit text status refusal is against =
+    let same = one_loaded number is.packages against.packages is.loaded against.loaded in
+    let can = parts_can is.packages TURNS limit (chosen None) is.report.parts is.parts in
+    none_refused against.packages TURNS limit (chosen None) refusal
+    (subst (λ (p : Packages). CanReportAll p TURNS limit (chosen None)) same can) against.refused
+
+-- nor is one that can be completed
+load_refusal_or_complete : (number limit : ℕ) (refusal : Refusal) → IsLoadRefusal number limit refusal → CanLoad number limit → ⊥
+load_refusal_or_complete number limit refusal against can =
+    none_refused against.packages TURNS limit (chosen None) refusal (can against.packages against.loaded) against.refused
+
 -- a task whose text was written is not refused
 pub text_or_refusal : (request : Request) (task : Task) (text : List ℕ) (status : ℕ) (refusal : Refusal)
     → IsTextOf request task text status → IsTaskRefusal request task refusal → ⊥
@@ -48,8 +65,13 @@ text_or_refusal (words.Check folders scenario turns limit layout) (read.Check pa
     none_refused packages turns limit (chosen scenario) refusal (parts_can packages turns limit (chosen scenario) is.report.parts is.parts) against
 text_or_refusal (words.Check folders scenario turns limit layout) (read.Run packages tree) text status refusal is against = against
 text_or_refusal (words.Check folders scenario turns limit layout) (read.Translate script) text status refusal is against = against
+text_or_refusal (words.Check folders scenario turns limit layout) read.Load text status refusal is against = against
 text_or_refusal (words.Run folders file scenario turns) task text status refusal is against = against
 text_or_refusal (words.Translate file) task text status refusal is against = against
+text_or_refusal (words.Load number limit) (read.Check packages) text status refusal is against = against
+text_or_refusal (words.Load number limit) (read.Run packages tree) text status refusal is against = against
+text_or_refusal (words.Load number limit) (read.Translate script) text status refusal is against = against
+text_or_refusal (words.Load number limit) read.Load text status refusal is against = load_or_refusal number limit text status refusal is against
 
 -- nor is one that can be completed
 pub refusal_or_complete : (request : Request) (task : Task) (refusal : Refusal)
@@ -58,28 +80,47 @@ refusal_or_complete (words.Check folders scenario turns limit layout) (read.Chec
     none_refused packages turns limit (chosen scenario) refusal can against
 refusal_or_complete (words.Check folders scenario turns limit layout) (read.Run packages tree) refusal against can = against
 refusal_or_complete (words.Check folders scenario turns limit layout) (read.Translate script) refusal against can = against
+refusal_or_complete (words.Check folders scenario turns limit layout) read.Load refusal against can = against
 refusal_or_complete (words.Run folders file scenario turns) task refusal against can = against
 refusal_or_complete (words.Translate file) task refusal against can = against
+refusal_or_complete (words.Load number limit) (read.Check packages) refusal against can = against
+refusal_or_complete (words.Load number limit) (read.Run packages tree) refusal against can = against
+refusal_or_complete (words.Load number limit) (read.Translate script) refusal against can = against
+refusal_or_complete (words.Load number limit) read.Load refusal against can = load_refusal_or_complete number limit refusal against can
 
 pub text_small : (request : Request) (task : Task) (text : List ℕ) (status : ℕ) → IsTextOf request task text status → status ≤ 2
 text_small (words.Check folders scenario turns limit layout) (read.Check packages) text status is = is.small
 text_small (words.Check folders scenario turns limit layout) (read.Run packages tree) text status is = absurd is
 text_small (words.Check folders scenario turns limit layout) (read.Translate script) text status is = absurd is
+text_small (words.Check folders scenario turns limit layout) read.Load text status is = absurd is
 text_small (words.Run folders file scenario turns) (read.Check packages) text status is = absurd is
 text_small (words.Run folders file scenario turns) (read.Run packages tree) text status is = is.small
 text_small (words.Run folders file scenario turns) (read.Translate script) text status is = absurd is
+text_small (words.Run folders file scenario turns) read.Load text status is = absurd is
 text_small (words.Translate file) (read.Check packages) text status is = absurd is
 text_small (words.Translate file) (read.Run packages tree) text status is = absurd is
 text_small (words.Translate file) (read.Translate script) text status is = let none = is.status_is in omega arith
+text_small (words.Translate file) read.Load text status is = absurd is
+text_small (words.Load number limit) (read.Check packages) text status is = absurd is
+text_small (words.Load number limit) (read.Run packages tree) text status is = absurd is
+text_small (words.Load number limit) (read.Translate script) text status is = absurd is
+text_small (words.Load number limit) read.Load text status is = is.small
 
 -- the status of a task's text is one with which the task may end
 pub text_ends : (request : Request) (task : Task) (text : List ℕ) (status : ℕ) → IsTextOf request task text status → MayEnd task status
 text_ends (words.Check folders scenario turns limit layout) (read.Check packages) text status is = is.small
 text_ends (words.Check folders scenario turns limit layout) (read.Run packages tree) text status is = absurd is
 text_ends (words.Check folders scenario turns limit layout) (read.Translate script) text status is = absurd is
+text_ends (words.Check folders scenario turns limit layout) read.Load text status is = absurd is
 text_ends (words.Run folders file scenario turns) (read.Check packages) text status is = absurd is
 text_ends (words.Run folders file scenario turns) (read.Run packages tree) text status is = is.small
 text_ends (words.Run folders file scenario turns) (read.Translate script) text status is = absurd is
+text_ends (words.Run folders file scenario turns) read.Load text status is = absurd is
 text_ends (words.Translate file) (read.Check packages) text status is = absurd is
 text_ends (words.Translate file) (read.Run packages tree) text status is = absurd is
 text_ends (words.Translate file) (read.Translate script) text status is = is.status_is
+text_ends (words.Translate file) read.Load text status is = absurd is
+text_ends (words.Load number limit) (read.Check packages) text status is = absurd is
+text_ends (words.Load number limit) (read.Run packages tree) text status is = absurd is
+text_ends (words.Load number limit) (read.Translate script) text status is = absurd is
+text_ends (words.Load number limit) read.Load text status is = is.small

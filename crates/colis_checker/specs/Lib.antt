@@ -1,6 +1,7 @@
 pub mod CommandLine
 pub mod Settled
 pub mod Reports
+pub mod Loads
 pub mod Tasks
 pub mod ErrorLines
 pub mod Delivery

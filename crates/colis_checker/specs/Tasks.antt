@@ -22,6 +22,7 @@ use Rattle.colis_checker.specs.declared.faults.TaskFault.{TaskFault}
 use Rattle.colis_checker.specs.declared.faults.TaskFault.TheVariants.{Refused, Memory}
 use Rattle.colis_checker.specs.declared.written.Written.{Written}
 use Rattle.colis_checker.specs.Reports.{chosen, CanReportAll, IsFirstRefused, IsReportOf}
+use Rattle.colis_checker.specs.Loads.{IsLoadOf, IsLoadRefusal, CanLoad}
 
 -- the text is that of the scenario's run from the tree, and the status says how it ended: 0 done, 1 failed, 2
 -- incomplete or bound
@@ -46,17 +47,32 @@ pub record IsProgramOf (script : Script) (text : List ℕ) (status : ℕ) : Type
 
 -- ---- the task of a request
 
--- a task that the files of a request can come to: packages to check, packages and a tree to run from, or a script
+-- the number of a load is from 1 to 500
+abbrev pub IsInRange : Request → Type 0
+IsInRange (words.Check folders scenario turns limit layout) = Unit {0}
+IsInRange (words.Run folders file scenario turns) = Unit {0}
+IsInRange (words.Translate file) = Unit {0}
+IsInRange (words.Load number limit) = (1 ≤ number) × (number ≤ 500)
+
+-- a task that the files of a request can come to: packages to check, packages and a tree to run from, or a script; a
+-- load reads no file
 abbrev pub Fits : Request → Task → Type 0
 Fits (words.Check folders scenario turns limit layout) (read.Check packages) = Unit {0}
 Fits (words.Check folders scenario turns limit layout) (read.Run packages tree) = ⊥
 Fits (words.Check folders scenario turns limit layout) (read.Translate script) = ⊥
+Fits (words.Check folders scenario turns limit layout) read.Load = ⊥
 Fits (words.Run folders file scenario turns) (read.Check packages) = ⊥
 Fits (words.Run folders file scenario turns) (read.Run packages tree) = IsTree tree
 Fits (words.Run folders file scenario turns) (read.Translate script) = ⊥
+Fits (words.Run folders file scenario turns) read.Load = ⊥
 Fits (words.Translate file) (read.Check packages) = ⊥
 Fits (words.Translate file) (read.Run packages tree) = ⊥
 Fits (words.Translate file) (read.Translate script) = Unit {0}
+Fits (words.Translate file) read.Load = ⊥
+Fits (words.Load number limit) (read.Check packages) = ⊥
+Fits (words.Load number limit) (read.Run packages tree) = ⊥
+Fits (words.Load number limit) (read.Translate script) = ⊥
+Fits (words.Load number limit) read.Load = (1 ≤ number) × (number ≤ 500)
 
 -- the text of a task, and the status that goes with it
 abbrev pub IsTextOf : Request → Task → List ℕ → ℕ → Type 0
@@ -64,23 +80,35 @@ IsTextOf (words.Check folders scenario turns limit layout) (read.Check packages)
     IsReportOf packages turns limit (chosen scenario) layout text status
 IsTextOf (words.Check folders scenario turns limit layout) (read.Run packages tree) text status = ⊥
 IsTextOf (words.Check folders scenario turns limit layout) (read.Translate script) text status = ⊥
+IsTextOf (words.Check folders scenario turns limit layout) read.Load text status = ⊥
 IsTextOf (words.Run folders file scenario turns) (read.Check packages) text status = ⊥
 IsTextOf (words.Run folders file scenario turns) (read.Run packages tree) text status =
     IsRunOf packages tree scenario turns text status
 IsTextOf (words.Run folders file scenario turns) (read.Translate script) text status = ⊥
+IsTextOf (words.Run folders file scenario turns) read.Load text status = ⊥
 IsTextOf (words.Translate file) (read.Check packages) text status = ⊥
 IsTextOf (words.Translate file) (read.Run packages tree) text status = ⊥
 IsTextOf (words.Translate file) (read.Translate script) text status = IsProgramOf script text status
+IsTextOf (words.Translate file) read.Load text status = ⊥
+IsTextOf (words.Load number limit) (read.Check packages) text status = ⊥
+IsTextOf (words.Load number limit) (read.Run packages tree) text status = ⊥
+IsTextOf (words.Load number limit) (read.Translate script) text status = ⊥
+IsTextOf (words.Load number limit) read.Load text status = IsLoadOf number limit text status
 
--- A task is refused so: of the scenarios to be reported, the first that cannot be is refused so. A run and a program
--- are never refused.
+-- A task is refused so: of the scenarios to be reported, the first that cannot be is refused so, of a load as of a
+-- check. A run and a program are never refused.
 abbrev pub IsTaskRefusal : Request → Task → Refusal → Type 0
 IsTaskRefusal (words.Check folders scenario turns limit layout) (read.Check packages) refusal =
     IsFirstRefused packages turns limit (chosen scenario) refusal
 IsTaskRefusal (words.Check folders scenario turns limit layout) (read.Run packages tree) refusal = ⊥
 IsTaskRefusal (words.Check folders scenario turns limit layout) (read.Translate script) refusal = ⊥
+IsTaskRefusal (words.Check folders scenario turns limit layout) read.Load refusal = ⊥
 IsTaskRefusal (words.Run folders file scenario turns) task refusal = ⊥
 IsTaskRefusal (words.Translate file) task refusal = ⊥
+IsTaskRefusal (words.Load number limit) (read.Check packages) refusal = ⊥
+IsTaskRefusal (words.Load number limit) (read.Run packages tree) refusal = ⊥
+IsTaskRefusal (words.Load number limit) (read.Translate script) refusal = ⊥
+IsTaskRefusal (words.Load number limit) read.Load refusal = IsLoadRefusal number limit refusal
 
 -- a task is not refused: each scenario to be reported can be
 abbrev pub CanComplete : Request → Task → Type 0
@@ -88,14 +116,20 @@ CanComplete (words.Check folders scenario turns limit layout) (read.Check packag
     CanReportAll packages turns limit (chosen scenario)
 CanComplete (words.Check folders scenario turns limit layout) (read.Run packages tree) = Unit {0}
 CanComplete (words.Check folders scenario turns limit layout) (read.Translate script) = Unit {0}
+CanComplete (words.Check folders scenario turns limit layout) read.Load = Unit {0}
 CanComplete (words.Run folders file scenario turns) task = Unit {0}
 CanComplete (words.Translate file) task = Unit {0}
+CanComplete (words.Load number limit) (read.Check packages) = Unit {0}
+CanComplete (words.Load number limit) (read.Run packages tree) = Unit {0}
+CanComplete (words.Load number limit) (read.Translate script) = Unit {0}
+CanComplete (words.Load number limit) read.Load = CanLoad number limit
 
 -- a status with which the text of a task is written
 abbrev pub MayEnd : Task → ℕ → Type 0
 MayEnd (read.Check packages) status = status ≤ 2
 MayEnd (read.Run packages tree) status = status ≤ 2
 MayEnd (read.Translate script) status = status ≡ 0
+MayEnd read.Load status = status ≤ 2
 
 -- ---- what the code answers
 

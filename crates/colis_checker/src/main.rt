@@ -1,13 +1,15 @@
-//! Reads unpacked Debian packages and reports every way in which their maintainer scripts can end, scenario by scenario,
-//! over all file trees that meet stated start conditions; or runs one scenario from one tree; or translates one script
-//! and prints its CoLiS program. Begin with `top`: its `run_words` is all that the program does, and its `finish` ends
-//! the program with the status. What a report says is in specs/Reports.antt, and what it means in `theorems`.
+//! Reads unpacked Debian packages and reports every way in which their maintainer scripts can end, scenario by
+//! scenario, over all file trees that meet stated start conditions; or sums up such a report on a package that it
+//! makes; or runs one scenario from one tree; or translates one script and prints its CoLiS program. Begin with `top`:
+//! its `run_words` is all that the program does, and its `finish` ends the program with the status. What a report says
+//! is in specs/Reports.antt, and what it means in `theorems`.
 #![tactic(auto)]
 
 mod command_line;
 mod deliver;
 mod error_lines;
 mod faults;
+mod loads;
 mod reports;
 mod tasks;
 #[cfg(test)]

@@ -101,8 +101,8 @@ fn settle<T: Drop, E: Drop>(
     Ok(Ok(values))
 }
 
-// The report on one scenario, or on all; or why the first of them that has none is refused.
-fn make_report<R: Threads + Sync, G: Gate>(
+/// The report on one scenario, or on all; or why the first of them that has none is refused.
+pub fn make_report<R: Threads + Sync, G: Gate>(
     rt: &R,
     alloc: Global,
     gate: &G,

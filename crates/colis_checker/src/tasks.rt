@@ -5,6 +5,7 @@ ghost use Rattle.feature_trees.specs.Sound.{IsTree};
 ghost use Rattle.colis_checker.specs.Tasks.{Fits, IsRunOf, IsProgramOf, TaskGives};
 
 use crate::faults::TaskFault;
+use crate::loads::write_load;
 use crate::reports::write_report;
 use crate::written::Written;
 use case_pool::Gate;
@@ -74,7 +75,7 @@ fn write_task<R: Threads + Sync, G: Gate>(
                     rt, alloc, gate, packages, *turns, *limit, *scenario, *layout,
                 )
             }
-            Task::Run(..) | Task::Translate(..) => unreachable!(),
+            Task::Run(..) | Task::Translate(..) | Task::Load => unreachable!(),
         },
         Request::Run {
             scenario,
@@ -85,14 +86,18 @@ fn write_task<R: Threads + Sync, G: Gate>(
                 let written = write_run(alloc, packages, tree, *scenario, *turns)?;
                 Ok(written)
             }
-            Task::Check(..) | Task::Translate(..) => unreachable!(),
+            Task::Check(..) | Task::Translate(..) | Task::Load => unreachable!(),
         },
         Request::Translate { .. } => match task {
             Task::Translate(script) => {
                 let written = write_program(alloc, script)?;
                 Ok(written)
             }
-            Task::Check(..) | Task::Run(..) => unreachable!(),
+            Task::Check(..) | Task::Run(..) | Task::Load => unreachable!(),
+        },
+        Request::Load { number, limit } => match task {
+            Task::Load => write_load(rt, alloc, gate, *number, *limit),
+            Task::Check(..) | Task::Run(..) | Task::Translate(..) => unreachable!(),
         },
     }
 }

@@ -1,6 +1,7 @@
 ghost use Rattle.std.specs.Prelude.{◌≡◌, ◌≤◌, IfOk, IfErr, Ok};
 ghost use Rattle.std.specs.Process.{exit_status};
 ghost use Rattle.command_words.specs.Words.{form};
+ghost use Rattle.colis_checker.specs.Tasks.{IsInRange};
 ghost use Rattle.colis_checker.specs.Top.{Replies, Reported, SaidRefusal};
 ghost use Rattle.colis_checker.specs.Top.{SaidReadFailed, FailedToWrite, RanOut, NoneRose, Completes, Refuses};
 ghost use Rattle.colis_checker.specs.Top.{OfWords};
@@ -14,6 +15,7 @@ use case_pool::Gate;
 use checker_input::read_task;
 use checker_input::theorems::one_answer;
 use checker_io::{Shelf, Sink, Stop};
+use command_words::theorems::loads_are_small;
 use command_words::{Request, WordsFault, read_words};
 use script_names::{List, Memory, Text};
 use std::alloc::Global;
@@ -28,6 +30,7 @@ fn reply<R: Threads + Sync, G: Gate, S: Shelf>(
     request: &Request,
     shelf: &mut S,
 ) -> Reply
+    requires { IsInRange request.now }
     ensures kept { (S.state shelf.new).holds ≡ (S.state shelf.old).holds }
     ensures replies { Replies (Ok request.now) (S.state shelf.old) (S.state shelf.new) result }
 {
@@ -63,6 +66,7 @@ fn answer<R: Threads + Sync, G: Gate, S: Shelf>(
     ensures kept { (S.state shelf.new).holds ≡ (S.state shelf.old).holds }
     ensures replies { Replies (form words.now) (S.state shelf.old) (S.state shelf.new) result }
 {
+    loads_are_small();
     match read_words(alloc, words) {
         Ok(request) => reply(rt, alloc, gate, &request, shelf),
         Err(WordsFault::Usage { word }) => match usage_line(alloc, word) {
@@ -88,8 +92,9 @@ pub fn run_words<R: Threads + Sync, G: Gate, S: Shelf, O: Sink, E: Sink>(
     ensures kept { (S.state shelf.new).holds ≡ (S.state shelf.old).holds }
 
     // 0, 1, 2: no read and no write failed, and the text of what the words ask for was written: a report that has, for
-    // each chosen scenario, all ways in which it can end, and the status is its verdict; or a run, and the status says
-    // how it ended; or a program that does what the script does, and the status is 0.
+    // each chosen scenario, all ways in which it can end, and the status is its verdict; or the summary of such a report
+    // on a made package; or a run, and the status says how it ended; or a program that does what the script does, and
+    // the status is 0.
     ensures reported { result ≤ 2 → Reported (form words.now) (S.state shelf.old) (S.state shelf.new)
         (O.state out.old) (O.state out.new) (E.state err.old) (E.state err.new) result }
 

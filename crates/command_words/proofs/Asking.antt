@@ -15,13 +15,13 @@ use Rattle.command_words.specs.declared.request.Folders.{Folders}
 use Rattle.command_words.specs.declared.request.Layout.{Layout}
 use Rattle.command_words.specs.declared.request.Layout.TheVariants.{Plain, Brief, Json}
 use Rattle.command_words.specs.declared.request.Request.{Request}
-use Rattle.command_words.specs.declared.request.Request.TheVariants.{Check, Run, Translate}
+use Rattle.command_words.specs.declared.request.Request.TheVariants.{Check, Run, Translate, Load}
 use Rattle.command_words.specs.Fields.{takes, texts, first, given, is_field, command_name}
 use Rattle.dpkg_scenarios.specs.Names.{scenario_name, scenario_named}
 use Rattle.command_words.specs.Values.{number_in, is_value}
-use Rattle.command_words.specs.Requests.{number_or, scenario_said, layout_by, folders_said, check_of, run_from}
+use Rattle.command_words.specs.Requests.{number_or, scenario_said, layout_by, folders_said, check_of, run_from, load_by}
 use Rattle.command_words.specs.Requests.{request_by, request_of}
-use Rattle.command_words.specs.CommandLines.{Texts, listed, IsNumberOr, layout_words, NamesFolders, AsksCheck, AsksRun, AsksTranslate, Asks, command_of}
+use Rattle.command_words.specs.CommandLines.{Texts, listed, IsNumberOr, IsNumber, layout_words, NamesFolders, AsksCheck, AsksRun, AsksTranslate, AsksLoad, Asks, command_of}
 use Rattle.command_words.proofs.Fitting.{OneOf, Suits, AllFit, same_field}
 use Rattle.command_words.proofs.Looking.{names_scenario}
 use Rattle.command_words.proofs.Results.{differ, is_no, in_some}
@@ -30,11 +30,13 @@ abbrev pub command_at : Request → Command
 command_at (Check folders chosen turns limit layout) = command.Check
 command_at (Run folders tree chosen turns) = command.Run
 command_at (Translate file) = command.Translate
+command_at (Load number limit) = command.Load
 
 pub commands : (request : Request) → command_of request ≡ command_name (command_at request)
 commands (Check folders chosen turns limit layout) = refl
 commands (Run folders tree chosen turns) = refl
 commands (Translate file) = refl
+commands (Load number limit) = refl
 
 -- ---- a text, or none
 
@@ -96,6 +98,12 @@ number_first most usual [] n h = sym h
 number_first most usual (t ∷ []) n h = ap (λ o. unwrap_or o usual) h
 number_first most usual (t ∷ u ∷ more) n h = absurd h
 
+-- the number that is named
+number_named : (said : List Setting) (ts : Texts) (n : ℕ) → IsNumber 500 ts n → request_by command.Load said (first ts) ≡ load_by said (Some n)
+number_named said [] n h = absurd h
+number_named said (t ∷ []) n h = ap (load_by said) h
+number_named said (t ∷ u ∷ more) n h = absurd h
+
 layout_of_flag : (t : List ℕ) (b c : Bool) → bytes_eq t (codes "--json") ≡ b → bytes_eq t (codes "--brief") ≡ c → (b || c) ≡ true
     → t ∷ [] ≡ layout_words (if b then Json else Brief)
 layout_of_flag t true c same other h = ap (λ x. x ∷ []) ((bytes_eq-Decides t (codes "--json")).0 same)
@@ -136,16 +144,31 @@ asks_check dir said fit named =
       of_tree = not_taken command.Check said field.Tree refl fit;
     }
 
-other_field : (f : Field) → (f ≢ field.Named) → (b : Bool) → is_field field.Named f ≡ b → b ≡ false
-other_field f other true e = absurd (other (sym (same_field field.Named f e)))
-other_field f other false e = refl
+other_field : (one f : Field) → f ≢ one → (b : Bool) → is_field one f ≡ b → b ≡ false
+other_field one f other true e = absurd (other (sym (same_field one f e)))
+other_field one f other false e = refl
+
+is_other : (one f : Field) → f ≢ one → is_field one f ≡ false
+is_other one f other = other_field one f other (is_field one f) refl
 
 asks_translate : (file : List ℕ) (said : List Setting) → AllFit command.Translate said → texts field.Named said ≡ file ∷ []
     → Asks (λ f. texts f said) (Translate file)
 asks_translate file said fit named =
     record {
       of_file = named;
-      of_others = λ f other. not_taken command.Translate said f (other_field f other (is_field field.Named f) refl) fit;
+      of_others = λ f other. not_taken command.Translate said f (is_other field.Named f other) fit;
+    }
+
+asks_load : (name : List ℕ) (number : ℕ) (said : List Setting) → AllFit command.Load said → texts field.Named said ≡ name ∷ []
+    → number_in 500 name ≡ Some number
+    → AsksLoad (λ f. texts f said) number (number_or 100000 10000 (given field.Limit said))
+asks_load name number said fit named is =
+    record {
+      of_number = subst (λ ts. IsNumber 500 ts number) (sym named) is;
+      of_limit = number_listed (λ t. takes command.Load field.Limit ≡ true) 100000 10000 (texts field.Limit said) (fit field.Limit);
+      of_others = λ f unnamed unlimited.
+          not_taken command.Load said f
+          (ap (λ b. b || is_field field.Limit f) (is_other field.Named f unnamed) ∙ is_other field.Limit f unlimited) fit;
     }
 
 -- what a request has to be for these settings
@@ -172,6 +195,13 @@ asked_run dir said request (Some s) (Some tree) fit named scenarios trees e =
       };
     })
 
+asked_load : (name : List ℕ) (said : List Setting) (request : Request) (o : Option ℕ) → AllFit command.Load said
+    → texts field.Named said ≡ name ∷ [] → number_in 500 name ≡ o → load_by said o ≡ Some request
+    → IsAsked command.Load said request
+asked_load name said request None fit named is e = absurd (is_no e)
+asked_load name said request (Some number) fit named is e =
+    subst (IsAsked command.Load said) (in_some e) (record { is = refl; asks = asks_load name number said fit named is })
+
 asked_by : (c : Command) (said : List Setting) (request : Request) (o : Option (List ℕ)) → AllFit c said
     → texts field.Named said ≡ listed o → request_by c said o ≡ Some request → IsAsked c said request
 asked_by c said request None fit named e = absurd (is_no e)
@@ -183,6 +213,8 @@ asked_by command.Run said request (Some dir) fit named e =
     (listed_first (Suits command.Run field.Tree) (texts field.Tree said) (fit field.Tree)) e
 asked_by command.Translate said request (Some file) fit named e =
     subst (IsAsked command.Translate said) (in_some e) (record { is = refl; asks = asks_translate file said fit named })
+asked_by command.Load said request (Some name) fit named e =
+    asked_load name said request (number_in 500 name) fit named refl e
 
 pub asked : (c : Command) (said : List Setting) (request : Request) → AllFit c said → request_of c said ≡ Some request
     → IsAsked c said request
@@ -228,10 +260,17 @@ module _ (said : List Setting) where
       ∙ ap (λ t. run_from folders.dir said (Some chosen) t) trees
       ∙ (λ i. Some (Run (dirs i) tree chosen (turn i)))
 
+  made_load : (number limit : ℕ) → AsksLoad (λ f. texts f said) number limit
+      → request_of command.Load said ≡ Some (Load number limit)
+  made_load number limit asks =
+      let most = number_first 100000 10000 (texts field.Limit said) limit asks.of_limit in
+      number_named said (texts field.Named said) number asks.of_number ∙ (λ i. Some (Load number (most i)))
+
   pub made : (request : Request) → Asks (λ f. texts f said) request → request_of (command_at request) said ≡ Some request
   made (Check folders chosen turns limit layout) asks = made_check folders chosen turns limit layout asks
   made (Run folders tree chosen turns) asks = made_run folders tree chosen turns asks
   made (Translate file) asks = ap (request_by command.Translate said) (ap first asks.of_file)
+  made (Load number limit) asks = made_load number limit asks
 
 -- ---- what is asked for fits
 
@@ -239,10 +278,10 @@ module _ (c : Command) (f : Field) where
   fits_none : (ts : Texts) → ts ≡ [] → OneOf (Suits c f) ts
   fits_none ts e = subst (OneOf (Suits c f)) (sym e) tt
 
-  fits_one : (ts : Texts) (t : List ℕ) → ts ≡ t ∷ [] → takes c f ≡ true → is_value f t ≡ true → OneOf (Suits c f) ts
+  fits_one : (ts : Texts) (t : List ℕ) → ts ≡ t ∷ [] → takes c f ≡ true → is_value c f t ≡ true → OneOf (Suits c f) ts
   fits_one ts t e taken suits = subst (OneOf (Suits c f)) (sym e) (taken, suits)
 
-  fits_listed : (ts : Texts) (o : Option (List ℕ)) → ts ≡ listed o → takes c f ≡ true → ((t : List ℕ) → is_value f t ≡ true)
+  fits_listed : (ts : Texts) (o : Option (List ℕ)) → ts ≡ listed o → takes c f ≡ true → ((t : List ℕ) → is_value c f t ≡ true)
       → OneOf (Suits c f) ts
   fits_listed ts None e taken suits = fits_none ts e
   fits_listed ts (Some t) e taken suits = fits_one ts t e taken (suits t)
@@ -252,6 +291,11 @@ fits_number : (X : List ℕ → Type 0) (most usual : ℕ) (ts : Texts) (n : ℕ
 fits_number X most usual [] n x h = tt
 fits_number X most usual (t ∷ []) n x h = (x t, ap is_some h)
 fits_number X most usual (t ∷ u ∷ more) n x h = absurd h
+
+fits_named : (ts : Texts) (n : ℕ) → IsNumber 500 ts n → OneOf (Suits command.Load field.Named) ts
+fits_named [] n h = absurd h
+fits_named (t ∷ []) n h = (refl, ap is_some h)
+fits_named (t ∷ u ∷ more) n h = absurd h
 
 fits_scenario : (c : Command) (ts : Texts) (o : Option Scenario) → ts ≡ listed (option_map scenario_name o)
     → takes c field.Scenario ≡ true → OneOf (Suits c field.Scenario) ts
@@ -317,7 +361,25 @@ module _ (said : List Setting) where
   translate_fits file asks field.Layout =
       fits_none command.Translate field.Layout (texts field.Layout said) (asks.of_others field.Layout (λ e. cc))
 
+  load_fits : (number limit : ℕ) → AsksLoad (λ f. texts f said) number limit → AllFit command.Load said
+  load_fits number limit asks field.Named = fits_named (texts field.Named said) number asks.of_number
+  load_fits number limit asks field.Old =
+      fits_none command.Load field.Old (texts field.Old said) (asks.of_others field.Old (λ e. cc) (λ e. cc))
+  load_fits number limit asks field.Base =
+      fits_none command.Load field.Base (texts field.Base said) (asks.of_others field.Base (λ e. cc) (λ e. cc))
+  load_fits number limit asks field.Scenario =
+      fits_none command.Load field.Scenario (texts field.Scenario said) (asks.of_others field.Scenario (λ e. cc) (λ e. cc))
+  load_fits number limit asks field.Tree =
+      fits_none command.Load field.Tree (texts field.Tree said) (asks.of_others field.Tree (λ e. cc) (λ e. cc))
+  load_fits number limit asks field.Turns =
+      fits_none command.Load field.Turns (texts field.Turns said) (asks.of_others field.Turns (λ e. cc) (λ e. cc))
+  load_fits number limit asks field.Limit =
+      fits_number (λ t. takes command.Load field.Limit ≡ true) 100000 10000 (texts field.Limit said) limit (λ t. refl) asks.of_limit
+  load_fits number limit asks field.Layout =
+      fits_none command.Load field.Layout (texts field.Layout said) (asks.of_others field.Layout (λ e. cc) (λ e. cc))
+
   pub asked_fits : (request : Request) → Asks (λ f. texts f said) request → AllFit (command_at request) said
   asked_fits (Check folders chosen turns limit layout) asks = check_fits folders chosen turns limit layout asks
   asked_fits (Run folders tree chosen turns) asks = run_fits folders tree chosen turns asks
   asked_fits (Translate file) asks = translate_fits file asks
+  asked_fits (Load number limit) asks = load_fits number limit asks

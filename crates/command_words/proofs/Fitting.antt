@@ -89,7 +89,7 @@ OneOf P (t ∷ []) = P t
 OneOf P (t ∷ u ∷ more) = ⊥
 
 abbrev pub Suits : Command → Field → List ℕ → Type 0
-Suits command f t = (takes command f ≡ true) × (is_value f t ≡ true)
+Suits command f t = (takes command f ≡ true) × (is_value command f t ≡ true)
 
 abbrev pub AllFit : Command → List Setting → Type 0
 AllFit command said = (f : Field) → OneOf (Suits command f) (texts f said)
@@ -112,7 +112,7 @@ was_not_said command said f can =
 
 -- a setting among settings that fit could be said there
 pub fits_there : (command : Command) (said : List Setting) (s : Setting) (more : List Setting) → AllFit command (said ++ s ∷ more)
-    → (may command said s.field ≡ true) × (is_value s.field s.text ≡ true)
+    → (may command said s.field ≡ true) × (is_value command s.field s.text ≡ true)
 fits_there command said s more fit =
     let one = single (Suits command s.field) (texts s.field said) s.text (texts s.field more)
     (subst (OneOf (Suits command s.field)) (texts_at s said more) (fit s.field)) in
@@ -127,7 +127,7 @@ module _ (command : Command) (said : List Setting) (s : Setting) where
       (subst (λ l. OneOf (Suits command s.field) (l ++ s.text ∷ [])) (sym none) suits)
   fit_by f fit suits none false e = subst (OneOf (Suits command f)) (sym (append-nil (texts f said))) (fit f)
 
-  pub fits_more : AllFit command said → may command said s.field ≡ true → is_value s.field s.text ≡ true
+  pub fits_more : AllFit command said → may command said s.field ≡ true → is_value command s.field s.text ≡ true
       → AllFit command (said ++ s ∷ [])
   fits_more fit can value f =
       let was = was_not_said command said s.field can in

@@ -16,11 +16,11 @@ use Rattle.command_words.specs.declared.read.Place.TheVariants.{Options, Value, 
 use Rattle.command_words.specs.declared.request.Request.{Request}
 use Rattle.command_words.specs.Fields.{takes, may, is_given, given, texts, first}
 use Rattle.dpkg_scenarios.specs.Names.{scenario_named}
-use Rattle.command_words.specs.Values.{is_name, is_value}
+use Rattle.command_words.specs.Values.{is_name, number_in, may_name, is_value}
 use Rattle.command_words.specs.Looks.{look}
-use Rattle.command_words.specs.Requests.{request_by, run_from, check_of, request_of}
+use Rattle.command_words.specs.Requests.{request_by, run_from, check_of, load_by, request_of}
 use Rattle.command_words.specs.Words.{is_ready, say, step, after, finished_at, finished}
-use Rattle.command_words.specs.CommandLines.{Texts, HasValue, name_setting}
+use Rattle.command_words.specs.CommandLines.{Texts, HasValue}
 use Rattle.command_words.proofs.Fitting.{OneOf, Suits, AllFit, fits_more, still_given, now_given}
 use Rattle.command_words.proofs.Advance.{after_step}
 use Rattle.command_words.proofs.ReadLines.{Sound, Stands}
@@ -31,7 +31,7 @@ use Rattle.command_words.proofs.Results.{differ}
 
 -- a text for each field, and a word that says it
 abbrev text_for : Field → List ℕ
-text_for field.Named = []
+text_for field.Named = codes "1"
 text_for field.Old = []
 text_for field.Base = []
 text_for field.Scenario = codes "install"
@@ -41,7 +41,7 @@ text_for field.Limit = codes "1"
 text_for field.Layout = codes "--json"
 
 abbrev word_for : Field → List ℕ
-word_for field.Named = []
+word_for field.Named = codes "1"
 word_for field.Old = codes "--old="
 word_for field.Base = codes "--base="
 word_for field.Scenario = codes "--scenario=install"
@@ -63,15 +63,21 @@ word_looked field.Turns = refl
 word_looked field.Limit = refl
 word_looked field.Layout = refl
 
-text_is_value : (f : Field) → is_value f (text_for f) ≡ true
-text_is_value field.Named = refl
-text_is_value field.Old = refl
-text_is_value field.Base = refl
-text_is_value field.Scenario = refl
-text_is_value field.Tree = refl
-text_is_value field.Turns = refl
-text_is_value field.Limit = refl
-text_is_value field.Layout = refl
+names_one : (command : Command) → may_name command (codes "1") ≡ true
+names_one command.Check = refl
+names_one command.Run = refl
+names_one command.Translate = refl
+names_one command.Load = refl
+
+text_is_value : (command : Command) (f : Field) → is_value command f (text_for f) ≡ true
+text_is_value command field.Named = names_one command
+text_is_value command field.Old = refl
+text_is_value command field.Base = refl
+text_is_value command field.Scenario = refl
+text_is_value command field.Tree = refl
+text_is_value command field.Turns = refl
+text_is_value command field.Limit = refl
+text_is_value command field.Layout = refl
 
 text_is_name : (f : Field) → HasValue f → is_name (text_for f) ≡ true
 text_is_name field.Named h = refl
@@ -114,9 +120,9 @@ module _ (command : Command) (said : List Setting) (f : Field) where
         all = said ++ s ∷ [];
         words = word_for f ∷ [];
         path = record {
-          fits = fits_more command said s fits can (text_is_value f);
+          fits = fits_more command said s fits can (text_is_value command f);
           keeps = λ g h. still_given g said (s ∷ []) h;
-          leads = λ rest wanted go n. alone_after command said (word_for f) s rest n wanted (word_looked f) can (text_is_value f) go;
+          leads = λ rest wanted go n. alone_after command said (word_for f) s rest n wanted (word_looked f) can (text_is_value command f) go;
         };
         has = now_given s said;
       }
@@ -135,17 +141,17 @@ module _ (command : Command) (said : List Setting) where
         has = is;
       }
   named_by fits taken false is =
-      let s = name_setting [] in
+      let s = setting_for field.Named in
       let can : may command said field.Named ≡ true = and_from (takes command field.Named) (not (is_given field.Named said)) taken (ap not is) in
       record {
         all = said ++ s ∷ [];
-        words = [] ∷ [];
+        words = codes "1" ∷ [];
         path = record {
-          fits = fits_more command said s fits can refl;
+          fits = fits_more command said s fits can (names_one command);
           keeps = λ g h. still_given g said (s ∷ []) h;
           leads = λ rest wanted go n.
-              after_step command (record { said = said; place = Ended }) (record { said = said ++ s ∷ []; place = Ended }) [] rest n
-              (can_say command said s Ended can refl) ∙ go (n + 1);
+              after_step command (record { said = said; place = Ended }) (record { said = said ++ s ∷ []; place = Ended }) (codes "1") rest n
+              (can_say command said s Ended can (names_one command)) ∙ go (n + 1);
         };
         has = now_given s said;
       }
@@ -166,6 +172,10 @@ some_text (Some t) h = (t, refl)
 some_scenario : (o : Option Scenario) → is_some o ≡ true → (s : Scenario) × (o ≡ Some s)
 some_scenario None h = absurd (differ (sym h))
 some_scenario (Some s) h = (s, refl)
+
+some_number : (o : Option ℕ) → is_some o ≡ true → (n : ℕ) × (o ≡ Some n)
+some_number None h = absurd (differ (sym h))
+some_number (Some n) h = (n, refl)
 
 one_of : (P : List ℕ → Type 0) (ts : Texts) (t : List ℕ) → first ts ≡ Some t → OneOf P ts → P t
 one_of P [] t e h = absurd (differ (sym (ap is_some e)))
@@ -198,6 +208,11 @@ makes command.Run said fits has ready =
 makes command.Translate said fits has ready =
     let file = some_text (given field.Named said) has in
     record { request = _; is = ap (request_by command.Translate said) file.1 }
+makes command.Load said fits has ready =
+    let name = some_text (given field.Named said) has in
+    let suits = one_of (Suits command.Load field.Named) (texts field.Named said) name.0 name.1 (fits field.Named) in
+    let number = some_number (number_in 500 name.0) suits.1 in
+    record { request = _; is = ap (request_by command.Load said) name.1 ∙ ap (load_by said) number.1 }
 
 -- ---- each line that is begun can be completed
 
@@ -250,6 +265,9 @@ open_completes command.Run said fits =
 open_completes command.Translate said fits =
     let g = grows command.Translate said field.Named fits refl in
     completed command.Translate said g.all Options g.words g.path refl g.has refl
+open_completes command.Load said fits =
+    let g = grows command.Load said field.Named fits refl in
+    completed command.Load said g.all Options g.words g.path refl g.has refl
 
 keeps_ready : (command : Command) (said all : List Setting) (words : Texts) → Leads command Ended said all words
     → is_ready command said ≡ true → is_ready command all ≡ true
@@ -258,11 +276,13 @@ keeps_ready command.Run said all words path h =
     let parts = and_parts (is_given field.Scenario said) (is_given field.Tree said) h in
     and_from (is_given field.Scenario all) (is_given field.Tree all) (path.keeps field.Scenario parts.0) (path.keeps field.Tree parts.1)
 keeps_ready command.Translate said all words path h = refl
+keeps_ready command.Load said all words path h = refl
 
 takes_name : (command : Command) → takes command field.Named ≡ true
 takes_name command.Check = refl
 takes_name command.Run = refl
 takes_name command.Translate = refl
+takes_name command.Load = refl
 
 place_completes : (command : Command) (said : List Setting) (place : Place) → AllFit command said → Stands command said place
     → Completes command (record { said = said; place = place })
@@ -271,10 +291,10 @@ place_completes command said (Value f) fits stands =
     let s = setting_for f in
     let waiting : Begun = record { said = said; place = Value f } in
     let next : Begun = record { said = said ++ s ∷ []; place = Options } in
-    let rest = open_completes command (said ++ s ∷ []) (fits_more command said s fits stands.0 (text_is_value f)) in
+    let rest = open_completes command (said ++ s ∷ []) (fits_more command said s fits stands.0 (text_is_value command f)) in
     let goes : step command waiting (text_for f) ≡ Some next =
     ap (λ b. if b then say command said s Options else None) (text_is_name f stands.1)
-    ∙ can_say command said s Options stands.0 (text_is_value f) in
+    ∙ can_say command said s Options stands.0 (text_is_value command f) in
     record {
       rest = text_for f ∷ rest.rest;
       final = rest.final;

@@ -9,3 +9,4 @@ mod ReadLines
 mod SpelledLines
 mod LeastFaults
 mod LeastWords
+mod Loads

@@ -62,7 +62,8 @@ names_command word =
     let P : Command → Type 0 = λ c. word ≡ command_name c in
     pick P word (codes "check") command.Check _ (λ e. e)
     (pick P word (codes "run") command.Run _ (λ e. e)
-    (pick P word (codes "translate") command.Translate None (λ e. e) tt))
+    (pick P word (codes "translate") command.Translate _ (λ e. e)
+    (pick P word (codes "load") command.Load None (λ e. e) tt)))
 
 pub names_scenario : (word : List ℕ) → IfSome (scenario_named word) (λ s. word ≡ scenario_name s)
 names_scenario word =

@@ -41,14 +41,14 @@ unless_some false o x e = (refl, e)
 -- the line that says one thing more
 pub record IsSaid (command : Command) (said : List Setting) (s : Setting) (place : Place) (next : Begun) : Type 0 where
   pub may_be : may command said s.field ≡ true
-  pub is_a_value : is_value s.field s.text ≡ true
+  pub is_a_value : is_value command s.field s.text ≡ true
   pub is : record { said = said ++ s ∷ []; place = place } ≡ next
 
 pub is_said : (command : Command) (said : List Setting) (s : Setting) (place : Place) (next : Begun) → say command said s place ≡ Some next
     → IsSaid command said s place next
 is_said command said s place next e =
-    let first = if_some (may command said s.field) (if is_value s.field s.text then at (said ++ s ∷ []) place else None) next e in
-    let second = if_some (is_value s.field s.text) (at (said ++ s ∷ []) place) next first.1 in
+    let first = if_some (may command said s.field) (if is_value command s.field s.text then at (said ++ s ∷ []) place else None) next e in
+    let second = if_some (is_value command s.field s.text) (at (said ++ s ∷ []) place) next first.1 in
     record { may_be = first.0; is_a_value = second.0; is = in_some second.1 }
 
 -- what the next word made of the line
@@ -242,6 +242,7 @@ still_ready command.Run said more h =
     and_from (is_given field.Scenario (said ++ more)) (is_given field.Tree (said ++ more))
     (still_given field.Scenario said more parts.0) (still_given field.Tree said more parts.1)
 still_ready command.Translate said more h = refl
+still_ready command.Load said more h = refl
 
 opened_sound : (command : Command) (said : List Setting) (word : List ℕ) (next : Begun) (l : Look) → AllFit command said
     → Opened command said word l next → Sound command next

@@ -15,7 +15,7 @@ use Rattle.command_words.specs.declared.read.Begun.{Begun}
 use Rattle.command_words.specs.declared.read.Place.{Place}
 use Rattle.command_words.specs.declared.read.Place.TheVariants.{Options, Value, Ended}
 use Rattle.command_words.specs.declared.request.Request.{Request}
-use Rattle.command_words.specs.declared.request.Request.TheVariants.{Check, Run, Translate}
+use Rattle.command_words.specs.declared.request.Request.TheVariants.{Check, Run, Translate, Load}
 use Rattle.command_words.specs.Fields.{may, is_given, option_name, texts, first, command_name, command_named}
 use Rattle.dpkg_scenarios.specs.Names.{scenario_name}
 use Rattle.command_words.specs.Values.{is_value}
@@ -36,9 +36,9 @@ use Rattle.command_words.proofs.Results.{differ, no_fault, ok_value}
 -- ---- one item
 
 pub can_say : (command : Command) (said : List Setting) (s : Setting) (place : Place) → may command said s.field ≡ true
-    → is_value s.field s.text ≡ true → say command said s place ≡ at (said ++ s ∷ []) place
+    → is_value command s.field s.text ≡ true → say command said s place ≡ at (said ++ s ∷ []) place
 can_say command said s place can value =
-    ap (λ b. if b then (if is_value s.field s.text then at (said ++ s ∷ []) place else None) else None) can
+    ap (λ b. if b then (if is_value command s.field s.text then at (said ++ s ∷ []) place else None) else None) can
     ∙ ap (λ b. if b then at (said ++ s ∷ []) place else None) value
 
 module _ (command : Command) (said : List Setting) where
@@ -46,19 +46,19 @@ module _ (command : Command) (said : List Setting) where
   open_line all = record { said = all; place = Options }
 
   -- a word that says something by itself
-  alone : (word : List ℕ) (s : Setting) → look word ≡ Says s → may command said s.field ≡ true → is_value s.field s.text ≡ true
+  alone : (word : List ℕ) (s : Setting) → look word ≡ Says s → may command said s.field ≡ true → is_value command s.field s.text ≡ true
       → step command (open_line said) word ≡ Some (open_line (said ++ s ∷ []))
   alone word s looks can value = ap (open_step command said) looks ∙ can_say command said s Options can value
 
   pub alone_after : (word : List ℕ) (s : Setting) (words : Texts) (n : ℕ) (wanted : Result Begun ℕ) → look word ≡ Says s
-      → may command said s.field ≡ true → is_value s.field s.text ≡ true
+      → may command said s.field ≡ true → is_value command s.field s.text ≡ true
       → ((m : ℕ) → after command (open_line (said ++ s ∷ [])) words m ≡ wanted)
       → after command (open_line said) (word ∷ words) n ≡ wanted
   alone_after word s words n wanted looks can value rest =
       after_step command (open_line said) (open_line (said ++ s ∷ [])) word words n (alone word s looks can value) ∙ rest (n + 1)
 
   item_after : (item : Item) (words : Texts) (n : ℕ) (wanted : Result Begun ℕ) → IsItem item
-      → may command said (item_setting item).field ≡ true → is_value (item_setting item).field (item_setting item).text ≡ true
+      → may command said (item_setting item).field ≡ true → is_value command (item_setting item).field (item_setting item).text ≡ true
       → ((m : ℕ) → after command (open_line (said ++ item_setting item ∷ [])) words m ≡ wanted)
       → after command (open_line said) (item_words item ++ words) n ≡ wanted
   item_after (apart f text) words n wanted is can value rest =
@@ -154,6 +154,7 @@ ready_before (Run folders tree chosen turns) said names asks =
     (given_before field.Scenario said names (scenario_name chosen) (no_scenario names) asks.of_scenario)
     (given_before field.Tree said names tree (no_tree names) asks.of_tree)
 ready_before (Translate file) said names asks = refl
+ready_before (Load number limit) said names asks = refl
 
 abbrev ended_place : Option Texts → Place
 ended_place None = Options
@@ -200,6 +201,7 @@ named_command : (request : Request) → command_named (command_of request) ≡ S
 named_command (Check folders chosen turns limit layout) = refl
 named_command (Run folders tree chosen turns) = refl
 named_command (Translate file) = refl
+named_command (Load number limit) = refl
 
 pub line_spells : (words : Texts) (request : Request) → IsLine words request → form words ≡ Ok request
 line_spells words request is =

@@ -1,4 +1,5 @@
--- What a valid command line is: a command, and behind it options and the folder or file that is named, in any order.
+-- What a valid command line is: a command, and behind it options and the folder, file or number that is named, in any
+-- order.
 use Rattle.std.specs.Prelude.{◌≡◌, ◌≢◌, ℕ, List, [], ◌∷◌, ◌++◌, map, codes, Option, Some, None, IsTrue}
 use Rattle.std.specs.Option.{option_map}
 use Rattle.dpkg_scenarios.specs.declared.scenario.Scenario.{Scenario}
@@ -9,7 +10,7 @@ use Rattle.command_words.specs.declared.request.Folders.{Folders}
 use Rattle.command_words.specs.declared.request.Layout.{Layout}
 use Rattle.command_words.specs.declared.request.Layout.TheVariants.{Plain, Brief, Json}
 use Rattle.command_words.specs.declared.request.Request.{Request}
-use Rattle.command_words.specs.declared.request.Request.TheVariants.{Check, Run, Translate}
+use Rattle.command_words.specs.declared.request.Request.TheVariants.{Check, Run, Translate, Load}
 use Rattle.command_words.specs.Fields.{option_name, texts}
 use Rattle.dpkg_scenarios.specs.Names.{scenario_name}
 use Rattle.command_words.specs.Values.{is_name, number_in}
@@ -112,6 +113,12 @@ IsNumberOr most usual [] n = n ≡ usual
 IsNumberOr most usual (text ∷ []) n = number_in most text ≡ Some n
 IsNumberOr most usual (text ∷ other ∷ more) n = ⊥
 
+-- the text of such a number, and no other text
+abbrev pub IsNumber : ℕ → Texts → ℕ → Type 0
+IsNumber most [] n = ⊥
+IsNumber most (text ∷ []) n = number_in most text ≡ Some n
+IsNumber most (text ∷ other ∷ more) n = ⊥
+
 -- the words for a layout
 abbrev pub layout_words : Layout → Texts
 layout_words Plain = []
@@ -149,17 +156,25 @@ pub record AsksTranslate (said : Field → Texts) (file : List ℕ) : Type 0 whe
   pub of_file : said field.Named ≡ file ∷ []
   pub of_others : (f : Field) → f ≢ field.Named → said f ≡ []
 
+-- they ask for a load
+pub record AsksLoad (said : Field → Texts) (number limit : ℕ) : Type 0 where
+  pub of_number : IsNumber 500 (said field.Named) number
+  pub of_limit : IsNumberOr 100000 10000 (said field.Limit) limit
+  pub of_others : (f : Field) → f ≢ field.Named → f ≢ field.Limit → said f ≡ []
+
 -- they ask for this request
 abbrev pub Asks : (Field → Texts) → Request → Type 0
 Asks said (Check folders scenario turns limit layout) = AsksCheck said folders scenario turns limit layout
 Asks said (Run folders tree scenario turns) = AsksRun said folders tree scenario turns
 Asks said (Translate file) = AsksTranslate said file
+Asks said (Load number limit) = AsksLoad said number limit
 
 -- the command of a request
 abbrev pub command_of : Request → List ℕ
 command_of (Check folders scenario turns limit layout) = codes "check"
 command_of (Run folders tree scenario turns) = codes "run"
 command_of (Translate file) = codes "translate"
+command_of (Load number limit) = codes "load"
 
 -- The words are a valid line for a request: its command and a line that asks for it. So each option stands there once
 -- at most, and `--json` and `--brief` exclude each other.

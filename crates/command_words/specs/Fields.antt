@@ -1,5 +1,5 @@
 -- What the parts of a command line are about, and what has been said of each.
-use Rattle.std.specs.Prelude.{ℕ, Bool, not, ◌&&◌, ◌==◌, List, [], ◌∷◌, codes, if◌then◌else◌}
+use Rattle.std.specs.Prelude.{ℕ, Bool, not, ◌&&◌, ◌||◌, ◌==◌, List, [], ◌∷◌, codes, if◌then◌else◌}
 use Rattle.std.specs.Prelude.{Option, Some, None}
 use Rattle.std.specs.Option.{is_some}
 use Rattle.std.specs.Str.{bytes_eq}
@@ -14,13 +14,15 @@ abbrev pub command_name : Command → List ℕ
 command_name command.Check = codes "check"
 command_name command.Run = codes "run"
 command_name command.Translate = codes "translate"
+command_name command.Load = codes "load"
 
 -- the command of a name
 abbrev pub command_named : List ℕ → Option Command
 command_named name =
     if bytes_eq name (codes "check") then Some command.Check
     else (if bytes_eq name (codes "run") then Some command.Run
-    else (if bytes_eq name (codes "translate") then Some command.Translate else None))
+    else (if bytes_eq name (codes "translate") then Some command.Translate
+    else (if bytes_eq name (codes "load") then Some command.Load else None)))
 
 -- the name of an option that has a value; the two other fields are no such options
 abbrev pub option_name : Field → List ℕ
@@ -63,6 +65,7 @@ abbrev pub takes : Command → Field → Bool
 takes command.Check f = not (is_field field.Tree f)
 takes command.Run f = not (is_field field.Limit f) && not (is_field field.Layout f)
 takes command.Translate f = is_field field.Named f
+takes command.Load f = is_field field.Named f || is_field field.Limit f
 
 -- the texts for a field, in order
 abbrev pub texts : Field → List Setting → List (List ℕ)

@@ -1,6 +1,8 @@
--- What the form of the command line says: which words are a valid line, and where words stop to begin one.
+-- What the form of the command line says: which words are a valid line, where words stop to begin one, and which
+-- numbers it lets through.
 use Rattle.std.specs.Prelude.{◌≡◌, ◌↔◌, ℕ, ◌+◌, ◌<◌, ◌≤◌, ◌⊎◌, List, ◌++◌, take, length, Ok, Err}
 use Rattle.command_words.specs.declared.request.Request.{Request}
+use Rattle.command_words.specs.declared.request.Request.TheVariants.{Load}
 use Rattle.command_words.specs.Words.{form}
 use Rattle.command_words.specs.CommandLines.{IsLine}
 
@@ -25,3 +27,8 @@ abbrev pub FormIsLeast : Type 0
 FormIsLeast =
     (words : List (List ℕ)) (n : ℕ) → form words ≡ Err n
     → ((k : ℕ) → k < n → BeginsLine (take k words)) × LeavesLine words n
+
+-- a load is of a number from 1 to 500
+abbrev pub LoadsAreSmall : Type 0
+LoadsAreSmall =
+    (words : List (List ℕ)) (number limit : ℕ) → form words ≡ Ok (Load number limit) → (1 ≤ number) × (number ≤ 500)

@@ -11,7 +11,7 @@ use Rattle.command_words.specs.declared.request.Folders.{Folders}
 use Rattle.command_words.specs.declared.request.Layout.{Layout}
 use Rattle.command_words.specs.declared.request.Layout.TheVariants.{Plain, Brief, Json}
 use Rattle.command_words.specs.declared.request.Request.{Request}
-use Rattle.command_words.specs.declared.request.Request.TheVariants.{Check, Run, Translate}
+use Rattle.command_words.specs.declared.request.Request.TheVariants.{Check, Run, Translate, Load}
 use Rattle.command_words.specs.Fields.{given}
 use Rattle.dpkg_scenarios.specs.Names.{scenario_named}
 use Rattle.command_words.specs.Values.{number_in}
@@ -55,12 +55,22 @@ run_from dir said (Some scenario) (Some tree) =
 abbrev pub run_of : List ℕ → List Setting → Option Request
 run_of dir said = run_from dir said (scenario_said said) (given field.Tree said)
 
--- the request, by its command and by the folder or file that is named
+-- a load of a number; None where there is none
+abbrev pub load_by : List Setting → Option ℕ → Option Request
+load_by said None = None
+load_by said (Some number) = Some (Load number (number_or 100000 10000 (given field.Limit said)))
+
+-- a load of the number that is named
+abbrev pub load_of : List ℕ → List Setting → Option Request
+load_of name said = load_by said (number_in 500 name)
+
+-- the request, by its command and by the folder, file or number that is named
 abbrev pub request_by : Command → List Setting → Option (List ℕ) → Option Request
 request_by command said None = None
 request_by command.Check said (Some name) = Some (check_of name said)
 request_by command.Run said (Some name) = run_of name said
 request_by command.Translate said (Some name) = Some (Translate name)
+request_by command.Load said (Some name) = load_of name said
 
 -- the request that they make; None where something is missing
 abbrev pub request_of : Command → List Setting → Option Request

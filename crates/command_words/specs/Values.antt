@@ -6,6 +6,8 @@ use Rattle.std.specs.Option.{is_some}
 use Rattle.std.specs.Str.{bytes_eq}
 use Rattle.std.specs.Str.Parse.{digits_value}
 use Rattle.dpkg_scenarios.specs.Names.{scenario_named}
+use Rattle.command_words.specs.declared.field.Command.{Command}
+use Rattle.command_words.specs.declared.field.Command.TheVariants as command
 use Rattle.command_words.specs.declared.field.Field.{Field}
 use Rattle.command_words.specs.declared.field.Field.TheVariants as field
 
@@ -35,13 +37,20 @@ number_in most text = if is_number most text then Some (digits_value 10 text) el
 abbrev pub is_flag : List ℕ → Bool
 is_flag word = bytes_eq word (codes "--json") || bytes_eq word (codes "--brief")
 
--- what may stand for a field
-abbrev pub is_value : Field → List ℕ → Bool
-is_value field.Named text = true
-is_value field.Old text = true
-is_value field.Base text = true
-is_value field.Scenario text = is_some (scenario_named text)
-is_value field.Tree text = true
-is_value field.Turns text = is_some (number_in 10000 text)
-is_value field.Limit text = is_some (number_in 100000 text)
-is_value field.Layout text = is_flag text
+-- what a line of the command may name: a folder or a file by any text, or the number of a package that is made
+abbrev pub may_name : Command → List ℕ → Bool
+may_name command.Check text = true
+may_name command.Run text = true
+may_name command.Translate text = true
+may_name command.Load text = is_some (number_in 500 text)
+
+-- what may stand for a field in a line of the command
+abbrev pub is_value : Command → Field → List ℕ → Bool
+is_value command field.Named text = may_name command text
+is_value command field.Old text = true
+is_value command field.Base text = true
+is_value command field.Scenario text = is_some (scenario_named text)
+is_value command field.Tree text = true
+is_value command field.Turns text = is_some (number_in 10000 text)
+is_value command field.Limit text = is_some (number_in 100000 text)
+is_value command field.Layout text = is_flag text

@@ -25,6 +25,7 @@ abbrev pub is_ready : Command → List Setting → Bool
 is_ready command.Check said = true
 is_ready command.Run said = is_given field.Scenario said && is_given field.Tree said
 is_ready command.Translate said = true
+is_ready command.Load said = true
 
 -- a line that says these things and stands at a place
 abbrev pub at : List Setting → Place → Option Begun
@@ -34,7 +35,7 @@ at said place = Some (record { said = said; place = place })
 abbrev pub say : Command → List Setting → Setting → Place → Option Begun
 say command said s place =
     if may command said s.field
-    then (if is_value s.field s.text then at (said ++ s ∷ []) place else None)
+    then (if is_value command s.field s.text then at (said ++ s ∷ []) place else None)
     else None
 
 -- a word comes while options may

@@ -9,10 +9,11 @@ pub enum Command {
     Check,
     Run,
     Translate,
+    Load,
 }
 
-/// What a part of a line is about: the folder or file that is named, an option that has a value, or how a report is
-/// written.
+/// What a part of a line is about: the folder, file or number that is named, an option that has a value, or how a report
+/// is written.
 #[derive(Clone, Copy, Debug, PartialEq, Eq)]
 pub enum Field {
     Named,
@@ -37,6 +38,9 @@ pub fn command_named(name: &str) -> Option<Command>
     }
     if name == "translate" {
         return Some(Command::Translate);
+    }
+    if name == "load" {
+        return Some(Command::Load);
     }
     None
 }
@@ -97,5 +101,6 @@ pub fn takes(command: Command, field: Field) -> bool
         Command::Check => !is_field(Field::Tree, field),
         Command::Run => !is_field(Field::Limit, field) && !is_field(Field::Layout, field),
         Command::Translate => is_field(Field::Named, field),
+        Command::Load => is_field(Field::Named, field) || is_field(Field::Limit, field),
     }
 }

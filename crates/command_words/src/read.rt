@@ -170,7 +170,7 @@ fn say(
     if !may(command, said.as_slice(), setting.field) {
         return Ok(None);
     }
-    if !is_value(setting.field, setting.text.as_str()) {
+    if !is_value(command, setting.field, setting.text.as_str()) {
         return Ok(None);
     }
     said.add(setting)?;
@@ -189,7 +189,7 @@ fn is_ready(command: Command, said: &[Setting]) -> bool
     ensures { result ≡ is_ready command said.now }
 {
     match command {
-        Command::Check | Command::Translate => true,
+        Command::Check | Command::Translate | Command::Load => true,
         Command::Run => is_given(said, Field::Scenario) && is_given(said, Field::Tree),
     }
 }

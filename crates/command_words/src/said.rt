@@ -4,6 +4,7 @@ ghost use Rattle.std.specs.List.{find};
 ghost use Rattle.std.specs.Option.{option_copied};
 ghost use Rattle.command_words.specs.Fields.{is_field, given, is_given};
 ghost use Rattle.command_words.specs.Requests.{number_or, scenario_said, layout_said, folders_said, request_of, run_of};
+ghost use Rattle.command_words.specs.Requests.{load_of};
 
 use crate::field::{Command, Field, is_field};
 use crate::request::{Folders, Layout, Request};
@@ -123,6 +124,7 @@ pub fn request_of(
         }
         Command::Run => run_request(alloc, said, name),
         Command::Translate => Ok(Some(Request::Translate { file: name })),
+        Command::Load => Ok(load_request(said, name.as_str())),
     }
 }
 
@@ -145,4 +147,17 @@ fn run_request(alloc: Global, said: &[Setting], dir: Text) -> Result<Option<Requ
         scenario,
         turns: number_or(said, Field::Turns, 10_000, 100),
     }))
+}
+
+// The request of a load, of the number that is named.
+fn load_request(said: &[Setting], name: &str) -> Option<Request>
+    ensures { result ≡ load_of name.now said.now }
+{
+    match read_number(name, 500) {
+        None => None,
+        Some(number) => Some(Request::Load {
+            number,
+            limit: number_or(said, Field::Limit, 100_000, 10_000),
+        }),
+    }
 }

@@ -1,6 +1,6 @@
 //! What holds of the form of the command line.
 
-ghost use Rattle.command_words.specs.Laws.{FormIsLine, FormIsLeast};
+ghost use Rattle.command_words.specs.Laws.{FormIsLine, FormIsLeast, LoadsAreSmall};
 
 /// The words spell a request exactly where they are a valid line for it.
 pub fn forms_are_lines()
@@ -11,4 +11,9 @@ pub fn forms_are_lines()
 /// many words; and where all words begin one, their count and one more.
 pub fn forms_are_least()
     ensures { FormIsLeast }
+{}
+
+/// Where the words ask for a load, it is of a number from 1 to 500.
+pub fn loads_are_small()
+    ensures { LoadsAreSmall }
 {}

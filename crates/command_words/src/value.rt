@@ -2,9 +2,9 @@
 ghost use Rattle.std.specs.Prelude.{◌≡◌};
 ghost use Rattle.std.specs.List.{list_all};
 ghost use Rattle.dpkg_scenarios.specs.Names.{scenario_named};
-ghost use Rattle.command_words.specs.Values.{is_name, is_digit, number_in, is_flag, is_value};
+ghost use Rattle.command_words.specs.Values.{is_name, is_digit, number_in, is_flag, may_name, is_value};
 
-use crate::field::Field;
+use crate::field::{Command, Field};
 use dpkg_scenarios::Scenario;
 
 /// Whether the word does not begin with a dash, or is a dash alone.
@@ -86,12 +86,23 @@ pub fn is_flag(word: &str) -> bool
     word == "--json" || word == "--brief"
 }
 
-/// Whether the text may stand for the field.
-pub fn is_value(field: Field, text: &str) -> bool
-    ensures { result ≡ is_value field text.now }
+// Whether a line of the command may name it.
+fn may_name(command: Command, text: &str) -> bool
+    ensures { result ≡ may_name command text.now }
+{
+    match command {
+        Command::Check | Command::Run | Command::Translate => true,
+        Command::Load => read_number(text, 500).is_some(),
+    }
+}
+
+/// Whether the text may stand for the field in a line of the command.
+pub fn is_value(command: Command, field: Field, text: &str) -> bool
+    ensures { result ≡ is_value command field text.now }
 {
     match field {
-        Field::Named | Field::Old | Field::Base | Field::Tree => true,
+        Field::Named => may_name(command, text),
+        Field::Old | Field::Base | Field::Tree => true,
         Field::Scenario => scenario_named(text).is_some(),
         Field::Turns => read_number(text, 10_000).is_some(),
         Field::Limit => read_number(text, 100_000).is_some(),

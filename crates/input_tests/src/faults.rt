@@ -62,6 +62,7 @@ const REQUESTS: &[(&str, &[(InputFile, &str)], usize, usize)] = &[
     ("check p --old o", ORDER, 1, 15),
     ("check p", ORDER, 8, 15),
     ("translate s", PROGRAM, 0, 1),
+    ("load 7", PROGRAM, 0, 0),
 ];
 
 // The files that have to be there.

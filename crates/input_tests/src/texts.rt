@@ -102,6 +102,7 @@ fn put_task(alloc: Global, text: &mut Bytes, task: &Task) -> Result<(), Memory> 
                 text.extend(b"lax\n")
             }
         }
+        Task::Load => text.extend(b"load\n"),
     }
 }
 

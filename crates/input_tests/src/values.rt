@@ -22,7 +22,7 @@ const FILES: &[File<'static>] = &[
 ];
 
 // The words of a request, and what is read for it: packages, of which a script of theirs that there is none of is left
-// out, the base that is named or else the usual one, a tree, and the script of a program.
+// out, the base that is named or else the usual one, a tree, the script of a program, and nothing for a load.
 const READ: &[(&str, &str)] = &[
     (
         "run p --old o --base b --scenario upgrade --tree t",
@@ -42,6 +42,8 @@ const READ: &[(&str, &str)] = &[
     ),
     ("translate s", "strict\n"),
     ("translate lax", "lax\n"),
+    ("load 7", "load\n"),
+    ("load --limit=3 500", "load\n"),
 ];
 
 #[test]

@@ -111,6 +111,7 @@ fn task_text(alloc: Global, scenario: Scenario, task: &Task) -> Result<Bytes, Me
         Task::Check(packages) => needed(alloc, scenario, packages),
         Task::Run(packages, tree) => ran(alloc, scenario, packages, tree),
         Task::Translate(_) => Err(Memory),
+        Task::Load => Err(Memory),
     }
 }
 

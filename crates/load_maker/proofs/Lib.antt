@@ -1,3 +1,4 @@
 mod Accepting
 mod Numbered
 mod Packages
+pub mod OnePackage

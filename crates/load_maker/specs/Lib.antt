@@ -1,2 +1,3 @@
 pub mod LoadText
 pub mod Loaded
+pub mod Laws

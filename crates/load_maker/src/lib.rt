@@ -6,5 +6,6 @@
 mod made;
 mod reading;
 mod script_text;
+pub mod theorems;
 
 pub use made::load;

@@ -58,7 +58,7 @@ fn put_scenario(text: &mut String, scenario: Option<Scenario>) -> Result<(), All
     }
 }
 
-// A check: the folder, the turns, the limit, the layout, and what else was said.
+// A check: the folder, the turns, the limit, the layout, and what else was said. A load: the number and the limit.
 fn shown_request(alloc: Global, request: &Request) -> Result<String, AllocError> {
     match request {
         Request::Check {
@@ -92,6 +92,7 @@ fn shown_request(alloc: Global, request: &Request) -> Result<String, AllocError>
             let file = shown_word(file.as_str());
             format!(in alloc; "translate {file}")
         }
+        Request::Load { number, limit } => format!(in alloc; "load {number} {limit}"),
     }
 }
 

@@ -1,5 +1,5 @@
 //! Lines that spell a request. A check is shown with its folder, turns, limit and layout; a run with its folder,
-//! scenario, tree and turns.
+//! scenario, tree and turns; a load with its number and limit.
 use crate::lines::check_rows;
 use std::test::Fail;
 
@@ -141,4 +141,26 @@ translate -- --turns -> translate --turns
 #[test]
 fn translations_are_read(rt: HostRuntime) -> Result<(), Fail> {
     check_rows(&rt, TRANSLATIONS, 9)
+}
+
+const LOADS: &str = r#"
+load 5 -> load 5 10000
+load 1 -> load 1 10000
+load 500 -> load 500 10000
+load 007 -> load 7 10000
+load 000500 -> load 500 10000
+load 5 --limit 1 -> load 5 1
+load 5 --limit=100000 -> load 5 100000
+load --limit 3 5 -> load 5 3
+load --limit=000030 5 -> load 5 30
+load --limit 5 500 -> load 500 5
+load -- 5 -> load 5 10000
+load 5 -- -> load 5 10000
+load --limit 7 -- 005 -> load 5 7
+load 12 --limit=7 -- -> load 12 7
+"#;
+
+#[test]
+fn loads_are_read(rt: HostRuntime) -> Result<(), Fail> {
+    check_rows(&rt, LOADS, 14)
 }

@@ -15,7 +15,7 @@ checks p -> usage 1
 check=p -> usage 1
 -- check p -> usage 1
 --json check p -> usage 1
-load 5 -> usage 1
+loads 5 -> usage 1
 predict r t -> usage 1
 pair p q -> usage 1
 Run p --scenario install --tree t -> usage 1
@@ -210,4 +210,51 @@ translate -- -- -> usage 3
 #[test]
 fn wrong_translations(rt: HostRuntime) -> Result<(), Fail> {
     check_rows(&rt, TRANSLATIONS, 15)
+}
+
+const LOADS: &str = r#"
+load -> usage 2
+load 0 -> usage 2
+load 000 -> usage 2
+load 501 -> usage 2
+load 000501 -> usage 2
+load 0000005 -> usage 2
+load x -> usage 2
+load "" -> usage 2
+load - -> usage 2
+load -5 -> usage 2
+load +5 -> usage 2
+load 5x -> usage 2
+load 5 6 -> usage 3
+load 5 5 -> usage 3
+load 5 x -> usage 3
+load 5 -- 6 -> usage 4
+load -- -> usage 3
+load -- 0 -> usage 3
+load -- -5 -> usage 3
+load -- 5 6 -> usage 4
+load -- 5 -- -> usage 4
+load -- 5 --limit=3 -> usage 4
+load 5 --turns 3 -> usage 3
+load 5 --turns=3 -> usage 3
+load --scenario=install 5 -> usage 2
+load 5 --old o -> usage 3
+load --base=b 5 -> usage 2
+load 5 --tree t -> usage 3
+load 5 --json -> usage 3
+load --brief 5 -> usage 2
+load --limit -> usage 3
+load 5 --limit -> usage 4
+load --limit 5 -> usage 4
+load 5 --limit 0 -> usage 4
+load 5 --limit=100001 -> usage 3
+load --limit x 5 -> usage 3
+load 5 --limit 3 --limit 3 -> usage 5
+load --limit=3 501 -> usage 3
+load --limit 3 5 6 -> usage 5
+"#;
+
+#[test]
+fn wrong_loads(rt: HostRuntime) -> Result<(), Fail> {
+    check_rows(&rt, LOADS, 39)
 }

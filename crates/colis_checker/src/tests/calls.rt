@@ -1,4 +1,4 @@
-//! Whole calls: reports on packages, runs, and a program.
+//! Whole calls: reports on packages, the summary of one, runs, and a program.
 
 use super::{File, QUIET, Wanted, call, see};
 use script_names::{Bytes, Memory};
@@ -254,6 +254,21 @@ const CALLS: &[(&[&str], &[File<'static>], Wanted<'static>)] = &[
         (
             0,
             b"result done Installed\ntrace 3:27:67\ncall new postinst configure \\e ok\nafter\nd /srv\nf /srv/b\n",
+            b"",
+        ),
+    ),
+    // A made package of two commands: at each a link stands, or what is no directory; and both directories are made.
+    (
+        &["load", "2"],
+        &[],
+        (
+            1,
+            b"load 2\ninstall outcomes 5 done 1 failed 2 incomplete 2 bound 0\n\
+            install-again outcomes 5 done 1 failed 2 incomplete 2 bound 0\n\
+            upgrade outcomes 5 done 1 failed 2 incomplete 2 bound 0\n\
+            remove outcomes 1 done 1 failed 0 incomplete 0 bound 0\n\
+            purge outcomes 1 done 1 failed 0 incomplete 0 bound 0\n\
+            purge-later outcomes 1 done 1 failed 0 incomplete 0 bound 0\nstatus 1\n",
             b"",
         ),
     ),

@@ -32,6 +32,12 @@ const REFUSED: &[(&[&str], &[File<'static>], &[u8])] = &[
         b"colis: t: missing\n",
     ),
     (&["translate", "s"], &[], b"colis: s: missing\n"),
+    (&["load", "501"], &[], b"colis: usage: word 2\n"),
+    (
+        &["load", "2", "--limit", "4"],
+        &[],
+        b"colis: more than 4 outcomes in install\n",
+    ),
     (
         &["check", "p"],
         &[("p/control", b"Package: p\nVersion: \n")],

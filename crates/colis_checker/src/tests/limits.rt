@@ -1,6 +1,6 @@
-//! The limits of scripts: each at its last value, and one beyond.
+//! The limits of scripts and of made packages: each at its last value, and one beyond.
 
-use super::{File, INSTALL, QUIET, call, see};
+use super::{File, INSTALL, QUIET, Wanted, call, see};
 use script_names::{Bytes, Memory};
 use std::alloc::Global;
 use std::test::Fail;
@@ -157,4 +157,36 @@ fn ten_thousand_turns(rt: HostRuntime) -> Result<(), Fail> {
     let out =
         b"colis brief 1\nscenario install outcomes 1\noutcome 1 bound 3:10\ntrace\nverdict 2\n";
     see(&rt, &ended, (2, out, b""))
+}
+
+// How many outcomes a scenario of the largest made package may have, and what comes of the call.
+const LARGEST: &[(&str, Wanted<'static>)] = &[
+    (
+        "1000",
+        (3, b"", b"colis: more than 1000 outcomes in install\n"),
+    ),
+    (
+        "1001",
+        (
+            1,
+            b"load 500\ninstall outcomes 1001 done 1 failed 500 incomplete 500 bound 0\n\
+            install-again outcomes 1001 done 1 failed 500 incomplete 500 bound 0\n\
+            upgrade outcomes 1001 done 1 failed 500 incomplete 500 bound 0\n\
+            remove outcomes 1 done 1 failed 0 incomplete 0 bound 0\n\
+            purge outcomes 1 done 1 failed 0 incomplete 0 bound 0\n\
+            purge-later outcomes 1 done 1 failed 0 incomplete 0 bound 0\nstatus 1\n",
+            b"",
+        ),
+    ),
+];
+
+// The largest made package, at the limit and one below.
+#[test]
+fn the_largest_made_package(rt: HostRuntime) -> Result<(), Fail> {
+    for row in LARGEST {
+        let words = ["load", "500", "--limit", row.0];
+        let ended = call(&rt, &words, &[], QUIET)?;
+        see(&rt, &ended, row.1)?;
+    }
+    Ok(())
 }

@@ -1,5 +1,5 @@
 use Rattle.checker_input.specs.Input.{file_name}
-use Rattle.checker_input.proofs.Requests.{check_ok, check_stops, run_ok, run_stops, run_unpacked, translate_ok, translate_stops}
+use Rattle.checker_input.proofs.Requests.{check_ok, check_stops, load_reads, run_ok, run_stops, run_unpacked, translate_ok, translate_stops}
 use Rattle.checker_input.proofs.input.read_task.Goals as goal
 
 pub returns-in-Ok-clause-reads : goal.returns-in-Ok-clause-reads
@@ -45,3 +45,8 @@ returns-in-Err-read_translated-clause-reads g c =
     let s = g.S.Shelf.state c.args.shelf.now in
     let t = g.S.Shelf.state c.read_translated.new.shelf in
     translate_stops (file_name c.args.request.now) s t t c.args.request.now _ c.in-Translate.is c.in-Err-read_translated.stop c.in-Err-read_translated.ensures
+
+pub returns-in-Load-clause-reads : goal.returns-in-Load-clause-reads
+returns-in-Load-clause-reads g c =
+    let s = g.S.Shelf.state c.args.shelf.now in
+    load_reads (file_name c.args.request.now) s s s c.args.request.now _ _ c.in-Load.is

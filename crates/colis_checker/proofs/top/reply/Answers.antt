@@ -7,7 +7,7 @@ carry_out-requires g c = (
   c.type_bounds.sync-R,
   (
     c.type_bounds.sync-G,
-    fits c.args.request.now c.in-Ok.task c.in-Ok.ensures.reads.ends.1.may c.in-Ok.ensures.tree,
+    fits c.args.request.now c.in-Ok.task c.requires c.in-Ok.ensures.reads.ends.1.may c.in-Ok.ensures.tree,
   ),
 )
 

@@ -1,0 +1,11 @@
+use Rattle.std.proofs.Common.{arith}
+use Rattle.load_summary.specs.Counts.{ends_in}
+use Rattle.load_summary.proofs.Counting.{counted_below}
+use Rattle.load_summary.proofs.counts.count.Goals as goal
+
+pub one_more-found-requires : goal.one_more-found-requires
+one_more-found-requires c =
+    let below =
+    counted_below (λ entry. ends_in c.args.way entry.outcome.ending) c.args.entries.now c.loop-entry.entry-index c.loop-entry.found
+    c.loop-entry.invariant in
+    omega (arith, below)

@@ -1,0 +1,9 @@
+//! The summary of a report on a made package: a line for each scenario that tells how many of its outcomes end in each
+//! way, and the verdict. It stands on outcome_report, whose reports it tells of. Begin with `render_load`, and with
+//! specs/Summary.antt for its text.
+#![tactic(auto)]
+
+mod counts;
+mod summary;
+
+pub use summary::render_load;
