@@ -1,18 +1,16 @@
--- The packages of a load are one, and what is answered of them is answered of the load.
-use Rattle.std.proofs.Common.{◌≡◌, ℕ, ◌≤◌, List, Option, None, Err, refl, sym, ◌∙◌}
+-- The packages of a load are one, and the summary of a report on them is that of the load.
+use Rattle.std.proofs.Common.{◌≡◌, ℕ, ◌≤◌, Bool, true, false, List, Option, None, refl, sym, subst, ◌∙◌, arith}
+use Rattle.std.specs.Prelude.{if◌then◌else◌}
 use Rattle.package_lists.specs.declared.base.BaseLine.{BaseLine}
-use Rattle.package_lists.specs.declared.base.Base.{Base}
 use Rattle.checker_input.specs.declared.package.Package.{Package}
 use Rattle.checker_input.specs.declared.package.Packages.{Packages}
 use Rattle.load_maker.proofs.OnePackage.{one_package}
 use Rattle.outcome_report.specs.declared.outcome_report.Report.{Report}
-use Rattle.outcome_report.specs.OutcomeReport.{verdict_of}
+use Rattle.outcome_report.specs.OutcomeReport.{report_has, verdict_of}
 use Rattle.load_summary.specs.Summary.{summary_text}
-use Rattle.colis_checker.specs.declared.faults.TaskFault.{TaskFault}
-use Rattle.colis_checker.specs.declared.faults.TaskFault.TheVariants.{Refused, Memory}
 use Rattle.colis_checker.specs.declared.loads.TheConstants.{TURNS}
-use Rattle.colis_checker.specs.Reports.{chosen, PartsGive}
-use Rattle.colis_checker.specs.Loads.{AreLoaded, IsLoadOf, LoadGives}
+use Rattle.colis_checker.specs.Reports.{chosen, AreParts}
+use Rattle.colis_checker.specs.Loads.{AreLoaded, IsLoadOf}
 
 same_packages : {a b : Package} {x y : Option Package} {l m : List BaseLine} → a ≡ b → x ≡ y → l ≡ m
     → ◌≡◌ {A = Packages} (record { new_package = a; old_package = x; base = record { lines = l } })
@@ -23,9 +21,21 @@ pub one_loaded : (number : ℕ) (one other : Packages) → AreLoaded number one 
 one_loaded number one other x y =
     same_packages (one_package number one.new_package other.new_package x.made y.made) (x.alone ∙ sym y.alone) (x.on ∙ sym y.on)
 
--- a report is refused, or memory is missing, and so it is of the load
-pub gives_fault : (number limit : ℕ) (packages : Packages) (fault : TaskFault) → AreLoaded number packages
-    → PartsGive packages TURNS limit (chosen None) (Err fault) → LoadGives number limit (Err fault)
-gives_fault number limit packages (Refused refusal) loaded gives =
-    record { packages = packages; loaded = loaded; refused = gives }
-gives_fault number limit packages Memory loaded gives = tt
+small : (failed unfinished : Bool) → (if failed then 1 else (if unfinished then 2 else 0)) ≤ 2
+small true unfinished = omega arith
+small false true = omega arith
+small false false = omega arith
+
+-- the summary of a report on the packages of a load is that of the load
+pub load_is : (number limit : ℕ) (packages : Packages) (report : Report) (text : List ℕ) (status : ℕ) → AreLoaded number packages
+    → AreParts packages TURNS limit (chosen None) report.parts → text ≡ summary_text number report → status ≡ verdict_of report
+    → IsLoadOf number limit text status
+load_is number limit packages report text status loaded parts text_is status_is = record {
+  packages = packages;
+  loaded = loaded;
+  report = report;
+  parts = parts;
+  text_is = text_is;
+  status_is = status_is;
+  small = subst (λ n. n ≤ 2) (sym status_is) (small (report_has 1 report) (report_has 2 report));
+}
