@@ -98,7 +98,7 @@ unmoved (h ∷ hs) f (suc i) p b = rw (p.0, ← unmoved hs f i p.1 b) refl
 pub seen-gap : (hs : List NamedValue) (f : List ℕ) (i : ℕ) → IsGap hs f i → seen hs ≡ update (seen hs) f Absent
 seen-gap hs f i gap = unmoved hs f i gap.passed gap.here
 
-entry_if_present-there : (f : List ℕ) (v : Value) → IsThere v → entry_if_present f v ≡ record { name = f; node = node_of v } ∷ []
+pub entry_if_present-there : (f : List ℕ) (v : Value) → IsThere v → entry_if_present f v ≡ record { name = f; node = node_of v } ∷ []
 entry_if_present-there f Absent h = absurd h
 entry_if_present-there f Reg h = refl
 entry_if_present-there f (Link b) h = refl

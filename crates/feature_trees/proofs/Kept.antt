@@ -24,7 +24,7 @@ abbrev pub EachSound : List Entry → Type 0
 EachSound [] = Unit {0}
 EachSound (e ∷ es) = IsTrue (is_name e.name) × IsTrue (sound_node e.node) × EachSound es
 
-each_of : (es : List Entry) → IsTrue (sound_all es) → EachSound es
+pub each_of : (es : List Entry) → IsTrue (sound_all es) → EachSound es
 each_of [] h = tt
 each_of (e ∷ es) h =
     let p = and_parts (is_name e.name) _ h in

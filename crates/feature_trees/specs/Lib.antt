@@ -5,6 +5,8 @@ pub mod Tree
 pub mod Place
 pub mod Sound
 pub mod Falls
+pub mod Drafts
+pub mod DraftFalls
 pub mod Laws
 pub mod TreeText
 pub mod TreeLines

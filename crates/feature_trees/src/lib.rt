@@ -2,6 +2,7 @@
 //! It stands on script_names and shown_texts. Begin with `value`, and with specs/Tree.antt for what the calls mean.
 #![tactic(auto)]
 
+mod draft;
 mod kind;
 mod print;
 mod put;

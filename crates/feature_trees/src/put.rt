@@ -42,21 +42,6 @@ impl Value {
     }
 }
 
-// Puts a value at the path of these names; where there are none, in place of the other.
-pub(crate) fn put_at(here: &mut Value, names: &[Name], v: Value) -> Result<(), PutFault>
-    ensures ok { OnOk result (here.new ≡ put here.old names.now v) }
-    ensures no_parent { (result ≡ Err NoParent) ↔ (has_parents here.old names.now ≡ false) }
-    ensures kept { OnErr result (here.new ≡ here.old) }
-{
-    match names {
-        [] => {
-            *here = v;
-            Ok(())
-        }
-        [f, rest @ ..] => put_below(here, f, rest, v),
-    }
-}
-
 // Puts a value at a path of at least one name.
 #[cycle(putting)]
 fn put_below(here: &mut Value, f: &Name, rest: &[Name], v: Value) -> Result<(), PutFault>

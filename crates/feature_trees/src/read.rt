@@ -2,13 +2,17 @@ ghost use Rattle.std.specs.Prelude.{◌≡◌, [], map, Some, IfOk};
 ghost use Rattle.std.specs.Option.{option_and_then};
 ghost use Rattle.feature_trees.specs.declared.value.Value.TheVariants.{Dir};
 ghost use Rattle.feature_trees.specs.declared.read.TreeFault.TheVariants.{Line};
+ghost use Rattle.feature_trees.specs.Drafts.{draft_value};
 ghost use Rattle.feature_trees.specs.Sound.{IsTree};
+ghost use Rattle.feature_trees.specs.TextLaws.{without_entries};
+ghost use Rattle.feature_trees.specs.View.{IsThere};
 ghost use Rattle.feature_trees.specs.TreeLines.{whole_lines, letter_value, link_value, line_of_names, line_at};
 ghost use Rattle.feature_trees.specs.TreeLines.{line_of_words, line_says};
 ghost use Rattle.feature_trees.specs.TreeLines.{with_line, with_lines, tree_of, IsAnswer, IsLeft};
 
-use crate::put::{PutFault, put_at};
-use crate::value::{Entries, Value, value_at};
+use crate::draft::{Draft, make_value, put_draft};
+use crate::put::PutFault;
+use crate::value::{Entries, Value};
 use script_names::{List, Memory, Name};
 use shown_texts::{cut, read_path, read_shown};
 use std::alloc::Global;
@@ -68,7 +72,7 @@ fn read_lines(alloc: Global, lines: &[&[u8]]) -> Result<Value, TreeFault>
     ensures reads { IsAnswer (with_lines 1 (Dir []) (map (λ line. line.now) lines.now)) result }
     ensures tree { IfOk result IsTree }
 {
-    let mut tree = Value::Dir(Entries::new(alloc));
+    let mut tree = Draft::empty(alloc);
     let mut number = 0u32;
     for line in lines {
         if number == u32::MAX {
@@ -82,28 +86,32 @@ fn read_lines(alloc: Global, lines: &[&[u8]]) -> Result<Value, TreeFault>
         }
     }
     tree.is_sound();
+    let tree = make_value(alloc, &tree)?;
     Ok(tree)
 }
 
 // Adds what a line says to the tree of the lines before it.
-fn add_line(alloc: Global, tree: &mut Value, number: u32, text: &[u8]) -> Result<(), TreeFault>
-    ensures { IsLeft (with_line number tree.old (line_says text.now)) tree.new result }
+fn add_line(alloc: Global, tree: &mut Draft, number: u32, text: &[u8]) -> Result<(), TreeFault>
+    ensures { IsLeft (with_line number (draft_value tree.old) (line_says text.now)) (draft_value tree.new) result }
 {
     match read_line(alloc, text)? {
-        Some(line) => put_line(tree, number, line),
+        Some(line) => put_line(alloc, tree, number, line),
         None => Err(line_fault(number, 1)),
     }
 }
 
 // Puts what a line says.
-fn put_line(tree: &mut Value, number: u32, line: TreeLine) -> Result<(), TreeFault>
-    ensures { IsLeft (with_line number tree.old (Some line)) tree.new result }
+fn put_line(alloc: Global, tree: &mut Draft, number: u32, line: TreeLine) -> Result<(), TreeFault>
+    requires there { IsThere line.value }
+    requires bare { without_entries line.value ≡ line.value }
+    ensures { IsLeft (with_line number (draft_value tree.old) (Some line)) (draft_value tree.new) result }
 {
     let TreeLine { names, value } = line;
-    if value_at(tree, names.as_slice()).is_some() {
+    if tree.has(names.as_slice()) {
         return Err(line_fault(number, 2));
     }
-    match put_at(tree, names.as_slice(), value) {
+    let value = Draft::of(alloc, value);
+    match put_draft(alloc, tree, names.as_slice(), value) {
         Ok(()) => Ok(()),
         Err(PutFault::NoParent) => Err(line_fault(number, 3)),
         Err(PutFault::Memory) => Err(TreeFault::Memory),

@@ -227,7 +227,7 @@ impl Value {
 }
 
 // What stands at the path of these names, from a value on.
-pub(crate) fn value_at<'a>(from: &'a Value, names: &[Name]) -> Option<&'a Value>
+fn value_at<'a>(from: &'a Value, names: &[Name]) -> Option<&'a Value>
     ensures { option_copied result ≡ present (at from.now names.now) }
 {
     let mut here = from;
