@@ -46,11 +46,11 @@ ended_count (Waiting x ∷ items) = ended_count items
 ended_count (Ended path ∷ items) = suc (ended_count items)
 
 -- items that come of others by runs of stages among these: they part whatever the others part
-pub record Refine {A : Type 0} (d : Decision A) (first : Value → Value) (trace : List Mark) (xs ys : List (Item A)) : Type 0
-  where
-    pub items : AllItems d first trace ys
-    pub alive : AllAlive (item_states ys)
-    pub parts : (x : PathState) → Parts x (item_states xs) → Parts x (item_states ys)
+pub record Refine {A : Type 0} (d : Decision A) (first : Value → Value) (trace : List Mark) (xs ys : List (Item A))
+    : Type 0 where
+  pub items : AllItems d first trace ys
+  pub alive : AllAlive (item_states ys)
+  pub parts : (x : PathState) → Parts x (item_states xs) → Parts x (item_states ys)
 
 -- a round over items: what comes of them, with one path that has ended for each of them; or more items than room
 abbrev pub Advanced : {A : Type 0} → Decision A → (Value → Value) → List Mark → List (Item A) → ℕ

@@ -12,8 +12,8 @@ pub enum Command {
     Load,
 }
 
-/// What a part of a line is about: the folder, file or number that is named, an option that has a value, or how a report
-/// is written.
+/// What a part of a line is about: the folder, file or number that is named, an option that has a value, or how a
+/// report is written.
 #[derive(Clone, Copy, Debug, PartialEq, Eq)]
 pub enum Field {
     Named,

@@ -44,7 +44,8 @@ PrintedTokensSpellAgain =
 abbrev pub PrintedFirstLinesAreRead : Type 0
 PrintedFirstLinesAreRead =
     (strict : Bool) (rest : Bytes)
-    → (interpreter (line_of (first_line strict ++ rest)) ≡ Some strict) × (behind_line (first_line strict ++ rest) ≡ rest)
+    → (interpreter (line_of (first_line strict ++ rest)) ≡ Some strict)
+    × (behind_line (first_line strict ++ rest) ≡ rest)
 
 -- The text of a printed script is its first line and the texts of its tokens, one after another.
 abbrev pub PrintedTextsAreTokens : Type 0

@@ -73,7 +73,8 @@ pub record IsPlain (made : Case) : Type 0 where
   pub order : PlainOrder [] (0 ∷ []) made.literals known
   pub variables : (i : ℕ) → Contains known i ↔ (i ≤ made.locals)
   pub root : made.root.0 ≤ made.locals
-  pub dir : (g : Valuation) → IsSound g → MeetsAll g made.literals → kind_of (value_of_variable g made.root.0) ≡ kind.Dir
+  pub dir : (g : Valuation) → IsSound g → MeetsAll g made.literals
+      → kind_of (value_of_variable g made.root.0) ≡ kind.Dir
 
 -- a case as a clause, from the tree before to the tree after
 abbrev pub case_clause : Case → Clause
