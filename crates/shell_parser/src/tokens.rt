@@ -9,7 +9,7 @@ ghost use Rattle.shell_grammar.specs.declared.look.Look.TheVariants.{Keyword};
 ghost use Rattle.shell_grammar.specs.declared.look.Reserved.TheVariants.{In};
 ghost use Rattle.shell_parser.specs.Reads.{Reads, Takes, Separates, ArmBegins};
 
-use crate::forms::{is_separator, same_look};
+use crate::forms::{is_separator, link_and, same_look};
 use crate::looks::look;
 use shell_grammar::{Look, ParseFault, Reserved};
 use shell_lexer::{RawPart, Token, TokenKind};
@@ -155,4 +155,35 @@ pub fn arm_begin(level: usize, end: u32, ts: &[Token], at: usize) -> usize
         return at + 1;
     }
     at
+}
+
+/// How many words stand there in a row: so many are to have room in a simple command.
+pub fn words_from(ts: &[Token], at: usize) -> usize
+    requires { at ≤ length ts.now }
+{
+    let mut now = at;
+    while now < ts.len() && word_parts(ts, now).is_some() {
+        now += 1;
+    }
+    now - at
+}
+
+/// How many commands are to have room in a list whose first one ends there: where a separator stands, two.
+pub fn list_room(ts: &[Token], at: usize) -> usize
+    requires { at ≤ length ts.now }
+{
+    if separates(ts, at) {
+        return 2;
+    }
+    1
+}
+
+/// How many commands are to have room behind the first of an and-or list, where that ends there.
+pub fn link_room(ts: &[Token], at: usize) -> usize
+    requires { at ≤ length ts.now }
+{
+    match link_and(look(ts, at)) {
+        Some(_) => 1,
+        None => 0,
+    }
 }

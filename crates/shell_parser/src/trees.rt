@@ -141,14 +141,16 @@ pub fn with_case_arm(
     Ok(all)
 }
 
-pub fn no_items(alloc: Global) -> Items
-    ensures { result ≡ no_items_of }
+/// No items, with room for so many words.
+pub fn no_items(alloc: Global, words: usize) -> Result<Items, Memory>
+    ensures { IfOk result (λ none. none ≡ no_items_of) }
 {
-    Items {
+    let words = List::with_room(alloc, words)?;
+    Ok(Items {
         assigns: List::new(alloc),
-        words: List::new(alloc),
+        words,
         redirects: List::new(alloc),
-    }
+    })
 }
 
 pub fn with_assign(items: Items, assign: Assign) -> Result<Items, Memory>

@@ -7,7 +7,7 @@ ghost use Rattle.shell_parser.specs.Reads.{Reads, Parses};
 use crate::forms::{link_and, same_look, starts};
 use crate::looks::look;
 use crate::parser::commands::command;
-use crate::tokens::{newlines, place, separates, stands};
+use crate::tokens::{link_room, list_room, newlines, place, separates, stands};
 use crate::trees::{chain_of, pipe_of, seq_of, with_command, with_link};
 use script_names::{Boxed, List};
 use shell_grammar::{Look, ParseFault, Reserved};
@@ -77,7 +77,7 @@ pub(super) fn members(
         Ok(found) => found,
         Err(fault) => return Err(fault),
     };
-    let none = List::with_room(alloc, 1)?;
+    let none = List::with_room(alloc, list_room(ts, behind))?;
     let mut trees = with_command(none, first)?;
     let mut now = behind;
     while separates(ts, now) {
@@ -112,7 +112,7 @@ fn and_or(
         Ok(found) => found,
         Err(fault) => return Err(fault),
     };
-    let mut links = List::new(alloc);
+    let mut links = List::with_room(alloc, link_room(ts, behind))?;
     let mut now = behind;
     while now < ts.len() {
         let and = match link_and(look(ts, now)) {
@@ -180,7 +180,8 @@ fn piped(
     if !stands(ts, behind, Look::Bar) {
         return Ok((first, behind));
     }
-    let mut parts = with_command(List::new(alloc), first)?;
+    let none = List::with_room(alloc, 2)?;
+    let mut parts = with_command(none, first)?;
     let mut now = behind;
     while stands(ts, now, Look::Bar) {
         now = newlines(level, end, ts, now + 1);

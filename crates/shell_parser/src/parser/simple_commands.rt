@@ -12,7 +12,7 @@ use crate::forms::{has_word, item};
 use crate::looks::look;
 use crate::parser::commands::braces;
 use crate::parser::words::{assignment, word};
-use crate::tokens::{newlines, place, stands, take};
+use crate::tokens::{newlines, place, stands, take, words_from};
 use crate::trees::{name_of, no_items, simple_of, with_assign, with_redirect, with_word};
 use script_names::Boxed;
 use shell_grammar::{Item, Items, Look, ParseFault};
@@ -54,7 +54,8 @@ pub(super) fn named(
         )?;
         return Ok((tree, last));
     }
-    let begun = with_word(no_items(alloc), first)?;
+    let none = no_items(alloc, words_from(ts, at))?;
+    let begun = with_word(none, first)?;
     let (all, last) = match items(alloc, level, end, ts, behind, true, begun) {
         Ok(found) => found,
         Err(fault) => return Err(fault),
@@ -106,7 +107,8 @@ pub(super) fn simple(
     requires form { command_form_of (look_of (drop at ts.now)) ≡ Found a_command.Simple }
     ensures { Reads level end ACommand ts.now at result }
 {
-    let (all, last) = match items(alloc, level, end, ts, at, false, no_items(alloc)) {
+    let none = no_items(alloc, words_from(ts, at))?;
+    let (all, last) = match items(alloc, level, end, ts, at, false, none) {
         Ok(found) => found,
         Err(fault) => return Err(fault),
     };

@@ -17,7 +17,7 @@ pub lists::and_or-returns-in-Err : goal.lists::and_or-returns-in-Err
 lists::and_or-returns-in-Err t c = s.passed_on (λ f r x. m.and_or_stops x) c.in-Err.fault c.in-Err.ensures
 
 pub lists::and_or-loop-now-init : goal.lists::and_or-loop-now-init
-lists::and_or-loop-now-init t c = (c.in-Ok.ensures.0, c.in-Ok.ensures.1, m.links_begin _ _ _ _ c.new-links.ensures c.in-Ok.ensures.2)
+lists::and_or-loop-now-init t c = (c.in-Ok.ensures.0, c.in-Ok.ensures.1, m.links_begin _ _ _ _ c.in_ok-links.ensures c.in-Ok.ensures.2)
 
 pub lists::and_or-returns-in-None : goal.lists::and_or-returns-in-None
 lists::and_or-returns-in-None t c = (c.loop-now.invariant.0, c.loop-now.invariant.1, m.links_end _ _ _ _ _ c.in_ok-chain_of-in-None.ensures c.loop-now.invariant.2 (ap form.link_and (sym c.look.ensures) ∙ sym c.link_and.ensures ∙ c.in-None.is))
@@ -26,7 +26,7 @@ pub lists::and_or-returns-in-Err-pipeline : goal.lists::and_or-returns-in-Err-pi
 lists::and_or-returns-in-Err-pipeline t c = s.passed_on (λ f r x. m.links_stops _ c.args.ts.now c.loop-now.now _ r _ f _ _ c.loop-now.invariant.2 (ap form.link_and (sym c.look.ensures) ∙ sym c.link_and.ensures ∙ c.in-Some.is) c.newlines-now.ensures.2 x) c.in-Err-pipeline.fault c.in-Err-pipeline.ensures
 
 pub lists::and_or-loop-now-preserved : goal.lists::and_or-loop-now-preserved
-lists::and_or-loop-now-preserved t c = (omega (arith, c.loop-now.invariant.0, c.newlines-now.ensures.0, c.in-Ok-pipeline.ensures.0), c.in-Ok-pipeline.ensures.1, m.links_goes _ c.args.ts.now c.loop-now.now _ _ _ _ _ _ _ c.loop-now.invariant.2 (ap form.link_and (sym c.look.ensures) ∙ sym c.link_and.ensures ∙ c.in-Some.is) c.newlines-now.ensures.2 c.in-Ok-pipeline.ensures.2 c.in_ok-links.ensures)
+lists::and_or-loop-now-preserved t c = (omega (arith, c.loop-now.invariant.0, c.newlines-now.ensures.0, c.in-Ok-pipeline.ensures.0), c.in-Ok-pipeline.ensures.1, m.links_goes _ c.args.ts.now c.loop-now.now _ _ _ _ _ _ _ c.loop-now.invariant.2 (ap form.link_and (sym c.look.ensures) ∙ sym c.link_and.ensures ∙ c.in-Some.is) c.newlines-now.ensures.2 c.in-Ok-pipeline.ensures.2 c.in_ok-links-2.ensures)
 
 pub lists::and_or-returns : goal.lists::and_or-returns
 lists::and_or-returns t c = (c.loop-now.invariant.0, c.loop-now.invariant.1, m.links_end _ _ _ _ _ c.in_ok-chain_of.ensures c.loop-now.invariant.2 (ap form.link_and (s.end_of c.args.ts.now c.loop-now.now (omega (arith, c.loop-now-test.false)))))
@@ -94,7 +94,7 @@ pub lists::piped-returns-then-not-stands : goal.lists::piped-returns-then-not-st
 lists::piped-returns-then-not-stands t c = (c.in-Ok.ensures.0, c.in-Ok.ensures.1, m.piped_one _ _ _ c.in-Ok.ensures.2 (λ q. let t = c.stands.ensures.looks.1 q in let f = c.if-not-stands.true in cc))
 
 pub lists::piped-loop-now-init : goal.lists::piped-loop-now-init
-lists::piped-loop-now-init t c = (c.in-Ok.ensures.0, c.in-Ok.ensures.1, m.bars_begin _ _ _ _ _ c.new.ensures c.in_ok-parts.ensures c.in-Ok.ensures.2)
+lists::piped-loop-now-init t c = (c.in-Ok.ensures.0, c.in-Ok.ensures.1, m.bars_begin _ _ _ _ _ c.in_ok-none.ensures c.in_ok-parts.ensures c.in-Ok.ensures.2)
 
 pub lists::piped-returns-in-Err-command : goal.lists::piped-returns-in-Err-command
 lists::piped-returns-in-Err-command t c = s.passed_on (λ f r x. m.bars_stops _ c.args.ts.now c.loop-now.now _ r f c.loop-now.parts c.loop-now.invariant.2 (c.stands-in-loop-now.ensures.looks.0 c.loop-now-test.true) c.newlines-now.ensures.2 x) c.in-Err-command.fault c.in-Err-command.ensures
@@ -349,7 +349,7 @@ pub simple_commands::named-returns-in-Err-items : goal.simple_commands::named-re
 simple_commands::named-returns-in-Err-items t c = s.passed_on (λ f r x. i.continue_stops _ f c.requires.form c.in-Ok.ensures.2 (λ q. let t = c.stands.ensures.looks.1 q in let f = c.if-stands.false in cc) x) c.in-Err-items.fault c.in-Err-items.ensures
 
 pub simple_commands::named-returns : goal.simple_commands::named-returns
-simple_commands::named-returns t c = (omega (arith, c.in-Ok.ensures.0, c.in-Ok-items.ensures.0), c.in-Ok-items.ensures.1, i.continue_ok _ _ _ _ _ _ c.no_items.ensures c.in_ok-begun.ensures c.place-2.ensures c.in_ok-simple_of.ensures c.requires.form c.in-Ok.ensures.2 (λ q. let t = c.stands.ensures.looks.1 q in let f = c.if-stands.false in cc) c.in-Ok-items.ensures.2)
+simple_commands::named-returns t c = (omega (arith, c.in-Ok.ensures.0, c.in-Ok-items.ensures.0), c.in-Ok-items.ensures.1, i.continue_ok _ _ _ _ _ _ c.in_ok-none.ensures c.in_ok-begun.ensures c.place-2.ensures c.in_ok-simple_of.ensures c.requires.form c.in-Ok.ensures.2 (λ q. let t = c.stands.ensures.looks.1 q in let f = c.if-stands.false in cc) c.in-Ok-items.ensures.2)
 
 pub simple_commands::definition-returns-in-Err : goal.simple_commands::definition-returns-in-Err
 simple_commands::definition-returns-in-Err t c = s.passed_sign (λ f r x. i.definition_open f c.requires.looks x) c.in-Err.fault c.in-Err.ensures
@@ -367,7 +367,7 @@ pub simple_commands::simple-returns-in-Err : goal.simple_commands::simple-return
 simple_commands::simple-returns-in-Err t c = s.passed_on (λ f r x. i.simple_stops f c.requires.form x) c.in-Err.fault c.in-Err.ensures
 
 pub simple_commands::simple-returns : goal.simple_commands::simple-returns
-simple_commands::simple-returns t c = (c.in-Ok.ensures.0, c.in-Ok.ensures.1, i.simple_ok _ _ _ _ c.no_items.ensures c.place.ensures c.in_ok-simple_of.ensures c.requires.form c.in-Ok.ensures.2)
+simple_commands::simple-returns t c = (c.in-Ok.ensures.0, c.in-Ok.ensures.1, i.simple_ok _ _ _ _ c.in_ok-none.ensures c.place.ensures c.in_ok-simple_of.ensures c.requires.form c.in-Ok.ensures.2)
 
 -- ---- items of a simple command
 
