@@ -1,6 +1,6 @@
 -- The tree of the greatest kinds, one value moved into its parent after another.
 use Rattle.std.proofs.Common.{◌≡◌, ℕ, zero, suc, ◌+◌, ◌<◌, inl, inr, Bool, true, false, nat_eq, List, [], ◌∷◌, ◌++◌, length, take, drop, refl, sym, ap, ◌∙◌, arith, length-set, get_or-set_other, get_or-set_same}
-use Rattle.std.proofs.lemmas.List.{drop_more, drop_all, get_or-take, length-take-le, get_or_append_left, length-append}
+use Rattle.std.proofs.lemmas.List.{drop_more, drop_all, get_or-take, length-take-le, length-append}
 use Rattle.std.proofs.Math.Seq.{get_or-append_seam, take-append_seam}
 use Rattle.feature_trees.specs.declared.kind.Kind.{Kind}
 use Rattle.feature_trees.specs.declared.kind.Kind.TheVariants as kind
@@ -16,8 +16,8 @@ use Rattle.clause_solver.specs.Variables.{no_variable, var_at}
 use Rattle.clause_solver.specs.Greatest.{kind_at}
 use Rattle.clause_solver.specs.Grown.{grown, add, children, extra, values}
 use Rattle.clause_solver.specs.Opens.{opened, without_children}
-use Rattle.clause_solver.specs.Builds.{AreWithoutChildren, IsBuilt, with_entry, moved_to_parent}
-use Rattle.clause_solver.proofs.Names.{nat_cases, eq_cases, same_yes, last_cases}
+use Rattle.clause_solver.specs.Builds.{IsBuilt, with_entry, moved_to_parent}
+use Rattle.clause_solver.proofs.Names.{nat_cases, eq_cases, same_yes}
 use Rattle.clause_solver.proofs.Grown.{values_length}
 
 value_grown : (best : List Kind) (o : ℕ → Bool) (z : List ℕ) (k : ℕ) (vs : List Variable) (i : ℕ) → i < length vs → value_of_variable (values best o z k vs) i ≡ grown (kind_at best (k + i)) (children (k + i) (drop (suc i) vs) (drop (suc i) (values best o z k vs)) (extra (o (k + i)) z))
@@ -40,10 +40,10 @@ module _ (vars : List Variable) (best : List Kind) (marks : List Bool) (z : List
   abbrev all : Valuation
   all = values best (opened vars marks) z 0 vars
 
-  pub without_children_built : (vs : Valuation) → AreWithoutChildren vars best marks z vs → IsBuilt vars best marks z (length vars) vs
-  without_children_built vs h = record {
-    counted = h.counted;
-    each = λ k w. h.each k w ∙ rw (drop_all (length vars) vars (omega arith)) refl;
+  pub without_children_built : (vs : Valuation) → length vs ≡ length vars → ((k : ℕ) → k < length vars → value_of_variable vs k ≡ without_children vars best marks z k) → IsBuilt vars best marks z (length vars) vs
+  without_children_built vs counted each = record {
+    counted = counted;
+    each = λ k w. each k w ∙ rw (drop_all (length vars) vars (omega arith)) refl;
   }
 
   -- the last value is whole
@@ -106,16 +106,6 @@ module _ (vars : List Variable) (best : List Kind) (marks : List Bool) (z : List
       counted = counted_by (var_at vars i).definition;
       each = each_by (var_at vars i).definition refl;
     }
-
--- one more value before any entry is known
-pub without_children_more : (vars : List Variable) (best : List Kind) (marks : List Bool) (z : List ℕ) (i : ℕ) (vs : Valuation) (v : Value) → length vs ≡ i → ((k : ℕ) → k < i → value_of_variable vs k ≡ without_children vars best marks z k) → v ≡ without_children vars best marks z i → (k : ℕ) → k < i + 1 → value_of_variable (vs ++ v ∷ []) k ≡ without_children vars best marks z k
-without_children_more vars best marks z i vs v l each e k w = elim (last_cases k i w) [
-  | inl b ↦ let b' : k < length vs = rw l b in get_or_append_left vs (v ∷ []) Absent k b' ∙ each k b
-  | inr q ↦
-      let q' : k ≡ length vs = q ∙ sym l in
-      let here : value_of_variable (vs ++ v ∷ []) k ≡ v = rw (q', get_or-append_seam vs v [] Absent) refl in
-      here ∙ e ∙ ap (without_children vars best marks z) (sym q)
-]
 
 -- one step of the building: the last value is taken off and moved into its parent
 pub move_step : (vars : List Variable) (best : List Kind) (marks : List Bool) (z : List ℕ) (old new : Valuation) (v : Value) (i : ℕ) → old ≡ new ++ v ∷ [] → length new ≡ i → i < length vars → IsBuilt vars best marks z (length old) old → IsBuilt vars best marks z i (moved_to_parent new (var_at vars i).definition v)

@@ -15,7 +15,9 @@ pub mod Settles
 pub mod InOrder
 pub mod Covering
 pub mod Opens
+pub mod Gathered
 pub mod Built
+pub mod Laid
 pub mod Moved
 pub mod Falling
 pub mod Deciding

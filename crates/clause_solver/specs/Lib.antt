@@ -9,6 +9,7 @@ pub mod Appends
 pub mod Linked
 pub mod View
 pub mod Grown
+pub mod Gathered
 pub mod NewNames
 pub mod Pairs
 pub mod Opens

@@ -10,6 +10,7 @@ mod drafts;
 mod emptying;
 mod facts;
 mod greatest;
+mod growing;
 mod kin;
 mod lists;
 mod literals;

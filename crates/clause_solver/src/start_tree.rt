@@ -1,4 +1,4 @@
-ghost use Rattle.std.specs.Prelude.{◌≡◌, ℕ, ◌<◌, ◌≤◌, List, [], length, IsTrue, OnOk, IfOk, IfSome, Some};
+ghost use Rattle.std.specs.Prelude.{◌≡◌, ℕ, ◌<◌, ◌≤◌, List, [], length, map, IsTrue, OnOk, IfOk, IfSome, Some};
 ghost use Rattle.feature_trees.specs.declared.value.Value.TheVariants as value;
 ghost use Rattle.tree_clauses.specs.Literals.{value_of_variable};
 ghost use Rattle.clause_solver.specs.Variables.{Ordered, var_at};
@@ -7,9 +7,11 @@ ghost use Rattle.clause_solver.specs.Linked.{AreLinked};
 ghost use Rattle.clause_solver.specs.Grown.{values, grown, some_target, extra};
 ghost use Rattle.clause_solver.specs.NewNames.{beginning, begins, name_used, IsNew};
 ghost use Rattle.clause_solver.specs.Opens.{mark_at, opened, IsRoot};
-ghost use Rattle.clause_solver.specs.Builds.{AreWithoutChildren, with_entry, moved_to_parent, ParentBelow};
+ghost use Rattle.clause_solver.specs.Gathered.{gathered};
+ghost use Rattle.clause_solver.specs.Builds.{AreWithoutChildren, laid_by, ParentBelow};
 
 use crate::greatest::{ReplacedNames, has_entry_outside};
+use crate::growing::Growing;
 use crate::kin::Kin;
 use crate::places::{definition_at, kind_at, var_at};
 use crate::variable::{Definition, Variable};
@@ -57,43 +59,40 @@ fn is_wanted(vars: &Shared<Variable>, marks: &[bool], i: usize) -> bool
 }
 
 // Every variable of its greatest kind before any entry is known.
-fn values_without_children(
+fn places_without_children<'a>(
     alloc: Global,
-    vars: &Shared<Variable>,
+    vars: &'a Shared<Variable>,
     best: &Shared<Kind>,
     marks: &[bool],
     z: &Name,
-) -> Result<Vec<Value>, Memory>
+) -> Result<Vec<Growing<'a>>, Memory>
     requires same { length best.now ≡ length vars.now }
     requires marks { length marks.now ≡ length vars.now }
-    ensures { IfOk result (λ v. AreWithoutChildren vars.now best.now marks.now z.now v.items) }
+    ensures { IfOk result (λ v. AreWithoutChildren vars.now best.now marks.now z.now (map gathered v.items)) }
 {
-    let mut bases = Vec::new(alloc);
+    let mut places = Vec::new(alloc);
     for i in 0..vars.len() {
         let wanted = is_wanted(vars, marks, i);
         let base = value_without_children(alloc, kind_at(best, i), wanted, z)?;
-        bases.push(base)?;
+        places.push(Growing::new(alloc, base))?;
     }
-    Ok(bases)
+    Ok(places)
 }
 
-// Puts a value under a name of a directory.
-fn put_entry(parent: &mut Value, f: &Name, v: Value) -> Result<(), Memory>
-    ensures { OnOk result (parent.new ≡ with_entry parent.old f.now v) }
-{
-    match parent {
-        Value::Dir(entries) => entries.set(f, v),
-        _ => Ok(()),
-    }
-}
-
-// Moves a value into its parent, where it is an entry.
-fn move_to_parent(values: &mut [Value], definition: &Definition, v: Value) -> Result<(), Memory>
-    requires { ParentBelow (length values.old) definition.now }
-    ensures { OnOk result (values.new ≡ moved_to_parent values.old definition.now v) }
+// Lays a value by at its parent, where it is an entry.
+fn move_to_parent<'a>(
+    places: &mut [Growing<'a>],
+    definition: &'a Definition,
+    v: Value,
+) -> Result<(), Memory>
+    requires { ParentBelow (length places.old) definition.now }
+    ensures { OnOk result (map gathered places.new ≡ laid_by (map gathered places.old) definition.now v) }
 {
     match definition {
-        Definition::Child(of, f) => put_entry(&mut values[*of as usize], f, v),
+        Definition::Child(of, f) => {
+            places[*of as usize].push(f, v)?;
+            Ok(())
+        }
         _ => Ok(()),
     }
 }
@@ -113,13 +112,14 @@ pub(crate) fn grow(
     ensures { IfOk result (λ v.
         v ≡ value_of_variable (values best.now (opened vars.now marks.now) z.now 0 vars.now) 0) }
 {
-    let mut built = values_without_children(alloc, vars, best, marks, z)?;
-    while let Some(v) = built.pop() {
-        let i = built.len();
+    let mut places = places_without_children(alloc, vars, best, marks, z)?;
+    while let Some(last) = places.pop() {
+        let v = last.finish()?;
+        let i = places.len();
         if i == 0 {
             return Ok(v);
         }
-        move_to_parent(&mut built, definition_at(vars, i), v)?;
+        move_to_parent(&mut places, definition_at(vars, i), v)?;
     }
     unreachable!()
 }

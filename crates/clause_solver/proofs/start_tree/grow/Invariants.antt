@@ -1,13 +1,14 @@
-use Rattle.std.proofs.Common.{◌<◌, ◌≤◌, length}
-use Rattle.clause_solver.specs.Builds.{IsBuilt}
+use Rattle.std.proofs.Common.{◌<◌, ◌≤◌, length, map}
+use Rattle.clause_solver.specs.Builds.{AreGathered}
+use Rattle.clause_solver.specs.Gathered.{gathered}
 use Rattle.clause_solver.proofs.start_tree.grow.Given as goal
 
-abbrev pub invariant-loop-v : goal.invariant-loop-v
-invariant-loop-v l = record {
-  some : 0 < length l.built.items;
-  low : length l.built.items ≤ length l.vars;
-  built : IsBuilt l.vars l.best l.marks l.z (length l.built.items) l.built.items;
+abbrev pub invariant-loop-last : goal.invariant-loop-last
+invariant-loop-last l = record {
+  some : 0 < length l.places.items;
+  low : length l.places.items ≤ length l.vars;
+  gathered : AreGathered l.vars l.best l.marks l.z (length (map gathered l.places.items)) (map gathered l.places.items);
 }
 
-abbrev pub decreases-loop-v : goal.decreases-loop-v
-decreases-loop-v l = length l.built.items
+abbrev pub decreases-loop-last : goal.decreases-loop-last
+decreases-loop-last l = length l.places.items
