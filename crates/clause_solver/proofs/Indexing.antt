@@ -1,5 +1,5 @@
 -- An entry is found by the links, and the links of a further entry are those that they have to be.
-use Rattle.std.proofs.Common.{◌≡◌, ◌≢◌, ◌⊎◌, ℕ, suc, ◌+◌, ◌<◌, ◌≤◌, ◌&&◌, inl, inr, Bool, true, false, nat_le, nat_lt, Option, None, Some, List, [], ◌∷◌, ◌++◌, length, refl, sym, ap, ◌∙◌, subst, arith}
+use Rattle.std.proofs.Common.{◌≡◌, ◌≢◌, ◌⊎◌, ℕ, suc, ◌+◌, ◌<◌, ◌≤◌, ◌&&◌, inl, inr, true, false, nat_le, nat_lt, Option, None, Some, List, [], ◌∷◌, ◌++◌, length, refl, sym, ap, ◌∙◌, subst, arith}
 use Rattle.std.specs.Prelude.{nat_eq}
 use Rattle.std.proofs.lemmas.Bool.Decides.{nat_tests}
 use Rattle.clause_solver.specs.declared.kin.Kin.{Kin}
@@ -7,7 +7,7 @@ use Rattle.clause_solver.specs.declared.kin.Link.{Link}
 use Rattle.clause_solver.specs.declared.variable.Definition.TheVariants.{Child}
 use Rattle.clause_solver.specs.declared.variable.Variable.{Variable}
 use Rattle.clause_solver.specs.Differences.{difference}
-use Rattle.clause_solver.specs.Linked.{link_at, between, more_links, more_places, Reaches, LeadsToEntry, IsChildOf, IsLastChild, AreLinks, AreLinked, kin_at}
+use Rattle.clause_solver.specs.Linked.{link_at, between, more_links, more_places, Reaches, LeadsToEntry, IsLastChild, AreLinks, AreLinked, kin_at}
 use Rattle.clause_solver.specs.Variables.{var_at, IsChild}
 use Rattle.clause_solver.proofs.Differences.{differs_below, differs_past}
 use Rattle.clause_solver.proofs.Links.{below_or, left_of}
@@ -239,19 +239,19 @@ module _ (vars : List Variable) (kin : List Kin) (p : ℕ) (f : List ℕ) (linke
     | inl low ↦ elim (option_cases (link_at links place)) [
       | inl some ↦ rw (at_first (links ++ between from at own) _ place some.0 (at_first links (between from at own) place some.0 some.1)) (rw some.1 at (k.entries place))
       | inr none ↦ rw (at_next (links ++ between from at own) _ place (at_next links (between from at own) place none ∙ not_between from at place own (inl low))) (
-        elim (eq_cases at place) [
-          | inl e ↦ let w = e.0 in absurd (omega (arith, le, low, w))
-          | inr ne ↦ rw ne.1 tt
-        ])
+          elim (eq_cases at place) [
+            | inl e ↦ let w = e.0 in absurd (omega (arith, le, low, w))
+            | inr ne ↦ rw ne.1 tt
+          ])
     ]
     | inr high ↦ elim (below_or place at) [
       | inl low ↦ elim (option_cases (link_at own place)) [
         | inl some ↦ rw (at_first (links ++ between from at own) _ place some.0 (added_between place high low ∙ some.1)) (rw some.1 at (own_entry place))
         | inr none ↦ rw (at_next (links ++ between from at own) _ place (added_between place high low ∙ none)) (
-          elim (eq_cases at place) [
-            | inl e ↦ let w = e.0 in absurd (omega (arith, low, w))
-            | inr ne ↦ rw ne.1 tt
-          ])
+            elim (eq_cases at place) [
+              | inl e ↦ let w = e.0 in absurd (omega (arith, low, w))
+              | inr ne ↦ rw ne.1 tt
+            ])
       ]
       | inr past ↦ elim (nat_cases place at) [
         | inl e ↦ rw (e, added_at le) k.entry

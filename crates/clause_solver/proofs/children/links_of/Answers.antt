@@ -1,9 +1,8 @@
-use Rattle.std.proofs.Common.{◌≡◌, ◌<◌, ◌∙◌, Some, [], ap, sym, subst, length}
+use Rattle.std.proofs.Common.{◌≡◌, Some, ap, subst}
 use Rattle.clause_solver.specs.declared.kin.Kin.{Kin}
 use Rattle.clause_solver.specs.Differences.{difference}
-use Rattle.clause_solver.specs.Linked.{kin_at, link_at, more_links, more_places, AreLinks}
+use Rattle.clause_solver.specs.Linked.{kin_at, link_at, more_links, more_places}
 use Rattle.clause_solver.proofs.Indexing.{AreKnown, known_first, known_last, name_known, known_next, known_falls}
-use Rattle.clause_solver.proofs.Links.{left_of}
 use Rattle.clause_solver.proofs.children.links_of.Goals as goal
 
 pub entries-init : goal.entries-init
