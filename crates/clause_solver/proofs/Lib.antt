@@ -11,6 +11,7 @@ pub mod NewNames
 pub mod Alive
 pub mod Leads
 pub mod Links
+pub mod Indexing
 pub mod Settles
 pub mod InOrder
 pub mod Covering
@@ -34,6 +35,7 @@ pub mod Drafting
 pub mod PlainViews
 pub mod Going
 pub mod Turns
+pub mod Differences
 pub mod DraftSteps
 pub mod Drafted
 pub mod Added

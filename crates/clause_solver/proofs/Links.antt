@@ -4,6 +4,7 @@ use Rattle.std.proofs.lemmas.List.{length-append, get_or_append_left}
 use Rattle.std.proofs.Math.Seq.{get_or-append_seam}
 use Rattle.feature_trees.specs.declared.kind.Kinds.{Kinds}
 use Rattle.clause_solver.specs.declared.kin.Kin.{Kin}
+use Rattle.clause_solver.specs.declared.kin.Link.{Link}
 use Rattle.clause_solver.specs.declared.variable.Definition.{Definition}
 use Rattle.clause_solver.specs.declared.variable.Definition.TheVariants.{Start, Child, Derived, Ensured, Made}
 use Rattle.clause_solver.specs.declared.variable.Variable.{Variable}
@@ -11,7 +12,7 @@ use Rattle.clause_solver.specs.Variables.{var_at, no_variable, limited, Earlier,
 use Rattle.clause_solver.specs.Fresh.{fresh}
 use Rattle.clause_solver.specs.Appends.{Within}
 use Rattle.clause_solver.specs.Builds.{ParentBelow}
-use Rattle.clause_solver.specs.Linked.{no_kin, kin_at, IsChildOf, IsLastChild, AreLinked, with_entry, with_variable}
+use Rattle.clause_solver.specs.Linked.{no_kin, kin_at, link_at, IsChildOf, IsLastChild, LeadsToEntry, AreLinks, AreLinked, with_entry, WithVariable}
 use Rattle.clause_solver.proofs.Names.{nat_cases, last_cases}
 use Rattle.clause_solver.proofs.OneMore.{longer, old_at, new_at}
 use Rattle.clause_solver.proofs.Limited.{limited_definition}
@@ -21,49 +22,10 @@ below_or i zero = inr (omega arith)
 below_or zero (suc n) = inl (omega arith)
 below_or (suc i) (suc n) = elim (below_or i n) [ inl w ↦ inl (omega (arith, w)) | inr le ↦ inr (omega (arith, le)) ]
 
--- no entry f of p stands behind what is left of the links
-pub record IsLeft (vars : List Variable) (p : ℕ) (f : List ℕ) (rest : Option ℕ) : Type 0 where
-  pub bound : ℕ
-  pub low : bound ≤ length vars
-  pub last : IsLastChild vars p bound rest
-  pub none : (i : ℕ) → bound ≤ i → IsChild vars p f i → ⊥
-
 -- how many variables may be left
 abbrev pub left_of : Option ℕ → ℕ
 left_of None = 0
 left_of (Some m) = suc m
-
-module _ (vars : List Variable) (kin : List Kin) (p : ℕ) (f : List ℕ) (linked : AreLinked vars kin) where
-  pub all_left : p < length vars → IsLeft vars p f (kin_at kin p).youngest
-  all_left inside = record {
-    bound = length vars;
-    low = omega arith;
-    last = linked.youngest p inside;
-    none = λ i le child. let w = child.0 in absurd (omega (arith, le, w));
-  }
-
-  pub left_there : (m : ℕ) → IsLeft vars p f (Some m) → m < length vars
-  left_there m left = let low = left.low in let below = left.last.0 in omega (arith, low, below)
-
-  pub next_left : (m : ℕ) → IsLeft vars p f (Some m) → ((var_at vars m).definition ≡ Child p f → ⊥) → IsLeft vars p f (kin_at kin m).older
-  next_left m left other = record {
-    bound = m;
-    low = let w = left_there m left in omega (arith, w);
-    last = linked.older m p (left_there m left) left.last.1;
-    none = λ i le child. elim (nat_cases i m) [
-      | inl e ↦ other (subst (λ n. (var_at vars n).definition ≡ Child p f) e child.1)
-      | inr ne ↦ elim (below_or i left.bound) [
-        | inl w ↦ left.last.2 i (omega (arith, le, ne)) w (f, child.1)
-        | inr past ↦ left.none i past child
-      ]
-    ];
-  }
-
-  pub none_left : IsLeft vars p f None → (i : ℕ) → ¬ (IsChild vars p f i)
-  none_left left i child = elim (below_or i left.bound) [
-    | inl w ↦ left.last i w (f, child.1)
-    | inr past ↦ left.none i past child
-  ]
 
 -- fewer are left behind an entry
 pub left_falls : (vars : List Variable) (p m : ℕ) (rest : Option ℕ) → IsLastChild vars p m rest → left_of rest < suc m
@@ -79,12 +41,23 @@ same_last vars new p n (Some m) same last = (
   λ i low w child. last.2 i low w (child.0, sym (same i w) ∙ child.1),
 )
 
+same_entry : (vars new : List Variable) (p n : ℕ) (o : Option ℕ) → ((i : ℕ) → i < n → (var_at new i).definition ≡ (var_at vars i).definition) → LeadsToEntry vars p n o → LeadsToEntry new p n o
+same_entry vars new p n None same leads = leads
+same_entry vars new p n (Some m) same leads = (leads.0, (leads.1.0, same m leads.0 ∙ leads.1.1))
+
+same_links : (vars new : List Variable) (p n : ℕ) (f : List ℕ) (links : List Link) → ((i : ℕ) → i < n → (var_at new i).definition ≡ (var_at vars i).definition) → AreLinks vars p f n links → AreLinks new p f n links
+same_links vars new p n f links same l = record {
+  entries = λ place. same_entry vars new p n (link_at links place) same (l.entries place);
+  all = λ i g w e. l.all i g w (sym (same i w) ∙ e);
+}
+
 -- the links hold wherever the definitions are the same
 pub same_linked : (vars new : List Variable) (kin : List Kin) → length new ≡ length vars → ((i : ℕ) → (var_at new i).definition ≡ (var_at vars i).definition) → AreLinked vars kin → AreLinked new kin
 same_linked vars new kin long same linked = record {
   counted = linked.counted ∙ sym long;
   youngest = λ p w. rw long (same_last vars new p (length vars) _ (λ i b. same i) (linked.youngest p (rw long at w)));
   older = λ i p w child. same_last vars new p i _ (λ j b. same j) (linked.older i p (rw long at w) (child.0, sym (same i) ∙ child.1));
+  links = λ i p f w e. same_links vars new p i f _ (λ j b. same j) (linked.links i p f (rw long at w) (sym (same i) ∙ e));
 }
 
 pub limited_linked : (vars : List Variable) (kin : List Kin) (x : ℕ) (k : Kinds) → x < length vars → AreLinked vars kin → AreLinked (limited vars x k) kin
@@ -139,8 +112,10 @@ module _ (vars : List Variable) (kin new : List Kin) (order : Ordered vars) (lin
       → ((i : ℕ) → i < length vars → (kin_at new i).older ≡ (kin_at kin i).older)
       → ((p : ℕ) (f : List ℕ) → d ≡ Child p f → (kin_at new (length vars)).older ≡ (kin_at kin p).youngest)
       → ((p : ℕ) → ((f : List ℕ) × (d ≡ Child p f)) ⊎ ((f : List ℕ) → d ≡ Child p f → ⊥))
+      → ((i : ℕ) → i < length vars → (kin_at new i).links ≡ (kin_at kin i).links)
+      → ((p : ℕ) (f : List ℕ) → d ≡ Child p f → AreLinks vars p f (length vars) (kin_at new (length vars)).links)
       → AreLinked (vars ++ fresh d ∷ []) new
-  more_linked long kept_young its_young none_young kept_old its_old cases = record {
+  more_linked long kept_young its_young none_young kept_old its_old cases kept_links its_links = record {
     counted = long ∙ ap (λ n. n + 1) linked.counted ∙ sym (longer vars order d before);
     youngest = λ p w'.
         let w : p < length vars + 1 = rw longer at w' in
@@ -164,6 +139,12 @@ module _ (vars : List Variable) (kin new : List Kin) (order : Ordered vars) (lin
               let before_it : Earlier vars (length vars) (Child p child.0) = rw q at before in
               rw (e, its_old p child.0 q) (same_last vars (vars ++ fresh d ∷ []) p (length vars) _ (λ j b'. old_definition j b') (linked.youngest p before_it.0))
         ];
+    links = λ i p f w' child.
+        let w : i < length vars + 1 = rw longer at w' in
+        elim (last_cases i (length vars) w) [
+          | inl b ↦ rw (kept_links i b) (same_links vars (vars ++ fresh d ∷ []) p i f _ (λ j b'. old_definition j (omega (arith, b, b'))) (linked.links i p f b (sym (old_definition i b) ∙ child)))
+          | inr e ↦ rw e (same_links vars (vars ++ fresh d ∷ []) p (length vars) f _ (λ j b'. old_definition j b') (its_links p f (sym (new_definition i e) ∙ child)))
+        ];
   }
 
   other_linked : ((p : ℕ) (f : List ℕ) → d ≡ Child p f → ⊥) → new ≡ kin ++ no_kin ∷ [] → AreLinked (vars ++ fresh d ∷ []) new
@@ -179,12 +160,14 @@ module _ (vars : List Variable) (kin new : List Kin) (order : Ordered vars) (lin
       (λ i w. ap (λ (k : Kin). k.older) (old i w))
       (λ p f e. absurd (none p f e))
       (λ p. inr (none p))
+      (λ i w. ap (λ (k : Kin). k.links) (old i w))
+      (λ p f e. absurd (none p f e))
 
-  entry_linked : (p : ℕ) (f : List ℕ) → d ≡ Child p f → p < length vars → new ≡ with_entry kin p → AreLinked (vars ++ fresh d ∷ []) new
-  entry_linked p f e inside is =
+  entry_linked : (p : ℕ) (f : List ℕ) (links : List Link) → d ≡ Child p f → p < length vars → AreLinks vars p f (length vars) links → new ≡ with_entry kin p links → AreLinked (vars ++ fresh d ∷ []) new
+  entry_linked p f links e inside its is =
       let count = linked.counted in
       let changed : Kin = record (kin_at kin p) { youngest = Some (length kin) } in
-      let entry : Kin = record { youngest = None; older = (kin_at kin p).youngest } in
+      let entry : Kin = record { youngest = None; older = (kin_at kin p).youngest; links = links } in
       let p_in : p < length kin = rw count inside in
       let long_set : length (set kin p changed) ≡ length vars = length-set kin p changed ∙ count in
       let seam : kin_at new (length vars) ≡ entry = rw (is, ← long_set) (get_or-append_seam (set kin p changed) entry [] no_kin) in
@@ -215,25 +198,34 @@ module _ (vars : List Variable) (kin new : List Kin) (order : Ordered vars) (lin
         | inl same ↦ inl (f, subst (λ n. d ≡ Child n f) (sym same) e)
         | inr ne ↦ inr (λ g eq. let same : Child p f ≡ Child q g = sym e ∙ eq in let ep : p ≡ q = cc in ne (sym ep))
       ])
+      (λ i w. elim (nat_cases i p) [
+        | inl same ↦ rw same (ap (λ (k : Kin). k.links) here)
+        | inr ne ↦ ap (λ (k : Kin). k.links) (there i w ne)
+      ])
+      (λ q g eq.
+      let same : Child p f ≡ Child q g = sym e ∙ eq in
+      let ep : p ≡ q = cc in
+      let ef : f ≡ g = cc in
+      rw (← ep, ← ef, seam) its)
 
-pub variable_linked : (vars : List Variable) (kin : List Kin) → Ordered vars → AreLinked vars kin → (d : Definition) → Earlier vars (length vars) d → AreLinked (vars ++ fresh d ∷ []) (with_variable kin d)
-variable_linked vars kin order linked Start before = other_linked vars kin (with_variable kin Start) order linked Start before (λ p f e. let q : Start ≡ Child p f = e in cc) refl
-variable_linked vars kin order linked (Child p f) before = entry_linked vars kin (with_variable kin (Child p f)) order linked (Child p f) before p f refl before.0 refl
-variable_linked vars kin order linked (Derived x f y) before = other_linked vars kin (with_variable kin (Derived x f y)) order linked (Derived x f y) before (λ p g e. let q : Derived x f y ≡ Child p g = e in cc) refl
-variable_linked vars kin order linked (Ensured x) before = other_linked vars kin (with_variable kin (Ensured x)) order linked (Ensured x) before (λ p g e. let q : Ensured x ≡ Child p g = e in cc) refl
-variable_linked vars kin order linked (Made m) before = other_linked vars kin (with_variable kin (Made m)) order linked (Made m) before (λ p g e. let q : Made m ≡ Child p g = e in cc) refl
+pub variable_linked : (vars : List Variable) (kin new : List Kin) → Ordered vars → AreLinked vars kin → (d : Definition) → Earlier vars (length vars) d → WithVariable vars kin d new → AreLinked (vars ++ fresh d ∷ []) new
+variable_linked vars kin new order linked Start before is = other_linked vars kin new order linked Start before (λ p f e. let q : Start ≡ Child p f = e in cc) is
+variable_linked vars kin new order linked (Child p f) before is = entry_linked vars kin new order linked (Child p f) before p f is.0 refl before.0 is.1 is.2
+variable_linked vars kin new order linked (Derived x f y) before is = other_linked vars kin new order linked (Derived x f y) before (λ p g e. let q : Derived x f y ≡ Child p g = e in cc) is
+variable_linked vars kin new order linked (Ensured x) before is = other_linked vars kin new order linked (Ensured x) before (λ p f e. let q : Ensured x ≡ Child p f = e in cc) is
+variable_linked vars kin new order linked (Made m) before is = other_linked vars kin new order linked (Made m) before (λ p f e. let q : Made m ≡ Child p f = e in cc) is
 
--- a definition names a place that has links
-pub parent_below : (vars : List Variable) (kin : List Kin) (d : Definition) → length kin ≡ length vars → Within vars d → ParentBelow (length kin) d
-parent_below vars kin Start same w = w
-parent_below vars kin (Child p f) same w = rw same w
-parent_below vars kin (Derived x f y) same w = w
-parent_below vars kin (Ensured x) same w = w
-parent_below vars kin (Made m) same w = w
+-- the place of a definition stands below the variables' count
+pub parent_below : (vars : List Variable) (d : Definition) → Within vars d → ParentBelow (length vars) d
+parent_below vars Start w = w
+parent_below vars (Child p f) w = w
+parent_below vars (Derived x f y) w = w
+parent_below vars (Ensured x) w = w
+parent_below vars (Made m) w = w
 
 -- the start tree alone has no entry
 pub first_linked : (v : Variable) → v.definition ≡ Start → AreLinked (v ∷ []) (no_kin ∷ [])
-first_linked v e = record { counted = refl; youngest = young; older = old }
+first_linked v e = record { counted = refl; youngest = young; older = old; links = λ i p f w child. absurd (none p i w (f, child)) }
   where
     none : (p i : ℕ) → i < 1 → IsChildOf (v ∷ []) p i → ⊥
     none p zero w child = let q : Start ≡ Child p child.0 = sym e ∙ child.1 in cc

@@ -56,7 +56,7 @@ module _ (a b : Lists) (y : ℕ) (d : Definition) (all : AreDecided a) (before :
     order = rw is.variable (append_order a.vars all.order d before single);
     same = rw (is.variable, is.kind, length-append, length-append) (ap (λ n. n + 1) all.same);
     best = rw (is.variable, is.kind) (append_best a.vars all.order d before a.best _ all.same all.best refl);
-    linked = rw (is.variable, is.links) (variable_linked a.vars a.kin all.order all.linked d before);
+    linked = rw is.variable (variable_linked a.vars a.kin b.kin all.order all.linked d before is.links);
     small = rw (is.variable, more_long) (let r = is.room in omega arith);
     filled = rw (is.variable, numbers) (filled_more a.vars (fresh d) a.filled refl all.filled);
     alive = rw (is.variable, live) (λ t. more_left.0 (all.alive.0 t), λ g. all.alive.1 (more_left.1 g));

@@ -13,7 +13,7 @@ use Rattle.tree_clauses.specs.Literals.{Valuation, value_of_variable, IsSound}
 use Rattle.clause_solver.specs.Variables.{var_at, is_node, AllFit, IsChild}
 use Rattle.clause_solver.specs.Greatest.{best_by}
 use Rattle.clause_solver.specs.Fresh.{fresh}
-use Rattle.clause_solver.specs.Linked.{with_variable}
+use Rattle.clause_solver.specs.Linked.{WithVariable}
 use Rattle.clause_solver.specs.declared.kin.Kin.{Kin}
 
 -- the variable y was added, with its greatest kind and its links
@@ -23,7 +23,7 @@ pub record IsAppended (vars : List Variable) (best : List Kind) (kin : List Kin)
   pub room : length vars < 4294967295
   pub variable : new_vars ≡ vars ++ fresh d ∷ []
   pub kind : new_best ≡ best ++ best_by vars best all d ∷ []
-  pub links : new_kin ≡ with_variable kin d
+  pub links : WithVariable vars kin d new_kin
 
 -- a definition names known variables
 abbrev pub Within : List Variable → Definition → Type 0

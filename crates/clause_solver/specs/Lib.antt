@@ -6,6 +6,7 @@ pub mod Written
 pub mod ReplacedNames
 pub mod Fresh
 pub mod Appends
+pub mod Differences
 pub mod Linked
 pub mod View
 pub mod Grown

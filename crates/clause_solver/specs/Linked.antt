@@ -1,7 +1,10 @@
 -- How the entries of a place of the start tree are found: each place leads to its last entry, and each entry to the
--- one before it of the same place.
-use Rattle.std.specs.Prelude.{◌≡◌, ℕ, ◌<◌, List, [], ◌∷◌, ◌++◌, length, Option, None, Some, slice_index_or, slice_set}
+-- one before it of the same place, and by its links to those before it by the place where the names differ first.
+use Rattle.std.specs.Prelude.{◌≡◌, ℕ, ◌+◌, ◌<◌, ◌≤◌, List, [], ◌∷◌, ◌++◌, length, Option, None, Some}
+use Rattle.std.specs.Prelude.{slice_index_or, slice_set, ◌&&◌, ◌==◌, nat_le, nat_lt, if◌then◌else◌}
+use Rattle.clause_solver.specs.Differences.{difference}
 use Rattle.clause_solver.specs.declared.kin.Kin.{Kin}
+use Rattle.clause_solver.specs.declared.kin.Link.{Link}
 use Rattle.clause_solver.specs.declared.variable.Definition.{Definition}
 use Rattle.clause_solver.specs.declared.variable.Definition.TheVariants.{Start, Child, Derived, Ensured, Made}
 use Rattle.clause_solver.specs.declared.variable.Variable.{Variable}
@@ -9,7 +12,7 @@ use Rattle.clause_solver.specs.Variables.{var_at}
 
 -- the links of a variable that has no entry and is none
 abbrev pub no_kin : Kin
-no_kin = record { youngest = None; older = None }
+no_kin = record { youngest = None; older = None; links = [] }
 
 -- the links of the variable with this number
 abbrev pub kin_at : List Kin → ℕ → Kin
@@ -25,22 +28,65 @@ IsLastChild vars p n None = (i : ℕ) → i < n → IsChildOf vars p i → ⊥
 IsLastChild vars p n (Some m) =
     (m < n) × IsChildOf vars p m × ((i : ℕ) → m < i → i < n → IsChildOf vars p i → ⊥)
 
--- each variable leads to its last entry, and each entry to the last one before it of the same place
+-- where the link for a place of difference leads, where there is one
+abbrev pub link_at : List Link → ℕ → Option ℕ
+link_at [] place = None
+link_at (link ∷ links) place = if link.place == place then Some link.to else link_at links place
+
+-- the links for the places of difference from one up to another
+abbrev pub between : ℕ → ℕ → List Link → List Link
+between low high [] = []
+between low high (link ∷ links) =
+    if nat_le low link.place && nat_lt link.place high then link ∷ between low high links else between low high links
+
+-- the number is there, and no smaller than this one
+abbrev pub Reaches : ℕ → Option ℕ → Type 0
+Reaches i None = ⊥
+Reaches i (Some m) = i ≤ m
+
+-- where there is a number, it is that of an entry of the place p among the first n variables
+abbrev pub LeadsToEntry : List Variable → ℕ → ℕ → Option ℕ → Type 0
+LeadsToEntry vars p n None = Unit {0}
+LeadsToEntry vars p n (Some m) = (m < n) × IsChildOf vars p m
+
+-- the links of an entry f of the place p, from the first n variables: each leads to an entry of the place, and each
+-- entry among them stands at the link for the place where its name differs first, or before it
+pub record AreLinks (vars : List Variable) (p : ℕ) (f : List ℕ) (n : ℕ) (links : List Link) : Type 0 where
+  pub entries : (place : ℕ) → LeadsToEntry vars p n (link_at links place)
+  pub all : (i : ℕ) (g : List ℕ) → i < n → (var_at vars i).definition ≡ Child p g
+      → Reaches i (link_at links (difference f g))
+
+-- each variable leads to its last entry, and each entry to the last one before it of the same place, and by its links
+-- to all before it
 pub record AreLinked (vars : List Variable) (kin : List Kin) : Type 0 where
   pub counted : length kin ≡ length vars
   pub youngest : (p : ℕ) → p < length vars → IsLastChild vars p (length vars) (kin_at kin p).youngest
   pub older : (i p : ℕ) → i < length vars → IsChildOf vars p i → IsLastChild vars p i (kin_at kin i).older
+  pub links : (i p : ℕ) (f : List ℕ) → i < length vars → (var_at vars i).definition ≡ Child p f
+      → AreLinks vars p f i (kin_at kin i).links
 
--- the links with one entry of the place p more
-abbrev pub with_entry : List Kin → ℕ → List Kin
-with_entry kin p =
+-- the links of a further entry, of which those for the places below `from` are known, with those for the places from
+-- there on up to the one where its name differs first from that of the entry m, which has these links of its own
+abbrev pub more_links : List Link → ℕ → ℕ → ℕ → List Link → List Link
+more_links links from place m own =
+    if nat_lt place from then links
+    else ((links ++ between from place own) ++ record { place = place; to = m } ∷ [])
+
+-- below which place the links are known then
+abbrev pub more_places : ℕ → ℕ → ℕ
+more_places from place = if nat_lt place from then from else place + 1
+
+-- the links with one entry of the place p more, which has these links of its own
+abbrev pub with_entry : List Kin → ℕ → List Link → List Kin
+with_entry kin p links =
     slice_set kin p (record (kin_at kin p) { youngest = Some (length kin) })
-    ++ record { youngest = None; older = (kin_at kin p).youngest } ∷ []
+    ++ record { youngest = None; older = (kin_at kin p).youngest; links = links } ∷ []
 
--- the links with those of one variable more
-abbrev pub with_variable : List Kin → Definition → List Kin
-with_variable kin Start = kin ++ no_kin ∷ []
-with_variable kin (Child p f) = with_entry kin p
-with_variable kin (Derived x f y) = kin ++ no_kin ∷ []
-with_variable kin (Ensured x) = kin ++ no_kin ∷ []
-with_variable kin (Made m) = kin ++ no_kin ∷ []
+-- the new links are the old ones with those of one variable more
+abbrev pub WithVariable : List Variable → List Kin → Definition → List Kin → Type 0
+WithVariable vars kin Start new = new ≡ kin ++ no_kin ∷ []
+WithVariable vars kin (Child p f) new =
+    (links : List Link) × AreLinks vars p f (length vars) links × (new ≡ with_entry kin p links)
+WithVariable vars kin (Derived x f y) new = new ≡ kin ++ no_kin ∷ []
+WithVariable vars kin (Ensured x) new = new ≡ kin ++ no_kin ∷ []
+WithVariable vars kin (Made m) new = new ≡ kin ++ no_kin ∷ []

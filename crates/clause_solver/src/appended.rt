@@ -2,6 +2,7 @@ ghost use Rattle.std.specs.Prelude.{◌≡◌, ℕ, ◌<◌, ◌≤◌, ◌↔�
 ghost use Rattle.clause_solver.specs.Variables.{Ordered, IsChild};
 ghost use Rattle.clause_solver.specs.declared.variable.Definition.TheVariants.{Child};
 ghost use Rattle.clause_solver.specs.Appends.{IsAppended, LeadsTo, Within};
+ghost use Rattle.clause_solver.specs.Linked.{AreLinked};
 
 use crate::children::with_variable;
 use crate::greatest::greatest_by;
@@ -56,7 +57,7 @@ pub(crate) fn append(
     definition: Definition,
 ) -> Result<u32, Memory>
     requires same { length best.old ≡ length vars.old }
-    requires counted { length kin.old ≡ length vars.old }
+    requires linked { AreLinked vars.old kin.old }
     requires within { Within vars.old definition }
     requires small { length vars.old ≤ 4294967295 }
     ensures ok { IfOk result (IsAppended vars.old best.old kin.old definition vars.new best.new kin.new) }
@@ -69,7 +70,7 @@ pub(crate) fn append(
     let kind = greatest_by(vars, best, Kinds::all(), &definition);
     let mut kinds = fork_alone(best)?;
     push_alone(&mut kinds, kind)?;
-    let links = with_variable(kin, &definition)?;
+    let links = with_variable(alloc, vars, kin, &definition)?;
     let definition = Common::new(alloc, definition)?;
     let variable = Variable {
         definition,

@@ -6,6 +6,7 @@
 mod add_case;
 mod appended;
 mod children;
+mod difference;
 mod drafts;
 mod emptying;
 mod facts;

@@ -17,10 +17,9 @@ ghost use Rattle.feature_trees.specs.declared.value.Value.TheVariants as value;
 
 use crate::add_case::drafted;
 use crate::appended::{Found, append, resolve};
-use crate::children::find;
+use crate::children::{find, no_kin};
 use crate::emptying::without_entries;
 use crate::greatest::kind_made;
-use crate::kin::Kin;
 use crate::lists::Lists;
 use crate::literals::write_literals;
 use crate::looking::is_excluded;
@@ -74,11 +73,7 @@ impl Store {
         let mut best = Shared::new(alloc);
         push_alone(&mut best, Kind::Dir)?;
         let mut kin = Shared::new(alloc);
-        let links = Kin {
-            youngest: None,
-            older: None,
-        };
-        push_alone(&mut kin, links)?;
+        push_alone(&mut kin, no_kin(alloc)?)?;
         let lists = Lists {
             vars,
             best,

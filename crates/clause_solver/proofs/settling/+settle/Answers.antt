@@ -11,7 +11,7 @@ use Rattle.clause_solver.proofs.settling.+settle.Goals as goal
 
 pub settle_entries-entries-init : goal.settle_entries-entries-init
 settle_entries-entries-init t c =
-    let e : c.kin_at-here.result.youngest ≡ (kin_at c.args.kin.now c.args.p).youngest = ap (λ (k : Kin). k.youngest) c.kin_at-here.ensures in
+    let e : c.kin_at.result.now.youngest ≡ (kin_at c.args.kin.now c.args.p).youngest = ap (λ (k : Kin). k.youngest) c.kin_at.ensures in
     rw (c.in_ok-new.ensures, e) (first_gone c.args.vars.now c.args.kin.now c.args.p c.args.best.now c.requires.linked c.requires.inside)
 
 pub settle_entries-returns-in-None : goal.settle_entries-returns-in-None
@@ -25,8 +25,8 @@ settle_entries-entries-smaller t c =
     let vars = c.args.vars.now in
     let best = c.args.best.now in
     let gone : AreGoneOver vars c.args.p best c.entries.new c.entries.fits (Some c.in-Some.m) = subst (AreGoneOver vars c.args.p best c.entries.new c.entries.fits) c.in-Some.is c.entries.invariant in
-    let e : c.kin_at-here-in-Some.result.older ≡ (kin_at c.args.kin.now c.in-Some.m).older = ap (λ (k : Kin). k.older) c.kin_at-here-in-Some.ensures in
-    let smaller : left_of c.kin_at-here-in-Some.result.older < left_of c.entries.here =
+    let e : c.kin_at-in-Some.result.now.older ≡ (kin_at c.args.kin.now c.in-Some.m).older = ap (λ (k : Kin). k.older) c.kin_at-in-Some.ensures in
+    let smaller : left_of c.kin_at-in-Some.result.now.older < left_of c.entries.here =
     rw (e, c.in-Some.is) (gone_falls vars c.args.kin.now c.args.p best c.requires.linked c.requires.order c.in-Some.m c.entries.new c.entries.fits gone) in
     smaller
 
@@ -35,7 +35,7 @@ settle_entries-entries-preserved t c =
     let vars = c.args.vars.now in
     let best = c.args.best.now in
     let gone : AreGoneOver vars c.args.p best c.entries.new c.entries.fits (Some c.in-Some.m) = subst (AreGoneOver vars c.args.p best c.entries.new c.entries.fits) c.in-Some.is c.entries.invariant in
-    let e : c.kin_at-here-in-Some.result.older ≡ (kin_at c.args.kin.now c.in-Some.m).older = ap (λ (k : Kin). k.older) c.kin_at-here-in-Some.ensures in
+    let e : c.kin_at-in-Some.result.now.older ≡ (kin_at c.args.kin.now c.in-Some.m).older = ap (λ (k : Kin). k.older) c.kin_at-in-Some.ensures in
     let entry = c.in_ok-entry-in-Some.entry in
     rw e (gone_on vars c.args.kin.now c.args.p best c.requires.linked c.requires.order c.in-Some.m c.entries.new c.entries.fits gone entry.best entry.fits c.in_ok-entry-in-Some.ensures)
 
