@@ -8,7 +8,7 @@ use Rattle.clause_solver.specs.declared.kin.Link.{Link}
 use Rattle.clause_solver.specs.declared.variable.Definition.{Definition}
 use Rattle.clause_solver.specs.declared.variable.Definition.TheVariants.{Start, Child, Derived, Ensured, Made}
 use Rattle.clause_solver.specs.declared.variable.Variable.{Variable}
-use Rattle.clause_solver.specs.Variables.{var_at, no_variable, limited, Earlier, Ordered, IsChild}
+use Rattle.clause_solver.specs.Variables.{var_at, no_variable, limited, Earlier, Ordered}
 use Rattle.clause_solver.specs.Fresh.{fresh}
 use Rattle.clause_solver.specs.Appends.{Within}
 use Rattle.clause_solver.specs.Builds.{ParentBelow}

@@ -1,7 +1,7 @@
-//! The entries of the places of the start tree, linked from the last to the first. To find one goes over few of them, by
-//! the links for the places where names differ first.
+//! The entries of the places of the start tree, linked from the last to the first. To find one goes over few of them,
+//! by the links for the places where names differ first.
 
-ghost use Rattle.std.specs.Prelude.{◌≡◌, ℕ, ◌+◌, ◌<◌, ◌≤◌, ◌↔◌, ◌++◌, [], ◌∷◌, IsTrue, List, length};
+ghost use Rattle.std.specs.Prelude.{◌≡◌, ℕ, ◌<◌, ◌≤◌, ◌↔◌, ◌++◌, [], ◌∷◌, IsTrue, List, length};
 ghost use Rattle.std.specs.Prelude.{MatchOption, IfOk, OnOk};
 ghost use Rattle.clause_solver.specs.declared.variable.Definition.TheVariants.{Child};
 ghost use Rattle.clause_solver.specs.Variables.{IsChild, var_at};
