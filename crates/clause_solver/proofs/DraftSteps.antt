@@ -19,7 +19,7 @@ use Rattle.clause_solver.specs.declared.variable.Variable.{Variable}
 use Rattle.clause_solver.specs.declared.appended.Found.TheVariants.{Known, Nothing, At}
 use Rattle.clause_solver.specs.Appends.{IsAppended, IsSingle, LeadsTo}
 use Rattle.clause_solver.specs.Decided.{AreDecided}
-use Rattle.clause_solver.specs.Emptied.{IsWithout}
+use Rattle.clause_solver.specs.Emptied.{IsWithin}
 use Rattle.clause_solver.specs.Fresh.{fresh}
 use Rattle.clause_solver.specs.Variables.{AllFit, Earlier, OnlyDir, IsChild, defined, limited, filled}
 use Rattle.clause_solver.specs.Written.{var}
@@ -67,7 +67,7 @@ module _ (a : Draft) (x : Var) (n : ℕ) (steady : IsSteady a) (at : place_in a 
         is = λ g h agrees. (λ t. rw (agrees x.0 n at) t, λ t. rw (agrees x.0 n at) at t);
       }
 
-  pub without_says : (lists : Lists) → AreDecided lists → IsWithout a.lists.vars n lists.vars → Says a (record a { lists = lists }) (L.Fence x [])
+  pub without_says : (lists : Lists) → AreDecided lists → IsWithin a.lists.vars n [] lists.vars → Says a (record a { lists = lists }) (L.Fence x [])
   without_says lists decided w =
       let less = w.more in
       record {
@@ -77,8 +77,8 @@ module _ (a : Draft) (x : Var) (n : ℕ) (steady : IsSteady a) (at : place_in a 
         narrows = record {
           more = less;
           first = w.first;
-          down = λ g l s fits. let parts = w.down g l s fits in (parts.0, λ f out. parts.1 f);
-          up = λ g l s fits none. w.up g l s fits (λ f. none f (contains_nothing f));
+          down = λ g l s fits. let parts = w.down g l s fits in (parts.0, λ f out. parts.1 f (λ l. l));
+          up = λ g l s fits none. w.up g l s fits (λ f out. none f (contains_nothing f));
         };
         is = λ g h agrees. (λ t. rw (agrees x.0 n at) t, λ t. rw (agrees x.0 n at) at t);
       }

@@ -1,4 +1,4 @@
--- That a variable has no entry, along the definitions.
+-- That a variable has no entry outside a fence, along the definitions.
 use Rattle.std.proofs.Common.{◌≡◌, ◌≢◌, ℕ, ◌<◌, ◌⊎◌, inl, inr, IsTrue, Bool, true, false, if◌then◌else◌, List, [], ◌∷◌, ◌++◌, length, refl, sym, ap, ◌∙◌, arith, length-set, subst}
 use Rattle.feature_trees.specs.declared.kind.Kind.TheVariants as kind
 use Rattle.feature_trees.specs.declared.value.Value.TheVariants as value
@@ -41,12 +41,12 @@ narrower_itself vars order = record {
   kinds = λ i k h. h;
 }
 
-pub comes_to_itself : (vars : List Variable) (x : ℕ) → Ordered vars → x < length vars → ComesTo vars x vars x []
-comes_to_itself vars x order inside = record {
+pub comes_to_itself : (vars : List Variable) (x : ℕ) (fence : List (List ℕ)) → Ordered vars → x < length vars → ComesTo vars x fence vars x fence
+comes_to_itself vars x fence order inside = record {
   narrower = narrower_itself vars order;
   inside = inside;
-  there = λ g s fits none. (fits, λ f out. none f);
-  back = λ g s fits none f. none f (λ l. l);
+  there = λ g s fits none. (fits, none);
+  back = λ g s fits none. none;
 }
 
 narrower_limited : (old vars : List Variable) (y : ℕ) → y < length vars → IsNarrower old vars → IsNarrower old (limited vars y (of' kind.Absent))
@@ -58,9 +58,9 @@ narrower_limited old vars y inside n = record {
   kinds = λ i k h. n.kinds i k (limited_kinds vars y (of' kind.Absent) inside i k h);
 }
 
-module _ (old : List Variable) (x : ℕ) (vars : List Variable) (here : ℕ) (names : List (List ℕ)) (to : ComesTo old x vars here names) where
+module _ (old : List Variable) (x : ℕ) (fence : List (List ℕ)) (vars : List Variable) (here : ℕ) (names : List (List ℕ)) (to : ComesTo old x fence vars here names) where
   -- the entries of another variable are the same, outside the names
-  moved : (of : ℕ) → of < length vars → ((g : Valuation) (h : List ℕ) → IsSound g → AllFit vars g → ¬ (Listed h names) → entry (value_of_variable g here) h ≡ entry (value_of_variable g of) h) → ComesTo old x vars of names
+  moved : (of : ℕ) → of < length vars → ((g : Valuation) (h : List ℕ) → IsSound g → AllFit vars g → ¬ (Listed h names) → entry (value_of_variable g here) h ≡ entry (value_of_variable g of) h) → ComesTo old x fence vars of names
   moved of inside same = record {
     narrower = to.narrower;
     inside = inside;
@@ -68,7 +68,7 @@ module _ (old : List Variable) (x : ℕ) (vars : List Variable) (here : ℕ) (na
     back = λ g s fits none. to.back g s fits (λ f out. same g f s fits out ∙ none f out);
   }
 
-  pub past_ensured : (of : ℕ) → (var_at vars here).definition ≡ Ensured of → ComesTo old x vars of names
+  pub past_ensured : (of : ℕ) → (var_at vars here).definition ≡ Ensured of → ComesTo old x fence vars of names
   past_ensured of e =
       let before = rw e at (to.narrower.order.earlier here to.inside) in
       let inside = to.inside in
@@ -80,7 +80,7 @@ module _ (old : List Variable) (x : ℕ) (vars : List Variable) (here : ℕ) (na
   made_none (made.Link b) h = refl
   made_none made.Dir h = refl
 
-  pub at_made : (m : MadeValue) → (var_at vars here).definition ≡ Made m → IsEmptied old x vars
+  pub at_made : (m : MadeValue) → (var_at vars here).definition ≡ Made m → IsEmptied old x fence vars
   at_made m e = record {
     narrower = to.narrower;
     there = λ g s fits none. (to.there g s fits none).0;
@@ -102,13 +102,13 @@ module _ (old : List Variable) (x : ℕ) (vars : List Variable) (here : ℕ) (na
     same_here g s fits =
         ap (λ v. entry v f) ((fits here to.inside).is ∙ ap (defined g) e) ∙ derived_same (value_of_variable g of) (value_of_variable g y) f (sound_at g s of)
 
-    past_listed : Listed f names → ComesTo old x vars of names
+    past_listed : Listed f names → ComesTo old x fence vars of names
     past_listed l = moved of past_inside.1 (λ g h s fits out. same_other g h s fits (λ q. out (subst (λ z. Listed z names) q l)))
 
     absent_fits : (g : Valuation) → value_of_variable g y ≡ value.Absent → IsTrue (has (of' kind.Absent) (kind_of (value_of_variable g y)))
     absent_fits g a = rw a refl
 
-    past_new : ¬ (Listed f names) → ComesTo old x (limited vars y (of' kind.Absent)) of (names ++ f ∷ [])
+    past_new : ¬ (Listed f names) → ComesTo old x fence (limited vars y (of' kind.Absent)) of (names ++ f ∷ [])
     past_new new = record {
       narrower = narrower_limited old vars y past_inside.2 to.narrower;
       inside = rw length-set past_inside.1;
@@ -127,9 +127,9 @@ module _ (old : List Variable) (x : ℕ) (vars : List Variable) (here : ℕ) (na
           ]);
     }
 
-    past_by : (b : Bool) → member f names ≡ b → ComesTo old x (if b then vars else limited vars y (of' kind.Absent)) of (if b then names else (names ++ f ∷ []))
+    past_by : (b : Bool) → member f names ≡ b → ComesTo old x fence (if b then vars else limited vars y (of' kind.Absent)) of (if b then names else (names ++ f ∷ []))
     past_by true m = past_listed (listed_from_member f names m)
     past_by false m = past_new (λ l. let t : member f names ≡ true = member_from_listed f names l in let bad : true ≡ false = sym t ∙ m in cc)
 
-    pub past_derived : ComesTo old x (vars_past vars names f y) of (names_past names f)
+    pub past_derived : ComesTo old x fence (vars_past vars names f y) of (names_past names f)
     past_derived = past_by (member f names) refl

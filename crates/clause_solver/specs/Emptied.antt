@@ -1,4 +1,5 @@
--- How a variable is left without entries: what that comes to along the definitions, down to a place of the start tree.
+-- How a variable is left with entries under some names alone, or under none: what that comes to along the definitions,
+-- down to a place of the start tree.
 use Rattle.std.specs.Prelude.{◌≡◌, ℕ, ◌<◌, List, [], ◌∷◌, ◌++◌, length, Option, None, Some, IsTrue, slice_set, filter}
 use Rattle.std.specs.Prelude.{◌≤◌, take, if◌then◌else◌}
 use Rattle.feature_trees.specs.declared.kind.Kind.{Kind}
@@ -9,7 +10,6 @@ use Rattle.feature_trees.specs.Kinds.{has, of}
 use Rattle.feature_trees.specs.Tree.{entry}
 use Rattle.tree_clauses.specs.Literals.{Valuation, value_of_variable, IsSound}
 use Rattle.clause_solver.specs.declared.variable.Variable.{Variable}
-use Rattle.clause_solver.specs.Stands.{HasNone}
 use Rattle.clause_solver.specs.Variables.{var_at, Listed, member, allowed, limited, is_node, AllFit, Ordered, IsChild}
 use Rattle.clause_solver.specs.Variables.{OnlyDir}
 
@@ -25,26 +25,29 @@ pub record IsNarrower (old new : List Variable) : Type 0 where
   pub fits : (g : Valuation) → AllFit new g → AllFit old g
   pub kinds : (i : ℕ) (k : Kind) → IsTrue (has (var_at new i).kinds k) → IsTrue (has (var_at old i).kinds k)
 
--- that x has no entry comes to this: the narrower variables, and no entry of `here` under another name than these
-pub record ComesTo (old : List Variable) (x : ℕ) (new : List Variable) (here : ℕ) (names : List (List ℕ)) : Type 0
-  where
-    pub narrower : IsNarrower old new
-    pub inside : here < length new
-    pub there : (g : Valuation) → IsSound g → AllFit old g → HasNone (value_of_variable g x)
-        → AllFit new g × HasNoneOutside (value_of_variable g here) names
-    pub back : (g : Valuation) → IsSound g → AllFit new g → HasNoneOutside (value_of_variable g here) names
-        → HasNone (value_of_variable g x)
-
--- that x has no entry comes to the narrower variables alone
-pub record IsEmptied (old : List Variable) (x : ℕ) (new : List Variable) : Type 0 where
+-- that x has no entry outside a fence comes to this: the narrower variables, and no entry of `here` under another name
+-- than these
+pub record ComesTo (old : List Variable) (x : ℕ) (fence : List (List ℕ)) (new : List Variable) (here : ℕ)
+    (names : List (List ℕ)) : Type 0 where
   pub narrower : IsNarrower old new
-  pub there : (g : Valuation) → IsSound g → AllFit old g → HasNone (value_of_variable g x) → AllFit new g
-  pub back : (g : Valuation) → IsSound g → AllFit new g → HasNone (value_of_variable g x)
+  pub inside : here < length new
+  pub there : (g : Valuation) → IsSound g → AllFit old g → HasNoneOutside (value_of_variable g x) fence
+      → AllFit new g × HasNoneOutside (value_of_variable g here) names
+  pub back : (g : Valuation) → IsSound g → AllFit new g → HasNoneOutside (value_of_variable g here) names
+      → HasNoneOutside (value_of_variable g x) fence
+
+-- that x has no entry outside a fence comes to the narrower variables alone
+pub record IsEmptied (old : List Variable) (x : ℕ) (fence : List (List ℕ)) (new : List Variable) : Type 0 where
+  pub narrower : IsNarrower old new
+  pub there : (g : Valuation) → IsSound g → AllFit old g → HasNoneOutside (value_of_variable g x) fence
+      → AllFit new g
+  pub back : (g : Valuation) → IsSound g → AllFit new g → HasNoneOutside (value_of_variable g x) fence
 
 -- the walk ends at a place of the start tree, or at a made value
-abbrev pub EndsAt : List Variable → ℕ → List Variable → List (List ℕ) → Option ℕ → Type 0
-EndsAt old x new names None = IsEmptied old x new
-EndsAt old x new names (Some n) = ComesTo old x new n names × IsTrue (is_node (var_at new n).definition)
+abbrev pub EndsAt : List Variable → ℕ → List (List ℕ) → List Variable → List (List ℕ) → Option ℕ → Type 0
+EndsAt old x fence new names None = IsEmptied old x fence new
+EndsAt old x fence new names (Some n) =
+    ComesTo old x fence new n names × IsTrue (is_node (var_at new n).definition)
 
 -- past an entry that is replaced: where its name is not among these, nothing stands there
 abbrev pub vars_past : List Variable → List (List ℕ) → List ℕ → ℕ → List Variable
@@ -85,11 +88,12 @@ pub record IsClosed (old : List Variable) (n : ℕ) (names : List (List ℕ)) (n
       → HasNoneOutside (value_of_variable g n) names
       → (h : Valuation) × (length h ≡ length new) × IsSound h × AllFit new h × (take (length old) h ≡ g)
 
--- the variables, and further ones, where x has no entry
-pub record IsWithout (old : List Variable) (x : ℕ) (new : List Variable) : Type 0 where
+-- the variables, and further ones, where x has no entry outside a fence
+pub record IsWithin (old : List Variable) (x : ℕ) (fence : List (List ℕ)) (new : List Variable) : Type 0 where
   pub more : length old ≤ length new
   pub first : OnlyDir old 0 → OnlyDir new 0
   pub down : (g : Valuation) → length g ≡ length new → IsSound g → AllFit new g
-      → AllFit old (take (length old) g) × HasNone (value_of_variable (take (length old) g) x)
-  pub up : (g : Valuation) → length g ≡ length old → IsSound g → AllFit old g → HasNone (value_of_variable g x)
+      → AllFit old (take (length old) g) × HasNoneOutside (value_of_variable (take (length old) g) x) fence
+  pub up : (g : Valuation) → length g ≡ length old → IsSound g → AllFit old g
+      → HasNoneOutside (value_of_variable g x) fence
       → (h : Valuation) × (length h ≡ length new) × IsSound h × AllFit new h × (take (length old) h ≡ g)

@@ -1,5 +1,5 @@
 -- What a store stands for: pairs of a start tree and a valuation of the store's variables.
-use Rattle.std.specs.Prelude.{◌≡◌, ◌≢◌, ℕ, ◌<◌, ◌≤◌, List, [], ◌∷◌, length, take}
+use Rattle.std.specs.Prelude.{◌≡◌, ◌≢◌, ℕ, ◌<◌, ◌≤◌, List, [], ◌∷◌, length, take, Contains}
 use Rattle.feature_trees.specs.declared.value.Value.{Value}
 use Rattle.feature_trees.specs.declared.value.Value.TheVariants as value
 use Rattle.feature_trees.specs.declared.kind.Kind.TheVariants as kind
@@ -68,6 +68,20 @@ HasSome v = (f : List ℕ) × (entry v f ≢ value.Absent)
 -- the value has no entry
 abbrev pub HasNone : Value → Type 0
 HasNone v = (f : List ℕ) → entry v f ≡ value.Absent
+
+-- the value has entries under these names alone
+abbrev pub IsFenced : Value → List (List ℕ) → Type 0
+IsFenced v names = (f : List ℕ) → ¬ (Contains names f) → entry v f ≡ value.Absent
+
+-- the new store has those pairs of the old one in which the variable x has entries under these names alone, each
+-- valuation extended by values for the new variables
+pub record Fences (old new : Seen) (x : ℕ) (names : List (List ℕ)) : Type 0 where
+  pub more : old.count ≤ new.count
+  pub same : new.current ≡ old.current
+  pub down : (t : Value) (g : Valuation) → Stands new t g
+      → Stands old t (take old.count g) × IsFenced (value_of_variable g x) names
+  pub up : (t : Value) (g : Valuation) → Stands old t g → IsFenced (value_of_variable g x) names
+      → (h : Valuation) × Stands new t h × (take old.count h ≡ g)
 
 -- the new store has those pairs of the old one in which the variable x has no entry, each valuation extended by values
 -- for the new variables

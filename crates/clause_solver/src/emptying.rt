@@ -1,9 +1,10 @@
-//! How a variable is left without entries: along its definitions, down to a place of the start tree.
+//! How a variable is left with entries under some names alone, or under none: along its definitions, down to a place of
+//! the start tree.
 
 ghost use Rattle.std.specs.Prelude.{◌≡◌, ℕ, List, ◌<◌, [], length, IfOk, OnOk, IsTrue, Some};
 ghost use Rattle.clause_solver.specs.Variables.{Listed, is_node, var_at};
 ghost use Rattle.clause_solver.specs.Decided.{AreDecided};
-ghost use Rattle.clause_solver.specs.Emptied.{EndsAt, HasItsVariable, HasMore, IsClosed, IsWithout};
+ghost use Rattle.clause_solver.specs.Emptied.{EndsAt, HasItsVariable, HasMore, IsClosed, IsWithin};
 ghost use Rattle.clause_solver.specs.Emptied.{fenced, let_in, names_past, vars_past};
 
 use crate::appended::append;
@@ -18,8 +19,8 @@ use script_names::{Copied, List, Memory, Name};
 use shared_table::{Shared, set_alone};
 use std::alloc::Global;
 
-/// The way down from a variable that has no entry: the lists, in which the variables that were replaced on the way are
-/// absent, and the names that they were replaced under.
+/// The way down from a variable that has entries under some names alone: the lists, in which the variables that were
+/// replaced on the way under other names are absent, and those names with the names that they were replaced under.
 #[derive(Drop)]
 pub(crate) struct WayDown {
     pub(crate) lists: Lists,
@@ -51,15 +52,20 @@ fn go_past(
     Ok(())
 }
 
-/// The way down from a variable that has no entry.
-pub(crate) fn way_down(alloc: Global, lists: &Lists, x: u32) -> Result<WayDown, Memory>
+/// The way down from a variable that has entries under the names of a fence alone.
+pub(crate) fn way_down(
+    alloc: Global,
+    lists: &Lists,
+    x: u32,
+    fence: &List<Name>,
+) -> Result<WayDown, Memory>
     requires decided { AreDecided lists.now }
     requires inside { x < length lists.now.vars }
     ensures decided { IfOk result (λ way. AreDecided way.lists) }
-    ensures ends { IfOk result (λ way. EndsAt lists.now.vars x way.lists.vars way.names way.place) }
+    ensures ends { IfOk result (λ way. EndsAt lists.now.vars x fence.now way.lists.vars way.names way.place) }
 {
     let mut new = lists.fork()?;
-    let mut names = List::new(alloc);
+    let mut names = fence.copy(alloc)?;
     let mut here = x;
     'down: loop {
         let definition = var_at(&new.vars, here as usize).definition.fork()?;
@@ -207,9 +213,25 @@ pub(crate) fn without_entries(alloc: Global, lists: &Lists, x: u32) -> Result<Li
     requires decided { AreDecided lists.now }
     requires inside { x < length lists.now.vars }
     ensures decided { IfOk result (λ new. AreDecided new) }
-    ensures without { IfOk result (λ new. IsWithout lists.now.vars x new.vars) }
+    ensures within { IfOk result (λ new. IsWithin lists.now.vars x [] new.vars) }
 {
-    let way = way_down(alloc, lists, x)?;
+    let none = List::new(alloc);
+    with_fence(alloc, lists, x, &none)
+}
+
+/// The lists, with further variables, where x has entries under the names of a fence alone.
+pub(crate) fn with_fence(
+    alloc: Global,
+    lists: &Lists,
+    x: u32,
+    fence: &List<Name>,
+) -> Result<Lists, Memory>
+    requires decided { AreDecided lists.now }
+    requires inside { x < length lists.now.vars }
+    ensures decided { IfOk result (λ new. AreDecided new) }
+    ensures within { IfOk result (λ new. IsWithin lists.now.vars x fence.now new.vars) }
+{
+    let way = way_down(alloc, lists, x, fence)?;
     match way.place {
         Some(n) => {
             let new = closed(alloc, &way.lists, n, way.names.as_slice())?;

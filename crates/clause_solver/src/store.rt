@@ -10,7 +10,7 @@ ghost use Rattle.tree_clauses.specs.Solved.{IsSolved};
 ghost use Rattle.clause_solver.specs.Adds.{AddsCase, LeadsNowhere};
 ghost use Rattle.clause_solver.specs.Pairs.{HasPair};
 ghost use Rattle.clause_solver.specs.Stands.{Seen, Stands, Alive, Extends, HasEntry, IsDirectory, HasPut, HasValue};
-ghost use Rattle.clause_solver.specs.Stands.{Empties, HasEntriesOf, HasSome};
+ghost use Rattle.clause_solver.specs.Stands.{Empties, Fences, HasEntriesOf, HasSome};
 ghost use Rattle.clause_solver.specs.Variables.{made_value};
 ghost use Rattle.clause_solver.specs.Variables.{possible, possible_by, var_at};
 ghost use Rattle.feature_trees.specs.declared.value.Value.TheVariants as value;
@@ -18,7 +18,7 @@ ghost use Rattle.feature_trees.specs.declared.value.Value.TheVariants as value;
 use crate::add_case::drafted;
 use crate::appended::{Found, append, resolve};
 use crate::children::{find, no_kin};
-use crate::emptying::without_entries;
+use crate::emptying::{with_fence, without_entries};
 use crate::greatest::kind_made;
 use crate::lists::Lists;
 use crate::literals::write_literals;
@@ -28,7 +28,7 @@ use crate::places::var_at;
 use crate::start_tree::{grow, open_places};
 use crate::variable::{Definition, MadeValue, Variable};
 use feature_trees::{Kind, Kinds, Value};
-use script_names::{Bytes, Common, Copied, Memory, Name};
+use script_names::{Bytes, Common, Copied, List as Names, Memory, Name};
 use shared_table::{Shared, push_alone};
 use std::alloc::Global;
 use std::marker::Model;
@@ -302,6 +302,20 @@ impl Store {
         ensures unchanged { OnErr result (self.new ≡ self.old) }
     {
         let new = without_entries(self.alloc, &self.lists, x.0)?;
+        let left = new.alive;
+        self.lists = new;
+        Ok(left)
+    }
+
+    /// Leaves the pairs in which a variable has entries under these names alone, and says whether one is left; there may
+    /// be further variables. What is no directory has no entry. For want of memory the store is as before.
+    pub fn fence(&mut self, x: Var, names: &Names<Name>) -> Result<bool, Memory>
+        requires { x.0 < self.old.count }
+        ensures fences { IfOk result (λ left. Fences self.old self.new x.0 names.now) }
+        ensures alive { IfOk result (λ left. IsTrue left ↔ Alive self.new) }
+        ensures unchanged { OnErr result (self.new ≡ self.old) }
+    {
+        let new = with_fence(self.alloc, &self.lists, x.0, names)?;
         let left = new.alive;
         self.lists = new;
         Ok(left)

@@ -1,5 +1,6 @@
 pub mod Took
 pub mod Loaded
+pub mod LoadEndings
 pub mod Refused
 pub mod Parts
 pub mod Settled

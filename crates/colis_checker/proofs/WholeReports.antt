@@ -1,4 +1,4 @@
--- What is reported of packages is a whole report.
+-- What is reported of packages is a whole report, which its plain text tells.
 use Rattle.std.proofs.Common.{◌≡◌, ℕ, zero, suc, ◌+◌, ◌≤◌, List, [], ◌∷◌, map, Option, Some, None, refl, sym, ap, ◌∙◌, subst, arith}
 use Rattle.std.specs.Prelude.{slice_get}
 use Rattle.feature_trees.specs.declared.value.Value.{Value}
@@ -18,8 +18,9 @@ use Rattle.outcome_report.specs.declared.replay.Replay.{Replay}
 use Rattle.outcome_report.specs.Numbered.{AreNumbered, AllNumbered}
 use Rattle.outcome_report.specs.OutcomeReport.{IsEntryOf, AllEntries, IsPart}
 use Rattle.outcome_report.specs.Whole.{IsWholeEntry, AllWhole, AllPartsWhole, AreInOrder, scenario_place, IsWhole}
+use Rattle.outcome_report.specs.TextLaws.{TextsTellReports}
 use Rattle.colis_checker.specs.Reports.{AreParts, chosen}
-use Rattle.colis_checker.specs.Laws.{WholeReports}
+use Rattle.colis_checker.specs.Laws.{WholeReports, PlainTextsTellReports}
 
 -- ---- an entry
 
@@ -130,3 +131,8 @@ whole_reports packages turns limit which report are =
       numbered = parts.1;
       order = in_order packages turns limit 0 (chosen which) report.parts are (chosen_rise which);
     }
+
+pub plain_texts_tell : TextsTellReports → PlainTextsTellReports
+plain_texts_tell tell packages other_packages turns other_turns limit other_limit which other_which text status other_status a b =
+    tell a.report b.report a.representable b.representable (whole_reports packages turns limit which a.report a.parts)
+    (whole_reports other_packages other_turns other_limit other_which b.report b.parts) (sym a.text_is ∙ b.text_is)

@@ -6,6 +6,7 @@ use Rattle.dpkg_scenarios.specs.declared.scenario.Ending.{Ending}
 use Rattle.dpkg_scenarios.specs.declared.scenario.Ending.TheVariants.{Done, Failed, Incomplete, Bound}
 use Rattle.checker_io.specs.Shelf.{Files}
 use Rattle.command_words.specs.declared.request.Layout.{Layout}
+use Rattle.command_words.specs.declared.request.Layout.TheVariants.{Plain}
 use Rattle.command_words.specs.declared.request.Request.{Request}
 use Rattle.checker_input.specs.declared.package.Packages.{Packages}
 use Rattle.scenario_runs.specs.declared.replayed.Replayed.{Replayed}
@@ -99,6 +100,16 @@ abbrev pub WholeReports : Type 0
 WholeReports =
     (packages : Packages) (turns limit : ℕ) (which : Option Scenario) (report : Report)
     → AreParts packages turns limit (chosen which) report.parts → IsWhole report
+
+-- two checks that answer one plain text report the same: whatever the packages, turns, limits and chosen scenarios of
+-- the one and of the other are, their reports are equal
+abbrev pub PlainTextsTellReports : Type 0
+PlainTextsTellReports =
+    (packages other_packages : Packages) (turns other_turns limit other_limit : ℕ) (which other_which : Option Scenario)
+    (text : List ℕ) (status other_status : ℕ)
+    → (a : IsReportOf packages turns limit (chosen which) Plain text status)
+    → (b : IsReportOf other_packages other_turns other_limit (chosen other_which) Plain text other_status)
+    → a.report ≡ b.report
 
 -- over files of the same contents a request is refused for one reason
 abbrev pub OneRefusal : Type 0

@@ -2,6 +2,7 @@ pub mod CommandLine
 pub mod Settled
 pub mod Reports
 pub mod Loads
+pub mod LoadEndings
 pub mod Tasks
 pub mod ErrorLines
 pub mod Delivery

@@ -14,6 +14,7 @@ use Rattle.outcome_report.specs.declared.outcome_report.ReportPart.{ReportPart}
 use Rattle.outcome_report.specs.declared.outcome_report.Report.{Report}
 use Rattle.outcome_report.specs.OutcomeReport.{IsPart, verdict_of}
 use Rattle.outcome_report.specs.ReportText.{report_text}
+use Rattle.outcome_report.specs.Whole.{IsRepresentable}
 use Rattle.outcome_report.specs.BriefText.{brief_text}
 use Rattle.report_json.specs.ReportJson.{json_text}
 use Rattle.colis_checker.specs.declared.faults.Refusal.{Refusal}
@@ -82,10 +83,11 @@ module _ (packages : Packages) (turns limit : ℕ) where
     pub earlier : CanReportAll before
     pub refused : IsRefused scenario refusal
 
-  -- the text is that of a report on them, and the status is its verdict
+  -- the text is that of a report on them, one that the program's types represent, and the status is its verdict
   pub record IsReportOf (scenarios : List Scenario) (layout : Layout) (text : List ℕ) (status : ℕ) : Type 0 where
     pub report : Report
     pub parts : AreParts scenarios report.parts
+    pub representable : IsRepresentable report
     pub text_is : text ≡ layout_text layout report
     pub status_is : status ≡ verdict_of report
     pub small : status ≤ 2

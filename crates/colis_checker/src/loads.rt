@@ -1,18 +1,22 @@
 //! The summary of the report on a made package.
 
 ghost use Rattle.std.specs.Prelude.{◌≤◌, IfOk};
+ghost use Rattle.std.specs.List.{AllZip};
 ghost use Rattle.colis_checker.specs.Loads.{AreLoaded, LoadGives};
+ghost use Rattle.colis_checker.specs.LoadEndings.{EndingsGive, AllEndingsGive};
 
-use crate::faults::TaskFault;
-use crate::reports::make_report;
+use crate::faults::{Refusal, TaskFault};
+use crate::reports::{chosen_scenarios, settle};
 use crate::written::Written;
-use case_pool::Gate;
+use case_pool::{Gate, map_jobs};
 use checker_input::Packages;
+use dpkg_scenarios::Scenario;
 use load_maker::load;
-use load_summary::render_load;
-use outcome_report::verdict;
+use load_summary::{ScenarioEndings, load_verdict, render_load};
+use package_jobs::{job_of, needs_of};
 use package_lists::Base;
-use script_names::Memory;
+use scenario_outcomes::{OutcomesFault, endings};
+use script_names::{List, Memory};
 use std::alloc::Global;
 use std::thread::Threads;
 
@@ -33,7 +37,65 @@ fn load_packages(alloc: Global, number: u32) -> Result<Packages, Memory>
     })
 }
 
-// The summary of the report on the packages of a load, in all scenarios, and its verdict; or why there is none.
+// How the outcomes of a scenario end, or why it has none.
+fn scenario_endings(
+    alloc: Global,
+    packages: &Packages,
+    limit: u32,
+    scenario: Scenario,
+) -> Result<ScenarioEndings, TaskFault>
+    ensures { EndingsGive packages.now limit scenario result }
+{
+    let job = job_of(alloc, scenario, packages, TURNS)?;
+    let needs = needs_of(alloc, scenario, packages)?;
+    match endings(alloc, &job, &needs, limit) {
+        Ok(endings) => Ok(ScenarioEndings { scenario, endings }),
+        Err(OutcomesFault::NoStart) => Err(TaskFault::Refused(Refusal::NoStart { scenario })),
+        Err(OutcomesFault::Over) => Err(TaskFault::Refused(Refusal::Limit { scenario, limit })),
+        Err(OutcomesFault::Memory) => Err(TaskFault::Memory),
+    }
+}
+
+// What workers answer of each scenario, in the scenarios' order: how its outcomes end, or why it has none. A worker
+// enters the gate when it takes up a scenario.
+fn answer_endings<R: Threads + Sync, G: Gate>(
+    rt: &R,
+    alloc: Global,
+    gate: &G,
+    packages: &Packages,
+    limit: u32,
+    scenarios: &List<Scenario>,
+) -> Result<List<Result<ScenarioEndings, TaskFault>>, Memory>
+    ensures { IfOk result (AllZip (EndingsGive packages.now limit) scenarios.now) }
+{
+    let answer = move |scenario: &Scenario| -> Result<Result<ScenarioEndings, TaskFault>, Memory>
+        ensures { IfOk result (EndingsGive packages.entry.now limit scenario.now) }
+    {
+        gate.enter();
+        Ok(scenario_endings(alloc, packages, limit, *scenario))
+    };
+    let answers = map_jobs(rt, alloc, scenarios, &answer)?;
+    Ok(answers)
+}
+
+// How the outcomes of all scenarios end, or why the first of them that has none is refused.
+fn load_endings<R: Threads + Sync, G: Gate>(
+    rt: &R,
+    alloc: Global,
+    gate: &G,
+    packages: &Packages,
+    limit: u32,
+) -> Result<List<ScenarioEndings>, TaskFault>
+    ensures { AllEndingsGive packages.now limit result }
+{
+    let scenarios = chosen_scenarios(alloc, None)?;
+    let answers = answer_endings(rt, alloc, gate, packages, limit, &scenarios)?;
+    let all = settle(alloc, answers)?;
+    all
+}
+
+// The summary of the report on the packages of a load, in all scenarios, and its verdict; or why there is none. No
+// report is made for it.
 fn write_summary<R: Threads + Sync, G: Gate>(
     rt: &R,
     alloc: Global,
@@ -45,9 +107,9 @@ fn write_summary<R: Threads + Sync, G: Gate>(
     requires { AreLoaded number packages.now }
     ensures { LoadGives number limit result }
 {
-    let report = make_report(rt, alloc, gate, packages, TURNS, limit, None)?;
-    let text = render_load(alloc, number, &report)?;
-    let status = verdict(&report);
+    let scenarios = load_endings(rt, alloc, gate, packages, limit)?;
+    let text = render_load(alloc, number, &scenarios)?;
+    let status = load_verdict(&scenarios);
     Ok(Written { text, status })
 }
 

@@ -39,8 +39,8 @@ fn report_scenario(
     }
 }
 
-// The scenarios that are chosen: one, or else all, in the order in which they are reported.
-fn chosen_scenarios(alloc: Global, scenario: Option<Scenario>) -> Result<List<Scenario>, Memory>
+/// The scenarios that are chosen: one, or else all, in the order in which they are reported.
+pub fn chosen_scenarios(alloc: Global, scenario: Option<Scenario>) -> Result<List<Scenario>, Memory>
     ensures { IfOk result (λ scenarios. scenarios ≡ chosen scenario) }
 {
     let mut scenarios = List::new(alloc);
@@ -84,8 +84,8 @@ fn answer_scenarios<R: Threads + Sync, G: Gate>(
     Ok(answers)
 }
 
-// The values of results, or the first fault in their order.
-fn settle<T: Drop, E: Drop>(
+/// The values of results, or the first fault in their order.
+pub fn settle<T: Drop, E: Drop>(
     alloc: Global,
     results: List<Result<T, E>>,
 ) -> Result<Result<List<T>, E>, Memory>
@@ -147,6 +147,7 @@ pub fn write_report<R: Threads + Sync, G: Gate>(
     ensures { ReportGives packages.now turns limit (chosen scenario) layout result }
 {
     let report = make_report(rt, alloc, gate, packages, turns, limit, scenario)?;
+    report.is_representable();
     let text = render(alloc, &report, layout)?;
     let status = verdict(&report);
     Ok(Written { text, status })

@@ -1,9 +1,10 @@
 //! What a report means for those who read it, and what holds of refusals.
 
 ghost use Rattle.colis_checker.specs.Laws.{QuietScenario, QuietReport, FailedScenario, FailedReport, OneRefusal};
-ghost use Rattle.colis_checker.specs.Laws.{WholeReports};
+ghost use Rattle.colis_checker.specs.Laws.{WholeReports, PlainTextsTellReports};
 
 use checker_input::theorems::one_answer;
+use outcome_report::theorems::texts_tell_reports;
 use package_jobs::theorems::more_turns_change_no_written_run;
 
 /// Of a scenario that is reported with outcomes that are all done, the run from each start tree is done: it fails from
@@ -32,6 +33,14 @@ pub fn a_failure_is_real()
 pub fn reports_are_whole()
     ensures { WholeReports }
 {}
+
+/// The plain text of a check tells its report: two checks that answer the same plain text, of whatever packages, report
+/// the same outcomes, with the same traces, clauses, trees and replays.
+pub fn plain_texts_tell_reports()
+    ensures { PlainTextsTellReports }
+{
+    texts_tell_reports();
+}
 
 /// A request is refused for one reason: the first file that is at fault, or else the first scenario that cannot be
 /// reported.

@@ -9,6 +9,7 @@ use feature_trees::put_tree;
 use package_lists::{BaseLine, Entry, EntryKind};
 use script_names::{Bytes, Memory, Path, Slot};
 use shell_forms::Accepted;
+use stated_calls::{CallEnd, StatedCall};
 use std::alloc::Global;
 
 fn put_path(text: &mut Bytes, letter: &[u8], path: &Path) -> Result<(), Memory> {
@@ -68,7 +69,17 @@ fn put_base_line(text: &mut Bytes, line: &BaseLine) -> Result<(), Memory> {
         BaseLine::Gone(path) => put_path(text, b" a", path),
         BaseLine::NoFolder(path) => put_path(text, b" n", path),
         BaseLine::Fits => text.extend(b" fits"),
+        BaseLine::Own => text.extend(b" own"),
+        BaseLine::Call(call) => put_call(text, call),
     }
+}
+
+fn put_call(text: &mut Bytes, call: &StatedCall) -> Result<(), Memory> {
+    match call.end {
+        CallEnd::Succeeds => text.extend(b" ok/")?,
+        CallEnd::Fails => text.extend(b" fails/")?,
+    }
+    text.extend(call.name.as_slice())
 }
 
 fn put_base(text: &mut Bytes, lines: &[BaseLine]) -> Result<(), Memory> {

@@ -16,6 +16,7 @@ const FILES: &[File<'static>] = &[
         "b",
         b"dir /etc\n# x\nabsent /etc/a\nfile /f\n\nnodir /n\nfits\n",
     ),
+    ("c", b"own\ncall x ok\nfits\ncall y fails\n"),
     ("t", b"d /etc\nf /etc/a\n"),
     ("s", b"#!/bin/sh -e\n"),
     ("lax", b"#!/bin/sh\nset -e\n"),
@@ -39,6 +40,10 @@ const READ: &[(&str, &str)] = &[
     (
         "check o --base b",
         "new 0 -s-x d/usr\nbase d/etc a/etc/a f/f n/n fits\n",
+    ),
+    (
+        "check o --base c",
+        "new 0 -s-x d/usr\nbase own ok/x fits fails/y\n",
     ),
     ("translate s", "strict\n"),
     ("translate lax", "lax\n"),

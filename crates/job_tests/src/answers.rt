@@ -5,11 +5,12 @@ use checker_io::MemShelf;
 use command_words::{Request, read_words};
 use dpkg_scenarios::Scenario;
 use feature_trees::{Kind, Kinds, Value};
-use outcome_report::render_run;
+use outcome_report::{Report, make_part, render_brief, render_run};
 use package_jobs::{job_of, needs_of};
+use scenario_outcomes::OutcomesFault;
 use scenario_runs::run;
-use script_names::{Bytes, List, Memory, Path, Text};
-use start_trees::Need;
+use script_names::{Bytes, List, Memory, Name, Path, Text};
+use start_trees::{Need, Wanted};
 use std::alloc::Global;
 
 /// A file: its name and its bytes.
@@ -72,12 +73,30 @@ fn put_kinds(text: &mut Bytes, kinds: Kinds) -> Result<(), Memory> {
     text.push(b' ')
 }
 
-// What is needed, as a text: the paths, each with a letter for each kind that may stand there.
+// The names that entries may have, each behind a comma.
+fn put_names(text: &mut Bytes, names: &[Name]) -> Result<(), Memory> {
+    text.push(b'=')?;
+    for name in names {
+        text.push(b',')?;
+        text.extend(name.as_slice())?;
+    }
+    text.push(b' ')
+}
+
+fn put_wanted(text: &mut Bytes, wanted: &Wanted) -> Result<(), Memory> {
+    match wanted {
+        Wanted::Kinds(kinds) => put_kinds(text, *kinds),
+        Wanted::Names(names) => put_names(text, names.as_slice()),
+    }
+}
+
+// What is needed, as a text: the paths, each with a letter for each kind that may stand there, or the names that the
+// entries there may have.
 fn needs_text(alloc: Global, needs: &[Need]) -> Result<Bytes, Memory> {
     let mut text = Bytes::new(alloc);
     for need in needs {
         put_path(&mut text, &need.path)?;
-        put_kinds(&mut text, need.kinds)?;
+        put_wanted(&mut text, &need.wanted)?;
     }
     Ok(text)
 }
@@ -145,4 +164,45 @@ pub(crate) fn answer(
     let request = request(alloc, line)?;
     let mut shelf = shelf(alloc, files, others)?;
     read(alloc, scenario, &request, &mut shelf)
+}
+
+// The brief report on a scenario, or why there is none.
+fn reported(alloc: Global, scenario: Scenario, packages: &Packages) -> Result<Bytes, Memory> {
+    let job = job_of(alloc, scenario, packages, 100)?;
+    let needs = needs_of(alloc, scenario, packages)?;
+    match make_part(alloc, &job, &needs, 1000) {
+        Ok(part) => {
+            let mut parts = List::new(alloc);
+            parts.add(part)?;
+            render_brief(alloc, &Report { parts })
+        }
+        Err(OutcomesFault::NoStart) => Bytes::from_slice(alloc, b"no start"),
+        Err(OutcomesFault::Over) => Bytes::from_slice(alloc, b"limit"),
+        Err(OutcomesFault::Memory) => Err(Memory),
+    }
+}
+
+// The brief report on a scenario for a task.
+fn task_report(alloc: Global, scenario: Scenario, task: &Task) -> Result<Bytes, Memory> {
+    match task {
+        Task::Check(packages) => reported(alloc, scenario, packages),
+        _ => Err(Memory),
+    }
+}
+
+/// The brief report on a scenario for the request of a line over these files, with 100 turns of loops and a limit of
+/// 1,000 outcomes.
+pub(crate) fn report(
+    alloc: Global,
+    scenario: Scenario,
+    line: &str,
+    files: &[File],
+    others: &[File],
+) -> Result<Bytes, Memory> {
+    let request = request(alloc, line)?;
+    let mut shelf = shelf(alloc, files, others)?;
+    match read_task(alloc, &request, &mut shelf) {
+        Ok(task) => task_report(alloc, scenario, &task),
+        Err(_) => Err(Memory),
+    }
 }

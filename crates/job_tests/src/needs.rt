@@ -1,5 +1,5 @@
 //! What start trees need. Behind a path stand the kinds that it may have: A nothing, R a regular file, L a link, O
-//! another thing, D a directory.
+//! another thing, D a directory; or, behind `=`, the names that its entries may have.
 
 use crate::answers::{File, answer};
 use dpkg_scenarios::Scenario;
@@ -14,6 +14,9 @@ const FILES: &[File] = &[
     ("o/list", b"/etc\n/etc/old\n/usr/x\n/o.conf\n/m -> x\n"),
     ("o/conffiles", b"/o.conf\n"),
 ];
+
+// The list of an old package with folders that the new one lists, and others.
+const OLD_FOLDERS: &[u8] = b"/etc\n/etc/foo\n/etc/foo/z\n/g\n/g/a\n/g/c.conf\n/g/d\n/g/d/e\n";
 
 const BOTH: &str = "check p --old o --base b";
 
@@ -81,6 +84,64 @@ const ROWS: &[(Scenario, &str, &[File], &str)] = &[
         ALONE,
         &[("b", b"fits\n")],
         "/etc:D /etc/foo:D /etc/foo/a.conf:ARLO /usr/x:ARLO /l:ARLO ",
+    ),
+    // The package's folders hold no foreign entry.
+    (Scenario::Install, BOTH, &[("b", b"own\n")], ""),
+    (
+        Scenario::InstallAgain,
+        BOTH,
+        &[("b", b"own\n")],
+        "/etc/foo/a.conf:ARLO ",
+    ),
+    (
+        Scenario::Remove,
+        BOTH,
+        &[("b", b"own\ncall x ok\n")],
+        "/etc:D /etc/foo:D /etc/foo/a.conf:ARLO /usr/x:ARLO /l:ARLO /etc=,foo /etc/foo=,a.conf ",
+    ),
+    (
+        Scenario::Purge,
+        BOTH,
+        &[("b", b"dir /etc\nown\nown\n")],
+        "/etc:D /etc:D /etc/foo:D /etc/foo/a.conf:ARLO /usr/x:ARLO /l:ARLO /etc/foo=,a.conf ",
+    ),
+    (
+        Scenario::Remove,
+        BOTH,
+        &[("b", b"own\ndir /etc/foo/b\n")],
+        "/etc/foo/b:D /etc:D /etc/foo:D /etc/foo/a.conf:ARLO /usr/x:ARLO /l:ARLO ",
+    ),
+    (
+        Scenario::PurgeLater,
+        BOTH,
+        &[("b", b"own\n")],
+        "/etc/foo/a.conf:ARLO /etc:AD /etc=,foo /etc/foo:AD /etc/foo=,a.conf ",
+    ),
+    (
+        Scenario::Upgrade,
+        BOTH,
+        &[("b", b"own\n")],
+        "/etc:D /etc/old:ARLO /usr/x:ARLO /o.conf:ARLO /m:ARLO ",
+    ),
+    (
+        Scenario::Upgrade,
+        BOTH,
+        &[
+            ("b", b"own\n"),
+            ("o/list", OLD_FOLDERS),
+            ("o/conffiles", b"/g/c.conf\n"),
+        ],
+        "/etc:D /etc/foo:D /etc/foo/z:ARLO /g:D /g/a:ARLO /g/c.conf:ARLO /g/d:D /g/d/e:ARLO /g=,a,c.conf,d /g/d=,e ",
+    ),
+    (
+        Scenario::Upgrade,
+        BOTH,
+        &[
+            ("b", b"own\ndir /g/d\n"),
+            ("o/list", OLD_FOLDERS),
+            ("o/conffiles", b""),
+        ],
+        "/g/d:D /etc:D /etc/foo:D /etc/foo/z:ARLO /g:D /g/a:ARLO /g/c.conf:ARLO /g/d:D /g/d/e:ARLO ",
     ),
 ];
 

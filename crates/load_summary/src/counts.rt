@@ -1,9 +1,9 @@
 // How many outcomes of a scenario end in each way.
 ghost use Rattle.std.specs.Prelude.{◌≡◌, ◌+◌, ◌-◌, ◌^◌, ◌<◌, cond};
-ghost use Rattle.load_summary.specs.Counts.{ends_in, count};
+ghost use Rattle.load_summary.specs.Counts.{ends_in};
+ghost use Rattle.load_summary.specs.Endings.{count_endings};
 
 use dpkg_scenarios::Ending;
-use outcome_report::ReportEntry;
 
 /// A way to end, without the state or the site.
 #[derive(Clone, Copy, Debug, PartialEq, Eq)]
@@ -46,13 +46,13 @@ fn one_more(count: u64, counts: bool) -> u64
     if counts { count + 1 } else { count }
 }
 
-/// How many outcomes end in this way.
-pub fn count(way: EndWay, entries: &[ReportEntry]) -> u64
-    ensures { result ≡ count way entries.now }
+/// How many of the endings are of this way.
+pub fn count(way: EndWay, endings: &[Ending]) -> u64
+    ensures { result ≡ count_endings way endings.now }
 {
     let mut found = 0;
-    for entry in entries {
-        found = one_more(found, ends_in(way, entry.outcome.ending));
+    for ending in endings {
+        found = one_more(found, ends_in(way, *ending));
     }
     found
 }

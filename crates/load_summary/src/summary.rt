@@ -2,11 +2,15 @@ ghost use Rattle.std.specs.Prelude.{◌≡◌, ◌++◌, IfOk, OnOk};
 ghost use Rattle.std.specs.List.{flat_map};
 ghost use Rattle.std.specs.Fmt.{decimal};
 ghost use Rattle.shown_texts.specs.Lines.{line};
-ghost use Rattle.load_summary.specs.Summary.{way_name, count_text, counts_text, part_line, summary_text};
+ghost use Rattle.outcome_report.specs.declared.outcome_report.Report.{Report};
+ghost use Rattle.load_summary.specs.Endings.{HasEndings, ways_text, all_ways_text, scenario_line, endings_text};
+ghost use Rattle.load_summary.specs.Summary.{way_name, summary_text};
 
 use crate::counts::{EndWay, count};
-use outcome_report::{Report, ReportEntry, ReportPart, scenario_name, verdict};
-use script_names::{Bytes, Memory};
+use crate::endings::{ScenarioEndings, endings_verdict};
+use dpkg_scenarios::Ending;
+use outcome_report::scenario_name;
+use script_names::{Bytes, List, Memory};
 use shown_texts::push_number;
 use std::alloc::Global;
 
@@ -22,46 +26,46 @@ fn way_name(way: EndWay) -> &'static [u8]
     }
 }
 
-// Adds a way to end, and how many outcomes end so.
-#[tactic(auto, unfolding(crate::specs::Summary::count_text))]
-fn put_count(text: &mut Bytes, way: EndWay, entries: &[ReportEntry]) -> Result<(), Memory>
-    ensures { OnOk result (text.new ≡ text.old ++ count_text way entries.now) }
+// Adds a way to end, and how many of the endings are of it.
+#[tactic(auto, unfolding(crate::specs::Endings::ways_text))]
+fn put_count(text: &mut Bytes, way: EndWay, endings: &[Ending]) -> Result<(), Memory>
+    ensures { OnOk result (text.new ≡ text.old ++ ways_text way endings.now) }
 {
     text.extend(b" ")?;
     text.extend(way_name(way))?;
     text.extend(b" ")?;
-    push_number(text, count(way, entries))
+    push_number(text, count(way, endings))
 }
 
 // Adds each way to end.
-#[tactic(auto, unfolding(crate::specs::Summary::counts_text))]
-fn put_counts(text: &mut Bytes, entries: &[ReportEntry]) -> Result<(), Memory>
-    ensures { OnOk result (text.new ≡ text.old ++ counts_text entries.now) }
+#[tactic(auto, unfolding(crate::specs::Endings::all_ways_text))]
+fn put_counts(text: &mut Bytes, endings: &[Ending]) -> Result<(), Memory>
+    ensures { OnOk result (text.new ≡ text.old ++ all_ways_text endings.now) }
 {
-    put_count(text, EndWay::Done, entries)?;
-    put_count(text, EndWay::Failed, entries)?;
-    put_count(text, EndWay::Incomplete, entries)?;
-    put_count(text, EndWay::Bound, entries)
+    put_count(text, EndWay::Done, endings)?;
+    put_count(text, EndWay::Failed, endings)?;
+    put_count(text, EndWay::Incomplete, endings)?;
+    put_count(text, EndWay::Bound, endings)
 }
 
 // Adds the line of a scenario.
-#[tactic(auto, unfolding(crate::specs::Summary::part_line))]
-fn put_part(text: &mut Bytes, part: &ReportPart) -> Result<(), Memory>
-    ensures { OnOk result (text.new ≡ text.old ++ part_line part.now) }
+#[tactic(auto, unfolding(crate::specs::Endings::scenario_line))]
+fn put_scenario(text: &mut Bytes, scenario: &ScenarioEndings) -> Result<(), Memory>
+    ensures { OnOk result (text.new ≡ text.old ++ scenario_line scenario.now) }
 {
-    text.extend(scenario_name(part.scenario))?;
+    text.extend(scenario_name(scenario.scenario))?;
     text.extend(b" outcomes ")?;
-    push_number(text, part.entries.len() as u64)?;
-    put_counts(text, part.entries.as_slice())?;
+    push_number(text, scenario.endings.len() as u64)?;
+    put_counts(text, scenario.endings.as_slice())?;
     text.extend(b"\n")
 }
 
 // Adds the line of each scenario.
-fn put_parts(text: &mut Bytes, parts: &[ReportPart]) -> Result<(), Memory>
-    ensures { OnOk result (text.new ≡ text.old ++ flat_map part_line parts.now) }
+fn put_scenarios(text: &mut Bytes, scenarios: &[ScenarioEndings]) -> Result<(), Memory>
+    ensures { OnOk result (text.new ≡ text.old ++ flat_map scenario_line scenarios.now) }
 {
-    for part in parts {
-        put_part(text, part)?;
+    for scenario in scenarios {
+        put_scenario(text, scenario)?;
     }
     Ok(())
 }
@@ -75,14 +79,32 @@ fn put_numbered(text: &mut Bytes, word: &[u8], number: u32) -> Result<(), Memory
     text.extend(b"\n")
 }
 
-/// The summary of a report on the made package of this number: the number, a line for each scenario, and the verdict.
-#[tactic(auto, unfolding(crate::specs::Summary::summary_text))]
-pub fn render_load(alloc: Global, number: u32, report: &Report) -> Result<Bytes, Memory>
-    ensures { IfOk result (λ text. text ≡ summary_text number report.now) }
+// The summary, by the endings.
+#[tactic(auto, unfolding(crate::specs::Endings::endings_text))]
+fn render_endings(
+    alloc: Global,
+    number: u32,
+    scenarios: &[ScenarioEndings],
+) -> Result<Bytes, Memory>
+    ensures { IfOk result (λ text. text ≡ endings_text number scenarios.now) }
 {
     let mut text = Bytes::new(alloc);
     put_numbered(&mut text, b"load ", number)?;
-    put_parts(&mut text, report.parts.as_slice())?;
-    put_numbered(&mut text, b"status ", u32::from(verdict(report)))?;
+    put_scenarios(&mut text, scenarios)?;
+    put_numbered(&mut text, b"status ", u32::from(endings_verdict(scenarios)))?;
+    Ok(text)
+}
+
+/// The summary of each report on the made package of this number that has these endings: the number, a line for each
+/// scenario, and the verdict.
+pub fn render_load(
+    alloc: Global,
+    number: u32,
+    scenarios: &List<ScenarioEndings>,
+) -> Result<Bytes, Memory>
+    ensures { IfOk result (λ text. (report : Report) → HasEndings report scenarios.now
+        → text ≡ summary_text number report) }
+{
+    let text = render_endings(alloc, number, scenarios.as_slice())?;
     Ok(text)
 }

@@ -4,9 +4,11 @@ mod Counted
 mod Growing
 mod Briefs
 pub mod Carrying
+pub mod PartOf
 pub mod ShownBytes
 pub mod PieceReading
 pub mod Blocks
 pub mod WholeLines
 pub mod TreeTexts
+mod TypeFacts
 pub mod TextApart

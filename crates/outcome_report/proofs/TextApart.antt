@@ -33,7 +33,7 @@ use Rattle.outcome_report.specs.ReportNames.{scenario_name}
 use Rattle.outcome_report.specs.ReportText.{result_text, outcome_line, trace_mark, trace_line, confirmed_line, call_content, call_line, trees_text, entry_text}
 use Rattle.outcome_report.specs.ReportText.{scenario_line, part_text, verdict_line, report_text}
 use Rattle.outcome_report.specs.TextLaws.{TextsTellReports}
-use Rattle.outcome_report.specs.Whole.{IsHeldTree, IsHeldEntry, AllHeld, AllPartsHeld, IsWholeEntry, AllWhole, AllPartsWhole}
+use Rattle.outcome_report.specs.Whole.{IsRepresentableTree, IsRepresentableEntry, AllRepresentable, AllPartsRepresentable, IsWholeEntry, AllWhole, AllPartsWhole}
 use Rattle.outcome_report.proofs.Blocks.{same_behind, front_apart, line_apart, second, is_marked, lines_apart, read_apart, each_apart, wrong}
 use Rattle.outcome_report.proofs.PieceReading.{scenario_read, scenario_shown, result_read, trace_read, call_read}
 use Rattle.outcome_report.proofs.ShownBytes.{no_space, no_newline, number_shown}
@@ -48,7 +48,7 @@ pub record TreeBlock (v : Value) : Type 0 where
   pub text : lines_text lines ≡ tree_text v
   pub marked : list_all (is_marked is_blank) lines ≡ true
 
-pub tree_block : (v : Value) → kind_of v ≡ kind.Dir → IsHeldTree v → TreeBlock v
+pub tree_block : (v : Value) → kind_of v ≡ kind.Dir → IsRepresentableTree v → TreeBlock v
 tree_block Absent d h = cc
 tree_block Reg d h = cc
 tree_block (Link b) d h = cc
@@ -59,7 +59,7 @@ tree_block (Dir es) d h = record {
   marked = lines_marked (count_all es) es (refl, h.sound, h.bytes);
 }
 
-entries_apart_by_lines : (es fs : List Entry) (s t : List ℕ) → IsHeldTree (Dir es) → IsHeldTree (Dir fs) → second is_blank s ≡ false → second is_blank t ≡ false
+entries_apart_by_lines : (es fs : List Entry) (s t : List ℕ) → IsRepresentableTree (Dir es) → IsRepresentableTree (Dir fs) → second is_blank s ≡ false → second is_blank t ≡ false
     → entries_text es [] ++ s ≡ entries_text fs [] ++ t → (Dir es ≡ Dir fs) × (s ≡ t)
 unfolding tree_block
 entries_apart_by_lines es fs s t h g a b e =
@@ -68,7 +68,7 @@ entries_apart_by_lines es fs s t h g a b e =
     let both = lines_apart is_blank x.lines y.lines s t x.marked y.marked a b (ap (λ l. l ++ s) x.text ∙ e ∙ sym (ap (λ l. l ++ t) y.text)) in
     (ap Dir (lines_told es fs (refl, h.sound, h.bytes) (refl, g.sound, g.bytes) both.0), both.1)
 
-directory_apart : (es : List Entry) (w : Value) (s t : List ℕ) → kind_of w ≡ kind.Dir → IsHeldTree (Dir es) → IsHeldTree w
+directory_apart : (es : List Entry) (w : Value) (s t : List ℕ) → kind_of w ≡ kind.Dir → IsRepresentableTree (Dir es) → IsRepresentableTree w
     → second is_blank s ≡ false → second is_blank t ≡ false → entries_text es [] ++ s ≡ tree_text w ++ t → (Dir es ≡ w) × (s ≡ t)
 directory_apart es Absent s t d h g a b e = cc
 directory_apart es Reg s t d h g a b e = cc
@@ -76,7 +76,7 @@ directory_apart es (Link x) s t d h g a b e = cc
 directory_apart es Other s t d h g a b e = cc
 directory_apart es (Dir fs) s t d h g a b e = entries_apart_by_lines es fs s t h g a b e
 
-tree_apart : (v w : Value) (s t : List ℕ) → kind_of v ≡ kind.Dir → kind_of w ≡ kind.Dir → IsHeldTree v → IsHeldTree w
+tree_apart : (v w : Value) (s t : List ℕ) → kind_of v ≡ kind.Dir → kind_of w ≡ kind.Dir → IsRepresentableTree v → IsRepresentableTree w
     → second is_blank s ≡ false → second is_blank t ≡ false → tree_text v ++ s ≡ tree_text w ++ t → (v ≡ w) × (s ≡ t)
 tree_apart Absent w s t c d h g a b e = cc
 tree_apart Reg w s t c d h g a b e = cc
@@ -160,7 +160,7 @@ entry_grouped e s =
     (flat_map call_line e.replayed.calls) (clause_text e.outcome.clause) (line (codes "shown")) (tree_text e.outcome.shown) (line (codes "after"))
     (tree_text e.replayed.after) s
 
-module _ (n : ℕ) (x y : ReportEntry) (s t : List ℕ) (p : x.outcome.number ≡ n) (q : y.outcome.number ≡ n) (h : IsHeldEntry x) (g : IsHeldEntry y)
+module _ (n : ℕ) (x y : ReportEntry) (s t : List ℕ) (p : x.outcome.number ≡ n) (q : y.outcome.number ≡ n) (h : IsRepresentableEntry x) (g : IsRepresentableEntry y)
     (v : IsWholeEntry x) (w : IsWholeEntry y) (a : second is_blank s ≡ false) (b : second is_blank t ≡ false) where
   pub entry_apart : entry_text x ++ s ≡ entry_text y ++ t → (x ≡ y) × (s ≡ t)
   entry_apart e =
@@ -208,7 +208,7 @@ entries_no_blank (e ∷ es) s a = ap (second is_blank) (append_assoc (entry_text
 entries_begin : (e : ReportEntry) (es : List ReportEntry) (s : List ℕ) → second is_u (flat_map entry_text (e ∷ es) ++ s) ≡ true
 entries_begin e es s = ap (second is_u) (append_assoc (entry_text e) (flat_map entry_text es) s) ∙ entry_begins e (flat_map entry_text es ++ s)
 
-entries_apart : (n : ℕ) (xs ys : List ReportEntry) (s t : List ℕ) → AreNumbered n xs → AreNumbered n ys → AllHeld xs → AllHeld ys → AllWhole xs → AllWhole ys
+entries_apart : (n : ℕ) (xs ys : List ReportEntry) (s t : List ℕ) → AreNumbered n xs → AreNumbered n ys → AllRepresentable xs → AllRepresentable ys → AllWhole xs → AllWhole ys
     → second is_blank s ≡ false → second is_blank t ≡ false → second is_u s ≡ false → second is_u t ≡ false
     → flat_map entry_text xs ++ s ≡ flat_map entry_text ys ++ t → (xs ≡ ys) × (s ≡ t)
 entries_apart n [] [] s t p q h g v w a b c d e = (refl, e)
@@ -227,7 +227,7 @@ unfolding place_line
 places_stop p apart [] s a = a
 places_stop p apart (e ∷ es) s a = ap (second p) (append_assoc (place_line e) (flat_map place_line es) s) ∙ apart
 
-few : (n : ℕ) (es : List ReportEntry) → n ≤ 2 ^ 32 → AreNumbered n es → AllHeld es → n + length es ≤ 2 ^ 32
+few : (n : ℕ) (es : List ReportEntry) → n ≤ 2 ^ 32 → AreNumbered n es → AllRepresentable es → n + length es ≤ 2 ^ 32
 few n [] l p h = omega arith
 few n (e ∷ es) l p h =
     let small = h.0.number in
@@ -237,7 +237,7 @@ few n (e ∷ es) l p h =
 abbrev scenario_content : ReportPart → List ℕ
 scenario_content part = codes "scenario " ++ scenario_name part.scenario ++ codes " outcomes " ++ decimal (length part.entries)
 
-scenario_lacks : (part : ReportPart) → AreNumbered 1 part.entries → AllHeld part.entries → lacks 10 (scenario_content part) ≡ true
+scenario_lacks : (part : ReportPart) → AreNumbered 1 part.entries → AllRepresentable part.entries → lacks 10 (scenario_content part) ≡ true
 scenario_lacks part p h =
     let is = λ (b : ℕ). not (b == 10) in
     let small : length part.entries < 2 ^ 64 = omega (arith, few 1 part.entries (omega arith) p h) in
@@ -264,7 +264,7 @@ part_grouped : (part : ReportPart) (s : List ℕ)
 unfolding part_text scenario_line
 part_grouped part s = name_front (line (scenario_content part)) (flat_map entry_text part.entries) (places_text part.entries) s
 
-part_apart : (x y : ReportPart) (s t : List ℕ) → AreNumbered 1 x.entries → AreNumbered 1 y.entries → AllHeld x.entries → AllHeld y.entries → AllWhole x.entries
+part_apart : (x y : ReportPart) (s t : List ℕ) → AreNumbered 1 x.entries → AreNumbered 1 y.entries → AllRepresentable x.entries → AllRepresentable y.entries → AllWhole x.entries
     → AllWhole y.entries → second is_blank s ≡ false → second is_blank t ≡ false → second is_u s ≡ false → second is_u t ≡ false
     → part_text x ++ s ≡ part_text y ++ t → (x ≡ y) × (s ≡ t)
 part_apart x y s t p q h g v w a b c d e =
@@ -289,7 +289,7 @@ parts_stop : (p : ℕ → Bool) → p 99 ≡ false → (parts : List ReportPart)
 parts_stop p apart [] s a = a
 parts_stop p apart (part ∷ parts) s a = parts_second p part parts s ∙ apart
 
-parts_apart : (xs ys : List ReportPart) (s t : List ℕ) → AllNumbered xs → AllNumbered ys → AllPartsHeld xs → AllPartsHeld ys → AllPartsWhole xs → AllPartsWhole ys
+parts_apart : (xs ys : List ReportPart) (s t : List ℕ) → AllNumbered xs → AllNumbered ys → AllPartsRepresentable xs → AllPartsRepresentable ys → AllPartsWhole xs → AllPartsWhole ys
     → ((p : ℕ → Bool) → second p s ≡ p 101) → ((p : ℕ → Bool) → second p t ≡ p 101)
     → flat_map part_text xs ++ s ≡ flat_map part_text ys ++ t → xs ≡ ys
 parts_apart [] [] s t p q h g v w a b e = refl

@@ -175,7 +175,7 @@ entry_bytes_all (e ∷ es) =
     let rest = entry_bytes_all es in
     λ i. first i && rest i
 
-bytes_of : (n : Node) → node_bytes n ≡ of_bytes (value_of n)
+pub bytes_of : (n : Node) → node_bytes n ≡ of_bytes (value_of n)
 bytes_of n = ap node_bytes (sym (roll-out-Node n)) ∙ layer (out-Node n)
   where
     layer : (x : Open.Node-F Node Entry) → node_bytes (roll-Node x) ≡ of_bytes (value_layer x)
@@ -192,22 +192,22 @@ inner_bytes Other h = refl
 inner_bytes (Dir es) h = h
 
 -- what is asked of the entries at a path
-abbrev pub AreHeld : List (List ℕ) → List Entry → Type 0
-AreHeld p es = (list_all is_step p ≡ true) × (sound_all es ≡ true) × (entries_bytes es ≡ true)
+abbrev pub AreRepresentable : List (List ℕ) → List Entry → Type 0
+AreRepresentable p es = (list_all is_step p ≡ true) × (sound_all es ≡ true) × (entries_bytes es ≡ true)
 
 -- what follows for the first of them
 record First (p : List (List ℕ)) (e : Entry) (es : List Entry) : Type 0 where
   step : list_all is_step (p ++ e.name ∷ []) ≡ true
   longer : is_longer (p ++ e.name ∷ []) ≡ true
   bytes : of_bytes (value_of e.node) ≡ true
-  inner : AreHeld (p ++ e.name ∷ []) (entries_of (value_of e.node))
-  later : AreHeld p es
+  inner : AreRepresentable (p ++ e.name ∷ []) (entries_of (value_of e.node))
+  later : AreRepresentable p es
 
 longer_of : (p : List (List ℕ)) (f : List ℕ) → is_longer (p ++ f ∷ []) ≡ true
 longer_of [] f = refl
 longer_of (g ∷ p) f = refl
 
-first_of_all : (p : List (List ℕ)) (e : Entry) (es : List Entry) → AreHeld p (e ∷ es) → First p e es
+first_of_all : (p : List (List ℕ)) (e : Entry) (es : List Entry) → AreRepresentable p (e ∷ es) → First p e es
 first_of_all p e es h =
     let w = value_of e.node in
     let f = e.name in
@@ -226,7 +226,7 @@ first_of_all p e es h =
       later = (h.0, c.1, q.1);
     }
 
-lines_back : (k : ℕ) (p : List (List ℕ)) (es : List Entry) → AreHeld p es → map said (own_lines k p es) ≡ map Some (map (under p) (adds k es))
+lines_back : (k : ℕ) (p : List (List ℕ)) (es : List Entry) → AreRepresentable p es → map said (own_lines k p es) ≡ map Some (map (under p) (adds k es))
 lines_back zero p es h = refl
 lines_back (suc k) p [] h = refl
 lines_back (suc k) p (e ∷ es) h =
@@ -243,7 +243,7 @@ lines_back (suc k) p (e ∷ es) h =
     ∙ map_both Some (map (under p) (map (below f) (adds k (entries_of w)))) (map (under p) (adds k es))) in
     (λ i. first i ∷ joined i) ∙ (λ i. Some own ∷ (inner i ++ later i)) ∙ ap (λ l. Some own ∷ l) split
 
-lines_whole : (k : ℕ) (p : List (List ℕ)) (es : List Entry) → AreHeld p es → list_all is_line (own_lines k p es) ≡ true
+lines_whole : (k : ℕ) (p : List (List ℕ)) (es : List Entry) → AreRepresentable p es → list_all is_line (own_lines k p es) ≡ true
 lines_whole zero p es h = refl
 lines_whole (suc k) p [] h = refl
 lines_whole (suc k) p (e ∷ es) h =
@@ -253,7 +253,7 @@ lines_whole (suc k) p (e ∷ es) h =
     and_from (is_line (own_line w (spelled q))) _ (line_whole w (spelled q) (value_there e.node) one.bytes (no_newline (spelled q) (spelled_shown q one.step)))
     (all_both is_line (own_lines k q (entries_of w)) (own_lines k p es) (lines_whole k q (entries_of w) one.inner) (lines_whole k p es one.later))
 
-pub lines_marked : (k : ℕ) (es : List Entry) → AreHeld [] es → list_all (is_marked is_blank) (own_lines k [] es) ≡ true
+pub lines_marked : (k : ℕ) (es : List Entry) → AreRepresentable [] es → list_all (is_marked is_blank) (own_lines k [] es) ≡ true
 lines_marked k es h = each_marked said said_second (own_lines k [] es) (map (under []) (adds k es)) (lines_whole k [] es h) (lines_back k [] es h)
 
 -- ---- the text of entries is that of their lines
@@ -394,7 +394,7 @@ some_each (x ∷ xs) (y ∷ ys) e =
     let more = some_each xs ys rest in
     λ i. first i ∷ more i
 
-pub lines_told : (es fs : List Entry) → AreHeld [] es → AreHeld [] fs → own_lines (count_all es) [] es ≡ own_lines (count_all fs) [] fs → es ≡ fs
+pub lines_told : (es fs : List Entry) → AreRepresentable [] es → AreRepresentable [] fs → own_lines (count_all es) [] es ≡ own_lines (count_all fs) [] fs → es ≡ fs
 lines_told es fs h g e =
     let k = count_all es in
     let m = count_all fs in

@@ -129,7 +129,7 @@ call_of_words (call ∷ side ∷ script ∷ texts) = call_from side script texts
 abbrev pub call_of : List ℕ → Option ScriptCall
 call_of text = call_of_words (parts 32 text)
 
--- ---- what the program can hold
+-- ---- what the types represent
 
 -- an ending whose site's numbers fit their types
 abbrev pub is_ending : Ending → Bool

@@ -1,4 +1,4 @@
--- Which reports are whole, and what a program can hold of one.
+-- Which reports are whole, and which ones the program's types represent.
 use Rattle.std.specs.Prelude.{◌≡◌, ℕ, suc, ◌<◌, ◌≤◌, ◌^◌, true, IsTrue, List, [], ◌∷◌}
 use Rattle.std.specs.List.{list_all}
 use Rattle.shown_texts.specs.Marks.{is_mark}
@@ -18,36 +18,36 @@ use Rattle.outcome_report.specs.OutcomeReport.{Agrees}
 use Rattle.outcome_report.specs.Numbered.{AllNumbered}
 use Rattle.outcome_report.specs.PieceRead.{is_ending, is_call}
 
--- ---- what a program can hold
+-- ---- what the types represent
 
--- a value as the program keeps it: its names rise, and names and targets are of bytes
-pub record IsHeldTree (tree : Value) : Type 0 where
+-- a tree that its type represents: its names rise, and names and targets are of bytes
+pub record IsRepresentableTree (tree : Value) : Type 0 where
   pub sound : IsTrue (sound tree)
   pub bytes : IsTrue (of_bytes tree)
 
--- the numbers of an entry fit their types, and its names and words are of bytes
-pub record IsHeldEntry (entry : ReportEntry) : Type 0 where
+-- an entry that its type represents: its numbers fit their types, and its names and words are of bytes
+pub record IsRepresentableEntry (entry : ReportEntry) : Type 0 where
   pub number : entry.outcome.number < 2 ^ 32
   pub ending : IsTrue (is_ending entry.outcome.ending)
   pub trace : IsTrue (list_all is_mark entry.outcome.trace)
   pub clause : IsTrue (is_clause entry.outcome.clause)
   pub calls : IsTrue (list_all is_call entry.replayed.calls)
-  pub shown : IsHeldTree entry.outcome.shown
-  pub after : IsHeldTree entry.replayed.after
+  pub shown : IsRepresentableTree entry.outcome.shown
+  pub after : IsRepresentableTree entry.replayed.after
 
--- those of each entry
-abbrev pub AllHeld : List ReportEntry → Type 0
-AllHeld [] = Unit {0}
-AllHeld (entry ∷ entries) = IsHeldEntry entry × AllHeld entries
+-- so it is with each of these
+abbrev pub AllRepresentable : List ReportEntry → Type 0
+AllRepresentable [] = Unit {0}
+AllRepresentable (entry ∷ entries) = IsRepresentableEntry entry × AllRepresentable entries
 
--- those of each part
-abbrev pub AllPartsHeld : List ReportPart → Type 0
-AllPartsHeld [] = Unit {0}
-AllPartsHeld (part ∷ parts) = AllHeld part.entries × AllPartsHeld parts
+-- and with those of each part
+abbrev pub AllPartsRepresentable : List ReportPart → Type 0
+AllPartsRepresentable [] = Unit {0}
+AllPartsRepresentable (part ∷ parts) = AllRepresentable part.entries × AllPartsRepresentable parts
 
--- a report as the program can hold it
-abbrev pub IsHeld : Report → Type 0
-IsHeld report = AllPartsHeld report.parts
+-- a report that the program's types represent
+abbrev pub IsRepresentable : Report → Type 0
+IsRepresentable report = AllPartsRepresentable report.parts
 
 -- ---- whole reports
 

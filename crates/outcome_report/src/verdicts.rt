@@ -5,8 +5,8 @@ use crate::outcome_report::{Report, ReportPart};
 use dpkg_scenarios::Ending;
 use scenario_runs::Replayed;
 
-// What an ending alone makes of the verdict.
-fn ending_verdict(ending: Ending) -> u8
+/// What an ending alone makes of the verdict.
+pub fn ending_verdict(ending: Ending) -> u8
     ensures { result ≡ ending_verdict ending }
 {
     match ending {

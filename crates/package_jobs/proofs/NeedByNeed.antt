@@ -1,6 +1,6 @@
 -- What is needed, need by need, is what a start tree has.
 use Rattle.std.proofs.Common.{◌≡◌, ◌≢◌, ◌⊎◌, ◌↔◌, ℕ, Bool, true, false, List, [], ◌∷◌, ◌++◌, All, inl, inr, refl, sym, ap, subst, ◌∙◌}
-use Rattle.std.specs.Prelude.{IsTrue, not, if◌then◌else◌}
+use Rattle.std.specs.Prelude.{IsTrue, not, ◌&&◌, if◌then◌else◌}
 use Rattle.std.specs.List.{flat_map, list_any}
 use Rattle.std.proofs.lemmas.List.{append_assoc}
 use Rattle.std.proofs.lemmas.List.Elements.{All-nil, All-cons, All-head, All-tail}
@@ -13,6 +13,8 @@ use Rattle.feature_trees.specs.Kinds.{has, of}
 use Rattle.feature_trees.specs.Tree.{at, kind_of}
 use Rattle.utility_calls.specs.Sights.{but, two}
 use Rattle.start_trees.specs.declared.need.Need.{Need}
+use Rattle.clause_solver.specs.Stands.{IsFenced}
+use Rattle.start_trees.specs.declared.need.Wanted.TheVariants as wanted
 use Rattle.start_trees.specs.Needs.{MeetsNeeds, IsStart}
 use Rattle.dpkg_scenarios.specs.declared.scenario.Scenario.{Scenario}
 use Rattle.dpkg_scenarios.specs.declared.scenario.Scenario.TheVariants as scenario
@@ -20,14 +22,17 @@ use Rattle.package_lists.specs.declared.base.BaseLine.{BaseLine}
 use Rattle.package_lists.specs.declared.base.BaseLine.TheVariants as base
 use Rattle.package_lists.specs.declared.kind.EntryKind.{EntryKind}
 use Rattle.package_lists.specs.declared.kind.EntryKind.TheVariants.{Folder, File, Conf, LinkTo}
-use Rattle.package_lists.specs.Entries.{EntryParts, is_any, has_at}
+use Rattle.package_lists.specs.Bases.{is_base}
+use Rattle.package_lists.specs.Entries.{EntryParts, is_any, has_at, is_folder, names_below}
 use Rattle.package_lists.specs.Paths.{Paths, path_text, plain_path}
 use Rattle.checker_input.specs.declared.package.Packages.{Packages}
 use Rattle.package_jobs.specs.declared.needs.Asked.{Asked}
 use Rattle.package_jobs.specs.declared.needs.Asked.TheVariants.{Placed, KeptConf, Fit}
 use Rattle.package_jobs.specs.Sides.{old_of}
 use Rattle.package_jobs.specs.StartTrees.{Entries, MeetsLine, Stands, AreBefore, IsFit, Fits, is_fits, is_to_fit, IsStartTree}
+use Rattle.package_jobs.specs.StartTrees.{is_own, owner, is_owned_folder, is_to_own, MayStand, IsOwned, Owns, AreOwned}
 use Rattle.package_jobs.specs.Needed.{Holds, kinds_asked, needed_at, entry_needs, line_needs, needs_before, fit_needs, needs_to_fit, needs_in}
+use Rattle.package_jobs.specs.Needed.{kinds_owned, names_needed, folder_needs, own_needs, needs_to_own}
 
 -- ---- sets of kinds
 
@@ -86,7 +91,7 @@ module _ (tree : Value) where
   kind_at names = kind_of (at tree names)
 
   one_met : {P : Type 0} (path : PathParts) (kinds : Kinds) → (IsTrue (has kinds (kind_at path.names)) ↔ P)
-      → MeetsNeeds tree (record { path = path; kinds = kinds } ∷ []) ↔ P
+      → MeetsNeeds tree (record { path = path; wanted = wanted.Kinds kinds } ∷ []) ↔ P
   one_met path kinds so = ((λ m. so.0 m.0), (λ p. (so.1 p, tt)))
 
   nothing_met : MeetsNeeds tree [] ↔ Unit {0}
@@ -125,6 +130,8 @@ module _ (tree : Value) where
   line_met (base.Gone path) = one_met path (of Absent) (of_absent (kind_at path.names))
   line_met (base.NoFolder path) = one_met path (but Dir) (but_dir (kind_at path.names))
   line_met base.Fits = nothing_met
+  line_met base.Own = nothing_met
+  line_met (base.Call call) = nothing_met
 
   entries_met : (asked : Asked) (es : Entries) → MeetsNeeds tree (flat_map (entry_needs asked) es) ↔ All (Stands (Holds asked) tree) es
   entries_met asked es = each_met (entry_needs asked) (Stands (Holds asked) tree) (λ e. asked_met asked e.kind e.names) es
@@ -150,6 +157,40 @@ module _ (tree : Value) where
       (each_met (fit_needs s listed) (Fits s listed tree)
       (λ e. if_met (is_to_fit s listed e) (entry_needs Fit e) (Stands IsFit tree e) (asked_met Fit e.kind e.names)) new)
 
+  -- ---- folders that hold no foreign entry
+
+  kinds_met : (s : Scenario) (names : List (List ℕ)) → MeetsNeeds tree (needed_at names (kinds_owned s)) ↔ MayStand s (kind_at names)
+  kinds_met scenario.Install names = nothing_met
+  kinds_met scenario.InstallAgain names = nothing_met
+  kinds_met scenario.Upgrade names = nothing_met
+  kinds_met scenario.Remove names = nothing_met
+  kinds_met scenario.Purge names = nothing_met
+  kinds_met scenario.PurgeLater names = one_met (plain_path names) (two Absent Dir) (absent_or_dir (kind_at names))
+
+  names_met : (names below : List (List ℕ)) → MeetsNeeds tree (names_needed names below) ↔ IsFenced (at tree names) below
+  names_met names below = ((λ m. m.0), (λ f. (f, tt)))
+
+  folder_met : (s : Scenario) (entries : Entries) (e : EntryParts)
+      → MeetsNeeds tree (folder_needs s (names_below entries) e) ↔ IsOwned s entries tree e
+  folder_met s entries e =
+      let below = names_below entries (path_text e.names) in
+      let both = both_met (needed_at e.names (kinds_owned s)) (names_needed e.names below) in
+      let kinds = kinds_met s e.names in
+      let names = names_met e.names below in (
+        (λ m. (kinds.0 (both.0 m).0, names.0 (both.0 m).1)),
+        (λ o. both.1 (kinds.1 o.0, names.1 o.1)),
+      )
+
+  owns_met : (s : Scenario) (lines : List BaseLine) (new old : Entries)
+      → MeetsNeeds tree (needs_to_own s lines new old) ↔ (IsTrue (list_any is_own lines) → AreOwned s lines new old tree)
+  owns_met s lines new old =
+      let entries = owner s new old in
+      let based = is_base lines in
+      let listed = has_at is_any new in
+      if_met (list_any is_own lines) (flat_map (own_needs s based listed (names_below entries)) entries) _
+      (each_met (own_needs s based listed (names_below entries)) (Owns s based listed entries tree)
+      (λ e. if_met (is_to_own s based listed e) (folder_needs s (names_below entries) e) (IsOwned s entries tree e) (folder_met s entries e)) entries)
+
 -- ---- start trees
 
 pub starts_met : (s : Scenario) (p : Packages) (tree : Value) → IsStart (needs_in s p) tree ↔ IsStartTree s p tree
@@ -157,33 +198,39 @@ starts_met s p tree =
     let new = p.new_package.entries in
     let old = (old_of p).entries in
     let lines = p.base.lines in
-    let whole = both_met tree (flat_map line_needs lines) (needs_before s new old ++ needs_to_fit s lines new old) in
-    let rest = both_met tree (needs_before s new old) (needs_to_fit s lines new old) in
+    let whole = both_met tree (flat_map line_needs lines) (needs_before s new old ++ (needs_to_fit s lines new old ++ needs_to_own s lines new old)) in
+    let rest = both_met tree (needs_before s new old) (needs_to_fit s lines new old ++ needs_to_own s lines new old) in
+    let last = both_met tree (needs_to_fit s lines new old) (needs_to_own s lines new old) in
     let of_lines = each_met tree line_needs (MeetsLine tree) (line_met tree) lines in (
       (λ start. record {
         is_tree = start.is_tree;
         base = of_lines.0 (whole.0 start.met).0;
         before = (before_met tree s new old).0 (rest.0 (whole.0 start.met).1).0;
-        fits = (fits_met tree s lines new old).0 (rest.0 (whole.0 start.met).1).1;
+        fits = (fits_met tree s lines new old).0 (last.0 (rest.0 (whole.0 start.met).1).1).0;
+        own = (owns_met tree s lines new old).0 (last.0 (rest.0 (whole.0 start.met).1).1).1;
       }),
       (λ start. record {
         is_tree = start.is_tree;
-        met = whole.1 (of_lines.1 start.base, rest.1 ((before_met tree s new old).1 start.before, (fits_met tree s lines new old).1 start.fits));
+        met = whole.1 (of_lines.1 start.base, rest.1 ((before_met tree s new old).1 start.before, last.1 ((fits_met tree s lines new old).1 start.fits, (owns_met tree s lines new old).1 start.own)));
       }),
     )
 
 -- what is needed, by lines and entries
 abbrev all_needs : Scenario → List BaseLine → Entries → Entries → List Need
-all_needs s lines new old = flat_map line_needs lines ++ (needs_before s new old ++ needs_to_fit s lines new old)
+all_needs s lines new old = flat_map line_needs lines ++ (needs_before s new old ++ (needs_to_fit s lines new old ++ needs_to_own s lines new old))
 
 -- needs that were added one behind another
-pub needs_are : (s : Scenario) (p : Packages) (lines : List BaseLine) (new old : Entries) (none first more all : List Need)
+pub needs_are : (s : Scenario) (p : Packages) (lines : List BaseLine) (new old : Entries) (none first more most all : List Need)
     → lines ≡ p.base.lines → new ≡ p.new_package.entries → old ≡ (old_of p).entries
-    → none ≡ [] → first ≡ none ++ flat_map line_needs lines → more ≡ first ++ needs_before s new old → all ≡ more ++ needs_to_fit s lines new old
+    → none ≡ [] → first ≡ none ++ flat_map line_needs lines → more ≡ first ++ needs_before s new old → most ≡ more ++ needs_to_fit s lines new old → all ≡ most ++ needs_to_own s lines new old
     → all ≡ needs_in s p
-needs_are s p lines new old none first more all is_lines is_new is_old e0 e1 e2 e3 =
-    e3 ∙ ap (λ l. l ++ needs_to_fit s lines new old) (e2 ∙ ap (λ l. l ++ needs_before s new old) (e1 ∙ ap (λ l. l ++ flat_map line_needs lines) e0))
-    ∙ append_assoc (flat_map line_needs lines) (needs_before s new old) (needs_to_fit s lines new old)
+needs_are s p lines new old none first more most all is_lines is_new is_old e0 e1 e2 e3 e4 =
+    let of_lines = flat_map line_needs lines in
+    let before = needs_before s new old in
+    let fit = needs_to_fit s lines new old in
+    let own = needs_to_own s lines new old in
+    e4 ∙ ap (λ l. l ++ own) (e3 ∙ ap (λ l. l ++ fit) (e2 ∙ ap (λ l. l ++ before) (e1 ∙ ap (λ l. l ++ of_lines) e0)))
+    ∙ append_assoc (of_lines ++ before) fit own ∙ append_assoc of_lines before (fit ++ own)
     ∙ ap (λ l. all_needs s l new old) is_lines ∙ ap (λ n. all_needs s p.base.lines n old) is_new
     ∙ ap (λ o. all_needs s p.base.lines p.new_package.entries o) is_old
 
@@ -207,3 +254,25 @@ module _ (s : Scenario) (f g : Paths) (same : (path : List ℕ) → f path ≡ g
   fit_needs_same (e ∷ es) =
       ap (λ (b : Bool). (if b then entry_needs Fit e else []) ++ flat_map (fit_needs s f) es) (to_fit_same s e)
       ∙ ap (λ l. fit_needs s g e ++ l) (fit_needs_same es)
+
+-- ---- which folders hold no foreign entry, by sets that have the same paths and names
+
+module _ (f g b c : Paths) (m n : List ℕ → List (List ℕ)) (same : (path : List ℕ) → f path ≡ g path) (based : (path : List ℕ) → b path ≡ c path)
+    (names : (path : List ℕ) → m path ≡ n path) where
+  owned_folder_same : (e : EntryParts) → is_owned_folder b e ≡ is_owned_folder c e
+  owned_folder_same e = ap (λ x. is_folder e.kind && not x) (based (path_text e.names))
+
+  to_own_same : (s : Scenario) (e : EntryParts) → is_to_own s b f e ≡ is_to_own s c g e
+  to_own_same scenario.Install e = refl
+  to_own_same scenario.InstallAgain e = refl
+  to_own_same scenario.Upgrade e = ap (λ x. x && not (f (path_text e.names))) (owned_folder_same e) ∙ ap (λ x. is_owned_folder c e && not x) (same (path_text e.names))
+  to_own_same scenario.Remove e = owned_folder_same e
+  to_own_same scenario.Purge e = owned_folder_same e
+  to_own_same scenario.PurgeLater e = owned_folder_same e
+
+  pub own_needs_same : (s : Scenario) (es : Entries) → flat_map (own_needs s b f m) es ≡ flat_map (own_needs s c g n) es
+  own_needs_same s [] = refl
+  own_needs_same s (e ∷ es) =
+      ap (λ (t : Bool). (if t then folder_needs s m e else []) ++ flat_map (own_needs s b f m) es) (to_own_same s e)
+      ∙ ap (λ below. (if is_to_own s c g e then needed_at e.names (kinds_owned s) ++ names_needed e.names below else []) ++ flat_map (own_needs s b f m) es) (names (path_text e.names))
+      ∙ ap (λ l. own_needs s c g n e ++ l) (own_needs_same s es)

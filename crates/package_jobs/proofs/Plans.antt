@@ -1,5 +1,5 @@
 -- The plan of a job is the written one.
-use Rattle.std.proofs.Common.{◌≡◌, ℕ, Bool, true, false, Option, sym, ap}
+use Rattle.std.proofs.Common.{◌≡◌, ℕ, Bool, true, false, List, Option, sym, ap}
 use Rattle.std.specs.Prelude.{option_map}
 use Rattle.feature_trees.specs.declared.value.Value.{Value}
 use Rattle.dpkg_scenarios.specs.declared.scenario.Scenario.{Scenario}
@@ -14,7 +14,9 @@ use Rattle.scenario_runs.specs.declared.job.Job.{Job}
 use Rattle.scenario_runs.specs.Runs.{Plan, plan_of, run_of, scenario_run, program_meaning, script_of as program_of, package_of}
 use Rattle.package_jobs.specs.Made.{DoTheSame, IsMade}
 use Rattle.package_jobs.specs.Sides.{old_of}
-use Rattle.package_jobs.specs.Written.{script_of, side_of, script_meaning, is_plain, files_of, written_plan, written_run}
+use Rattle.stated_calls.specs.declared.stated_call.StatedCall.{StatedCall}
+use Rattle.package_lists.specs.Bases.{calls_of}
+use Rattle.package_jobs.specs.Written.{script_of, side_of, script_meaning, stated_meaning, is_plain, files_of, written_plan, written_run}
 
 -- a program that does what a script does has the script's meaning
 pub meaning_same : (s : Script) (p : ProgramParts) → p.strict ≡ s.strict → DoesTheSame s p → program_meaning p ≡ script_meaning s
@@ -24,22 +26,22 @@ meaning_same s p flag same = λ i. record {
 }
 
 -- programs of each kind that do what the scripts of that kind do
-pub kinds_same : (scripts : texts.Scripts) (preinst postinst prerm postrm : Option ProgramParts)
-    → option_map program_meaning preinst ≡ option_map script_meaning scripts.preinst → option_map program_meaning postinst ≡ option_map script_meaning scripts.postinst
-    → option_map program_meaning prerm ≡ option_map script_meaning scripts.prerm → option_map program_meaning postrm ≡ option_map script_meaning scripts.postrm
-    → DoTheSame scripts (record { preinst = preinst; postinst = postinst; prerm = prerm; postrm = postrm })
-kinds_same scripts a b c d e f g h Preinst = e
-kinds_same scripts a b c d e f g h Postinst = f
-kinds_same scripts a b c d e f g h Prerm = g
-kinds_same scripts a b c d e f g h Postrm = h
+pub kinds_same : (calls : List StatedCall) (scripts : texts.Scripts) (preinst postinst prerm postrm : Option ProgramParts)
+    → option_map program_meaning preinst ≡ option_map (stated_meaning calls) scripts.preinst → option_map program_meaning postinst ≡ option_map (stated_meaning calls) scripts.postinst
+    → option_map program_meaning prerm ≡ option_map (stated_meaning calls) scripts.prerm → option_map program_meaning postrm ≡ option_map (stated_meaning calls) scripts.postrm
+    → DoTheSame calls scripts (record { preinst = preinst; postinst = postinst; prerm = prerm; postrm = postrm })
+kinds_same calls scripts a b c d e f g h Preinst = e
+kinds_same calls scripts a b c d e f g h Postinst = f
+kinds_same calls scripts a b c d e f g h Prerm = g
+kinds_same calls scripts a b c d e f g h Postrm = h
 
 module _ (job : Job) (s : Scenario) (p : Packages) (turns : ℕ) where
-  scripts_same : IsMade p.new_package job.new_package → IsMade (old_of p) job.old_package → (old : Bool) (kind : ScriptKind)
-      → option_map program_meaning (program_of kind (package_of job old).scripts) ≡ option_map script_meaning (script_of kind (side_of p old).scripts)
+  scripts_same : IsMade (calls_of p.base.lines) p.new_package job.new_package → IsMade (calls_of p.base.lines) (old_of p) job.old_package → (old : Bool) (kind : ScriptKind)
+      → option_map program_meaning (program_of kind (package_of job old).scripts) ≡ option_map (stated_meaning (calls_of p.base.lines)) (script_of kind (side_of p old).scripts)
   scripts_same new old true kind = old.scripts kind
   scripts_same new old false kind = new.scripts kind
 
-  plan_same : job.scenario ≡ s → job.plain ≡ is_plain p.new_package → IsMade p.new_package job.new_package → IsMade (old_of p) job.old_package
+  plan_same : job.scenario ≡ s → job.plain ≡ is_plain p.new_package → IsMade (calls_of p.base.lines) p.new_package job.new_package → IsMade (calls_of p.base.lines) (old_of p) job.old_package
       → job.files ≡ files_of s p.new_package.entries (old_of p).entries p.base.lines → job.turns ≡ turns
       → plan_of job ≡ written_plan s p turns
   plan_same scenario plain new old files left = λ i. record {
@@ -52,7 +54,7 @@ module _ (job : Job) (s : Scenario) (p : Packages) (turns : ℕ) where
     turns = left i;
   }
 
-  pub runs_same : job.scenario ≡ s → job.plain ≡ is_plain p.new_package → IsMade p.new_package job.new_package → IsMade (old_of p) job.old_package
+  pub runs_same : job.scenario ≡ s → job.plain ≡ is_plain p.new_package → IsMade (calls_of p.base.lines) p.new_package job.new_package → IsMade (calls_of p.base.lines) (old_of p) job.old_package
       → job.files ≡ files_of s p.new_package.entries (old_of p).entries p.base.lines → job.turns ≡ turns
       → (tree : Value) → scenario_run job tree ≡ written_run s p turns tree
   runs_same scenario plain new old files left tree = ap (λ (plan : Plan). run_of plan tree) (plan_same scenario plain new old files left)

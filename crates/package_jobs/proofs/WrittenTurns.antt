@@ -13,7 +13,9 @@ use Rattle.shell_to_colis.specs.Translated.{program_of}
 use Rattle.shell_to_colis.specs.Laws.{ProgramsDoTheSame}
 use Rattle.scenario_runs.specs.Runs.{Meaning}
 use Rattle.scenario_runs.specs.Laws.{is_bound, IsSameWithMore, MoreTurnsOfPlans}
-use Rattle.package_jobs.specs.Written.{script_of, side_of, script_meaning, written_plan}
+use Rattle.stated_calls.specs.Scripts.{stated_script}
+use Rattle.package_lists.specs.Bases.{calls_of}
+use Rattle.package_jobs.specs.Written.{script_of, side_of, script_meaning, stated_meaning, written_plan}
 use Rattle.package_jobs.specs.Laws.{MoreTurnsSameRun}
 
 -- what a script does, and what else does the same
@@ -30,10 +32,10 @@ script_same law does script =
     carried script.strict (co_program (program_of script)) (sh_script script) (does script)
     (λ n step conc tree trace. law n (program_of script) step conc tree trace)
 
-scripts_same : ((script : Script) → IsSameWithMore (script_meaning script)) → (o : Option Script) (meaning : Meaning)
-    → option_map script_meaning o ≡ Some meaning → IsSameWithMore meaning
-scripts_same each None meaning e = absurd (cc e)
-scripts_same each (Some script) meaning e = subst IsSameWithMore (same_meaning (script_meaning script) meaning e) (each script)
+scripts_same : (means : Script → Meaning) → ((script : Script) → IsSameWithMore (means script)) → (o : Option Script) (meaning : Meaning)
+    → option_map means o ≡ Some meaning → IsSameWithMore meaning
+scripts_same means each None meaning e = absurd (cc e)
+scripts_same means each (Some script) meaning e = subst IsSameWithMore (same_meaning (means script) meaning e) (each script)
   where
     same_meaning : (a b : Meaning) → Some a ≡ Some b → a ≡ b
     same_meaning a b e = cc
@@ -44,9 +46,10 @@ not_bound b (inr a) e = a
 
 pub written_same : programs.MoreTurnsSameRun → ProgramsDoTheSame → MoreTurnsOfPlans → MoreTurnsSameRun
 written_same law does plans scenario packages turns more tree run is_run free =
-    let each = script_same law does in
+    let calls = calls_of packages.base.lines in
+    let each : (script : Script) → IsSameWithMore (stated_meaning calls script) = λ script. script_same law does (stated_script calls script) in
     not_bound (is_bound run.ending)
     (plans (written_plan scenario packages turns)
-    (λ old script. scripts_same each (script_of script (side_of packages old).scripts))
+    (λ old script. scripts_same (stated_meaning calls) each (script_of script (side_of packages old).scripts))
     more tree run is_run)
     free

@@ -1,20 +1,22 @@
 -- What is made of a written package, between the steps of making a job.
-use Rattle.std.specs.Prelude.{◌≡◌, option_map}
+use Rattle.std.specs.Prelude.{◌≡◌, List, option_map}
 use Rattle.dpkg_scenarios.specs.declared.scenario.ScriptKind.{ScriptKind}
 use Rattle.checker_input.specs.declared.package.Scripts as texts
 use Rattle.checker_input.specs.declared.package.Package as side
 use Rattle.scenario_runs.specs.declared.job.Scripts.{Scripts}
 use Rattle.scenario_runs.specs.declared.job.Package.{Package}
 use Rattle.scenario_runs.specs.Runs.{program_meaning, script_of as program_of}
-use Rattle.package_jobs.specs.Written.{script_of, script_meaning}
+use Rattle.stated_calls.specs.declared.stated_call.StatedCall.{StatedCall}
+use Rattle.package_jobs.specs.Written.{script_of, stated_meaning}
 
--- each program does what the script of that kind does, and there is one exactly where there is a script
-abbrev pub DoTheSame : texts.Scripts → Scripts → Type 0
-DoTheSame scripts programs =
+-- each program does what the script of that kind does that is read under stated calls, and there is one exactly where
+-- there is a script
+abbrev pub DoTheSame : List StatedCall → texts.Scripts → Scripts → Type 0
+DoTheSame calls scripts programs =
     (kind : ScriptKind)
-    → option_map program_meaning (program_of kind programs) ≡ option_map script_meaning (script_of kind scripts)
+    → option_map program_meaning (program_of kind programs) ≡ option_map (stated_meaning calls) (script_of kind scripts)
 
 -- a package with programs in place of its scripts
-pub record IsMade (written : side.Package) (made : Package) : Type 0 where
+pub record IsMade (calls : List StatedCall) (written : side.Package) (made : Package) : Type 0 where
   pub version : made.version ≡ written.version
-  pub scripts : DoTheSame written.scripts made.scripts
+  pub scripts : DoTheSame calls written.scripts made.scripts

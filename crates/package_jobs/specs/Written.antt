@@ -1,5 +1,5 @@
--- The run of a scenario as its packages are written: the scripts are those of the shell, and the acts on files are
--- those of the packages' lists.
+-- The run of a scenario as its packages are written: the scripts are those of the shell, read under the calls that the
+-- base states, and the acts on files are those of the packages' lists.
 use Rattle.std.specs.Prelude.{ℕ, Bool, not, ◌&&◌, List, Option, is_none, option_map}
 use Rattle.std.specs.Prelude.{if◌then◌else◌}
 use Rattle.std.specs.List.{list_any}
@@ -10,6 +10,9 @@ use Rattle.dpkg_scenarios.specs.declared.scenario.ScriptKind.TheVariants.{Preins
 use Rattle.dpkg_scenarios.specs.declared.scenario.StepWork.TheVariants.{Unpack, RemoveFiles, RemoveOld, RemoveConf}
 use Rattle.shell_syntax.specs.declared.script.Script.{Script}
 use Rattle.shell_to_colis.specs.Shell.{sh_script}
+use Rattle.stated_calls.specs.declared.stated_call.StatedCall.{StatedCall}
+use Rattle.stated_calls.specs.Scripts.{stated_script}
+use Rattle.package_lists.specs.Bases.{calls_of}
 use Rattle.package_lists.specs.declared.base.BaseLine.{BaseLine}
 use Rattle.package_lists.specs.Entries.{EntryParts, is_conf}
 use Rattle.package_lists.specs.FileActs.{acts_of}
@@ -37,6 +40,10 @@ side_of packages old = if old then old_of packages else packages.new_package
 abbrev pub script_meaning : Script → Meaning
 script_meaning script = record { strict = script.strict; ends = sh_script script }
 
+-- what a script does that is read under stated calls
+abbrev pub stated_meaning : List StatedCall → Script → Meaning
+stated_meaning calls script = script_meaning (stated_script calls script)
+
 -- whether an entry is a configuration file
 abbrev pub is_conffile : EntryParts → Bool
 is_conffile entry = is_conf entry.kind
@@ -61,7 +68,8 @@ written_plan scenario packages turns = record {
   plain = is_plain packages.new_package;
   old_version = (old_of packages).version;
   new_version = packages.new_package.version;
-  scripts = λ old script. option_map script_meaning (script_of script (side_of packages old).scripts);
+  scripts = λ old script.
+      option_map (stated_meaning (calls_of packages.base.lines)) (script_of script (side_of packages old).scripts);
   files = files_of scenario packages.new_package.entries (old_of packages).entries packages.base.lines;
   turns = turns;
 }

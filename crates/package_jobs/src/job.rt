@@ -4,41 +4,62 @@ ghost use Rattle.feature_trees.specs.declared.value.Value.{Value};
 ghost use Rattle.package_lists.specs.FileActs.{acts_of};
 ghost use Rattle.scenario_runs.specs.Runs.{program_meaning, scenario_run};
 ghost use Rattle.package_jobs.specs.Made.{DoTheSame, IsMade};
-ghost use Rattle.package_jobs.specs.Written.{script_meaning, is_conffile, is_plain, files_of, written_run};
+ghost use Rattle.package_jobs.specs.Written.{stated_meaning, is_conffile, is_plain, files_of, written_run};
 
 use crate::sides::old_package;
 use checker_input::{Package, Packages, Scripts};
 use colis_syntax::Program;
 use dpkg_scenarios::{Scenario, StepWork};
-use package_lists::{Base, Entry, file_acts};
+use package_lists::{Base, Entry, calls_of, file_acts};
 use scenario_runs::{FileActs, Files, Job};
 use script_names::{Copied, List, Memory, Slot};
 use shell_forms::Accepted;
 use shell_to_colis::translate;
+use stated_calls::theorems::stated_calls_translate;
+use stated_calls::{StatedCalls, stated_program};
 use std::alloc::Global;
 
-// The program of a script, where there is one.
-fn program_of(alloc: Global, script: &Slot<Accepted>) -> Result<Slot<Program>, Memory>
-    ensures { IfOk result (λ program. option_map program_meaning program ≡ option_map script_meaning script.now) }
+// The program of a script under stated calls.
+fn translated(alloc: Global, calls: &StatedCalls, script: &Accepted) -> Result<Program, Memory>
+    ensures { IfOk result (λ program. program_meaning program ≡ stated_meaning calls.now script.now) }
+{
+    stated_calls_translate(calls, script);
+    let program = translate(alloc, script)?;
+    let read = stated_program(alloc, calls, &program)?;
+    Ok(read)
+}
+
+// The program of a script under stated calls, where there is one.
+fn program_of(
+    alloc: Global,
+    calls: &StatedCalls,
+    script: &Slot<Accepted>,
+) -> Result<Slot<Program>, Memory>
+    ensures { let meaning = stated_meaning calls.now in
+        IfOk result (λ program. option_map program_meaning program ≡ option_map meaning script.now) }
 {
     match script.get() {
         None => Ok(Slot::empty(alloc)),
         Some(script) => {
-            let program = translate(alloc, script)?;
+            let program = translated(alloc, calls, script)?;
             let slot = Slot::new(alloc, program)?;
             Ok(slot)
         }
     }
 }
 
-// The programs of a package's scripts.
-fn programs_of(alloc: Global, scripts: &Scripts) -> Result<scenario_runs::Scripts, Memory>
-    ensures { IfOk result (λ programs. DoTheSame scripts.now programs) }
+// The programs of a package's scripts under stated calls.
+fn programs_of(
+    alloc: Global,
+    calls: &StatedCalls,
+    scripts: &Scripts,
+) -> Result<scenario_runs::Scripts, Memory>
+    ensures { IfOk result (λ programs. DoTheSame calls.now scripts.now programs) }
 {
-    let preinst = program_of(alloc, &scripts.preinst)?;
-    let postinst = program_of(alloc, &scripts.postinst)?;
-    let prerm = program_of(alloc, &scripts.prerm)?;
-    let postrm = program_of(alloc, &scripts.postrm)?;
+    let preinst = program_of(alloc, calls, &scripts.preinst)?;
+    let postinst = program_of(alloc, calls, &scripts.postinst)?;
+    let prerm = program_of(alloc, calls, &scripts.prerm)?;
+    let postrm = program_of(alloc, calls, &scripts.postrm)?;
     Ok(scenario_runs::Scripts {
         preinst,
         postinst,
@@ -47,12 +68,16 @@ fn programs_of(alloc: Global, scripts: &Scripts) -> Result<scenario_runs::Script
     })
 }
 
-// A package with programs in place of its scripts.
-fn package_of(alloc: Global, written: &Package) -> Result<scenario_runs::Package, Memory>
-    ensures { IfOk result (λ made. IsMade written.now made) }
+// A package with programs in place of its scripts, which are read under stated calls.
+fn package_of(
+    alloc: Global,
+    calls: &StatedCalls,
+    written: &Package,
+) -> Result<scenario_runs::Package, Memory>
+    ensures { IfOk result (λ made. IsMade calls.now written.now made) }
 {
     let version = written.version.copy(alloc)?;
-    let scripts = programs_of(alloc, &written.scripts)?;
+    let scripts = programs_of(alloc, calls, &written.scripts)?;
     Ok(scenario_runs::Package { version, scripts })
 }
 
@@ -117,7 +142,7 @@ fn files_of(
 }
 
 /// The job of a scenario, with so many turns of loops: its run, from each tree, is the run of the packages as they are
-/// written, by the shell's own rules. The one fault is want of memory.
+/// written, by the shell's own rules, with the calls that the base states. The one fault is want of memory.
 pub fn job_of(
     alloc: Global,
     scenario: Scenario,
@@ -130,8 +155,9 @@ pub fn job_of(
 {
     let new = &packages.new_package;
     let old = old_package(packages);
-    let new_package = package_of(alloc, new)?;
-    let old_package = package_of(alloc, old)?;
+    let calls = calls_of(alloc, packages.base.lines.as_slice())?;
+    let new_package = package_of(alloc, &calls, new)?;
+    let old_package = package_of(alloc, &calls, old)?;
     let files = files_of(alloc, scenario, &new.entries, &old.entries, &packages.base)?;
     Ok(Job {
         scenario,

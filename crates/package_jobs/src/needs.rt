@@ -1,4 +1,4 @@
-ghost use Rattle.std.specs.Prelude.{◌≡◌, ◌↔◌, ◌++◌, ◌∷◌, [], IfOk, OnOk};
+ghost use Rattle.std.specs.Prelude.{◌≡◌, ◌↔◌, ◌++◌, ◌∷◌, ℕ, List as ListOf, [], IfOk, OnOk};
 ghost use Rattle.std.specs.List.{flat_map, list_any};
 ghost use Rattle.feature_trees.specs.declared.value.Value.{Value};
 ghost use Rattle.utility_calls.specs.Sights.{but, two};
@@ -6,15 +6,21 @@ ghost use Rattle.start_trees.specs.Needs.{IsStart};
 ghost use Rattle.package_lists.specs.PathSets.{has};
 ghost use Rattle.package_jobs.specs.Needed.{kinds_asked, entry_needs, line_needs};
 ghost use Rattle.package_jobs.specs.Needed.{needs_before, fit_needs, needs_to_fit};
-ghost use Rattle.package_jobs.specs.StartTrees.{is_fits, is_to_fit, IsStartTree};
+ghost use Rattle.package_jobs.specs.Needed.{kinds_owned, needed_at, names_needed, folder_needs, own_needs, needs_to_own};
+ghost use Rattle.package_jobs.specs.StartTrees.{is_fits, is_to_fit, is_own, owner, is_owned_folder, is_to_own};
+ghost use Rattle.package_jobs.specs.StartTrees.{IsStartTree};
+ghost use Rattle.package_lists.specs.FolderNames.{names_at};
+ghost use Rattle.start_trees.specs.declared.need.Wanted.TheVariants as Wanted;
 
 use crate::sides::old_package;
 use checker_input::Packages;
 use dpkg_scenarios::Scenario;
 use feature_trees::{Kind, Kinds};
-use package_lists::{BaseLine, Entry, EntryKind, PathSet, Which, has_entry, paths_of};
-use script_names::{Copied, List, Memory, Path};
-use start_trees::Need;
+use package_lists::{
+    BaseLine, Entry, EntryKind, FolderNames, PathSet, Which, base_paths, has_entry, paths_of,
+};
+use script_names::{Copied, List, Memory, Name, Path};
+use start_trees::{Need, Wanted};
 use std::alloc::Global;
 
 // What is asked of what stands at the path of an entry: what stands there where the package is in place, what stands
@@ -76,7 +82,10 @@ fn add_entry(
         None => Ok(()),
         Some(kinds) => {
             let path = entry.path().copy(alloc)?;
-            needs.add(Need { path, kinds })
+            needs.add(Need {
+                path,
+                wanted: Wanted::Kinds(kinds),
+            })
         }
     }
 }
@@ -98,10 +107,14 @@ fn add_entries(
 
 // Adds what is needed at a path.
 fn add_need(alloc: Global, needs: &mut List<Need>, path: &Path, kinds: Kinds) -> Result<(), Memory>
-    ensures { OnOk result (needs.new ≡ needs.old ++ record { path = path.now; kinds = kinds } ∷ []) }
+    ensures { OnOk result (needs.new
+        ≡ needs.old ++ record { path = path.now; wanted = Wanted.Kinds kinds } ∷ []) }
 {
     let path = path.copy(alloc)?;
-    needs.add(Need { path, kinds })
+    needs.add(Need {
+        path,
+        wanted: Wanted::Kinds(kinds),
+    })
 }
 
 // Adds what a line of the base needs.
@@ -114,6 +127,8 @@ fn add_line(alloc: Global, needs: &mut List<Need>, line: &BaseLine) -> Result<()
         BaseLine::Gone(path) => add_need(alloc, needs, path, Kinds::of(Kind::Absent)),
         BaseLine::NoFolder(path) => add_need(alloc, needs, path, no_folder()),
         BaseLine::Fits => Ok(()),
+        BaseLine::Own => Ok(()),
+        BaseLine::Call(_) => Ok(()),
     }
 }
 
@@ -203,6 +218,7 @@ fn is_fits(line: &BaseLine) -> bool
         BaseLine::Fits => true,
         BaseLine::Folder(_) | BaseLine::File(_) | BaseLine::Gone(_) | BaseLine::NoFolder(_) =>
             false,
+        BaseLine::Own | BaseLine::Call(_) => false,
     }
 }
 
@@ -227,6 +243,190 @@ fn add_fits(
     Ok(())
 }
 
+// Whether one of these lines is `own`.
+fn has_own(lines: &[BaseLine]) -> bool
+    ensures { result ≡ list_any is_own lines.now }
+{
+    for line in lines {
+        if is_own(line) {
+            return true;
+        }
+    }
+    false
+}
+
+// Whether a line is `own`.
+fn is_own(line: &BaseLine) -> bool
+    ensures { result ≡ is_own line.now }
+{
+    match line {
+        BaseLine::Own => true,
+        BaseLine::Folder(_) | BaseLine::File(_) | BaseLine::Gone(_) | BaseLine::NoFolder(_) =>
+            false,
+        BaseLine::Fits | BaseLine::Call(_) => false,
+    }
+}
+
+// The entries of the package that `own` speaks of.
+fn owner<'a>(scenario: Scenario, new: &'a [Entry], old: &'a [Entry]) -> &'a [Entry]
+    ensures { result.now ≡ owner scenario new.now old.now }
+{
+    match scenario {
+        Scenario::Upgrade => old,
+        Scenario::Install | Scenario::InstallAgain => new,
+        Scenario::Remove | Scenario::Purge | Scenario::PurgeLater => new,
+    }
+}
+
+// Whether an entry is a folder, and no directory of the base.
+fn is_owned_folder(alloc: Global, based: &PathSet, entry: &Entry) -> Result<bool, Memory>
+    ensures { IfOk result (λ answer. answer ≡ is_owned_folder (has based.now) entry.now) }
+{
+    if !entry.kind().is_folder() {
+        return Ok(false);
+    }
+    let is_based = has_entry(alloc, based, entry)?;
+    Ok(!is_based)
+}
+
+// Whether `own` speaks of an entry, from the directories of the base and the paths that the new package lists.
+fn is_to_own(
+    alloc: Global,
+    scenario: Scenario,
+    based: &PathSet,
+    listed: &PathSet,
+    entry: &Entry,
+) -> Result<bool, Memory>
+    ensures { IfOk result (λ answer. answer ≡ is_to_own scenario (has based.now) (has listed.now) entry.now) }
+{
+    match scenario {
+        Scenario::Install | Scenario::InstallAgain => Ok(false),
+        Scenario::Upgrade => {
+            let is_folder = is_owned_folder(alloc, based, entry)?;
+            let is_listed = has_entry(alloc, listed, entry)?;
+            Ok(is_folder & !is_listed)
+        }
+        Scenario::Remove | Scenario::Purge | Scenario::PurgeLater => is_owned_folder(
+            alloc, based, entry,
+        ),
+    }
+}
+
+// The kinds that may stand where a folder is that holds no foreign entry, if any are asked for.
+fn kinds_owned(scenario: Scenario) -> Option<Kinds>
+    ensures { result ≡ kinds_owned scenario }
+{
+    match scenario {
+        Scenario::PurgeLater => Some(absent_or(Kind::Dir)),
+        Scenario::Install | Scenario::InstallAgain | Scenario::Upgrade => None,
+        Scenario::Remove | Scenario::Purge => None,
+    }
+}
+
+// Adds the need of these kinds at the path of an entry, where there are some.
+fn add_kinds(
+    alloc: Global,
+    needs: &mut List<Need>,
+    kinds: Option<Kinds>,
+    entry: &Entry,
+) -> Result<(), Memory>
+    ensures { OnOk result (needs.new ≡ needs.old ++ needed_at entry.now.names kinds) }
+{
+    match kinds {
+        None => Ok(()),
+        Some(kinds) => add_need(alloc, needs, entry.path(), kinds),
+    }
+}
+
+// Adds what a folder needs that holds no entry under another name than these.
+fn add_folder(
+    alloc: Global,
+    needs: &mut List<Need>,
+    scenario: Scenario,
+    names: List<Name>,
+    folder: &Entry,
+) -> Result<(), Memory>
+    ensures { OnOk result (needs.new ≡ needs.old
+        ++ (needed_at folder.now.names (kinds_owned scenario) ++ names_needed folder.now.names names)) }
+{
+    add_kinds(alloc, needs, kinds_owned(scenario), folder)?;
+    let path = folder.path().copy(alloc)?;
+    needs.add(Need {
+        path,
+        wanted: Wanted::Names(names),
+    })
+}
+
+// What `own` goes by: the directories of the base, the paths that the new package lists, and the names below each path.
+#[derive(Drop)]
+pub struct Owning {
+    based: PathSet,
+    listed: PathSet,
+    names: FolderNames,
+}
+
+// Adds what an entry needs by `own`, if it speaks of it.
+fn add_own(
+    alloc: Global,
+    needs: &mut List<Need>,
+    scenario: Scenario,
+    owning: &Owning,
+    entry: &Entry,
+) -> Result<(), Memory>
+    ensures { let own = owning.now in OnOk result (needs.new
+        ≡ needs.old ++ own_needs scenario (has own.based) (has own.listed) (names_at own.names) entry.now) }
+{
+    let is_owned = is_to_own(alloc, scenario, &owning.based, &owning.listed, entry)?;
+    if !is_owned {
+        return Ok(());
+    }
+    let names = owning.names.below(entry)?;
+    add_folder(alloc, needs, scenario, names, entry)
+}
+
+// Adds what these entries need by `own`.
+fn add_own_entries(
+    alloc: Global,
+    needs: &mut List<Need>,
+    scenario: Scenario,
+    owning: &Owning,
+    entries: &[Entry],
+) -> Result<(), Memory>
+    ensures { let own = owning.now in OnOk result (needs.new ≡ needs.old
+        ++ flat_map (own_needs scenario (has own.based) (has own.listed) (names_at own.names)) entries.now) }
+{
+    for entry in entries {
+        add_own(alloc, needs, scenario, owning, entry)?;
+    }
+    Ok(())
+}
+
+// Adds what the package's folders need to hold no foreign entry, where the base has a line `own`.
+fn add_owns(
+    alloc: Global,
+    needs: &mut List<Need>,
+    scenario: Scenario,
+    lines: &[BaseLine],
+    new: &[Entry],
+    old: &[Entry],
+) -> Result<(), Memory>
+    ensures { OnOk result (needs.new ≡ needs.old ++ needs_to_own scenario lines.now new.now old.now) }
+{
+    if !has_own(lines) {
+        return Ok(());
+    }
+    let entries = owner(scenario, new, old);
+    let based = base_paths(alloc, lines)?;
+    let listed = paths_of(alloc, Which::All, new)?;
+    let names = FolderNames::of(alloc, entries)?;
+    let owning = Owning {
+        based,
+        listed,
+        names,
+    };
+    add_own_entries(alloc, needs, scenario, &owning, entries)
+}
+
 /// What is needed of a tree that a scenario may begin from, a need for each path that something is known of. The trees
 /// that have what is needed are the scenario's start trees. The one fault is want of memory.
 pub fn needs_of(
@@ -243,5 +443,6 @@ pub fn needs_of(
     add_lines(alloc, &mut needs, lines)?;
     add_before(alloc, &mut needs, scenario, new, old)?;
     add_fits(alloc, &mut needs, scenario, lines, new, old)?;
+    add_owns(alloc, &mut needs, scenario, lines, new, old)?;
     Ok(needs)
 }

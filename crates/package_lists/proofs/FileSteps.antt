@@ -9,8 +9,8 @@ use Rattle.dpkg_scenarios.specs.declared.scenario.StepWork.{StepWork}
 use Rattle.dpkg_scenarios.specs.declared.scenario.StepWork.TheVariants.{RemoveConf}
 use Rattle.package_lists.specs.declared.base.BaseLine.{BaseLine}
 use Rattle.package_lists.specs.Bases.{is_base}
-use Rattle.package_lists.specs.Entries.{EntryParts}
-use Rattle.package_lists.specs.FileActs.{places_conf, placing, unpacked, removing, removed, removed_old, conf_gone, dir_gone, folder_gone, is_folder, acts_of}
+use Rattle.package_lists.specs.Entries.{EntryParts, is_folder}
+use Rattle.package_lists.specs.FileActs.{places_conf, placing, unpacked, removing, removed, removed_old, conf_gone, dir_gone, folder_gone, acts_of}
 use Rattle.package_lists.specs.Paths.{Paths, path_text}
 
 abbrev Acts : Type 0

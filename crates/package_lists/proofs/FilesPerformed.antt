@@ -14,8 +14,8 @@ use Rattle.package_lists.specs.declared.base.BaseLine.{BaseLine}
 use Rattle.package_lists.specs.declared.kind.EntryKind.{EntryKind}
 use Rattle.package_lists.specs.declared.kind.EntryKind.TheVariants.{Folder, File, Conf, LinkTo}
 use Rattle.package_lists.specs.Bases.{is_base}
-use Rattle.package_lists.specs.Entries.{EntryParts, HasName, is_any, is_conf, has_at}
-use Rattle.package_lists.specs.FileActs.{places_conf, placing, unpacked, folder_gone, removing, removed, removed_old, conf_gone, is_folder, dir_gone, acts_of}
+use Rattle.package_lists.specs.Entries.{EntryParts, HasName, is_any, is_conf, has_at, is_folder}
+use Rattle.package_lists.specs.FileActs.{places_conf, placing, unpacked, folder_gone, removing, removed, removed_old, conf_gone, dir_gone, acts_of}
 use Rattle.package_lists.specs.Paths.{Paths, path_text, plain_path}
 
 abbrev Done : List Act → Type 0

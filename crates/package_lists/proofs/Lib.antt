@@ -1,4 +1,6 @@
 mod PathSets
+mod NamesBelow
+mod AgainNamed
 mod Endings
 mod Names
 mod Arrows

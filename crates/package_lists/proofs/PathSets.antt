@@ -14,7 +14,7 @@ use Rattle.std.proofs.lemmas.Map.Text.{is_eq-slice_cmp}
 use Rattle.std.proofs.lemmas.Slice.Eq.{bytes_eq-Decides}
 use Rattle.std.proofs.lemmas.Bool.{false_from_ne_true}
 
-abbrev texts : List ℕ → List ℕ → Ordering
+abbrev pub texts : List ℕ → List ℕ → Ordering
 texts = slice_cmp nat_cmp
 
 equal : (r : Ordering) → is_eq r ≡ true → r ≡ Equal
@@ -33,7 +33,7 @@ other_way path q e =
     false_from_ne_true (bytes_eq q path) (λ t. absurd (differ (sym ((bytes_eq-Decides path q).1 (sym ((bytes_eq-Decides q path).0 t))) ∙ e)))
 
 -- the text is the one added, or it is not
-by_text : (path q : List ℕ) (P : Bool → Type 0) → (path ≡ q → P true) → ((bytes_eq path q ≡ false) → P false) → P (bytes_eq path q)
+pub by_text : (path q : List ℕ) (P : Bool → Type 0) → (path ≡ q → P true) → ((bytes_eq path q ≡ false) → P false) → P (bytes_eq path q)
 by_text path q P same other =
     elim (bytes_eq path q) as (λ b. bytes_eq path q ≡ b → P b) [
       | true ↦ λ e. same ((bytes_eq-Decides path q).0 e)
@@ -41,16 +41,16 @@ by_text path q P same other =
     ] refl
 
 module _ {A : Type 0} where
-  abbrev key_cmp : Vec ℕ A → Vec ℕ A → Ordering
+  abbrev pub key_cmp : Vec ℕ A → Vec ℕ A → Ordering
   key_cmp x y = texts x.items y.items
 
-  abbrev is_key : List ℕ → Vec ℕ A → Bool
+  abbrev pub is_key : List ℕ → Vec ℕ A → Bool
   is_key q key = is_eq (texts q key.items)
 
-  same_key : (q : List ℕ) → IsKeyTest (eq_by_cmp key_cmp) (is_key q)
+  pub same_key : (q : List ℕ) → IsKeyTest (eq_by_cmp key_cmp) (is_key q)
   same_key q x y e = ap (λ n. is_eq (texts n y.items)) (same_text q x.items e)
 
-  apart : (path q : List ℕ) → bytes_eq path q ≡ false → AreApart (is_key path) (is_key q)
+  pub apart : (path q : List ℕ) → bytes_eq path q ≡ false → AreApart (is_key path) (is_key q)
   apart path q e k h =
       subst (λ n. is_eq (texts q n) ≡ false) (same_text path k.items h)
       (is_eq-slice_cmp q path ∙ other_way path q e)

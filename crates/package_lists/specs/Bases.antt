@@ -1,14 +1,20 @@
 -- What is known of the system on which a package is handled: the base, and the usual one.
 use Rattle.std.specs.Prelude.{ℕ, ◌+◌, Bool, true, false, ◌||◌, ◌==◌, nat_eq, List, [], ◌∷◌, ◌++◌, map, drop, codes}
-use Rattle.std.specs.Prelude.{Option, Some, None, Result, Ok, Err, if◌then◌else◌}
+use Rattle.std.specs.Prelude.{Option, Some, None, is_none, Result, Ok, Err, if◌then◌else◌}
 use Rattle.std.specs.List.{starts_with, list_any}
 use Rattle.std.specs.Str.{bytes_eq}
 use Rattle.script_names.specs.Paths.{PathParts}
+use Rattle.shown_texts.specs.Parts.{parts}
 use Rattle.feature_trees.specs.TreeLines.{text_lines}
+use Rattle.stated_calls.specs.declared.stated_call.CallEnd.{CallEnd}
+use Rattle.stated_calls.specs.declared.stated_call.CallEnd.TheVariants.{Succeeds, Fails}
+use Rattle.stated_calls.specs.declared.stated_call.StatedCall.{StatedCall}
+use Rattle.stated_calls.specs.Calls.{has_name, added_fault}
+use Rattle.stated_calls.specs.Names.{can_be_stated}
 use Rattle.package_lists.specs.declared.fault.LineFault.{LineFault}
 use Rattle.package_lists.specs.declared.fault.LineFault.TheVariants.{Line}
 use Rattle.package_lists.specs.declared.base.BaseLine.{BaseLine}
-use Rattle.package_lists.specs.declared.base.BaseLine.TheVariants.{Folder, File, Gone, NoFolder, Fits}
+use Rattle.package_lists.specs.declared.base.BaseLine.TheVariants.{Folder, File, Gone, NoFolder, Fits, Own, Call}
 use Rattle.package_lists.specs.declared.base.Stated.{Stated}
 use Rattle.package_lists.specs.declared.base.Stated.TheVariants.{Nothing, Passed, States}
 use Rattle.package_lists.specs.Faults.{and_then}
@@ -33,16 +39,68 @@ path_line line =
     else (if starts_with nat_eq line (codes "nodir ") then stated (λ path. NoFolder path) (path_of (drop 6 line))
     else Nothing)))
 
+-- how a call ends, by the word for it
+abbrev pub call_end : List ℕ → Option CallEnd
+call_end word =
+    if bytes_eq word (codes "ok") then Some Succeeds
+    else (if bytes_eq word (codes "fails") then Some Fails else None)
+
+-- what is stated of the calls of a name that can be stated
+abbrev pub stated_call : List ℕ → Option CallEnd → Stated
+stated_call name None = Nothing
+stated_call name (Some end) =
+    if can_be_stated name then States (Call (record { name = name; end = end })) else Nothing
+
+-- what the words behind `call` say: a name, and how its calls end
+abbrev pub call_words : List (List ℕ) → Stated
+call_words [] = Nothing
+call_words (name ∷ []) = Nothing
+call_words (name ∷ end ∷ []) = stated_call name (call_end end)
+call_words (name ∷ end ∷ word ∷ words) = Nothing
+
+-- what a line says of more than nothing; nothing, where it is not of the form
+abbrev pub said_line : List ℕ → Stated
+said_line line =
+    if bytes_eq line (codes "fits") then States Fits
+    else (if bytes_eq line (codes "own") then States Own
+    else (if starts_with nat_eq line (codes "call ") then call_words (parts 32 (drop 5 line))
+    else path_line line))
+
 -- what a line says; nothing, where it is not of the form
 abbrev pub base_line : List ℕ → Stated
-base_line line =
-    if is_passed line then Passed else (if bytes_eq line (codes "fits") then States Fits else path_line line)
+base_line line = if is_passed line then Passed else said_line line
 
--- the lines before line n with what it says, or its fault
+-- a line states how the calls of a name end
+abbrev pub states_call : List ℕ → BaseLine → Bool
+states_call name (Folder path) = false
+states_call name (File path) = false
+states_call name (Gone path) = false
+states_call name (NoFolder path) = false
+states_call name Fits = false
+states_call name Own = false
+states_call name (Call call) = has_name name call
+
+-- a line states how the calls of a name end that was named before
+abbrev pub is_again : (List ℕ → Bool) → BaseLine → Bool
+is_again named (Folder path) = false
+is_again named (File path) = false
+is_again named (Gone path) = false
+is_again named (NoFolder path) = false
+is_again named Fits = false
+is_again named Own = false
+is_again named (Call call) = named call.name
+
+-- some line states how the calls of a name end
+abbrev pub is_named : List BaseLine → List ℕ → Bool
+is_named lines name = list_any (states_call name) lines
+
+-- the lines before line n with what it says, or why it cannot stand there: 1, it is not of the form; 2, an earlier line
+-- states how the calls of its name end
 abbrev pub with_base : ℕ → List BaseLine → Stated → Result (List BaseLine) LineFault
 with_base n before Nothing = Err (Line n 1)
 with_base n before Passed = Ok before
-with_base n before (States said) = Ok (before ++ said ∷ [])
+with_base n before (States said) =
+    if is_again (is_named before) said then Err (Line n 2) else Ok (before ++ said ∷ [])
 
 -- the base of lines from line n on, each behind those before it, or the first fault
 abbrev pub with_bases : ℕ → List BaseLine → List (List ℕ) → Result (List BaseLine) LineFault
@@ -89,7 +147,29 @@ is_stated path (File stated) = false
 is_stated path (Gone stated) = false
 is_stated path (NoFolder stated) = false
 is_stated path Fits = false
+is_stated path Own = false
+is_stated path (Call call) = false
 
 -- so of some line
 abbrev pub is_base : List BaseLine → List ℕ → Bool
 is_base lines path = list_any (is_stated path) lines
+
+-- the calls that lines state, behind those before: that of a name which cannot be stated, or is stated before, counts
+-- for nothing; a base that was read has no such line
+abbrev pub with_call : List StatedCall → BaseLine → List StatedCall
+with_call before (Folder path) = before
+with_call before (File path) = before
+with_call before (Gone path) = before
+with_call before (NoFolder path) = before
+with_call before Fits = before
+with_call before Own = before
+with_call before (Call call) = if is_none (added_fault before call.name) then before ++ call ∷ [] else before
+
+-- the calls that lines state, in their order, behind those before
+abbrev pub calls_behind : List StatedCall → List BaseLine → List StatedCall
+calls_behind before [] = before
+calls_behind before (line ∷ lines) = calls_behind (with_call before line) lines
+
+-- the calls that lines state, in their order
+abbrev pub calls_of : List BaseLine → List StatedCall
+calls_of lines = calls_behind [] lines

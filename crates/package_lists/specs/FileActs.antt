@@ -13,7 +13,7 @@ use Rattle.package_lists.specs.declared.kind.EntryKind.{EntryKind}
 use Rattle.package_lists.specs.declared.kind.EntryKind.TheVariants.{Folder, File, Conf, LinkTo}
 use Rattle.package_lists.specs.Bases.{is_base}
 use Rattle.package_lists.specs.declared.base.BaseLine.{BaseLine}
-use Rattle.package_lists.specs.Entries.{EntryParts, is_any, is_conf, has_at}
+use Rattle.package_lists.specs.Entries.{EntryParts, is_any, is_conf, has_at, is_folder}
 use Rattle.package_lists.specs.Paths.{Paths, path_text, plain_path}
 
 -- whether a configuration file is put in place: in an installation; in an upgrade, unless it is one of the old package;
@@ -60,13 +60,6 @@ removed_old listed base entry = if listed (path_text entry.names) then [] else r
 -- the act that takes a configuration file away
 abbrev pub conf_gone : EntryParts → List Act
 conf_gone entry = if is_conf entry.kind then Discard (plain_path entry.names) ∷ [] else []
-
--- a directory
-abbrev pub is_folder : EntryKind → Bool
-is_folder Folder = true
-is_folder File = false
-is_folder Conf = false
-is_folder (LinkTo target) = false
 
 -- the act that takes a directory of the package away
 abbrev pub dir_gone : Paths → EntryParts → List Act

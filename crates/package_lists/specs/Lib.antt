@@ -2,6 +2,7 @@ pub mod Paths
 pub mod Laws
 pub mod Entries
 pub mod PathSets
+pub mod FolderNames
 pub mod EntrySets
 pub mod Faults
 pub mod Lists

@@ -9,7 +9,7 @@ use crate::paths::{folders, path_text};
 use script_names::{Memory, Path};
 use std::alloc::Global;
 
-// The paths of the directories that lines state, and of the folders on the way to them.
+/// The paths of the directories that lines state, and of the folders on the way to them.
 pub fn base_paths(alloc: Global, lines: &[BaseLine]) -> Result<PathSet, Memory>
     ensures { IfOk result (λ set. (path : ListOf ℕ) → has set path ≡ is_base lines.now path) }
 {
@@ -30,6 +30,8 @@ fn add_stated(alloc: Global, set: &mut PathSet, line: &BaseLine) -> Result<(), M
         BaseLine::Gone(_) => Ok(()),
         BaseLine::NoFolder(_) => Ok(()),
         BaseLine::Fits => Ok(()),
+        BaseLine::Own => Ok(()),
+        BaseLine::Call(_) => Ok(()),
     }
 }
 

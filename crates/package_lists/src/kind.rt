@@ -1,5 +1,5 @@
 ghost use Rattle.std.specs.Prelude.{◌≡◌, true, false};
-ghost use Rattle.package_lists.specs.Entries.{is_file, is_conf, is_link};
+ghost use Rattle.package_lists.specs.Entries.{is_folder, is_file, is_conf, is_link};
 
 use script_names::{Bytes, Copied, Memory};
 use std::alloc::Global;
@@ -18,6 +18,16 @@ pub enum EntryKind {
 }
 
 impl EntryKind {
+    /// Whether it is a directory.
+    pub fn is_folder(&self) -> bool
+        ensures { result ≡ is_folder self.now }
+    {
+        match self {
+            EntryKind::Folder => true,
+            EntryKind::File | EntryKind::Conf | EntryKind::LinkTo(_) => false,
+        }
+    }
+
     /// Whether it is a regular file that is no configuration file.
     pub fn is_file(&self) -> bool
         ensures { result ≡ is_file self.now }

@@ -6,11 +6,13 @@
 
 mod base;
 mod base_sets;
+mod calls;
 mod conffiles;
 mod control;
 mod entry;
 mod entry_sets;
 mod fault;
+mod folder_names;
 mod kind;
 mod lines;
 mod list;
@@ -20,11 +22,14 @@ mod step_acts;
 pub mod theorems;
 
 pub use base::{Base, BaseLine, read_base};
+pub use base_sets::base_paths;
+pub use calls::calls_of;
 pub use conffiles::read_conffiles;
 pub use control::read_control;
 pub use entry::Entry;
 pub use entry_sets::{Which, has_entry, paths_of};
 pub use fault::LineFault;
+pub use folder_names::FolderNames;
 pub use kind::EntryKind;
 pub use list::read_list;
 pub use path_set::PathSet;

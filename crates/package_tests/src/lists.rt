@@ -3,7 +3,7 @@
 use package_lists::{
     Entry, EntryKind, LineFault, read_base, read_conffiles, read_control, read_list,
 };
-use script_names::{List, Memory};
+use script_names::{Bytes, List, Memory};
 use std::alloc::Global;
 use std::test::Fail;
 
@@ -87,8 +87,69 @@ const BASES: &[(&[u8], u32, u8)] = &[
     (b" # x", 1, 1),
     (b"fits ", 1, 1),
     (b"link /a", 1, 1),
-    (b"call mkdir ok", 1, 1),
     (b"fits\nfits\nx\ny", 3, 1),
+    (b"own", 0, 0),
+    (b"own\nown\nfits\nown\n", 0, 0),
+    (b"own ", 1, 1),
+    (b" own", 1, 1),
+    (b"Own", 1, 1),
+    (b"own /srv", 1, 1),
+    (b"call ldconfig ok", 0, 0),
+    (b"call ldconfig fails\n", 0, 0),
+    (b"call a ok\ncall b fails\ncall c ok\n", 0, 0),
+    (b"call . ok\ncall command ok\ncall /usr/bin/x ok\n", 0, 0),
+    (
+        b"call x=y ok\ncall # ok\ncall \xc3\xa9 ok\ncall a\\b fails\n",
+        0,
+        0,
+    ),
+    (
+        b"call true2 ok\ncall TRUE ok\ncall testing ok\ncall rm- ok\n",
+        0,
+        0,
+    ),
+    (b"call", 1, 1),
+    (b"call ", 1, 1),
+    (b"call a", 1, 1),
+    (b"call a ", 1, 1),
+    (b"call  ok", 1, 1),
+    (b"call a  ok", 1, 1),
+    (b"call a ok ", 1, 1),
+    (b"call a b ok", 1, 1),
+    (b"call a OK", 1, 1),
+    (b"call a okay", 1, 1),
+    (b"call a fail", 1, 1),
+    (b"call a true", 1, 1),
+    (b"call a\tok", 1, 1),
+    (b"call a\tb ok", 1, 1),
+    (b"call a\0b ok", 1, 1),
+    (b"Call a ok", 1, 1),
+    (b"callx a ok", 1, 1),
+    (b"call true ok", 1, 1),
+    (b"call : fails", 1, 1),
+    (b"call false ok", 1, 1),
+    (b"call echo ok", 1, 1),
+    (b"call mkdir ok", 1, 1),
+    (b"call rmdir fails", 1, 1),
+    (b"call rm ok", 1, 1),
+    (b"call touch ok", 1, 1),
+    (b"call ln ok", 1, 1),
+    (b"call mv ok", 1, 1),
+    (b"call test ok", 1, 1),
+    (b"call [ ok", 1, 1),
+    (b"call break ok", 1, 1),
+    (b"call continue ok", 1, 1),
+    (b"call exit ok", 1, 1),
+    (b"call return ok", 1, 1),
+    (b"call set ok", 1, 1),
+    (b"call export ok", 1, 1),
+    (b"call unset fails", 1, 1),
+    (b"call a ok\ncall a ok\n", 2, 2),
+    (b"call a ok\nfits\n\ncall a fails\n", 4, 2),
+    (b"call a ok\ncall b ok\ncall c ok\ncall b ok\nx", 4, 2),
+    (b"call a ok\nx\ncall a ok\n", 2, 1),
+    (b"call a ok\ncall a maybe\n", 2, 1),
+    (b"call mkdir ok\ncall mkdir ok\n", 1, 1),
 ];
 
 // The same for control files.
@@ -177,6 +238,25 @@ fn conffiles_have_faults(rt: HostRuntime) -> Result<(), Fail> {
             row.0
         );
     }
+    Ok(())
+}
+
+// A base with a stated call of a name of so many bytes.
+fn named_base(alloc: Global, count: usize) -> Result<Bytes, Memory> {
+    let mut text = Bytes::from_slice(alloc, b"call ")?;
+    for _ in 0..count {
+        text.push(b'n')?;
+    }
+    text.extend(b" ok")?;
+    Ok(text)
+}
+
+#[test]
+fn names_of_calls_have_255_bytes_at_most(rt: HostRuntime) -> Result<(), Fail> {
+    let longest = named_base(rt.alloc(), 255)?;
+    assert_eq!(rt; base_fault(rt.alloc(), longest.as_slice()), (0, 0));
+    let longer = named_base(rt.alloc(), 256)?;
+    assert_eq!(rt; base_fault(rt.alloc(), longer.as_slice()), (1, 1));
     Ok(())
 }
 

@@ -24,7 +24,7 @@ use Rattle.outcome_report.specs.declared.outcome_report.ReportPart.{ReportPart}
 use Rattle.outcome_report.specs.declared.replay.Replay.{Replay}
 use Rattle.outcome_report.specs.Numbered.{AreNumbered, AllNumbered}
 use Rattle.outcome_report.specs.PieceRead.{scenario_of, result_of, trace_of, is_ending, is_call}
-use Rattle.outcome_report.specs.Whole.{IsHeldEntry, AllHeld, AllPartsHeld, IsWholeEntry, AllWhole, AllPartsWhole, AreInOrder, scenario_place}
+use Rattle.outcome_report.specs.Whole.{IsRepresentableEntry, AllRepresentable, AllPartsRepresentable, IsWholeEntry, AllWhole, AllPartsWhole, AreInOrder, scenario_place}
 use Rattle.report_reader.specs.ReportRead.{text_at, list_at, short, number_at, lines_at, tree_found, tree_at, calls_onto, calls_at, ending_at, trace_at, if_text, clause_from, clause_in}
 use Rattle.report_reader.specs.ReportRead.{outcome_in, replay_in, entry_in, entries_onto, part_in, from_place, parts_onto, report_in}
 use Rattle.report_reader.specs.JsonAnswers.{HasShortPaths, AllShort, AllPartsShort, IsReadable}
@@ -128,7 +128,7 @@ replay_is d r e =
 
 record IsGood (n : ℕ) (e : ReportEntry) : Type 0 where
   number : e.outcome.number ≡ n
-  held : IsHeldEntry e
+  representable : IsRepresentableEntry e
   whole : IsWholeEntry e
   short : HasShortPaths e
 
@@ -139,7 +139,7 @@ joined n d o r small a b =
     let trace = one_value (trace_at (codes "trace") d) r.trace o.trace b.trace a.trace in
     record {
       number = a.number;
-      held = record {
+      representable = record {
         number = omega (arith, a.number, small);
         ending = ending_is (codes "result") d o.ending a.ending;
         trace = trace_is (codes "trace") d o.trace a.trace;
@@ -163,7 +163,7 @@ entry_is n d e small eq =
 record AreEntries (n : ℕ) (done es : List ReportEntry) : Type 0 where
   more : List ReportEntry
   is : es ≡ done ++ more
-  held : AllHeld more
+  representable : AllRepresentable more
   whole : AllWhole more
   short : AllShort more
   numbered : AreNumbered n more
@@ -174,7 +174,7 @@ one_entry n done es e good rest =
     record {
       more = e ∷ rest.more;
       is = rest.is ∙ append_assoc done (e ∷ []) rest.more;
-      held = (good.held, rest.held);
+      representable = (good.representable, rest.representable);
       whole = (good.whole, rest.whole);
       short = (good.short, rest.short);
       numbered = (good.number, subst (λ k. AreNumbered k rest.more) next rest.numbered);
@@ -183,7 +183,7 @@ one_entry n done es e good rest =
 entries_are : (n : ℕ) (done : List ReportEntry) (ds : Items) (es : List ReportEntry) → entries_onto n done ds ≡ Some es → AreEntries n done es
 entries_are n done no_items es e =
     let same : done ≡ es = cc in
-    record { more = []; is = sym same ∙ sym (append-nil done); held = tt; whole = tt; short = tt; numbered = tt }
+    record { more = []; is = sym same ∙ sym (append-nil done); representable = tt; whole = tt; short = tt; numbered = tt }
 entries_are n done (item d ds) es e =
     got (λ (m : ℕ). option_and_then (λ (entry : ReportEntry). entries_onto (m + 1) (done ++ entry ∷ []) ds) (entry_in m d)) (short n) es e
     (λ m s f. kept (nat_lt n (2 ^ 32)) n m s
@@ -194,7 +194,7 @@ entries_are n done (item d ds) es e =
 -- ---- parts
 
 record IsGoodPart (p : ReportPart) : Type 0 where
-  held : AllHeld p.entries
+  representable : AllRepresentable p.entries
   whole : AllWhole p.entries
   short : AllShort p.entries
   numbered : AreNumbered 1 p.entries
@@ -211,14 +211,14 @@ part_is d p e =
     good : (scenario : Scenario) (entries : List ReportEntry) → AreEntries 1 [] entries → (let it : ReportPart = record { scenario = scenario; entries = entries } in IsGoodPart it)
     good scenario entries a =
         let facts : (let it : ReportPart = record { scenario = scenario; entries = a.more } in IsGoodPart it) =
-        record { held = a.held; whole = a.whole; short = a.short; numbered = a.numbered } in
+        record { representable = a.representable; whole = a.whole; short = a.short; numbered = a.numbered } in
         subst (λ es. let it : ReportPart = record { scenario = scenario; entries = es } in IsGoodPart it) (sym a.is) facts
 
 -- parts behind others
 record AreParts (least : ℕ) (done ps : List ReportPart) : Type 0 where
   more : List ReportPart
   is : ps ≡ done ++ more
-  held : AllPartsHeld more
+  representable : AllPartsRepresentable more
   whole : AllPartsWhole more
   short : AllPartsShort more
   numbered : AllNumbered more
@@ -231,7 +231,7 @@ one_part least done ps p le good rest =
     record {
       more = p ∷ rest.more;
       is = rest.is ∙ append_assoc done (p ∷ []) rest.more;
-      held = (good.held, rest.held);
+      representable = (good.representable, rest.representable);
       whole = (good.whole, rest.whole);
       short = (good.short, rest.short);
       numbered = (good.numbered, rest.numbered);
@@ -241,7 +241,7 @@ one_part least done ps p le good rest =
 parts_are : (least : ℕ) (done : List ReportPart) (ds : Items) (ps : List ReportPart) → parts_onto least done ds ≡ Some ps → AreParts least done ps
 parts_are least done no_items ps e =
     let same : done ≡ ps = cc in
-    record { more = []; is = sym same ∙ sym (append-nil done); held = tt; whole = tt; short = tt; numbered = tt; order = tt }
+    record { more = []; is = sym same ∙ sym (append-nil done); representable = tt; whole = tt; short = tt; numbered = tt; order = tt }
 parts_are least done (item d ds) ps e =
     got (λ (part : ReportPart). parts_onto (scenario_place part.scenario + 1) (done ++ part ∷ []) ds) (option_and_then (from_place least) (part_in d)) ps e
     (λ p m f. got (from_place least) (part_in d) p m
@@ -261,5 +261,5 @@ report_found d report e =
     good : (parts : List ReportPart) → AreParts 0 [] parts → (let it : Report = record { parts = parts } in IsReadable it)
     good parts a =
         let facts : (let it : Report = record { parts = a.more } in IsReadable it) =
-        record { held = a.held; whole = record { entries = a.whole; numbered = a.numbered; order = a.order }; short = a.short } in
+        record { representable = a.representable; whole = record { entries = a.whole; numbered = a.numbered; order = a.order }; short = a.short } in
         subst (λ ps. let it : Report = record { parts = ps } in IsReadable it) (sym a.is) facts

@@ -34,7 +34,7 @@ use Rattle.scenario_runs.specs.declared.call.ScriptCall.{ScriptCall}
 use Rattle.outcome_report.specs.PieceRead.{is_ending, is_call}
 use Rattle.outcome_report.specs.ReportNames.{state_name, script_name, side_name, call_end_name}
 use Rattle.outcome_report.specs.ReportText.{result_text, call_word, call_content}
-use Rattle.outcome_report.specs.Whole.{IsHeldTree}
+use Rattle.outcome_report.specs.Whole.{IsRepresentableTree}
 use Rattle.outcome_report.proofs.PieceReading.{state_shown, script_shown, side_shown, call_end_shown}
 use Rattle.outcome_report.proofs.ShownBytes.{number_shown, site_shown, mark_shown, reason_shown}
 use Rattle.report_reader.proofs.LowTexts.{is_low, low, shown_low, plus, join_low, show_low, line_low, each_low}
@@ -151,7 +151,7 @@ pub record TreeLines (v : Value) : Type 0 where
   pub whole : list_all is_line lines ≡ true
   pub low : list_all low lines ≡ true
 
-pub lines_of_tree : (v : Value) → kind_of v ≡ kind.Dir → IsHeldTree v → depth v ≤ MOST_NAMES → TreeLines v
+pub lines_of_tree : (v : Value) → kind_of v ≡ kind.Dir → IsRepresentableTree v → depth v ≤ MOST_NAMES → TreeLines v
 lines_of_tree Absent d h s = cc
 lines_of_tree Reg d h s = cc
 lines_of_tree (Link b) d h s = cc

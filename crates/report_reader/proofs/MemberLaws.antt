@@ -21,7 +21,7 @@ use Rattle.tree_clauses.specs.ClauseText.{var_text, literal_content, literal_tex
 use Rattle.scenario_runs.specs.declared.call.ScriptCall.{ScriptCall}
 use Rattle.outcome_report.specs.PieceRead.{is_call}
 use Rattle.outcome_report.specs.ReportText.{call_content, call_line}
-use Rattle.outcome_report.specs.Whole.{IsHeldTree}
+use Rattle.outcome_report.specs.Whole.{IsRepresentableTree}
 use Rattle.outcome_report.proofs.PieceReading.{call_read}
 use Rattle.outcome_report.proofs.TextApart.{tree_block, literals_spelled, calls_spelled}
 use Rattle.outcome_report.proofs.WholeLines.{is_a, is_blank, is_no_h, calls_marked, literals_marked}
@@ -32,7 +32,7 @@ use Rattle.report_reader.proofs.LineLaws.{marked_are_lines, lines_are, lines_bac
 
 -- ---- trees
 
-pub tree_back : (v : Value) → kind_of v ≡ kind.Dir → IsHeldTree v → depth v ≤ MOST_NAMES
+pub tree_back : (v : Value) → kind_of v ≡ kind.Dir → IsRepresentableTree v → depth v ≤ MOST_NAMES
     → option_and_then (λ text. tree_found (tree_of text)) (lines_onto [] (items_of (map string (lines_in (tree_text v))))) ≡ Some v
 tree_back v d h low =
     let block = tree_block v d h in

@@ -10,7 +10,7 @@ use Rattle.outcome_report.specs.declared.outcome_report.ReportEntry.{ReportEntry
 use Rattle.outcome_report.specs.declared.outcome_report.ReportPart.{ReportPart}
 use Rattle.outcome_report.specs.declared.replay.Replay.{Replay}
 use Rattle.outcome_report.specs.Numbered.{AreNumbered, AllNumbered}
-use Rattle.outcome_report.specs.Whole.{IsHeldEntry, AllHeld, AllPartsHeld, IsWholeEntry, AllWhole, AllPartsWhole, AreInOrder, scenario_place}
+use Rattle.outcome_report.specs.Whole.{IsRepresentableEntry, AllRepresentable, AllPartsRepresentable, IsWholeEntry, AllWhole, AllPartsWhole, AreInOrder, scenario_place}
 use Rattle.outcome_report.proofs.PieceReading.{scenario_read, result_read, trace_read}
 use Rattle.report_json.specs.ReportJson.{entry_json, part_json, json_of}
 use Rattle.report_reader.specs.ReportRead.{outcome_in, replay_in, entry_in, entries_onto, part_in, from_place, parts_onto, report_in}
@@ -20,7 +20,7 @@ use Rattle.report_reader.proofs.MemberLaws.{tree_back, calls_back, clause_back}
 
 -- ---- entries
 
-outcome_back : (e : ReportEntry) → IsHeldEntry e → IsWholeEntry e → HasShortPaths e → outcome_in e.outcome.number (entry_json e) ≡ Some e.outcome
+outcome_back : (e : ReportEntry) → IsRepresentableEntry e → IsWholeEntry e → HasShortPaths e → outcome_in e.outcome.number (entry_json e) ≡ Some e.outcome
 unfolding entry_json
 outcome_back e h w s =
     λ i. option_and_then (λ ending. option_and_then (λ trace. option_and_then (λ clause. option_map
@@ -28,7 +28,7 @@ outcome_back e h w s =
     (tree_back e.outcome.shown w.shown h.shown s.shown i)) (clause_back e.outcome.clause h.clause i))
     (trace_read e.outcome.trace h.trace i)) (result_read e.outcome.ending h.ending i)
 
-replay_back : (e : ReportEntry) → IsHeldEntry e → IsWholeEntry e → HasShortPaths e → replay_in (entry_json e) ≡ Some e.replayed
+replay_back : (e : ReportEntry) → IsRepresentableEntry e → IsWholeEntry e → HasShortPaths e → replay_in (entry_json e) ≡ Some e.replayed
 unfolding entry_json
 replay_back e h w s =
     (λ i. option_and_then (λ ending. option_and_then (λ trace. option_and_then (λ after. option_map
@@ -37,14 +37,14 @@ replay_back e h w s =
     (trace_read e.outcome.trace h.trace i)) (result_read e.outcome.ending h.ending i))
     ∙ λ i. let made : Replay = record { ending = sym w.agrees.ending i; trace = sym w.agrees.trace i; after = e.replayed.after; calls = e.replayed.calls } in Some made
 
-entry_back : (n : ℕ) (e : ReportEntry) → e.outcome.number ≡ n → IsHeldEntry e → IsWholeEntry e → HasShortPaths e → entry_in n (entry_json e) ≡ Some e
+entry_back : (n : ℕ) (e : ReportEntry) → e.outcome.number ≡ n → IsRepresentableEntry e → IsWholeEntry e → HasShortPaths e → entry_in n (entry_json e) ≡ Some e
 entry_back n e number h w s =
     ap (λ m. entry_in m (entry_json e)) (sym number)
     ∙ (λ i. option_and_then (λ outcome. option_map (λ replayed. let made : ReportEntry = record { outcome = outcome; replayed = replayed; confirmed = true } in made)
     (replay_back e h w s i)) (outcome_back e h w s i))
     ∙ λ i. let made : ReportEntry = record { outcome = e.outcome; replayed = e.replayed; confirmed = sym w.confirmed i } in Some made
 
-entries_back : (n : ℕ) (done es : List ReportEntry) → AllHeld es → AllWhole es → AllShort es → AreNumbered n es
+entries_back : (n : ℕ) (done es : List ReportEntry) → AllRepresentable es → AllWhole es → AllShort es → AreNumbered n es
     → entries_onto n done (items_of (map entry_json es)) ≡ Some (done ++ es)
 entries_back n done [] h w s m = ap Some (sym (append-nil done))
 entries_back n done (e ∷ es) h w s m =
@@ -56,7 +56,7 @@ entries_back n done (e ∷ es) h w s m =
 
 -- ---- parts
 
-part_back : (p : ReportPart) → AllHeld p.entries → AllWhole p.entries → AllShort p.entries → AreNumbered 1 p.entries → part_in (part_json p) ≡ Some p
+part_back : (p : ReportPart) → AllRepresentable p.entries → AllWhole p.entries → AllShort p.entries → AreNumbered 1 p.entries → part_in (part_json p) ≡ Some p
 unfolding part_json
 part_back p h w s m =
     λ i. option_and_then (λ scenario. option_map (λ entries. let made : ReportPart = record { scenario = scenario; entries = entries } in made)
@@ -65,7 +65,7 @@ part_back p h w s m =
 in_place : (least : ℕ) (p : ReportPart) → least ≤ scenario_place p.scenario → from_place least p ≡ Some p
 in_place least p le = ap (λ t. if t then Some p else None) (le-leb least (scenario_place p.scenario) le)
 
-parts_back : (least : ℕ) (done ps : List ReportPart) → AllPartsHeld ps → AllPartsWhole ps → AllPartsShort ps → AllNumbered ps → AreInOrder least ps
+parts_back : (least : ℕ) (done ps : List ReportPart) → AllPartsRepresentable ps → AllPartsWhole ps → AllPartsShort ps → AllNumbered ps → AreInOrder least ps
     → parts_onto least done (items_of (map part_json ps)) ≡ Some (done ++ ps)
 parts_back least done [] h w s m o = ap Some (sym (append-nil done))
 parts_back least done (p ∷ ps) h w s m o =
@@ -80,4 +80,4 @@ pub report_back : (report : Report) → IsReadable report → report_in (json_of
 unfolding json_of
 report_back report r =
     ap (option_map (λ parts. let made : Report = record { parts = parts } in made))
-    (parts_back 0 [] report.parts r.held r.whole.entries r.short r.whole.numbered r.whole.order)
+    (parts_back 0 [] report.parts r.representable r.whole.entries r.short r.whole.numbered r.whole.order)

@@ -1,6 +1,6 @@
 -- What is read of a text is made of bytes, and its numbers fit.
-use Rattle.std.proofs.Common.{◌≡◌, ℕ, suc, ◌+◌, ◌-◌, ◌*◌, ◌/◌, ◌%◌, ◌^◌, ◌<◌, Bool, true, false, nat_lt, nat_le, List, [], ◌∷◌, ◌++◌, Some, None, refl, sym, ap, ◌∙◌, subst, arith}
-use Rattle.std.specs.Prelude.{Option, ◌==◌, ◌&&◌, codes, slice_index, if◌then◌else◌}
+use Rattle.std.proofs.Common.{◌≡◌, ℕ, ◌+◌, ◌-◌, ◌*◌, ◌/◌, ◌%◌, ◌^◌, ◌<◌, Bool, true, false, nat_lt, nat_le, List, [], ◌∷◌, ◌++◌, Some, None, refl, sym, ap, ◌∙◌, subst, arith}
+use Rattle.std.specs.Prelude.{Option, ◌==◌, ◌&&◌, codes, if◌then◌else◌}
 use Rattle.std.specs.List.{flat_map}
 use Rattle.std.specs.Option.{option_map, option_and_then}
 use Rattle.std.specs.Str.{bytes_eq}
@@ -29,10 +29,6 @@ kept true x y e more = let same : x ≡ y = cc in more refl same
 kept false x y e more = cc
 
 -- ---- bytes
-
-pub bytes_are : (xs : List ℕ) → ((k : ℕ) → slice_index xs k < 256) → are_bytes xs ≡ true
-bytes_are [] f = refl
-bytes_are (x ∷ xs) f = and_from (nat_lt x 256) (are_bytes xs) (lt-ltb x 256 (f 0)) (bytes_are xs (λ k. f (suc k)))
 
 -- a byte, and bytes behind it
 record IsNext (text rest : List ℕ) : Type 0 where

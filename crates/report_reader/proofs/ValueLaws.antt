@@ -22,7 +22,7 @@ use Rattle.outcome_report.specs.declared.outcome_report.ReportPart.{ReportPart}
 use Rattle.outcome_report.specs.OutcomeReport.{verdict_of, report_has}
 use Rattle.outcome_report.specs.ReportNames.{scenario_name}
 use Rattle.outcome_report.specs.ReportText.{result_text, call_content, call_line}
-use Rattle.outcome_report.specs.Whole.{IsHeldEntry, AllHeld, AllPartsHeld, IsWholeEntry, AllWhole, AllPartsWhole}
+use Rattle.outcome_report.specs.Whole.{IsRepresentableEntry, AllRepresentable, AllPartsRepresentable, IsWholeEntry, AllWhole, AllPartsWhole}
 use Rattle.outcome_report.proofs.PieceReading.{scenario_shown}
 use Rattle.outcome_report.proofs.TextApart.{literals_spelled, calls_spelled}
 use Rattle.outcome_report.proofs.WholeLines.{is_a, is_no_h, calls_marked, literals_marked}
@@ -101,13 +101,13 @@ clause_same clause h =
 
 -- ---- entries
 
-tree_tame : (e : ReportEntry) → IsHeldEntry e → IsWholeEntry e → HasShortPaths e → Tame (lines_json (tree_text e.outcome.shown)) × Tame (lines_json (tree_text e.replayed.after))
+tree_tame : (e : ReportEntry) → IsRepresentableEntry e → IsWholeEntry e → HasShortPaths e → Tame (lines_json (tree_text e.outcome.shown)) × Tame (lines_json (tree_text e.replayed.after))
 tree_tame e h w s =
     let shown = lines_of_tree e.outcome.shown w.shown h.shown s.shown in
     let after = lines_of_tree e.replayed.after w.after h.after s.after in
     (lines_tame (tree_text e.outcome.shown) shown.lines shown.text shown.whole shown.low, lines_tame (tree_text e.replayed.after) after.lines after.text after.whole after.low)
 
-entry_tame : (e : ReportEntry) → IsHeldEntry e → IsWholeEntry e → HasShortPaths e → Tame (entry_json e)
+entry_tame : (e : ReportEntry) → IsRepresentableEntry e → IsWholeEntry e → HasShortPaths e → Tame (entry_json e)
 unfolding entry_json
 entry_tame e h w s =
     let trees = tree_tame e h w s in
@@ -144,7 +144,7 @@ entry_tame e h w s =
       ),
     )
 
-entry_same : (e : ReportEntry) → IsHeldEntry e → of_json (outline (entry_json e)) ≡ Some (entry_json e)
+entry_same : (e : ReportEntry) → IsRepresentableEntry e → of_json (outline (entry_json e)) ≡ Some (entry_json e)
 unfolding entry_json
 entry_same e h =
     let n = number_of-decimal e.outcome.number (omega (arith, h.number)) in
@@ -155,17 +155,17 @@ entry_same e h =
     (option_map array (lines_same (tree_text e.outcome.shown) i))) (option_map number (n i))) (clause_same e.outcome.clause h.clause i))
     (option_map array (lines_same (flat_map call_line e.replayed.calls) i))) (option_map array (lines_same (tree_text e.replayed.after) i)))
 
-entries_tame : (es : List ReportEntry) → AllHeld es → AllWhole es → AllShort es → TameItems (items_of (map entry_json es))
+entries_tame : (es : List ReportEntry) → AllRepresentable es → AllWhole es → AllShort es → TameItems (items_of (map entry_json es))
 entries_tame [] h w s = tt
 entries_tame (e ∷ es) h w s = (entry_tame e h.0 w.0 s.0, entries_tame es h.1 w.1 s.1)
 
-entries_same : (es : List ReportEntry) → AllHeld es → of_items (items_outline (items_of (map entry_json es))) ≡ Some (items_of (map entry_json es))
+entries_same : (es : List ReportEntry) → AllRepresentable es → of_items (items_outline (items_of (map entry_json es))) ≡ Some (items_of (map entry_json es))
 entries_same [] h = refl
 entries_same (e ∷ es) h = λ i. option_and_then (λ d. option_map (item d) (entries_same es h.1 i)) (entry_same e h.0 i)
 
 -- ---- parts
 
-part_tame : (p : ReportPart) → AllHeld p.entries → AllWhole p.entries → AllShort p.entries → Tame (part_json p)
+part_tame : (p : ReportPart) → AllRepresentable p.entries → AllWhole p.entries → AllShort p.entries → Tame (part_json p)
 unfolding part_json
 part_tame p h w s = (
   key_tame (codes "name") refl,
@@ -173,16 +173,16 @@ part_tame p h w s = (
   (key_tame (codes "outcomes") refl, entries_tame p.entries h w s, tt),
 )
 
-part_same : (p : ReportPart) → AllHeld p.entries → of_json (outline (part_json p)) ≡ Some (part_json p)
+part_same : (p : ReportPart) → AllRepresentable p.entries → of_json (outline (part_json p)) ≡ Some (part_json p)
 unfolding part_json
 part_same p h =
     λ i. option_map object (option_and_then (λ d. Some (put (codes "outcomes") d (put (codes "name") (string (scenario_name p.scenario)) no_members))) (option_map array (entries_same p.entries h i)))
 
-parts_tame : (ps : List ReportPart) → AllPartsHeld ps → AllPartsWhole ps → AllPartsShort ps → TameItems (items_of (map part_json ps))
+parts_tame : (ps : List ReportPart) → AllPartsRepresentable ps → AllPartsWhole ps → AllPartsShort ps → TameItems (items_of (map part_json ps))
 parts_tame [] h w s = tt
 parts_tame (p ∷ ps) h w s = (part_tame p h.0 w.0 s.0, parts_tame ps h.1 w.1 s.1)
 
-parts_same : (ps : List ReportPart) → AllPartsHeld ps → of_items (items_outline (items_of (map part_json ps))) ≡ Some (items_of (map part_json ps))
+parts_same : (ps : List ReportPart) → AllPartsRepresentable ps → of_items (items_outline (items_of (map part_json ps))) ≡ Some (items_of (map part_json ps))
 parts_same [] h = refl
 parts_same (p ∷ ps) h = λ i. option_and_then (λ d. option_map (item d) (parts_same ps h.1 i)) (part_same p h.0 i)
 
@@ -203,7 +203,7 @@ report_tame report r = (
   small,
   (
     key_tame (codes "scenarios") refl,
-    parts_tame report.parts r.held r.whole.entries r.short,
+    parts_tame report.parts r.representable r.whole.entries r.short,
     (key_tame (codes "verdict") refl, verdict_small report, tt),
   ),
 )
@@ -218,7 +218,7 @@ report_same report r =
     let last = number_of-decimal (verdict_of report) (verdict_small report) in
     λ i. option_map object (option_and_then (λ d. option_and_then (λ e. option_and_then (λ f.
     Some (put (codes "verdict") f (put (codes "scenarios") e (put (codes "colis") d no_members))))
-    (option_map number (last i))) (option_map array (parts_same report.parts r.held i))) (option_map number (one i)))
+    (option_map number (last i))) (option_map array (parts_same report.parts r.representable i))) (option_map number (one i)))
 
 -- the JSON text of a readable report is read as its value
 pub text_reads : (report : Report) → IsReadable report → Reads (json_text report) (json_of report)

@@ -7,7 +7,7 @@ use Rattle.feature_trees.specs.Readable.{depth}
 use Rattle.outcome_report.specs.declared.outcome_report.Report.{Report}
 use Rattle.outcome_report.specs.declared.outcome_report.ReportEntry.{ReportEntry}
 use Rattle.outcome_report.specs.declared.outcome_report.ReportPart.{ReportPart}
-use Rattle.outcome_report.specs.Whole.{IsHeld, IsWhole}
+use Rattle.outcome_report.specs.Whole.{IsRepresentable, IsWhole}
 use Rattle.report_json.specs.ReportJson.{json_of}
 use Rattle.report_reader.specs.declared.read.JsonFault.{JsonFault}
 use Rattle.report_reader.specs.declared.read.JsonFault.TheVariants as fault
@@ -31,9 +31,9 @@ abbrev pub AllPartsShort : List ReportPart → Type 0
 AllPartsShort [] = Unit {0}
 AllPartsShort (part ∷ parts) = AllShort part.entries × AllPartsShort parts
 
--- a whole report that the program can hold, whose trees have no longer paths than can be read
+-- a whole report that the program's types represent, whose trees have no longer paths than can be read
 pub record IsReadable (report : Report) : Type 0 where
-  pub held : IsHeld report
+  pub representable : IsRepresentable report
   pub whole : IsWhole report
   pub short : AllPartsShort report.parts
 

@@ -5,8 +5,8 @@ ghost use Rattle.serde_json.specs.Find.{get};
 ghost use Rattle.serde_json.specs.View.{view};
 ghost use Rattle.report_reader.specs.ReportRead.{clause_with, clause_from, clause_in};
 
-use crate::held::is_clause;
 use crate::members::{lines_at, number_at};
+use outcome_report::is_representable_clause;
 use script_names::{List, Memory};
 use serde_json::Value;
 use std::alloc::Global;
@@ -18,7 +18,7 @@ fn clause_with(alloc: Global, text: &[u8]) -> Result<Option<Clause>, Memory>
 {
     match read_clause(alloc, text) {
         Ok(clause) => {
-            is_clause(&clause);
+            is_representable_clause(&clause);
             Ok(Some(clause))
         }
         Err(ClauseFault::Bad) => Ok(None),

@@ -5,7 +5,6 @@
 #![tactic(auto)]
 
 mod clauses;
-mod held;
 mod members;
 mod outcomes;
 mod pieces;

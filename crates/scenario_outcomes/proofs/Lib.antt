@@ -1,5 +1,6 @@
 mod Counting
 mod Exact
 mod Played
+mod StoreClauses
 mod Answering
 pub mod Carrying

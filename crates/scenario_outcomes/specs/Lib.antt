@@ -1,4 +1,5 @@
 pub mod PerformedOnce
 pub mod Outcomes
 pub mod OutcomeOf
+pub mod Endings
 pub mod Laws

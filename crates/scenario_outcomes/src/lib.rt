@@ -7,5 +7,5 @@ mod job_runs;
 mod listing;
 mod outcome;
 
-pub use listing::outcomes;
+pub use listing::{endings, outcomes};
 pub use outcome::{Outcome, OutcomesFault};

@@ -79,7 +79,7 @@ pub(crate) fn is_special(name: &[u8]) -> bool
 }
 
 /// Whether no function can have the name, since a utility or a special built-in has it.
-pub(crate) fn is_kept_name(name: &[u8]) -> bool
+pub fn is_kept_name(name: &[u8]) -> bool
     ensures { result ≡ is_kept_name name.now }
 {
     is(name, b"true")

@@ -1,4 +1,4 @@
--- A walk down a path of the tree now, and the pairs of a store in which what stands there is of some kinds.
+-- A walk down a path of the tree now, and the pairs of a store in which what stands there is as wanted.
 use Rattle.std.proofs.Common.{◌≡◌, ◌↔◌, ℕ, zero, suc, ◌<◌, ◌≤◌, ◌+◌, List, [], ◌∷◌, ◌++◌, length, take, get_or, IsTrue, refl, sym, ◌∙◌, ap, subst, arith, add-one}
 use Rattle.std.proofs.lemmas.Grind.{common_steps}
 use Rattle.feature_trees.specs.declared.value.Value.{Value}
@@ -8,8 +8,11 @@ use Rattle.feature_trees.specs.Tree.{at, entry, kind_of}
 use Rattle.feature_trees.specs.declared.kind.Kinds.{Kinds}
 use Rattle.feature_trees.specs.Kinds.{has}
 use Rattle.tree_clauses.specs.Literals.{Valuation, value_of_variable}
-use Rattle.clause_solver.specs.Stands.{Seen, Stands, Extends, HasEntry}
+use Rattle.clause_solver.specs.Stands.{Seen, Stands, Extends, Fences, HasEntry}
 use Rattle.clause_solver.specs.Pairs.{HasPair}
+use Rattle.start_trees.specs.declared.need.Wanted.{Wanted}
+use Rattle.start_trees.specs.declared.need.Wanted.TheVariants as wanted
+use Rattle.start_trees.specs.Needs.{IsWanted, Leaves}
 
 -- values of the first variables
 
@@ -46,6 +49,9 @@ at-append : (v : Value) (p q : List (List ℕ)) → at v (p ++ q) ≡ at (at v p
 at-append v [] q = refl
 at-append v (f ∷ p) q = at-append (entry v f) p q
 
+take_counted : (g : Valuation) (n : ℕ) → length g ≡ n → take n g ≡ g
+take_counted g n e = grind (arith, common_steps)
+
 extends_itself : (s : Seen) → Extends s s
 extends_itself s = record {
   more = omega arith;
@@ -53,9 +59,6 @@ extends_itself s = record {
   down = λ t g st. let P : Valuation → Type 0 = λ h. Stands s t h in subst P (sym (take_counted g s.count st.counted)) st;
   up = λ t g st. (g, st, take_counted g s.count st.counted);
 }
-  where
-    take_counted : (g : Valuation) (n : ℕ) → length g ≡ n → take n g ≡ g
-    take_counted g n e = grind (arith, common_steps)
 
 take_take : (m n : ℕ) (g : Valuation) → m ≤ n → take m (take n g) ≡ take m g
 take_take m n g le = grind (arith, common_steps)
@@ -113,28 +116,51 @@ walked_more old mid new names f x y walked more has = record {
       has.is t g st ∙ ap (λ (v : Value). entry v f) here ∙ sym (at-append (value_of_variable g new.current) names (f ∷ []));
 }
 
--- the pairs of a store in which the walked variable is of some kinds
-module _ (old mid new : Seen) (names : List (List ℕ)) (k : Kinds) (x : ℕ) (walked : Walked old mid names x)
-    (same : new.current ≡ mid.current)
-    (exact : (t : Value) (g : Valuation) → Stands new t g ↔ (Stands mid t g × IsTrue (has k (kind_of (value_of_variable g x))))) where
-  keeps : (t u : Value) → HasPair new t u → HasPair old t u × IsTrue (has k (kind_of (at u names)))
-  keeps t u (g, st, e) =
+-- a store that is limited leaves those pairs in which the variable is of these kinds
+pub limited_leaves : (old new : Seen) (x : ℕ) (k : Kinds) → new.count ≡ old.count → new.current ≡ old.current
+    → ((t : Value) (g : Valuation) → Stands new t g ↔ (Stands old t g × IsTrue (has k (kind_of (value_of_variable g x)))))
+    → Leaves old new x (wanted.Kinds k)
+limited_leaves old new x k count same exact = record {
+  more = omega (arith, count);
+  same = same;
+  down = λ t g st.
       let both = (exact t g).0 st in
-      let before = walked.extends.down t g both.0 in
-      let now : value_of_variable g mid.current ≡ u = ap (value_of_variable g) (sym same) ∙ e in
-      let then_now : value_of_variable (take old.count g) old.current ≡ u =
-      value_take g old.count old.current (current_known old t (take old.count g) before) ∙ ap (value_of_variable g) (sym walked.extends.same) ∙ now in
-      let stands_there : value_of_variable g x ≡ at u names = walked.is t g both.0 ∙ ap (λ (v : Value). at v names) now in
-      ((take old.count g, before, then_now), subst (λ (v : Value). IsTrue (has k (kind_of v))) stands_there both.1)
+      let P : Valuation → Type 0 = λ h. Stands old t h in
+      (subst P (sym (take_counted g old.count both.0.counted)) both.0, both.1);
+  up = λ t g st is. (g, (exact t g).1 (st, is), take_counted g old.count st.counted);
+}
 
-  kept : (t u : Value) → HasPair old t u → IsTrue (has k (kind_of (at u names))) → HasPair new t u
+-- so does one that is fenced in
+pub fenced_leaves : (old new : Seen) (x : ℕ) (names : List (List ℕ)) → Fences old new x names → Leaves old new x (wanted.Names names)
+fenced_leaves old new x names f = record { more = f.more; same = f.same; down = f.down; up = f.up }
+
+-- the pairs of a store in which the walked variable is as wanted
+module _ (old mid new : Seen) (names : List (List ℕ)) (w : Wanted) (x : ℕ) (walked : Walked old mid names x) (leaves : Leaves mid new x w) where
+  keeps : (t u : Value) → HasPair new t u → HasPair old t u × IsWanted w (at u names)
+  keeps t u (g, st, e) =
+      let both = leaves.down t g st in
+      let m : Valuation = take mid.count g in
+      let before = walked.extends.down t m both.0 in
+      let then : value_of_variable m mid.current ≡ u =
+      value_take g mid.count mid.current (current_known mid t m both.0) ∙ ap (value_of_variable g) (sym leaves.same) ∙ e in
+      let first : value_of_variable (take old.count m) old.current ≡ u =
+      value_take m old.count old.current (current_known old t (take old.count m) before) ∙ ap (value_of_variable m) (sym walked.extends.same) ∙ then in
+      let stands_there : value_of_variable g x ≡ at u names =
+      sym (value_take g mid.count x walked.known) ∙ walked.is t m both.0 ∙ ap (λ (v : Value). at v names) then in
+      ((take old.count m, before, first), subst (λ (v : Value). IsWanted w v) stands_there both.1)
+
+  kept : (t u : Value) → HasPair old t u → IsWanted w (at u names) → HasPair new t u
   kept t u (g, st, e) allowed =
       let up = walked.extends.up t g st in
       let h = up.0 in
       let now : value_of_variable h mid.current ≡ u =
       ap (value_of_variable h) walked.extends.same ∙ sym (value_take h old.count old.current (current_known old t g st)) ∙ ap (λ (k : Valuation). value_of_variable k old.current) up.2 ∙ e in
       let stands_there : value_of_variable h x ≡ at u names = walked.is t h up.1 ∙ ap (λ (v : Value). at v names) now in
-      (h, (exact t h).1 (up.1, subst (λ (v : Value). IsTrue (has k (kind_of v))) (sym stands_there) allowed), ap (value_of_variable h) same ∙ now)
+      let last = leaves.up t h up.1 (subst (λ (v : Value). IsWanted w v) (sym stands_there) allowed) in
+      let after : value_of_variable last.0 new.current ≡ u =
+      ap (value_of_variable last.0) leaves.same ∙ sym (value_take last.0 mid.count mid.current (current_known mid t h up.1))
+      ∙ ap (λ (k : Valuation). value_of_variable k mid.current) last.2 ∙ now in
+      (last.0, last.1, after)
 
-  pub limited_pairs : (t u : Value) → HasPair new t u ↔ (HasPair old t u × IsTrue (has k (kind_of (at u names))))
-  limited_pairs t u = (keeps t u, λ both. kept t u both.0 both.1)
+  pub wanted_pairs : (t u : Value) → HasPair new t u ↔ (HasPair old t u × IsWanted w (at u names))
+  wanted_pairs t u = (keeps t u, λ both. kept t u both.0 both.1)

@@ -6,5 +6,5 @@
 mod need;
 mod starts;
 
-pub use need::Need;
+pub use need::{Need, Wanted};
 pub use starts::start_store;

@@ -1,13 +1,32 @@
-ghost use Rattle.std.specs.Prelude.{◌≡◌, ◌↔◌, IfOk, OnOk, IsTrue};
+ghost use Rattle.std.specs.Prelude.{◌≡◌, ◌↔◌, ◌<◌, IfOk, OnOk, IsTrue};
 ghost use Rattle.feature_trees.specs.declared.value.Value.{Value as ValueOf};
 ghost use Rattle.clause_solver.specs.Pairs.{HasPair};
 ghost use Rattle.clause_solver.specs.Stands.{Alive};
-ghost use Rattle.start_trees.specs.Needs.{MeetsNeed, AreStarts};
+ghost use Rattle.start_trees.specs.Needs.{MeetsNeed, Leaves, AreStarts};
 
-use crate::need::Need;
+use crate::need::{Need, Wanted};
 use clause_solver::Store;
 use script_names::{List, Memory};
 use std::alloc::Global;
+use tree_clauses::Var;
+
+// Leaves the pairs in which a variable is as wanted, and says whether one is left; there may be further variables.
+fn want(store: &mut Store, x: Var, wanted: &Wanted) -> Result<bool, Memory>
+    requires { x.0 < store.old.count }
+    ensures leaves { OnOk result (Leaves store.old store.new x.0 wanted.now) }
+    ensures alive { IfOk result (λ left. IsTrue left ↔ Alive store.new) }
+{
+    match wanted {
+        Wanted::Kinds(kinds) => {
+            let left = store.limit(x, *kinds)?;
+            Ok(left)
+        }
+        Wanted::Names(names) => {
+            let left = store.fence(x, names)?;
+            Ok(left)
+        }
+    }
+}
 
 // Leaves the pairs whose tree now has what is needed, and says whether one is left.
 fn require(store: &mut Store, need: &Need) -> Result<bool, Memory>
@@ -19,7 +38,7 @@ fn require(store: &mut Store, need: &Need) -> Result<bool, Memory>
     for f in need.path.names() {
         x = store.child(x, f)?;
     }
-    let left = store.limit(x, need.kinds)?;
+    let left = want(store, x, &need.wanted)?;
     Ok(left)
 }
 

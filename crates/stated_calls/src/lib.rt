@@ -13,4 +13,4 @@ pub mod theorems;
 pub use programs::stated_program;
 pub use scripts::stated_script;
 pub use stated_call::{CallEnd, StatedCall};
-pub use stated_calls::{StatedCalls, StatedFault};
+pub use stated_calls::{StatedCalls, StatedFault, can_be_stated};

@@ -1,12 +1,11 @@
 ghost use Rattle.std.specs.Prelude.{◌≡◌, [], ◌∷◌, ◌++◌, IsTrue, OnOk, OnErr, IfOk};
 ghost use Rattle.std.specs.List.{list_any, list_all};
-ghost use Rattle.std.specs.Str.{bytes_eq};
-ghost use Rattle.shell_forms.specs.Names.{is_one_of, is_kept_name, special_names};
 ghost use Rattle.stated_calls.specs.Names.{is_name_byte, can_be_stated};
 ghost use Rattle.stated_calls.specs.Calls.{is_stated, are_stated, added_fault, AddGives};
 
 use crate::stated_call::{CallEnd, StatedCall};
 use script_names::{Bytes, Copied, List, Memory};
+use shell_forms::is_kept_name;
 use std::alloc::Global;
 use std::marker::Model;
 
@@ -108,8 +107,8 @@ fn is_stated(calls: &[StatedCall], name: &[u8]) -> bool
     calls.iter().any(|call| call.name.as_slice() == name)
 }
 
-// Whether a name can be stated.
-fn can_be_stated(name: &[u8]) -> bool
+/// Whether a name can be stated: it is 1 to 255 bytes without blanks and NUL, and none that has a meaning already.
+pub fn can_be_stated(name: &[u8]) -> bool
     ensures { result ≡ can_be_stated name.now }
 {
     !name.is_empty() && name.len() <= 255 && are_name_bytes(name) && !is_kept_name(name)
@@ -127,43 +126,4 @@ fn is_name_byte(byte: u8) -> bool
     ensures { result ≡ is_name_byte byte }
 {
     byte != 0 && byte != b' ' && byte != b'\t'
-}
-
-// Whether a name is this one.
-fn is(name: &[u8], one: &[u8]) -> bool
-    ensures { result ≡ bytes_eq name.now one.now }
-{
-    name == one
-}
-
-// Whether a name has a meaning already: that of a special built-in or of a utility.
-fn is_kept_name(name: &[u8]) -> bool
-    ensures { result ≡ is_kept_name name.now }
-{
-    is(name, b"true")
-        || is(name, b"false")
-        || is(name, b"echo")
-        || is(name, b"mkdir")
-        || is(name, b"rmdir")
-        || is(name, b"rm")
-        || is(name, b"touch")
-        || is(name, b"ln")
-        || is(name, b"mv")
-        || is(name, b"test")
-        || is(name, b"[")
-        || is_special(name)
-}
-
-// Whether a name is that of a special built-in.
-fn is_special(name: &[u8]) -> bool
-    ensures { result ≡ is_one_of name.now special_names }
-{
-    is(name, b":")
-        || is(name, b"break")
-        || is(name, b"continue")
-        || is(name, b"exit")
-        || is(name, b"return")
-        || is(name, b"set")
-        || is(name, b"export")
-        || is(name, b"unset")
 }

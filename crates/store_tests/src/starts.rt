@@ -2,7 +2,7 @@
 
 use feature_trees::{Kind, Kinds};
 use script_names::{List, Path, PathFault};
-use start_trees::{Need, start_store};
+use start_trees::{Need, Wanted, start_store};
 use std::alloc::Global;
 use std::test::Fail;
 
@@ -24,12 +24,12 @@ fn has_both(alloc: Global, row: &(&[u8], Kind, &[u8], Kind, bool)) -> Result<boo
     let path = Path::read(alloc, row.0)?;
     needs.add(Need {
         path,
-        kinds: Kinds::of(row.1),
+        wanted: Wanted::Kinds(Kinds::of(row.1)),
     })?;
     let path = Path::read(alloc, row.2)?;
     needs.add(Need {
         path,
-        kinds: Kinds::of(row.3),
+        wanted: Wanted::Kinds(Kinds::of(row.3)),
     })?;
     let found = start_store(alloc, &needs)?;
     Ok(found.is_some())

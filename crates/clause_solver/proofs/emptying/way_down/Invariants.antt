@@ -5,7 +5,7 @@ use Rattle.clause_solver.proofs.emptying.way_down.Given as goal
 abbrev pub invariant-down : goal.invariant-down
 invariant-down l = record {
   decided : AreDecided l.new;
-  to : ComesTo l.lists.vars l.x l.new.vars l.here l.names;
+  to : ComesTo l.lists.vars l.x l.fence l.new.vars l.here l.names;
 }
 
 abbrev pub decreases-down : goal.decreases-down

@@ -6,6 +6,5 @@ use Rattle.load_summary.proofs.counts.count.Goals as goal
 pub one_more-found-requires : goal.one_more-found-requires
 one_more-found-requires c =
     let below =
-    counted_below (λ entry. ends_in c.args.way entry.outcome.ending) c.args.entries.now c.loop-entry.entry-index c.loop-entry.found
-    c.loop-entry.invariant in
+    counted_below (ends_in c.args.way) c.args.endings.now c.loop-ending.ending-index c.loop-ending.found c.loop-ending.invariant in
     omega (arith, below)

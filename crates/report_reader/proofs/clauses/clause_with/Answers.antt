@@ -5,7 +5,7 @@ use Rattle.report_reader.proofs.ClauseFacts.{clause_found, clause_missed}
 use Rattle.report_reader.proofs.clauses.clause_with.Goals as goal
 
 pub returns-in-Ok : goal.returns-in-Ok
-returns-in-Ok c = sym (ap clause_with (sym c.in-Ok.ensures) ∙ clause_found c.in-Ok.clause c.is_clause.ensures)
+returns-in-Ok c = sym (ap clause_with (sym c.in-Ok.ensures) ∙ clause_found c.in-Ok.clause c.is_representable_clause.ensures)
 
 pub returns-in-Err-Bad : goal.returns-in-Err-Bad
 returns-in-Err-Bad c =

@@ -1,5 +1,5 @@
 use Rattle.std.proofs.Common.{ℕ, List, take, sym, subst, ◌∙◌}
-use Rattle.start_trees.proofs.Walks.{Walked, walked_more, limited_pairs, take_one, take_all}
+use Rattle.start_trees.proofs.Walks.{Walked, walked_more, wanted_pairs, take_one, take_all}
 use Rattle.start_trees.proofs.starts.require.Goals as goal
 
 pub loop-f-preserved : goal.loop-f-preserved
@@ -14,7 +14,7 @@ returns c =
     let P : List (List ℕ) → Type 0 = λ names. Walked c.args.store.now c.loop-f.store names c.loop-f.x.0 in
     let walked = subst P (take_all c.names-f-items.result.now c.loop-f.f-index c.loop-f-test.false ∙ c.names-f-items.ensures.names) c.loop-f.invariant in
     record {
-      pairs = limited_pairs c.args.store.now c.loop-f.store c.limit.new.self c.args.need.now.path.names c.args.need.now.kinds
-          c.loop-f.x.0 walked c.in_ok-left.ensures.kept.1 c.in_ok-left.ensures.exact;
+      pairs = wanted_pairs c.args.store.now c.loop-f.store c.want.new.store c.args.need.now.path.names c.args.need.now.wanted
+          c.loop-f.x.0 walked c.in_ok-left.ensures.leaves;
       alive = c.in_ok-left.ensures.alive;
     }

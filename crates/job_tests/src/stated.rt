@@ -1,0 +1,213 @@
+//! Scripts under stated calls, with all their outcomes: a base says of some commands how their calls end. The script is
+//! the package's postinst, and nothing stands at the paths that it makes files at.
+
+use crate::answers::{File, report};
+use dpkg_scenarios::Scenario;
+use std::test::Fail;
+
+const FILES: &[File] = &[("p/list", b"")];
+
+// A base, a script, and the brief report.
+const ROWS: &[(&[u8], &[u8], &str)] = &[
+    // The command succeeds, or fails, or nothing is stated of it.
+    (
+        b"dir /srv\nabsent /srv/a\nabsent /srv/b\ncall x ok\n",
+        b"#!/bin/sh\nx\n",
+        "colis brief 1\nscenario install outcomes 1\noutcome 1 done Installed\ntrace\nverdict 0\n",
+    ),
+    (
+        b"dir /srv\nabsent /srv/a\nabsent /srv/b\ncall x fails\n",
+        b"#!/bin/sh\nx\n",
+        "colis brief 1\nscenario install outcomes 1\noutcome 1 failed Half-Configured\ntrace\nverdict 1\n",
+    ),
+    (
+        b"dir /srv\nabsent /srv/a\nabsent /srv/b\n",
+        b"#!/bin/sh\nx\n",
+        "colis brief 1\nscenario install outcomes 1\noutcome 1 incomplete call 3:10\ntrace\nverdict 2\n",
+    ),
+    (
+        b"dir /srv\nabsent /srv/a\nabsent /srv/b\ncall X ok\n",
+        b"#!/bin/sh\nx\n",
+        "colis brief 1\nscenario install outcomes 1\noutcome 1 incomplete call 3:10\ntrace\nverdict 2\n",
+    ),
+    (
+        b"dir /srv\nabsent /srv/a\nabsent /srv/b\ncall xx ok\n",
+        b"#!/bin/sh\nx\n",
+        "colis brief 1\nscenario install outcomes 1\noutcome 1 incomplete call 3:10\ntrace\nverdict 2\n",
+    ),
+    (
+        b"dir /srv\nabsent /srv/a\nabsent /srv/b\ncall x fails\ncall y ok\n",
+        b"#!/bin/sh\ny; x\n",
+        "colis brief 1\nscenario install outcomes 1\noutcome 1 failed Half-Configured\ntrace\nverdict 1\n",
+    ),
+    (
+        b"dir /srv\nabsent /srv/a\nabsent /srv/b\ncall x fails\ncall y ok\n",
+        b"#!/bin/sh\nx; y\n",
+        "colis brief 1\nscenario install outcomes 1\noutcome 1 done Installed\ntrace\nverdict 0\n",
+    ),
+    (
+        b"dir /srv\nabsent /srv/a\nabsent /srv/b\ncall x fails\n",
+        b"#!/bin/sh\nset -e; x; touch /srv/a\n",
+        "colis brief 1\nscenario install outcomes 1\noutcome 1 failed Half-Configured\ntrace\nverdict 1\n",
+    ),
+    // Its status decides, as that of any command.
+    (
+        b"dir /srv\nabsent /srv/a\nabsent /srv/b\ncall x fails\n",
+        b"#!/bin/sh\nx || touch /srv/a\n",
+        "colis brief 1\nscenario install outcomes 1\noutcome 1 done Installed\ntrace 3:15:67\nverdict 0\n",
+    ),
+    (
+        b"dir /srv\nabsent /srv/a\nabsent /srv/b\ncall x ok\n",
+        b"#!/bin/sh\nx || touch /srv/a\n",
+        "colis brief 1\nscenario install outcomes 1\noutcome 1 done Installed\ntrace\nverdict 0\n",
+    ),
+    (
+        b"dir /srv\nabsent /srv/a\nabsent /srv/b\ncall x ok\n",
+        b"#!/bin/sh\nx && touch /srv/a\n",
+        "colis brief 1\nscenario install outcomes 1\noutcome 1 done Installed\ntrace 3:15:67\nverdict 0\n",
+    ),
+    (
+        b"dir /srv\nabsent /srv/a\nabsent /srv/b\ncall x fails\n",
+        b"#!/bin/sh\nif x; then touch /srv/a; else touch /srv/b; fi\n",
+        "colis brief 1\nscenario install outcomes 1\noutcome 1 done Installed\ntrace 3:40:67\nverdict 0\n",
+    ),
+    (
+        b"dir /srv\nabsent /srv/a\nabsent /srv/b\ncall x fails\n",
+        b"#!/bin/sh\n! x\n",
+        "colis brief 1\nscenario install outcomes 1\noutcome 1 done Installed\ntrace\nverdict 0\n",
+    ),
+    (
+        b"dir /srv\nabsent /srv/a\nabsent /srv/b\ncall x ok\n",
+        b"#!/bin/sh\n! x\n",
+        "colis brief 1\nscenario install outcomes 1\noutcome 1 failed Half-Configured\ntrace\nverdict 1\n",
+    ),
+    (
+        b"dir /srv\nabsent /srv/a\nabsent /srv/b\ncall x fails\n",
+        b"#!/bin/sh\nwhile x; do touch /srv/a; done\n",
+        "colis brief 1\nscenario install outcomes 1\noutcome 1 done Installed\ntrace\nverdict 0\n",
+    ),
+    (
+        b"dir /srv\nabsent /srv/a\nabsent /srv/b\ncall x ok\n",
+        b"#!/bin/sh\nuntil x; do touch /srv/a; done\n",
+        "colis brief 1\nscenario install outcomes 1\noutcome 1 done Installed\ntrace\nverdict 0\n",
+    ),
+    (
+        b"dir /srv\nabsent /srv/a\nabsent /srv/b\ncall x ok\n",
+        b"#!/bin/sh\nwhile x; do :; done\n",
+        "colis brief 1\nscenario install outcomes 1\noutcome 1 bound 3:10\ntrace\nverdict 2\n",
+    ),
+    (
+        b"dir /srv\nabsent /srv/a\nabsent /srv/b\ncall x fails\n",
+        b"#!/bin/sh\n(x) || touch /srv/a\n",
+        "colis brief 1\nscenario install outcomes 1\noutcome 1 done Installed\ntrace 3:17:67\nverdict 0\n",
+    ),
+    (
+        b"dir /srv\nabsent /srv/a\nabsent /srv/b\ncall x ok\n",
+        b"#!/bin/sh\ncase $1 in configure) x;; *) exit 1;; esac\n",
+        "colis brief 1\nscenario install outcomes 1\noutcome 1 done Installed\ntrace\nverdict 0\n",
+    ),
+    (
+        b"dir /srv\nabsent /srv/a\nabsent /srv/b\ncall x ok\n",
+        b"#!/bin/sh\nfor i in a b; do x $i; done\n",
+        "colis brief 1\nscenario install outcomes 1\noutcome 1 done Installed\ntrace\nverdict 0\n",
+    ),
+    // Its words are expanded, with their acts; it prints nothing; its redirections and its assignments are its own.
+    (
+        b"dir /srv\nabsent /srv/a\nabsent /srv/b\ncall x ok\n",
+        b"#!/bin/sh\nx $(touch /srv/a)\n",
+        "colis brief 1\nscenario install outcomes 1\noutcome 1 done Installed\ntrace 3:14:67\nverdict 0\n",
+    ),
+    (
+        b"dir /srv\nabsent /srv/a\nabsent /srv/b\ncall x ok\n",
+        b"#!/bin/sh\nx a \"$(touch /srv/a)\" $(touch /srv/b)\n",
+        "colis brief 1\nscenario install outcomes 1\noutcome 1 done Installed\ntrace 3:17:67 3:34:67\nverdict 0\n",
+    ),
+    (
+        b"dir /srv\nabsent /srv/a\nabsent /srv/b\ncall x ok\n",
+        b"#!/bin/sh\ny=$(x); [ -z \"$y\" ] && touch /srv/a\n",
+        "colis brief 1\nscenario install outcomes 1\noutcome 1 done Installed\ntrace 3:33:67\nverdict 0\n",
+    ),
+    (
+        b"dir /srv\nabsent /srv/a\nabsent /srv/b\ncall x ok\n",
+        b"#!/bin/sh\nx >/dev/null 2>&1\n",
+        "colis brief 1\nscenario install outcomes 1\noutcome 1 done Installed\ntrace\nverdict 0\n",
+    ),
+    (
+        b"dir /srv\nabsent /srv/a\nabsent /srv/b\ncall x ok\n",
+        b"#!/bin/sh\nA=b x; [ -z \"$A\" ] && touch /srv/a\n",
+        "colis brief 1\nscenario install outcomes 1\noutcome 1 done Installed\ntrace 3:32:67\nverdict 0\n",
+    ),
+    // The name is a static word, and is that of the command itself.
+    (
+        b"dir /srv\nabsent /srv/a\nabsent /srv/b\ncall x ok\n",
+        b"#!/bin/sh\ny=x; $y\n",
+        "colis brief 1\nscenario install outcomes 1\noutcome 1 incomplete call 3:15\ntrace\nverdict 2\n",
+    ),
+    (
+        b"dir /srv\nabsent /srv/a\nabsent /srv/b\ncall x ok\n",
+        b"#!/bin/sh\n'x' a; \"x\" b; \\x c\n",
+        "colis brief 1\nscenario install outcomes 1\noutcome 1 done Installed\ntrace\nverdict 0\n",
+    ),
+    (
+        b"dir /srv\nabsent /srv/a\nabsent /srv/b\ncall long-name ok\n",
+        b"#!/bin/sh\nlo\"ng\"-'name'\n",
+        "colis brief 1\nscenario install outcomes 1\noutcome 1 done Installed\ntrace\nverdict 0\n",
+    ),
+    (
+        b"dir /srv\nabsent /srv/a\nabsent /srv/b\ncall x ok\n",
+        b"#!/bin/sh\ncommand x\n",
+        "colis brief 1\nscenario install outcomes 1\noutcome 1 incomplete call 3:10\ntrace\nverdict 2\n",
+    ),
+    (
+        b"dir /srv\nabsent /srv/a\nabsent /srv/b\ncall x fails\n",
+        b"#!/bin/sh\ntrue x\n",
+        "colis brief 1\nscenario install outcomes 1\noutcome 1 done Installed\ntrace\nverdict 0\n",
+    ),
+    (
+        b"dir /srv\nabsent /srv/a\nabsent /srv/b\ncall /usr/bin/x ok\n",
+        b"#!/bin/sh\n/usr/bin/x y\n",
+        "colis brief 1\nscenario install outcomes 1\noutcome 1 done Installed\ntrace\nverdict 0\n",
+    ),
+    (
+        b"dir /srv\nabsent /srv/a\nabsent /srv/b\ncall . ok\n",
+        b"#!/bin/sh\n. /usr/share/debconf/confmodule\n",
+        "colis brief 1\nscenario install outcomes 1\noutcome 1 done Installed\ntrace\nverdict 0\n",
+    ),
+    (
+        b"dir /srv\nabsent /srv/a\nabsent /srv/b\ncall update-rc.d ok\n",
+        b"#!/bin/sh\nupdate-rc.d foo defaults >/dev/null\n",
+        "colis brief 1\nscenario install outcomes 1\noutcome 1 done Installed\ntrace\nverdict 0\n",
+    ),
+    // A function of the script has the name for itself.
+    (
+        b"dir /srv\nabsent /srv/a\nabsent /srv/b\ncall f fails\n",
+        b"#!/bin/sh\nf() { touch /srv/a; }; f\n",
+        "colis brief 1\nscenario install outcomes 1\noutcome 1 done Installed\ntrace 3:16:67\nverdict 0\n",
+    ),
+    (
+        b"dir /srv\nabsent /srv/a\nabsent /srv/b\ncall f ok\n",
+        b"#!/bin/sh\nf; f() { true; }\n",
+        "colis brief 1\nscenario install outcomes 1\noutcome 1 incomplete call 3:10\ntrace\nverdict 2\n",
+    ),
+    (
+        b"dir /srv\nabsent /srv/a\nabsent /srv/b\ncall x ok\n",
+        b"#!/bin/sh\nf() { x; }; f\n",
+        "colis brief 1\nscenario install outcomes 1\noutcome 1 done Installed\ntrace\nverdict 0\n",
+    ),
+];
+
+#[test]
+fn stated_calls_end_as_stated(rt: HostRuntime) -> Result<(), Fail> {
+    for row in ROWS {
+        let others = [("b", row.0), ("p/postinst", row.1)];
+        let line = "check p --base b";
+        let text = report(rt.alloc(), Scenario::Install, line, FILES, &others)?;
+        assert!(rt;
+            text.as_slice() == row.2.as_bytes(),
+            "{:?} {:?}",
+            row.0,
+            row.1
+        );
+    }
+    Ok(())
+}

@@ -1,0 +1,55 @@
+//! The endings of scenarios, and what they make of the verdict.
+
+ghost use Rattle.std.specs.Prelude.{◌≡◌};
+ghost use Rattle.outcome_report.specs.declared.outcome_report.Report.{Report};
+ghost use Rattle.outcome_report.specs.OutcomeReport.{verdict_of};
+ghost use Rattle.load_summary.specs.Endings.{HasEndings, ends_so, some_ends_so, endings_verdict};
+
+use dpkg_scenarios::{Ending, Scenario};
+use outcome_report::ending_verdict;
+use script_names::List;
+
+/// The endings of the outcomes of one scenario, in the outcomes' order.
+#[derive(Drop)]
+pub struct ScenarioEndings {
+    pub scenario: Scenario,
+    pub endings: List<Ending>,
+}
+
+// Whether an ending of the scenario makes this of the verdict.
+fn ends_so(scenario: &ScenarioEndings, verdict: u8) -> bool
+    ensures { result ≡ ends_so verdict scenario.now }
+{
+    scenario
+        .endings
+        .as_slice()
+        .iter()
+        .any(|ending| ending_verdict(*ending) == verdict)
+}
+
+// Whether an ending of some scenario does.
+fn some_ends_so(scenarios: &[ScenarioEndings], verdict: u8) -> bool
+    ensures { result ≡ some_ends_so verdict scenarios.now }
+{
+    scenarios.iter().any(|scenario| ends_so(scenario, verdict))
+}
+
+/// What the endings make of the verdict.
+pub(crate) fn endings_verdict(scenarios: &[ScenarioEndings]) -> u8
+    ensures { result ≡ endings_verdict scenarios.now }
+{
+    if some_ends_so(scenarios, 1) {
+        1
+    } else if some_ends_so(scenarios, 2) {
+        2
+    } else {
+        0
+    }
+}
+
+/// The verdict of each report that has these endings.
+pub fn load_verdict(scenarios: &List<ScenarioEndings>) -> u8
+    ensures { (report : Report) → HasEndings report scenarios.now → result ≡ verdict_of report }
+{
+    endings_verdict(scenarios.as_slice())
+}
