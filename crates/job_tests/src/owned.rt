@@ -1,6 +1,6 @@
 //! Packages whose folders hold no foreign entry, by a line of the base, with all their outcomes.
 
-use crate::answers::{File, report};
+use crate::answers::{File, answer, report};
 use dpkg_scenarios::Scenario;
 use script_names::Bytes;
 use std::test::Fail;
@@ -53,6 +53,19 @@ fn a_folder_without_foreign_entries_goes(rt: HostRuntime) -> Result<(), Fail> {
         let text = report(rt.alloc(), row.0, LINE, CONFIGURED, &[("b", row.1)])?;
         assert!(rt; text.as_slice() == row.2.as_bytes(), "{:?}", row.1);
     }
+    Ok(())
+}
+
+#[test]
+fn a_run_leaves_no_folder_without_foreign_entries(rt: HostRuntime) -> Result<(), Fail> {
+    let files: &[File] = &[
+        ("b", b"dir /etc\nown\n"),
+        ("t", b"d /etc\nd /etc/foo\nf /etc/foo/a.conf\n"),
+    ];
+    let line = "run p --base b --scenario purge --tree t";
+    let text = answer(rt.alloc(), Scenario::Purge, line, CONFIGURED, files)?;
+    let wanted = "result done Not-Installed\ntrace 2:0:67 4:0:68 4:1:68\nafter\nd /etc\n";
+    assert!(rt; text.as_slice() == wanted.as_bytes());
     Ok(())
 }
 
