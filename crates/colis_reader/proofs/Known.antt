@@ -1,4 +1,4 @@
--- Every construct that can be held has a text that is one part, which is read as the construct: by induction over the syntax.
+-- Every construct that the types can represent has a text that is one part, which is read as the construct: by induction over the syntax.
 use Rattle.std.proofs.Common.{◌≡◌, Bool, true, List, [], ◌∷◌, ◌++◌, map, codes, decimal, refl, sym, ap, ◌∙◌, subst}
 use Rattle.std.specs.Prelude.{◌&&◌, false, take}
 use Rattle.std.specs.Str.{bytes_eq}
@@ -26,15 +26,15 @@ use Rattle.colis_syntax.specs.ProgramText.{Text, spaced, each_spaced, between, p
 use Rattle.colis_reader.specs.declared.nest.Nest.{Nest}
 use Rattle.colis_reader.specs.declared.nest.Nest.TheVariants.{Node}
 use Rattle.colis_reader.specs.Readings.{Read, read, reads, member, but_last, last, argument_in, bytes_in, reason_in, node_read, nothing}
-use Rattle.colis_reader.specs.Held as h
-use Rattle.colis_reader.specs.Held.{fits, all_hold, stmt_held}
+use Rattle.colis_reader.specs.Representable as h
+use Rattle.colis_reader.specs.Representable.{fits, all_hold, stmt_representable}
 use Rattle.colis_reader.proofs.ReadNode.{word_node, pieces_node, patterns_node, fields_node, set_node, part_node, arm_node, pat_arm_node}
 use Rattle.colis_reader.proofs.Lasts.{last_length, last_here, before_last}
 use Rattle.colis_reader.proofs.Fills.{Fills, Adds, fills_none, adds_none, adds_space, adds_both, fills_both}
 use Rattle.colis_reader.proofs.Shapes as shape
 use Rattle.colis_reader.proofs.Shapes.{leaf, named}
 use Rattle.colis_reader.proofs.PartsKnown.{argument_back, reason_back, name_back, seq_is, chain_is, not_is, if_is, quiet_is, strict_is, lax_is, break_is, continue_is, skip_is, set_is, fun_is, for_is, while_is, case_is, sub_is, err_is, stop_is, call_is, exit_is, return_is, export_is, unset_is, var_is, arg_is, or_is, output_is, join_is, count_is, p_is, q_is, s_is, word_is, args_is, literal_is, all_filled}
-use Rattle.colis_reader.proofs.PartsKnown.{field_held, str_held, piece_held, part_held, pat_arm_held, set_held, arm_held, KFields, SFields, KStmt, SStmt, KStr, SStr, KStrPiece, SStrPiece, KChainPart, SChainPart, KPatArm, SPatArm, KSetTo, SSetTo, KStmtArm, SStmtArm, field_base, field_words, field_tests, stmt_base, stmt_words, stmt_tests, str_base, str_words, str_tests, piece_base, piece_words, piece_tests, part_base, part_words, part_tests, pat_arm_base, pat_arm_words, pat_arm_tests, set_base, set_words, set_tests, arm_base, arm_words, arm_tests, fields_of, fields_added, stmts_of, stmts_added, strs_of, strs_added, pieces_of, pieces_added, parts_of, parts_added, pat_arms_of, pat_arms_added, sets_of, sets_added, arms_of, arms_added}
+use Rattle.colis_reader.proofs.PartsKnown.{field_representable, str_representable, piece_representable, part_representable, pat_arm_representable, set_representable, arm_representable, KFields, SFields, KStmt, SStmt, KStr, SStr, KStrPiece, SStrPiece, KChainPart, SChainPart, KPatArm, SPatArm, KSetTo, SSetTo, KStmtArm, SStmtArm, field_base, field_words, field_tests, stmt_base, stmt_words, stmt_tests, str_base, str_words, str_tests, piece_base, piece_words, piece_tests, part_base, part_words, part_tests, pat_arm_base, pat_arm_words, pat_arm_tests, set_base, set_words, set_tests, arm_base, arm_words, arm_tests, fields_of, fields_added, stmts_of, stmts_added, strs_of, strs_added, pieces_of, pieces_added, parts_of, parts_added, pat_arms_of, pat_arms_added, sets_of, sets_added, arms_of, arms_added}
 
 -- ---- the ends of a list
 
@@ -68,7 +68,7 @@ str_case (o.Arg number) h = (
 )
 str_case o.Count h = (named (codes "count") [], shape.alone_fills (codes "(count") (codes "count") (λ top up. refl), count_is [] ∙ sym sv.rolls-Count)
 str_case (o.Or first other) h =
-    let k = and_parts (str_held first.0) (are_bytes other) h in
+    let k = and_parts (str_representable first.0) (are_bytes other) h in
     let a = first.1 k.0 in (
       named (codes "or") (a.0 ∷ leaf (show other) ∷ []),
       shape.or_fills (str_text first.0) other a.0 a.1 k.1,
@@ -121,50 +121,50 @@ stmt_case o.Lax h = (named (codes "lax") [], shape.alone_fills (codes "(lax") (c
 stmt_case o.Break h = (named (codes "break") [], shape.alone_fills (codes "(break") (codes "break") (λ top up. refl), break_is [] ∙ sym v.rolls-Break)
 stmt_case o.Continue h = (named (codes "continue") [], shape.alone_fills (codes "(continue") (codes "continue") (λ top up. refl), continue_is [] ∙ sym v.rolls-Continue)
 stmt_case (o.Set at sets) h =
-    let k = and_parts (fits at) (all_hold (map set_held (sets_of sets))) h in
+    let k = and_parts (fits at) (all_hold (map set_representable (sets_of sets))) h in
     let m = sets_added sets k.1 in (
       named (codes "set") (leaf (decimal at) ∷ m.0),
       shape.at_group_fills (codes "(set") (codes "set") at (each_spaced (map set_text (sets_of sets))) m.0 (λ top up. refl) k.0 m.1,
       set_is at m.0 k.0 ∙ ap (v.Set at) m.2 ∙ sym (v.rolls-Set at (sets_of sets)),
     )
 stmt_case (o.Call at fields) h =
-    let k = and_parts (fits at) (all_hold (map field_held (fields_of fields))) h in
+    let k = and_parts (fits at) (all_hold (map field_representable (fields_of fields))) h in
     let m = fields_added fields k.1 in (
       named (codes "call") (leaf (decimal at) ∷ m.0),
       shape.at_group_fills (codes "(call") (codes "call") at (each_spaced (map field_text (fields_of fields))) m.0 (λ top up. refl) k.0 m.1,
       call_is at m.0 k.0 ∙ ap (v.Call at) m.2 ∙ sym (v.rolls-Call at (fields_of fields)),
     )
 stmt_case (o.Exit at fields) h =
-    let k = and_parts (fits at) (all_hold (map field_held (fields_of fields))) h in
+    let k = and_parts (fits at) (all_hold (map field_representable (fields_of fields))) h in
     let m = fields_added fields k.1 in (
       named (codes "exit") (leaf (decimal at) ∷ m.0),
       shape.at_group_fills (codes "(exit") (codes "exit") at (each_spaced (map field_text (fields_of fields))) m.0 (λ top up. refl) k.0 m.1,
       exit_is at m.0 k.0 ∙ ap (v.Exit at) m.2 ∙ sym (v.rolls-Exit at (fields_of fields)),
     )
 stmt_case (o.Return at fields) h =
-    let k = and_parts (fits at) (all_hold (map field_held (fields_of fields))) h in
+    let k = and_parts (fits at) (all_hold (map field_representable (fields_of fields))) h in
     let m = fields_added fields k.1 in (
       named (codes "return") (leaf (decimal at) ∷ m.0),
       shape.at_group_fills (codes "(return") (codes "return") at (each_spaced (map field_text (fields_of fields))) m.0 (λ top up. refl) k.0 m.1,
       return_is at m.0 k.0 ∙ ap (v.Return at) m.2 ∙ sym (v.rolls-Return at (fields_of fields)),
     )
 stmt_case (o.Export at fields) h =
-    let k = and_parts (fits at) (all_hold (map field_held (fields_of fields))) h in
+    let k = and_parts (fits at) (all_hold (map field_representable (fields_of fields))) h in
     let m = fields_added fields k.1 in (
       named (codes "export") (leaf (decimal at) ∷ m.0),
       shape.at_group_fills (codes "(export") (codes "export") at (each_spaced (map field_text (fields_of fields))) m.0 (λ top up. refl) k.0 m.1,
       export_is at m.0 k.0 ∙ ap (v.Export at) m.2 ∙ sym (v.rolls-Export at (fields_of fields)),
     )
 stmt_case (o.Unset at fields) h =
-    let k = and_parts (fits at) (all_hold (map field_held (fields_of fields))) h in
+    let k = and_parts (fits at) (all_hold (map field_representable (fields_of fields))) h in
     let m = fields_added fields k.1 in (
       named (codes "unset") (leaf (decimal at) ∷ m.0),
       shape.at_group_fills (codes "(unset") (codes "unset") at (each_spaced (map field_text (fields_of fields))) m.0 (λ top up. refl) k.0 m.1,
       unset_is at m.0 k.0 ∙ ap (v.Unset at) m.2 ∙ sym (v.rolls-Unset at (fields_of fields)),
     )
 stmt_case (o.Fun at name fields) h =
-    let k = and_parts (fits at) (are_bytes name && all_hold (map field_held (fields_of fields))) h in
-    let j = and_parts (are_bytes name) (all_hold (map field_held (fields_of fields))) k.1 in
+    let k = and_parts (fits at) (are_bytes name && all_hold (map field_representable (fields_of fields))) h in
+    let j = and_parts (are_bytes name) (all_hold (map field_representable (fields_of fields))) k.1 in
     let m = fields_added fields j.1 in (
       named (codes "fun") (leaf (decimal at) ∷ leaf (show name) ∷ m.0),
       shape.fun_fills at name (each_spaced (map field_text (fields_of fields))) m.0 k.0 j.0 m.1,
@@ -177,7 +177,7 @@ stmt_case (o.Seq parts) h =
       seq_is m.0 ∙ ap v.Seq m.2 ∙ sym (v.rolls-Seq (stmts_of parts)),
     )
 stmt_case (o.Chain first rest) h =
-    let k = and_parts (stmt_held first.0) (all_hold (map part_held (parts_of rest))) h in
+    let k = and_parts (stmt_representable first.0) (all_hold (map part_representable (parts_of rest))) h in
     let a = first.1 k.0 in
     let m = parts_added rest k.1 in (
       named (codes "chain") (a.0 ∷ m.0),
@@ -185,7 +185,7 @@ stmt_case (o.Chain first rest) h =
       chain_is (a.0 ∷ m.0) ∙ ap (λ x. v.Chain x (map (λ r. r.part) (reads m.0))) a.2 ∙ ap (v.Chain first.0) m.2 ∙ sym (v.rolls-Chain first.0 (parts_of rest)),
     )
 stmt_case (o.If arms other) h =
-    let k = and_parts (all_hold (map arm_held (arms_of arms))) (stmt_held other.0) h in
+    let k = and_parts (all_hold (map arm_representable (arms_of arms))) (stmt_representable other.0) h in
     let m = arms_added arms k.0 in
     let a = other.1 k.1 in (
       named (codes "if") (m.0 ++ a.0 ∷ []),
@@ -195,10 +195,10 @@ stmt_case (o.If arms other) h =
           ∙ ap (λ l. v.If l other.0) m.2 ∙ sym (v.rolls-If (arms_of arms) other.0),
     )
 stmt_case (o.For at name fields body) h =
-    let k = and_parts (fits at) (are_bytes name && (all_hold (map field_held (fields_of fields)) && stmt_held body.0)) h in
-    let j = and_parts (are_bytes name) (all_hold (map field_held (fields_of fields)) && stmt_held body.0) k.1 in
-    let i = and_parts (all_hold (map field_held (fields_of fields))) (stmt_held body.0) j.1 in
-    let m = all_filled Fields field_text field_held (λ r. r.field) fields i.0 in
+    let k = and_parts (fits at) (are_bytes name && (all_hold (map field_representable (fields_of fields)) && stmt_representable body.0)) h in
+    let j = and_parts (are_bytes name) (all_hold (map field_representable (fields_of fields)) && stmt_representable body.0) k.1 in
+    let i = and_parts (all_hold (map field_representable (fields_of fields))) (stmt_representable body.0) j.1 in
+    let m = all_filled Fields field_text field_representable (λ r. r.field) fields i.0 in
     let a = body.1 i.1 in
     let ns = leaf (show name) ∷ Node [] m.0 ∷ a.0 ∷ [] in (
       named (codes "for") (leaf (decimal at) ∷ ns),
@@ -208,8 +208,8 @@ stmt_case (o.For at name fields body) h =
           ∙ sym (v.rolls-For at name (fields_of fields) body.0),
     )
 stmt_case (o.While at cond body) h =
-    let k = and_parts (fits at) (stmt_held cond.0 && stmt_held body.0) h in
-    let j = and_parts (stmt_held cond.0) (stmt_held body.0) k.1 in
+    let k = and_parts (fits at) (stmt_representable cond.0 && stmt_representable body.0) h in
+    let j = and_parts (stmt_representable cond.0) (stmt_representable body.0) k.1 in
     let a = cond.1 j.0 in
     let b = body.1 j.1 in (
       named (codes "while") (leaf (decimal at) ∷ a.0 ∷ b.0 ∷ []),
@@ -217,8 +217,8 @@ stmt_case (o.While at cond body) h =
       while_is at (a.0 ∷ b.0 ∷ []) k.0 ∙ ap (λ x. v.While at x (read b.0).stmt) a.2 ∙ ap (v.While at cond.0) b.2 ∙ sym (v.rolls-While at cond.0 body.0),
     )
 stmt_case (o.Case at subject arms) h =
-    let k = and_parts (fits at) (str_held subject.0 && all_hold (map pat_arm_held (pat_arms_of arms))) h in
-    let j = and_parts (str_held subject.0) (all_hold (map pat_arm_held (pat_arms_of arms))) k.1 in
+    let k = and_parts (fits at) (str_representable subject.0 && all_hold (map pat_arm_representable (pat_arms_of arms))) h in
+    let j = and_parts (str_representable subject.0) (all_hold (map pat_arm_representable (pat_arms_of arms))) k.1 in
     let a = subject.1 j.0 in
     let m = pat_arms_added arms j.1 in (
       named (codes "case") (leaf (decimal at) ∷ a.0 ∷ m.0),
@@ -232,14 +232,14 @@ stmt_case (o.Quiet body) h =
     let a = body.1 h in
     (named (codes "quiet") (a.0 ∷ []), shape.one_text_fills (codes "(quiet") (codes "quiet") (stmt_text body.0) a.0 (λ top up. refl) a.1, quiet_is (a.0 ∷ []) ∙ ap v.Quiet a.2 ∙ sym (v.rolls-Quiet body.0))
 stmt_case (o.Sub at body) h =
-    let k = and_parts (fits at) (stmt_held body.0) h in
+    let k = and_parts (fits at) (stmt_representable body.0) h in
     let a = body.1 k.1 in (
       named (codes "sub") (leaf (decimal at) ∷ a.0 ∷ []),
       shape.at_text_fills (codes "(sub") (codes "sub") at (stmt_text body.0) a.0 (λ top up. refl) k.0 a.1,
       sub_is at (a.0 ∷ []) k.0 ∙ ap (v.Sub at) a.2 ∙ sym (v.rolls-Sub at body.0),
     )
 stmt_case (o.Err at body) h =
-    let k = and_parts (fits at) (stmt_held body.0) h in
+    let k = and_parts (fits at) (stmt_representable body.0) h in
     let a = body.1 k.1 in (
       named (codes "err") (leaf (decimal at) ∷ a.0 ∷ []),
       shape.at_text_fills (codes "(err") (codes "err") at (stmt_text body.0) a.0 (λ top up. refl) k.0 a.1,
@@ -269,7 +269,7 @@ set_case : (y : o.SetTo-F SFields SStmt SStr SStrPiece SChainPart SPatArm SSetTo
     → (n : Nest) × Fills (t.set_layer (set_words (set_base y))) (n ∷ []) × ((read n).set ≡ roll-SetTo (set_base y))
 unfolding node_read
 set_case y h =
-    let k = and_parts (are_bytes y.name) (str_held y.value.0) h in
+    let k = and_parts (are_bytes y.name) (str_representable y.value.0) h in
     let a = y.value.1 k.1 in
     let ns = leaf (show y.name) ∷ a.0 ∷ [] in (
       Node [] ns,
@@ -277,7 +277,7 @@ set_case y h =
       set_node [] ns ∙ ap (λ l. a_set l (read a.0).string) (name_back y.name k.0) ∙ ap (a_set y.name) a.2 ∙ sym (rolls-SetTo' (set_base y)),
     )
 
-part_known : (b : Bool) (s : SStmt) → stmt_held s.0 ≡ true
+part_known : (b : Bool) (s : SStmt) → stmt_representable s.0 ≡ true
     → (n : Nest) × Fills (t.one_text (t.link_head b) (stmt_text s.0)) (n ∷ []) × ((read n).part ≡ a_part b s.0)
 unfolding node_read
 part_known true s h =
@@ -301,7 +301,7 @@ arm_case : (y : o.StmtArm-F SFields SStmt SStr SStrPiece SChainPart SPatArm SSet
     → (n : Nest) × Fills (t.arm_layer (arm_words (arm_base y))) (n ∷ []) × ((read n).arm ≡ roll-StmtArm (arm_base y))
 unfolding node_read
 arm_case y h =
-    let k = and_parts (stmt_held y.cond.0) (stmt_held y.body.0) h in
+    let k = and_parts (stmt_representable y.cond.0) (stmt_representable y.body.0) h in
     let a = y.cond.1 k.0 in
     let b = y.body.1 k.1 in (
       Node [] (a.0 ∷ b.0 ∷ []),
@@ -309,7 +309,7 @@ arm_case y h =
       arm_node [] (a.0 ∷ b.0 ∷ []) ∙ ap (λ x. an_arm x (read b.0).stmt) a.2 ∙ ap (an_arm y.cond.0) b.2 ∙ sym (rolls-StmtArm' (arm_base y)),
     )
 
-pattern_known : (ys : List SStrPiece) → all_hold (map piece_held (pieces_of ys)) ≡ true
+pattern_known : (ys : List SStrPiece) → all_hold (map piece_representable (pieces_of ys)) ≡ true
     → (n : Nest) × Fills (pattern_text_of (map piece_text (pieces_of ys))) (n ∷ []) × ((read n).pieces ≡ pieces_of ys)
 pattern_known ys h =
     let m = pieces_added ys h in (
@@ -321,12 +321,12 @@ pattern_known ys h =
 abbrev patterns_of : List (List SStrPiece) → List (List StrPiece)
 patterns_of yss = map (λ ys. pieces_of ys) yss
 
-patterns_added : (yss : List (List SStrPiece)) → all_hold (map all_hold (map (λ ys. map piece_held ys) (patterns_of yss))) ≡ true
+patterns_added : (yss : List (List SStrPiece)) → all_hold (map all_hold (map (λ ys. map piece_representable ys) (patterns_of yss))) ≡ true
     → (ns : List Nest) × Adds (flat_map (λ ts. spaced (pattern_text_of ts)) (map (λ ys. map piece_text ys) (patterns_of yss))) ns
     × (map (λ r. r.pieces) (reads ns) ≡ patterns_of yss)
 patterns_added [] h = ([], adds_none, refl)
 patterns_added (ys ∷ yss) h =
-    let k = and_parts (all_hold (map piece_held (pieces_of ys))) (all_hold (map all_hold (map (λ ys. map piece_held ys) (patterns_of yss)))) h in
+    let k = and_parts (all_hold (map piece_representable (pieces_of ys))) (all_hold (map all_hold (map (λ ys. map piece_representable ys) (patterns_of yss)))) h in
     let one = pattern_known ys k.0 in
     let more = patterns_added yss k.1 in
     let text = pattern_text_of (map piece_text (pieces_of ys)) in (
@@ -335,11 +335,11 @@ patterns_added (ys ∷ yss) h =
       ap (λ x. x ∷ map (λ r. r.pieces) (reads more.0)) one.2 ∙ ap (λ l. pieces_of ys ∷ l) more.2,
     )
 
-patterns_filled : (yss : List (List SStrPiece)) → all_hold (map all_hold (map (λ ys. map piece_held ys) (patterns_of yss))) ≡ true
+patterns_filled : (yss : List (List SStrPiece)) → all_hold (map all_hold (map (λ ys. map piece_representable ys) (patterns_of yss))) ≡ true
     → (ns : List Nest) × Fills (between pattern_text_of (map (λ ys. map piece_text ys) (patterns_of yss))) ns × (map (λ r. r.pieces) (reads ns) ≡ patterns_of yss)
 patterns_filled [] h = ([], fills_none, refl)
 patterns_filled (ys ∷ yss) h =
-    let k = and_parts (all_hold (map piece_held (pieces_of ys))) (all_hold (map all_hold (map (λ ys. map piece_held ys) (patterns_of yss)))) h in
+    let k = and_parts (all_hold (map piece_representable (pieces_of ys))) (all_hold (map all_hold (map (λ ys. map piece_representable ys) (patterns_of yss)))) h in
     let one = pattern_known ys k.0 in
     let more = patterns_added yss k.1 in
     let text = pattern_text_of (map piece_text (pieces_of ys)) in (
@@ -352,7 +352,7 @@ pat_arm_case : (y : o.PatArm-F SFields SStmt SStr SStrPiece SChainPart SPatArm S
     → (n : Nest) × Fills (t.pat_arm_layer (pat_arm_words (pat_arm_base y))) (n ∷ []) × ((read n).pat_arm ≡ roll-PatArm (pat_arm_base y))
 unfolding node_read
 pat_arm_case y h =
-    let k = and_parts (all_hold (map all_hold (map (λ ys. map piece_held ys) (patterns_of y.patterns)))) (stmt_held y.body.0) h in
+    let k = and_parts (all_hold (map all_hold (map (λ ys. map piece_representable ys) (patterns_of y.patterns)))) (stmt_representable y.body.0) h in
     let m = patterns_filled y.patterns k.0 in
     let b = y.body.1 k.1 in
     let ns = Node [] m.0 ∷ b.0 ∷ [] in (

@@ -27,8 +27,8 @@ use Rattle.colis_syntax.specs.declared.syntax.Fields.TheFolds.{map-Fields, map-S
 use Rattle.colis_syntax.specs.ProgramText.{Text, each_spaced, between, stmt_text, str_text, piece_text, field_text, set_text, part_text, arm_text, pat_arm_text}
 use Rattle.colis_reader.specs.declared.nest.Nest.{Nest}
 use Rattle.colis_reader.specs.Readings.{Read, read, reads, member, behind, but_last, last, number_in, argument_in, bytes_in, reason_in, literal_in, string_headed, piece_headed, field_headed, sited_headed, simple_headed, fields_headed, sited_from, word_headed, stmt_headed}
-use Rattle.colis_reader.specs.Held as h
-use Rattle.colis_reader.specs.Held.{fits, all_hold, stmt_held}
+use Rattle.colis_reader.specs.Representable as h
+use Rattle.colis_reader.specs.Representable.{fits, all_hold, stmt_representable}
 use Rattle.colis_reader.proofs.ReadNode.{word_node, string_node, piece_node, field_node, stmt_node}
 use Rattle.colis_reader.proofs.Fills.{Fills, Adds, fills_none, adds_none, adds_space, adds_both, fills_both}
 use Rattle.colis_reader.proofs.Shapes.{leaf, named}
@@ -219,79 +219,79 @@ literal_is bytes h =
 
 -- ---- what is shown of each construct
 
-abbrev pub field_held : Fields → Bool
-field_held = fold-Fields Bool Bool Bool Bool Bool Bool Bool Bool h.fields_layer h.stmt_layer h.str_layer h.piece_layer h.part_layer h.pat_arm_layer h.set_layer h.arm_layer
+abbrev pub field_representable : Fields → Bool
+field_representable = fold-Fields Bool Bool Bool Bool Bool Bool Bool Bool h.fields_layer h.stmt_layer h.str_layer h.piece_layer h.part_layer h.pat_arm_layer h.set_layer h.arm_layer
 
-abbrev pub str_held : Str → Bool
-str_held = fold-Str Bool Bool Bool Bool Bool Bool Bool Bool h.fields_layer h.stmt_layer h.str_layer h.piece_layer h.part_layer h.pat_arm_layer h.set_layer h.arm_layer
+abbrev pub str_representable : Str → Bool
+str_representable = fold-Str Bool Bool Bool Bool Bool Bool Bool Bool h.fields_layer h.stmt_layer h.str_layer h.piece_layer h.part_layer h.pat_arm_layer h.set_layer h.arm_layer
 
-abbrev pub piece_held : StrPiece → Bool
-piece_held = fold-StrPiece Bool Bool Bool Bool Bool Bool Bool Bool h.fields_layer h.stmt_layer h.str_layer h.piece_layer h.part_layer h.pat_arm_layer h.set_layer h.arm_layer
+abbrev pub piece_representable : StrPiece → Bool
+piece_representable = fold-StrPiece Bool Bool Bool Bool Bool Bool Bool Bool h.fields_layer h.stmt_layer h.str_layer h.piece_layer h.part_layer h.pat_arm_layer h.set_layer h.arm_layer
 
-abbrev pub part_held : ChainPart → Bool
-part_held = fold-ChainPart Bool Bool Bool Bool Bool Bool Bool Bool h.fields_layer h.stmt_layer h.str_layer h.piece_layer h.part_layer h.pat_arm_layer h.set_layer h.arm_layer
+abbrev pub part_representable : ChainPart → Bool
+part_representable = fold-ChainPart Bool Bool Bool Bool Bool Bool Bool Bool h.fields_layer h.stmt_layer h.str_layer h.piece_layer h.part_layer h.pat_arm_layer h.set_layer h.arm_layer
 
-abbrev pub pat_arm_held : PatArm → Bool
-pat_arm_held = fold-PatArm Bool Bool Bool Bool Bool Bool Bool Bool h.fields_layer h.stmt_layer h.str_layer h.piece_layer h.part_layer h.pat_arm_layer h.set_layer h.arm_layer
+abbrev pub pat_arm_representable : PatArm → Bool
+pat_arm_representable = fold-PatArm Bool Bool Bool Bool Bool Bool Bool Bool h.fields_layer h.stmt_layer h.str_layer h.piece_layer h.part_layer h.pat_arm_layer h.set_layer h.arm_layer
 
-abbrev pub set_held : SetTo → Bool
-set_held = fold-SetTo Bool Bool Bool Bool Bool Bool Bool Bool h.fields_layer h.stmt_layer h.str_layer h.piece_layer h.part_layer h.pat_arm_layer h.set_layer h.arm_layer
+abbrev pub set_representable : SetTo → Bool
+set_representable = fold-SetTo Bool Bool Bool Bool Bool Bool Bool Bool h.fields_layer h.stmt_layer h.str_layer h.piece_layer h.part_layer h.pat_arm_layer h.set_layer h.arm_layer
 
-abbrev pub arm_held : StmtArm → Bool
-arm_held = fold-StmtArm Bool Bool Bool Bool Bool Bool Bool Bool h.fields_layer h.stmt_layer h.str_layer h.piece_layer h.part_layer h.pat_arm_layer h.set_layer h.arm_layer
+abbrev pub arm_representable : StmtArm → Bool
+arm_representable = fold-StmtArm Bool Bool Bool Bool Bool Bool Bool Bool h.fields_layer h.stmt_layer h.str_layer h.piece_layer h.part_layer h.pat_arm_layer h.set_layer h.arm_layer
 
--- its text, if it can be held, is a part that is read as it
+-- its text, if the types can represent it, is a part that is read as it
 abbrev pub KFields : Fields → Type 0
-KFields x = field_held x ≡ true → (n : Nest) × Fills (field_text x) (n ∷ []) × ((read n).field ≡ x)
+KFields x = field_representable x ≡ true → (n : Nest) × Fills (field_text x) (n ∷ []) × ((read n).field ≡ x)
 
 abbrev pub SFields : Type 0
 SFields = (x : Fields) × KFields x
 
--- its text, if it can be held, is a part that is read as it
+-- its text, if the types can represent it, is a part that is read as it
 abbrev pub KStmt : Stmt → Type 0
-KStmt x = stmt_held x ≡ true → (n : Nest) × Fills (stmt_text x) (n ∷ []) × ((read n).stmt ≡ x)
+KStmt x = stmt_representable x ≡ true → (n : Nest) × Fills (stmt_text x) (n ∷ []) × ((read n).stmt ≡ x)
 
 abbrev pub SStmt : Type 0
 SStmt = (x : Stmt) × KStmt x
 
--- its text, if it can be held, is a part that is read as it
+-- its text, if the types can represent it, is a part that is read as it
 abbrev pub KStr : Str → Type 0
-KStr x = str_held x ≡ true → (n : Nest) × Fills (str_text x) (n ∷ []) × ((read n).string ≡ x)
+KStr x = str_representable x ≡ true → (n : Nest) × Fills (str_text x) (n ∷ []) × ((read n).string ≡ x)
 
 abbrev pub SStr : Type 0
 SStr = (x : Str) × KStr x
 
--- its text, if it can be held, is a part that is read as it
+-- its text, if the types can represent it, is a part that is read as it
 abbrev pub KStrPiece : StrPiece → Type 0
-KStrPiece x = piece_held x ≡ true → (n : Nest) × Fills (piece_text x) (n ∷ []) × ((read n).piece ≡ x)
+KStrPiece x = piece_representable x ≡ true → (n : Nest) × Fills (piece_text x) (n ∷ []) × ((read n).piece ≡ x)
 
 abbrev pub SStrPiece : Type 0
 SStrPiece = (x : StrPiece) × KStrPiece x
 
--- its text, if it can be held, is a part that is read as it
+-- its text, if the types can represent it, is a part that is read as it
 abbrev pub KChainPart : ChainPart → Type 0
-KChainPart x = part_held x ≡ true → (n : Nest) × Fills (part_text x) (n ∷ []) × ((read n).part ≡ x)
+KChainPart x = part_representable x ≡ true → (n : Nest) × Fills (part_text x) (n ∷ []) × ((read n).part ≡ x)
 
 abbrev pub SChainPart : Type 0
 SChainPart = (x : ChainPart) × KChainPart x
 
--- its text, if it can be held, is a part that is read as it
+-- its text, if the types can represent it, is a part that is read as it
 abbrev pub KPatArm : PatArm → Type 0
-KPatArm x = pat_arm_held x ≡ true → (n : Nest) × Fills (pat_arm_text x) (n ∷ []) × ((read n).pat_arm ≡ x)
+KPatArm x = pat_arm_representable x ≡ true → (n : Nest) × Fills (pat_arm_text x) (n ∷ []) × ((read n).pat_arm ≡ x)
 
 abbrev pub SPatArm : Type 0
 SPatArm = (x : PatArm) × KPatArm x
 
--- its text, if it can be held, is a part that is read as it
+-- its text, if the types can represent it, is a part that is read as it
 abbrev pub KSetTo : SetTo → Type 0
-KSetTo x = set_held x ≡ true → (n : Nest) × Fills (set_text x) (n ∷ []) × ((read n).set ≡ x)
+KSetTo x = set_representable x ≡ true → (n : Nest) × Fills (set_text x) (n ∷ []) × ((read n).set ≡ x)
 
 abbrev pub SSetTo : Type 0
 SSetTo = (x : SetTo) × KSetTo x
 
--- its text, if it can be held, is a part that is read as it
+-- its text, if the types can represent it, is a part that is read as it
 abbrev pub KStmtArm : StmtArm → Type 0
-KStmtArm x = arm_held x ≡ true → (n : Nest) × Fills (arm_text x) (n ∷ []) × ((read n).arm ≡ x)
+KStmtArm x = arm_representable x ≡ true → (n : Nest) × Fills (arm_text x) (n ∷ []) × ((read n).arm ≡ x)
 
 abbrev pub SStmtArm : Type 0
 SStmtArm = (x : StmtArm) × KStmtArm x
@@ -303,7 +303,7 @@ abbrev pub field_words : o.Fields-F Fields Stmt Str StrPiece ChainPart PatArm Se
 field_words x = map-Fields Fields Stmt Str StrPiece ChainPart PatArm SetTo StmtArm Text Text Text Text Text Text Text Text field_text stmt_text str_text piece_text part_text pat_arm_text set_text arm_text x
 
 abbrev pub field_tests : o.Fields-F Fields Stmt Str StrPiece ChainPart PatArm SetTo StmtArm → o.Fields-F Bool Bool Bool Bool Bool Bool Bool Bool
-field_tests x = map-Fields Fields Stmt Str StrPiece ChainPart PatArm SetTo StmtArm Bool Bool Bool Bool Bool Bool Bool Bool field_held stmt_held str_held piece_held part_held pat_arm_held set_held arm_held x
+field_tests x = map-Fields Fields Stmt Str StrPiece ChainPart PatArm SetTo StmtArm Bool Bool Bool Bool Bool Bool Bool Bool field_representable stmt_representable str_representable piece_representable part_representable pat_arm_representable set_representable arm_representable x
 
 abbrev pub stmt_base : o.Stmt-F SFields SStmt SStr SStrPiece SChainPart SPatArm SSetTo SStmtArm → o.Stmt-F Fields Stmt Str StrPiece ChainPart PatArm SetTo StmtArm
 stmt_base y = map-Stmt SFields SStmt SStr SStrPiece SChainPart SPatArm SSetTo SStmtArm Fields Stmt Str StrPiece ChainPart PatArm SetTo StmtArm (λ y. y.0) (λ y. y.0) (λ y. y.0) (λ y. y.0) (λ y. y.0) (λ y. y.0) (λ y. y.0) (λ y. y.0) y
@@ -312,7 +312,7 @@ abbrev pub stmt_words : o.Stmt-F Fields Stmt Str StrPiece ChainPart PatArm SetTo
 stmt_words x = map-Stmt Fields Stmt Str StrPiece ChainPart PatArm SetTo StmtArm Text Text Text Text Text Text Text Text field_text stmt_text str_text piece_text part_text pat_arm_text set_text arm_text x
 
 abbrev pub stmt_tests : o.Stmt-F Fields Stmt Str StrPiece ChainPart PatArm SetTo StmtArm → o.Stmt-F Bool Bool Bool Bool Bool Bool Bool Bool
-stmt_tests x = map-Stmt Fields Stmt Str StrPiece ChainPart PatArm SetTo StmtArm Bool Bool Bool Bool Bool Bool Bool Bool field_held stmt_held str_held piece_held part_held pat_arm_held set_held arm_held x
+stmt_tests x = map-Stmt Fields Stmt Str StrPiece ChainPart PatArm SetTo StmtArm Bool Bool Bool Bool Bool Bool Bool Bool field_representable stmt_representable str_representable piece_representable part_representable pat_arm_representable set_representable arm_representable x
 
 abbrev pub str_base : o.Str-F SFields SStmt SStr SStrPiece SChainPart SPatArm SSetTo SStmtArm → o.Str-F Fields Stmt Str StrPiece ChainPart PatArm SetTo StmtArm
 str_base y = map-Str SFields SStmt SStr SStrPiece SChainPart SPatArm SSetTo SStmtArm Fields Stmt Str StrPiece ChainPart PatArm SetTo StmtArm (λ y. y.0) (λ y. y.0) (λ y. y.0) (λ y. y.0) (λ y. y.0) (λ y. y.0) (λ y. y.0) (λ y. y.0) y
@@ -321,7 +321,7 @@ abbrev pub str_words : o.Str-F Fields Stmt Str StrPiece ChainPart PatArm SetTo S
 str_words x = map-Str Fields Stmt Str StrPiece ChainPart PatArm SetTo StmtArm Text Text Text Text Text Text Text Text field_text stmt_text str_text piece_text part_text pat_arm_text set_text arm_text x
 
 abbrev pub str_tests : o.Str-F Fields Stmt Str StrPiece ChainPart PatArm SetTo StmtArm → o.Str-F Bool Bool Bool Bool Bool Bool Bool Bool
-str_tests x = map-Str Fields Stmt Str StrPiece ChainPart PatArm SetTo StmtArm Bool Bool Bool Bool Bool Bool Bool Bool field_held stmt_held str_held piece_held part_held pat_arm_held set_held arm_held x
+str_tests x = map-Str Fields Stmt Str StrPiece ChainPart PatArm SetTo StmtArm Bool Bool Bool Bool Bool Bool Bool Bool field_representable stmt_representable str_representable piece_representable part_representable pat_arm_representable set_representable arm_representable x
 
 abbrev pub piece_base : o.StrPiece-F SFields SStmt SStr SStrPiece SChainPart SPatArm SSetTo SStmtArm → o.StrPiece-F Fields Stmt Str StrPiece ChainPart PatArm SetTo StmtArm
 piece_base y = map-StrPiece SFields SStmt SStr SStrPiece SChainPart SPatArm SSetTo SStmtArm Fields Stmt Str StrPiece ChainPart PatArm SetTo StmtArm (λ y. y.0) (λ y. y.0) (λ y. y.0) (λ y. y.0) (λ y. y.0) (λ y. y.0) (λ y. y.0) (λ y. y.0) y
@@ -330,7 +330,7 @@ abbrev pub piece_words : o.StrPiece-F Fields Stmt Str StrPiece ChainPart PatArm 
 piece_words x = map-StrPiece Fields Stmt Str StrPiece ChainPart PatArm SetTo StmtArm Text Text Text Text Text Text Text Text field_text stmt_text str_text piece_text part_text pat_arm_text set_text arm_text x
 
 abbrev pub piece_tests : o.StrPiece-F Fields Stmt Str StrPiece ChainPart PatArm SetTo StmtArm → o.StrPiece-F Bool Bool Bool Bool Bool Bool Bool Bool
-piece_tests x = map-StrPiece Fields Stmt Str StrPiece ChainPart PatArm SetTo StmtArm Bool Bool Bool Bool Bool Bool Bool Bool field_held stmt_held str_held piece_held part_held pat_arm_held set_held arm_held x
+piece_tests x = map-StrPiece Fields Stmt Str StrPiece ChainPart PatArm SetTo StmtArm Bool Bool Bool Bool Bool Bool Bool Bool field_representable stmt_representable str_representable piece_representable part_representable pat_arm_representable set_representable arm_representable x
 
 abbrev pub part_base : o.ChainPart-F SFields SStmt SStr SStrPiece SChainPart SPatArm SSetTo SStmtArm → o.ChainPart-F Fields Stmt Str StrPiece ChainPart PatArm SetTo StmtArm
 part_base y = map-ChainPart SFields SStmt SStr SStrPiece SChainPart SPatArm SSetTo SStmtArm Fields Stmt Str StrPiece ChainPart PatArm SetTo StmtArm (λ y. y.0) (λ y. y.0) (λ y. y.0) (λ y. y.0) (λ y. y.0) (λ y. y.0) (λ y. y.0) (λ y. y.0) y
@@ -339,7 +339,7 @@ abbrev pub part_words : o.ChainPart-F Fields Stmt Str StrPiece ChainPart PatArm 
 part_words x = map-ChainPart Fields Stmt Str StrPiece ChainPart PatArm SetTo StmtArm Text Text Text Text Text Text Text Text field_text stmt_text str_text piece_text part_text pat_arm_text set_text arm_text x
 
 abbrev pub part_tests : o.ChainPart-F Fields Stmt Str StrPiece ChainPart PatArm SetTo StmtArm → o.ChainPart-F Bool Bool Bool Bool Bool Bool Bool Bool
-part_tests x = map-ChainPart Fields Stmt Str StrPiece ChainPart PatArm SetTo StmtArm Bool Bool Bool Bool Bool Bool Bool Bool field_held stmt_held str_held piece_held part_held pat_arm_held set_held arm_held x
+part_tests x = map-ChainPart Fields Stmt Str StrPiece ChainPart PatArm SetTo StmtArm Bool Bool Bool Bool Bool Bool Bool Bool field_representable stmt_representable str_representable piece_representable part_representable pat_arm_representable set_representable arm_representable x
 
 abbrev pub pat_arm_base : o.PatArm-F SFields SStmt SStr SStrPiece SChainPart SPatArm SSetTo SStmtArm → o.PatArm-F Fields Stmt Str StrPiece ChainPart PatArm SetTo StmtArm
 pat_arm_base y = map-PatArm SFields SStmt SStr SStrPiece SChainPart SPatArm SSetTo SStmtArm Fields Stmt Str StrPiece ChainPart PatArm SetTo StmtArm (λ y. y.0) (λ y. y.0) (λ y. y.0) (λ y. y.0) (λ y. y.0) (λ y. y.0) (λ y. y.0) (λ y. y.0) y
@@ -348,7 +348,7 @@ abbrev pub pat_arm_words : o.PatArm-F Fields Stmt Str StrPiece ChainPart PatArm 
 pat_arm_words x = map-PatArm Fields Stmt Str StrPiece ChainPart PatArm SetTo StmtArm Text Text Text Text Text Text Text Text field_text stmt_text str_text piece_text part_text pat_arm_text set_text arm_text x
 
 abbrev pub pat_arm_tests : o.PatArm-F Fields Stmt Str StrPiece ChainPart PatArm SetTo StmtArm → o.PatArm-F Bool Bool Bool Bool Bool Bool Bool Bool
-pat_arm_tests x = map-PatArm Fields Stmt Str StrPiece ChainPart PatArm SetTo StmtArm Bool Bool Bool Bool Bool Bool Bool Bool field_held stmt_held str_held piece_held part_held pat_arm_held set_held arm_held x
+pat_arm_tests x = map-PatArm Fields Stmt Str StrPiece ChainPart PatArm SetTo StmtArm Bool Bool Bool Bool Bool Bool Bool Bool field_representable stmt_representable str_representable piece_representable part_representable pat_arm_representable set_representable arm_representable x
 
 abbrev pub set_base : o.SetTo-F SFields SStmt SStr SStrPiece SChainPart SPatArm SSetTo SStmtArm → o.SetTo-F Fields Stmt Str StrPiece ChainPart PatArm SetTo StmtArm
 set_base y = map-SetTo SFields SStmt SStr SStrPiece SChainPart SPatArm SSetTo SStmtArm Fields Stmt Str StrPiece ChainPart PatArm SetTo StmtArm (λ y. y.0) (λ y. y.0) (λ y. y.0) (λ y. y.0) (λ y. y.0) (λ y. y.0) (λ y. y.0) (λ y. y.0) y
@@ -357,7 +357,7 @@ abbrev pub set_words : o.SetTo-F Fields Stmt Str StrPiece ChainPart PatArm SetTo
 set_words x = map-SetTo Fields Stmt Str StrPiece ChainPart PatArm SetTo StmtArm Text Text Text Text Text Text Text Text field_text stmt_text str_text piece_text part_text pat_arm_text set_text arm_text x
 
 abbrev pub set_tests : o.SetTo-F Fields Stmt Str StrPiece ChainPart PatArm SetTo StmtArm → o.SetTo-F Bool Bool Bool Bool Bool Bool Bool Bool
-set_tests x = map-SetTo Fields Stmt Str StrPiece ChainPart PatArm SetTo StmtArm Bool Bool Bool Bool Bool Bool Bool Bool field_held stmt_held str_held piece_held part_held pat_arm_held set_held arm_held x
+set_tests x = map-SetTo Fields Stmt Str StrPiece ChainPart PatArm SetTo StmtArm Bool Bool Bool Bool Bool Bool Bool Bool field_representable stmt_representable str_representable piece_representable part_representable pat_arm_representable set_representable arm_representable x
 
 abbrev pub arm_base : o.StmtArm-F SFields SStmt SStr SStrPiece SChainPart SPatArm SSetTo SStmtArm → o.StmtArm-F Fields Stmt Str StrPiece ChainPart PatArm SetTo StmtArm
 arm_base y = map-StmtArm SFields SStmt SStr SStrPiece SChainPart SPatArm SSetTo SStmtArm Fields Stmt Str StrPiece ChainPart PatArm SetTo StmtArm (λ y. y.0) (λ y. y.0) (λ y. y.0) (λ y. y.0) (λ y. y.0) (λ y. y.0) (λ y. y.0) (λ y. y.0) y
@@ -366,7 +366,7 @@ abbrev pub arm_words : o.StmtArm-F Fields Stmt Str StrPiece ChainPart PatArm Set
 arm_words x = map-StmtArm Fields Stmt Str StrPiece ChainPart PatArm SetTo StmtArm Text Text Text Text Text Text Text Text field_text stmt_text str_text piece_text part_text pat_arm_text set_text arm_text x
 
 abbrev pub arm_tests : o.StmtArm-F Fields Stmt Str StrPiece ChainPart PatArm SetTo StmtArm → o.StmtArm-F Bool Bool Bool Bool Bool Bool Bool Bool
-arm_tests x = map-StmtArm Fields Stmt Str StrPiece ChainPart PatArm SetTo StmtArm Bool Bool Bool Bool Bool Bool Bool Bool field_held stmt_held str_held piece_held part_held pat_arm_held set_held arm_held x
+arm_tests x = map-StmtArm Fields Stmt Str StrPiece ChainPart PatArm SetTo StmtArm Bool Bool Bool Bool Bool Bool Bool Bool field_representable stmt_representable str_representable piece_representable part_representable pat_arm_representable set_representable arm_representable x
 
 -- ---- lists
 
@@ -404,47 +404,47 @@ module _ (X : Type 0) (text : X → Text) (held : X → Bool) (f : Read → X) w
 abbrev pub fields_of : List SFields → List Fields
 fields_of ys = map (λ y. y.0) ys
 
-abbrev pub fields_added : (ys : List SFields) → all_hold (map field_held (map (λ y. y.0) ys)) ≡ true → (ns : List Nest) × Adds (each_spaced (map field_text (map (λ y. y.0) ys))) ns × (map (λ r. r.field) (reads ns) ≡ map (λ y. y.0) ys)
-fields_added = all_added Fields field_text field_held (λ r. r.field)
+abbrev pub fields_added : (ys : List SFields) → all_hold (map field_representable (map (λ y. y.0) ys)) ≡ true → (ns : List Nest) × Adds (each_spaced (map field_text (map (λ y. y.0) ys))) ns × (map (λ r. r.field) (reads ns) ≡ map (λ y. y.0) ys)
+fields_added = all_added Fields field_text field_representable (λ r. r.field)
 
 abbrev pub stmts_of : List SStmt → List Stmt
 stmts_of ys = map (λ y. y.0) ys
 
-abbrev pub stmts_added : (ys : List SStmt) → all_hold (map stmt_held (map (λ y. y.0) ys)) ≡ true → (ns : List Nest) × Adds (each_spaced (map stmt_text (map (λ y. y.0) ys))) ns × (map (λ r. r.stmt) (reads ns) ≡ map (λ y. y.0) ys)
-stmts_added = all_added Stmt stmt_text stmt_held (λ r. r.stmt)
+abbrev pub stmts_added : (ys : List SStmt) → all_hold (map stmt_representable (map (λ y. y.0) ys)) ≡ true → (ns : List Nest) × Adds (each_spaced (map stmt_text (map (λ y. y.0) ys))) ns × (map (λ r. r.stmt) (reads ns) ≡ map (λ y. y.0) ys)
+stmts_added = all_added Stmt stmt_text stmt_representable (λ r. r.stmt)
 
 abbrev pub strs_of : List SStr → List Str
 strs_of ys = map (λ y. y.0) ys
 
-abbrev pub strs_added : (ys : List SStr) → all_hold (map str_held (map (λ y. y.0) ys)) ≡ true → (ns : List Nest) × Adds (each_spaced (map str_text (map (λ y. y.0) ys))) ns × (map (λ r. r.string) (reads ns) ≡ map (λ y. y.0) ys)
-strs_added = all_added Str str_text str_held (λ r. r.string)
+abbrev pub strs_added : (ys : List SStr) → all_hold (map str_representable (map (λ y. y.0) ys)) ≡ true → (ns : List Nest) × Adds (each_spaced (map str_text (map (λ y. y.0) ys))) ns × (map (λ r. r.string) (reads ns) ≡ map (λ y. y.0) ys)
+strs_added = all_added Str str_text str_representable (λ r. r.string)
 
 abbrev pub pieces_of : List SStrPiece → List StrPiece
 pieces_of ys = map (λ y. y.0) ys
 
-abbrev pub pieces_added : (ys : List SStrPiece) → all_hold (map piece_held (map (λ y. y.0) ys)) ≡ true → (ns : List Nest) × Adds (each_spaced (map piece_text (map (λ y. y.0) ys))) ns × (map (λ r. r.piece) (reads ns) ≡ map (λ y. y.0) ys)
-pieces_added = all_added StrPiece piece_text piece_held (λ r. r.piece)
+abbrev pub pieces_added : (ys : List SStrPiece) → all_hold (map piece_representable (map (λ y. y.0) ys)) ≡ true → (ns : List Nest) × Adds (each_spaced (map piece_text (map (λ y. y.0) ys))) ns × (map (λ r. r.piece) (reads ns) ≡ map (λ y. y.0) ys)
+pieces_added = all_added StrPiece piece_text piece_representable (λ r. r.piece)
 
 abbrev pub parts_of : List SChainPart → List ChainPart
 parts_of ys = map (λ y. y.0) ys
 
-abbrev pub parts_added : (ys : List SChainPart) → all_hold (map part_held (map (λ y. y.0) ys)) ≡ true → (ns : List Nest) × Adds (each_spaced (map part_text (map (λ y. y.0) ys))) ns × (map (λ r. r.part) (reads ns) ≡ map (λ y. y.0) ys)
-parts_added = all_added ChainPart part_text part_held (λ r. r.part)
+abbrev pub parts_added : (ys : List SChainPart) → all_hold (map part_representable (map (λ y. y.0) ys)) ≡ true → (ns : List Nest) × Adds (each_spaced (map part_text (map (λ y. y.0) ys))) ns × (map (λ r. r.part) (reads ns) ≡ map (λ y. y.0) ys)
+parts_added = all_added ChainPart part_text part_representable (λ r. r.part)
 
 abbrev pub pat_arms_of : List SPatArm → List PatArm
 pat_arms_of ys = map (λ y. y.0) ys
 
-abbrev pub pat_arms_added : (ys : List SPatArm) → all_hold (map pat_arm_held (map (λ y. y.0) ys)) ≡ true → (ns : List Nest) × Adds (each_spaced (map pat_arm_text (map (λ y. y.0) ys))) ns × (map (λ r. r.pat_arm) (reads ns) ≡ map (λ y. y.0) ys)
-pat_arms_added = all_added PatArm pat_arm_text pat_arm_held (λ r. r.pat_arm)
+abbrev pub pat_arms_added : (ys : List SPatArm) → all_hold (map pat_arm_representable (map (λ y. y.0) ys)) ≡ true → (ns : List Nest) × Adds (each_spaced (map pat_arm_text (map (λ y. y.0) ys))) ns × (map (λ r. r.pat_arm) (reads ns) ≡ map (λ y. y.0) ys)
+pat_arms_added = all_added PatArm pat_arm_text pat_arm_representable (λ r. r.pat_arm)
 
 abbrev pub sets_of : List SSetTo → List SetTo
 sets_of ys = map (λ y. y.0) ys
 
-abbrev pub sets_added : (ys : List SSetTo) → all_hold (map set_held (map (λ y. y.0) ys)) ≡ true → (ns : List Nest) × Adds (each_spaced (map set_text (map (λ y. y.0) ys))) ns × (map (λ r. r.set) (reads ns) ≡ map (λ y. y.0) ys)
-sets_added = all_added SetTo set_text set_held (λ r. r.set)
+abbrev pub sets_added : (ys : List SSetTo) → all_hold (map set_representable (map (λ y. y.0) ys)) ≡ true → (ns : List Nest) × Adds (each_spaced (map set_text (map (λ y. y.0) ys))) ns × (map (λ r. r.set) (reads ns) ≡ map (λ y. y.0) ys)
+sets_added = all_added SetTo set_text set_representable (λ r. r.set)
 
 abbrev pub arms_of : List SStmtArm → List StmtArm
 arms_of ys = map (λ y. y.0) ys
 
-abbrev pub arms_added : (ys : List SStmtArm) → all_hold (map arm_held (map (λ y. y.0) ys)) ≡ true → (ns : List Nest) × Adds (each_spaced (map arm_text (map (λ y. y.0) ys))) ns × (map (λ r. r.arm) (reads ns) ≡ map (λ y. y.0) ys)
-arms_added = all_added StmtArm arm_text arm_held (λ r. r.arm)
+abbrev pub arms_added : (ys : List SStmtArm) → all_hold (map arm_representable (map (λ y. y.0) ys)) ≡ true → (ns : List Nest) × Adds (each_spaced (map arm_text (map (λ y. y.0) ys))) ns × (map (λ r. r.arm) (reads ns) ≡ map (λ y. y.0) ys)
+arms_added = all_added StmtArm arm_text arm_representable (λ r. r.arm)

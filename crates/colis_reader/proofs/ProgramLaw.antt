@@ -15,7 +15,7 @@ use Rattle.colis_reader.specs.declared.fault.ProgramFault.{ProgramFault}
 use Rattle.colis_reader.specs.declared.fault.ProgramFault.TheVariants.{Bad, Memory}
 use Rattle.colis_reader.specs.Nesting.{step, closed, nests_of}
 use Rattle.colis_reader.specs.Readings.{read, reads, member, but_last, last, node_read, parts_of}
-use Rattle.colis_reader.specs.Held.{stmt_held, def_held, is_program}
+use Rattle.colis_reader.specs.Representable.{stmt_representable, def_representable, is_program}
 use Rattle.colis_reader.specs.ReadsProgram.{HasText, ReadsProgram, IsReadAs}
 use Rattle.colis_reader.proofs.ReadNode.{word_node, def_node, program_node}
 use Rattle.colis_reader.proofs.Fills.{Fills, Adds, Opens, fresh, run_on, closed_at, adds_none, adds_space, adds_both, added}
@@ -26,10 +26,10 @@ use Rattle.colis_reader.proofs.Known.{stmt_known, but_last_read, last_read}
 abbrev a_def : Text → Stmt → Def
 a_def name body = record { name = name; body = body }
 
-def_known : (d : Def) → def_held d ≡ true → (n : Nest) × Fills (def_text d) (n ∷ []) × ((read n).def ≡ d)
+def_known : (d : Def) → def_representable d ≡ true → (n : Nest) × Fills (def_text d) (n ∷ []) × ((read n).def ≡ d)
 unfolding node_read
 def_known d h =
-    let k = and_parts (are_bytes d.name) (stmt_held d.body) h in
+    let k = and_parts (are_bytes d.name) (stmt_representable d.body) h in
     let a = stmt_known d.body k.1 in
     let ns = leaf (codes "def") ∷ leaf (show d.name) ∷ a.0 ∷ [] in (
       Node [] ns,
@@ -40,11 +40,11 @@ def_known d h =
 abbrev defs_text : List Def → Text
 defs_text defs = flat_map (λ def. spaced (def_text def)) defs
 
-defs_added : (defs : List Def) → list_all def_held defs ≡ true
+defs_added : (defs : List Def) → list_all def_representable defs ≡ true
     → (ns : List Nest) × Adds (defs_text defs) ns × (map (λ r. r.def) (reads ns) ≡ defs)
 defs_added [] h = ([], adds_none, refl)
 defs_added (d ∷ defs) h =
-    let k = and_parts (def_held d) (list_all def_held defs) h in
+    let k = and_parts (def_representable d) (list_all def_representable defs) h in
     let one = def_known d k.0 in
     let more = defs_added defs k.1 in (
       one.0 ∷ more.0,
@@ -88,8 +88,8 @@ a_program strict defs body = record { strict = strict; defs = defs; body = body 
 pub program_read : (p : ProgramParts) → is_program p ≡ true → parts_of (program_text p) ≡ p
 unfolding node_read
 program_read p h =
-    let k = and_parts (is_well_formed p.defs p.body) (list_all def_held p.defs && stmt_held p.body) h in
-    let j = and_parts (list_all def_held p.defs) (stmt_held p.body) k.1 in
+    let k = and_parts (is_well_formed p.defs p.body) (list_all def_representable p.defs && stmt_representable p.body) h in
+    let j = and_parts (list_all def_representable p.defs) (stmt_representable p.body) k.1 in
     let m = defs_added p.defs j.0 in
     let a = stmt_known p.body j.1 in
     let ends = reads (m.0 ++ a.0 ∷ []) in
@@ -119,7 +119,7 @@ found_in text = program_of (parts_of text).strict (parts_of text).defs (parts_of
 -- a program that has the text is found
 found_is : (text : Text) (q : ProgramParts) → HasText text q → found_in text ≡ Some q
 found_is text q has =
-    let k = and_parts (is_well_formed q.defs q.body) (list_all def_held q.defs && stmt_held q.body) has.0 in
+    let k = and_parts (is_well_formed q.defs q.body) (list_all def_representable q.defs && stmt_representable q.body) has.0 in
     ap (λ p. program_of p.strict p.defs p.body) (ap parts_of (sym has.1) ∙ program_read q has.0)
     ∙ ap (λ b. if b then Some q else None) k.0
 

@@ -8,7 +8,7 @@ use Rattle.shown_texts.specs.Marks.{reason_name}
 use Rattle.colis_syntax.specs.ProgramText.{Text, group, at_group, one_text, at_text, lit_text, var_text, arg_text, or_text, fun_text, chain_text, if_text, for_text, while_text, case_text, stop_text, set_text_of, arm_text_of, pat_arm_text_of, def_text_of}
 use Rattle.colis_reader.specs.declared.nest.Nest.{Nest}
 use Rattle.colis_reader.specs.declared.nest.Nest.TheVariants.{Node}
-use Rattle.colis_reader.specs.Held.{fits}
+use Rattle.colis_reader.specs.Representable.{fits}
 use Rattle.colis_reader.proofs.Fills.{Fills, Adds, Opens, Begins, blank, filled, added, shut, within, within_first, show_fills, literal_fills, number_fills}
 
 -- a word, and a list that begins with a word

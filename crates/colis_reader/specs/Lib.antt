@@ -1,4 +1,4 @@
 pub mod Nesting
 pub mod Readings
-pub mod Held
+pub mod Representable
 pub mod ReadsProgram

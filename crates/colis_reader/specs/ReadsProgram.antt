@@ -4,7 +4,7 @@ use Rattle.colis_syntax.specs.ProgramText.{program_text}
 use Rattle.colis_syntax.specs.WellFormed.{ProgramParts, is_well_formed}
 use Rattle.colis_reader.specs.declared.fault.ProgramFault.{ProgramFault}
 use Rattle.colis_reader.specs.declared.fault.ProgramFault.TheVariants.{Bad, Memory}
-use Rattle.colis_reader.specs.Held.{is_program}
+use Rattle.colis_reader.specs.Representable.{is_program}
 
 -- a program has the text
 abbrev pub HasText : List ℕ → ProgramParts → Type 0

@@ -1,4 +1,4 @@
--- Which programs can be held in memory: offsets and numbers of arguments fit their types, and strings are of bytes.
+-- Which programs the types can represent: offsets and numbers of arguments fit, and strings are of bytes.
 use Rattle.std.specs.Prelude.{ℕ, ◌-◌, ◌^◌, Bool, true, ◌&&◌, nat_le, List, [], ◌∷◌, map}
 use Rattle.std.specs.List.{list_all}
 use Rattle.shown_texts.specs.Show.{are_bytes}
@@ -85,16 +85,17 @@ pat_arm_layer arm = all_hold (map all_hold arm.patterns) && arm.body
 -- ---- the whole syntax
 
 -- a statement
-abbrev pub stmt_held : Stmt → Bool
-stmt_held =
+abbrev pub stmt_representable : Stmt → Bool
+stmt_representable =
     fold-Stmt Bool Bool Bool Bool Bool Bool Bool Bool
     fields_layer stmt_layer str_layer piece_layer part_layer pat_arm_layer set_layer arm_layer
 
 -- a function
-abbrev pub def_held : Def → Bool
-def_held def = are_bytes def.name && stmt_held def.body
+abbrev pub def_representable : Def → Bool
+def_representable def = are_bytes def.name && stmt_representable def.body
 
--- a program that is well formed and can be held
+-- a program that is well formed and that the types can represent
 abbrev pub is_program : ProgramParts → Bool
 is_program program =
-    is_well_formed program.defs program.body && (list_all def_held program.defs && stmt_held program.body)
+    is_well_formed program.defs program.body
+    && (list_all def_representable program.defs && stmt_representable program.body)
