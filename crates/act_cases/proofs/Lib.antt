@@ -1,4 +1,4 @@
-pub mod KindSets
+pub mod ShortLists
 pub mod Ends
 pub mod Meets
 pub mod Valued

@@ -11,7 +11,8 @@ use Rattle.feature_trees.specs.Sound.{sound}
 use Rattle.feature_trees.proofs.Laws.{sound-entry}
 use Rattle.tree_clauses.specs.declared.clause.Literal.{Literal}
 use Rattle.tree_clauses.specs.Literals.{Valuation, value_of_variable, MeetsAll, IsSound}
-use Rattle.act_cases.proofs.KindSets.{of_absent, of_reg, of_dir, none_contained, one_contained}
+use Rattle.tree_clauses.proofs.KindSets.{of_absent, of_reg, of_dir}
+use Rattle.act_cases.proofs.ShortLists.{none_contained, one_contained}
 use Rattle.tree_clauses.proofs.Values.{absent_kind, reg_kind, entry_is, derived_same, derived_other, derived_from, ensured_from, empty_from}
 use Rattle.tree_clauses.proofs.Valuations.{sound_at}
 use Rattle.utility_calls.specs.declared.sights.Effect.{Effect}

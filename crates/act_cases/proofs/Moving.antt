@@ -10,7 +10,7 @@ use Rattle.feature_trees.specs.Sound.{sound, IsTree}
 use Rattle.feature_trees.proofs.Laws.{sound-entry}
 use Rattle.feature_trees.proofs.Kept.{sound-put}
 use Rattle.tree_clauses.specs.Literals.{Valuation, value_of_variable, IsSound, MeetsAll}
-use Rattle.act_cases.proofs.KindSets.{of_absent}
+use Rattle.tree_clauses.proofs.KindSets.{of_absent}
 use Rattle.tree_clauses.proofs.Values.{absent_kind}
 use Rattle.act_cases.specs.declared.looks.Ways.{Ways}
 use Rattle.act_cases.specs.declared.moves.MovePlan.{MovePlan}

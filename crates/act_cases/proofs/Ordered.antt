@@ -6,7 +6,7 @@ use Rattle.feature_trees.specs.declared.kind.Kind.{Kind as AnyKind}
 use Rattle.feature_trees.specs.declared.kind.Kind.TheVariants as kind
 use Rattle.feature_trees.specs.declared.kind.Kinds.{Kinds}
 use Rattle.feature_trees.specs.Kinds.{of}
-use Rattle.act_cases.proofs.KindSets.{of_dir}
+use Rattle.tree_clauses.proofs.KindSets.{of_dir}
 use Rattle.tree_clauses.specs.declared.clause.Literal.{Literal}
 use Rattle.tree_clauses.specs.declared.clause.Literal.TheVariants.{Entry, Kind, Similar}
 use Rattle.act_cases.specs.declared.looks.Ways.{Ways}

@@ -29,7 +29,7 @@ use Rattle.act_cases.specs.Plans.{end_literals, is_put, made_literals, changes, 
 use Rattle.act_cases.specs.Tables.{fitting, free, through, ways_of, is_inner, names_at, plan_of, link_plan, slash_plan}
 use Rattle.tree_clauses.specs.Plain.{IsOneOf, AreNoneOrDir, IsLimited, PlainOrder, done, absent, reg, link, dir, same, kinds, empty as empty_fact, filled, IsPlain}
 use Rattle.act_cases.specs.Cases.{IsOnOnePath, rule_case, cases_of}
-use Rattle.act_cases.proofs.KindSets.{of_dir}
+use Rattle.tree_clauses.proofs.KindSets.{of_dir}
 use Rattle.act_cases.proofs.Meets.{meets_split, end_length}
 use Rattle.act_cases.proofs.Tabled.{all_of, test_of, implies}
 use Rattle.act_cases.proofs.Ordered.{firsts, below_contains, contains_below, not_yet, Within, AllLimited, limited_within, AllKinds, through_limited, way_order, all_below, put_order}

@@ -22,7 +22,7 @@ use Rattle.act_cases.specs.Plans.{end_literals}
 use Rattle.act_cases.specs.Tables.{through, ways_of, end_of_place, is_inner, names_at}
 use Rattle.act_cases.specs.Moves.{spare, freed, onward, outward, placed, moved_literals, moves_by, move_locals, move_root, move_case, source_where, is_anything, second_names, is_move, move_plan, second_plan, move_rule_case}
 use Rattle.tree_clauses.specs.Plain.{IsOneOf, IsLimited, PlainOrder, done, absent, kinds, IsPlain}
-use Rattle.act_cases.proofs.KindSets.{of_dir}
+use Rattle.tree_clauses.proofs.KindSets.{of_dir}
 use Rattle.act_cases.proofs.Meets.{meets_split}
 use Rattle.act_cases.proofs.Ordered.{firsts, below_contains, contains_below, not_yet, Within, AllLimited, limited_within, AllKinds, through_limited, way_order, AllBelow, all_below, put_order}
 use Rattle.act_cases.proofs.PlainCases.{is_through, through_ways, end_order}

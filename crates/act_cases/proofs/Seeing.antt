@@ -8,7 +8,7 @@ use Rattle.feature_trees.specs.declared.value.Value.TheVariants as value
 use Rattle.feature_trees.specs.Kinds.{has, of, all, both}
 use Rattle.feature_trees.specs.Tree.{entry, at, kind_of, is_dir, has_parents}
 use Rattle.feature_trees.proofs.Laws.{and_parts, and_made}
-use Rattle.act_cases.proofs.KindSets.{has_both}
+use Rattle.tree_clauses.proofs.KindSets.{has_both}
 use Rattle.utility_calls.specs.Ways.{in_dir}
 use Rattle.utility_calls.specs.Ways.{kind_at, NoLinkOnWay}
 use Rattle.utility_calls.specs.Sights.{but, two, three}

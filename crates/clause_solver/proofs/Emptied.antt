@@ -13,7 +13,7 @@ use Rattle.clause_solver.specs.declared.variable.Variable.{Variable}
 use Rattle.clause_solver.specs.Variables.{var_at, Listed, member, defined, made_value, limited, AllFit, Ordered}
 use Rattle.clause_solver.specs.Emptied.{IsNarrower, ComesTo, IsEmptied, vars_past, names_past}
 use Rattle.clause_solver.proofs.Names.{name_cases, listed_from_member, member_from_listed}
-use Rattle.clause_solver.proofs.KindSets.{of_absent}
+use Rattle.tree_clauses.proofs.KindSets.{of_absent}
 use Rattle.clause_solver.proofs.Pairs.{sound_at}
 use Rattle.clause_solver.proofs.Limited.{limited_definition, limited_kinds, limited_fits, fits_limited, limited_order}
 

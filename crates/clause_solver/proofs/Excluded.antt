@@ -12,7 +12,7 @@ use Rattle.clause_solver.specs.declared.variable.Variable.{Variable}
 use Rattle.tree_clauses.specs.Literals.{Valuation, value_of_variable}
 use Rattle.clause_solver.specs.Stands.{Stands}
 use Rattle.clause_solver.specs.Variables.{var_at, defined, made_value, Fits, Ordered, possible, possible_by}
-use Rattle.clause_solver.proofs.KindSets.{has_both}
+use Rattle.tree_clauses.proofs.KindSets.{has_both}
 use Rattle.clause_solver.proofs.Pairs.{fits_from}
 use Rattle.clause_solver.proofs.OneMore.{seen_of}
 

@@ -22,7 +22,7 @@ use Rattle.clause_solver.specs.Variables.{var_at, Listed, allowed, defined, made
 use Rattle.clause_solver.specs.Greatest.{kind_at, is_dir, best_by, IsBest, HasEntryOutside, free, child_present, here, below, kept, IsSatisfied}
 use Rattle.clause_solver.specs.Grown.{grown, add, children, extra, values}
 use Rattle.clause_solver.proofs.Names.{nat_cases, bool_cases, eq_cases, same_yes, name_cases}
-use Rattle.clause_solver.proofs.KindSets.{is_dir_cases}
+use Rattle.clause_solver.proofs.GreatestKinds.{is_dir_cases}
 use Rattle.tree_clauses.proofs.Values.{entry_of_dir, absent_kind, present_kind, derived_same, derived_other, entry_is}
 use Rattle.clause_solver.proofs.Pairs.{sound_at}
 use Rattle.clause_solver.proofs.OneMore.{defined_sound, defined_same, sound_push}

@@ -15,7 +15,7 @@ use Rattle.tree_clauses.specs.Literals.{Valuation, value_of_variable, IsSound}
 use Rattle.clause_solver.specs.Variables.{var_at, Listed, allowed, member, defined, made_value, AllFit, is_node, Ordered}
 use Rattle.clause_solver.specs.Greatest.{kind_at, choose, is_dir, best_by, IsBest, unfenced, HasEntryOutside, free, child_present, here, below, kept, IsSatisfied}
 use Rattle.clause_solver.proofs.Names.{name_cases, bool_cases}
-use Rattle.clause_solver.proofs.KindSets.{choose_in, choose_dir, choose_present}
+use Rattle.clause_solver.proofs.GreatestKinds.{choose_in, choose_dir, choose_present}
 use Rattle.tree_clauses.proofs.Values.{entry_of_dir, absent_or_not, present_kind, derived_same, derived_other, entry_is}
 use Rattle.clause_solver.proofs.Pairs.{sound_at}
 

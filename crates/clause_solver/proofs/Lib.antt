@@ -1,5 +1,5 @@
 pub mod Names
-pub mod KindSets
+pub mod GreatestKinds
 pub mod HasEntries
 pub mod Pairs
 pub mod OneMore

@@ -13,7 +13,7 @@ use Rattle.clause_solver.specs.Stands.{Stands}
 use Rattle.clause_solver.specs.Variables.{var_at, defined, Fits, AllFit, Earlier, Ordered, AlwaysDir, OnlyDir, fixed_in, narrowed, limited, is_node}
 use Rattle.clause_solver.proofs.Names.{nat_cases}
 use Rattle.std.proofs.lemmas.Bool.{and_parts, and_from}
-use Rattle.clause_solver.proofs.KindSets.{has_both}
+use Rattle.tree_clauses.proofs.KindSets.{has_both}
 use Rattle.clause_solver.proofs.Pairs.{fits_from, fits_to}
 use Rattle.clause_solver.proofs.OneMore.{seen_of}
 

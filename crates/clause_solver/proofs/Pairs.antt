@@ -17,7 +17,8 @@ use Rattle.clause_solver.specs.Variables.{var_at, allowed, member, defined, made
 use Rattle.tree_clauses.specs.declared.clause.Literal.TheVariants.{Kind as KindLiteral}
 use Rattle.clause_solver.specs.Written.{var, made_literals, definition_literals, is_all, kinds_literals, fence_literals, filled_literals, literals_of, literals_from}
 use Rattle.clause_solver.proofs.Names.{bool_cases, listed_from_member, member_from_listed, listed_from_contains, contains_from_listed}
-use Rattle.clause_solver.proofs.KindSets.{all_have, of_absent, of_reg, of_dir}
+use Rattle.tree_clauses.proofs.KindSets.{of_absent, of_reg, of_dir}
+use Rattle.clause_solver.proofs.GreatestKinds.{all_have}
 use Rattle.tree_clauses.proofs.Values.{absent_or_not, absent_kind, reg_kind, derived_same, derived_other, derived_from, ensured_from, empty_from, entry_is}
 
 below_or : (i n : ℕ) → (i < n) ⊎ (n ≤ i)

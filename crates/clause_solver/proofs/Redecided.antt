@@ -16,7 +16,7 @@ use Rattle.clause_solver.specs.Settled.{IsGreatest, IsShut, AreSettled}
 use Rattle.clause_solver.specs.Decided.{IsLeft, AreFilled, HaveEntries, AreDecided}
 use Rattle.clause_solver.proofs.Deciding.{left_iff, KindsFit, satisfied_entries, decides, decides_at_once, still_fit, may_fall, settled_best, has_entry_same, filled_same}
 use Rattle.clause_solver.proofs.Falling.{best_parent, child_cases, parent_before}
-use Rattle.clause_solver.proofs.KindSets.{choose_dir, choose_is_dir, is_dir_cases}
+use Rattle.clause_solver.proofs.GreatestKinds.{choose_dir, choose_is_dir, is_dir_cases}
 use Rattle.clause_solver.proofs.Limited.{limited_definition, limited_fence, limited_kinds, limited_fits, limited_order}
 use Rattle.clause_solver.proofs.Links.{limited_linked}
 use Rattle.clause_solver.proofs.Names.{nat_cases, bool_cases}

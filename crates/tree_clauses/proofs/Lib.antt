@@ -8,3 +8,4 @@ pub mod Decided
 pub mod Pieces
 pub mod ClauseLaw
 pub mod PlainCases
+pub mod KindSets

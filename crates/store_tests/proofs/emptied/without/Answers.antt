@@ -1,4 +1,4 @@
-use Rattle.clause_solver.proofs.KindSets.{of_dir}
+use Rattle.tree_clauses.proofs.KindSets.{of_dir}
 use Rattle.store_tests.proofs.emptied.without.Goals as goal
 
 pub derive-requires-clause-directory : goal.derive-requires-clause-directory

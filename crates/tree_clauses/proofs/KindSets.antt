@@ -1,6 +1,5 @@
--- Sets of one kind, what is in both of two sets, and lists of no name or of one.
-use Rattle.std.proofs.Common.{◌≡◌, ℕ, ◌<◌, ◌&&◌, IsTrue, List, [], ◌∷◌, refl, arith}
-use Rattle.std.specs.List.{Contains}
+-- Sets of one kind, and what is in both of two sets.
+use Rattle.std.proofs.Common.{◌≡◌, ◌&&◌, IsTrue, refl}
 use Rattle.feature_trees.specs.declared.kind.Kind.{Kind}
 use Rattle.feature_trees.specs.declared.kind.Kind.TheVariants.{Absent, Reg, Link, Other, Dir}
 use Rattle.feature_trees.specs.declared.kind.Kinds.{Kinds}
@@ -33,9 +32,3 @@ of_dir Reg h = cc
 of_dir Link h = cc
 of_dir Other h = cc
 of_dir Dir h = refl
-
-pub none_contained : (f : List ℕ) → ¬ (Contains [] f)
-none_contained f h = let lt = h.1 in absurd (omega (arith, lt))
-
-pub one_contained : (f h : List ℕ) → f ≡ h → Contains (f ∷ []) h
-one_contained f h e = (0, omega arith, e)

@@ -1,39 +1,11 @@
--- Sets of kinds.
-use Rattle.std.proofs.Common.{◌≡◌, ◌≢◌, ◌⊎◌, inl, inr, Bool, true, false, ◌&&◌, IsTrue, refl}
+-- The greatest kind of a set of kinds, and the set of all.
+use Rattle.std.proofs.Common.{◌≡◌, ◌≢◌, ◌⊎◌, inl, inr, Bool, true, false, IsTrue, refl}
 use Rattle.feature_trees.specs.declared.kind.Kind.{Kind}
 use Rattle.feature_trees.specs.declared.kind.Kind.TheVariants.{Absent, Reg, Link, Other, Dir}
 use Rattle.feature_trees.specs.declared.kind.Kinds.{Kinds}
-use Rattle.feature_trees.specs.Kinds.{has, both, of}
+use Rattle.feature_trees.specs.Kinds.{has}
 use Rattle.clause_solver.specs.Greatest.{choose, is_dir}
 use Rattle.clause_solver.specs.Written.{is_all}
-
-pub has_both : (a b : Kinds) (k : Kind) → has (both a b) k ≡ (has a k && has b k)
-has_both a b Absent = refl
-has_both a b Reg = refl
-has_both a b Link = refl
-has_both a b Other = refl
-has_both a b Dir = refl
-
-pub of_absent : (k : Kind) → IsTrue (has (of Absent) k) → k ≡ Absent
-of_absent Absent h = refl
-of_absent Reg h = cc
-of_absent Link h = cc
-of_absent Other h = cc
-of_absent Dir h = cc
-
-pub of_reg : (k : Kind) → IsTrue (has (of Reg) k) → k ≡ Reg
-of_reg Absent h = cc
-of_reg Reg h = refl
-of_reg Link h = cc
-of_reg Other h = cc
-of_reg Dir h = cc
-
-pub of_dir : (k : Kind) → IsTrue (has (of Dir) k) → k ≡ Dir
-of_dir Absent h = cc
-of_dir Reg h = cc
-of_dir Link h = cc
-of_dir Other h = cc
-of_dir Dir h = refl
 
 abbrev set_of : Bool → Bool → Bool → Bool → Bool → Kinds
 set_of a r l o d = record { absent = a; reg = r; link = l; other = o; dir = d }
