@@ -1,3 +1,3 @@
 pub mod Counts
-pub mod Summary
 pub mod Endings
+pub mod Summary

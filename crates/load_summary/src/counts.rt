@@ -1,7 +1,6 @@
-// How many outcomes of a scenario end in each way.
+// How many endings of outcomes are of each way to end.
 ghost use Rattle.std.specs.Prelude.{◌≡◌, ◌+◌, ◌-◌, ◌^◌, ◌<◌, cond};
-ghost use Rattle.load_summary.specs.Counts.{ends_in};
-ghost use Rattle.load_summary.specs.Endings.{count_endings};
+ghost use Rattle.load_summary.specs.Counts.{count, ends_in};
 
 use dpkg_scenarios::Ending;
 
@@ -48,7 +47,7 @@ fn one_more(count: u64, counts: bool) -> u64
 
 /// How many of the endings are of this way.
 pub fn count(way: EndWay, endings: &[Ending]) -> u64
-    ensures { result ≡ count_endings way endings.now }
+    ensures { result ≡ count way endings.now }
 {
     let mut found = 0;
     for ending in endings {

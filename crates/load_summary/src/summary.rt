@@ -3,8 +3,9 @@ ghost use Rattle.std.specs.List.{flat_map};
 ghost use Rattle.std.specs.Fmt.{decimal};
 ghost use Rattle.shown_texts.specs.Lines.{line};
 ghost use Rattle.outcome_report.specs.declared.outcome_report.Report.{Report};
-ghost use Rattle.load_summary.specs.Endings.{HasEndings, ways_text, all_ways_text, scenario_line, endings_text};
-ghost use Rattle.load_summary.specs.Summary.{way_name, summary_text};
+ghost use Rattle.load_summary.specs.Counts.{way_name};
+ghost use Rattle.load_summary.specs.Endings.{HasEndings, endings_verdict};
+ghost use Rattle.load_summary.specs.Summary.{count_text, counts_text, scenario_line, lines_text, summary_text};
 
 use crate::counts::{EndWay, count};
 use crate::endings::{ScenarioEndings, endings_verdict};
@@ -27,9 +28,9 @@ fn way_name(way: EndWay) -> &'static [u8]
 }
 
 // Adds a way to end, and how many of the endings are of it.
-#[tactic(auto, unfolding(crate::specs::Endings::ways_text))]
+#[tactic(auto, unfolding(crate::specs::Summary::count_text))]
 fn put_count(text: &mut Bytes, way: EndWay, endings: &[Ending]) -> Result<(), Memory>
-    ensures { OnOk result (text.new ≡ text.old ++ ways_text way endings.now) }
+    ensures { OnOk result (text.new ≡ text.old ++ count_text way endings.now) }
 {
     text.extend(b" ")?;
     text.extend(way_name(way))?;
@@ -38,9 +39,9 @@ fn put_count(text: &mut Bytes, way: EndWay, endings: &[Ending]) -> Result<(), Me
 }
 
 // Adds each way to end.
-#[tactic(auto, unfolding(crate::specs::Endings::all_ways_text))]
+#[tactic(auto, unfolding(crate::specs::Summary::counts_text))]
 fn put_counts(text: &mut Bytes, endings: &[Ending]) -> Result<(), Memory>
-    ensures { OnOk result (text.new ≡ text.old ++ all_ways_text endings.now) }
+    ensures { OnOk result (text.new ≡ text.old ++ counts_text endings.now) }
 {
     put_count(text, EndWay::Done, endings)?;
     put_count(text, EndWay::Failed, endings)?;
@@ -49,7 +50,7 @@ fn put_counts(text: &mut Bytes, endings: &[Ending]) -> Result<(), Memory>
 }
 
 // Adds the line of a scenario.
-#[tactic(auto, unfolding(crate::specs::Endings::scenario_line))]
+#[tactic(auto, unfolding(crate::specs::Summary::scenario_line))]
 fn put_scenario(text: &mut Bytes, scenario: &ScenarioEndings) -> Result<(), Memory>
     ensures { OnOk result (text.new ≡ text.old ++ scenario_line scenario.now) }
 {
@@ -80,13 +81,13 @@ fn put_numbered(text: &mut Bytes, word: &[u8], number: u32) -> Result<(), Memory
 }
 
 // The summary, by the endings.
-#[tactic(auto, unfolding(crate::specs::Endings::endings_text))]
+#[tactic(auto, unfolding(crate::specs::Summary::lines_text))]
 fn render_endings(
     alloc: Global,
     number: u32,
     scenarios: &[ScenarioEndings],
 ) -> Result<Bytes, Memory>
-    ensures { IfOk result (λ text. text ≡ endings_text number scenarios.now) }
+    ensures { IfOk result (λ text. text ≡ lines_text number scenarios.now (endings_verdict scenarios.now)) }
 {
     let mut text = Bytes::new(alloc);
     put_numbered(&mut text, b"load ", number)?;
