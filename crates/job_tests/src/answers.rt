@@ -139,15 +139,13 @@ fn told(alloc: Global, scenario: Scenario, task: Task) -> Result<Bytes, Memory> 
     task_text(alloc, scenario, &task)
 }
 
-// What is said of a scenario for the task of a request.
-fn read(
-    alloc: Global,
-    scenario: Scenario,
-    request: &Request,
-    shelf: &mut MemShelf,
-) -> Result<Bytes, Memory> {
-    match read_task(alloc, request, shelf) {
-        Ok(task) => told(alloc, scenario, task),
+// The task of the request of a line over these files, where those of the second list stand in the place of those of the
+// first.
+fn task(alloc: Global, line: &str, files: &[File], others: &[File]) -> Result<Task, Memory> {
+    let request = request(alloc, line)?;
+    let mut shelf = shelf(alloc, files, others)?;
+    match read_task(alloc, &request, &mut shelf) {
+        Ok(task) => Ok(task),
         Err(_) => Err(Memory),
     }
 }
@@ -161,9 +159,8 @@ pub(crate) fn answer(
     files: &[File],
     others: &[File],
 ) -> Result<Bytes, Memory> {
-    let request = request(alloc, line)?;
-    let mut shelf = shelf(alloc, files, others)?;
-    read(alloc, scenario, &request, &mut shelf)
+    let task = task(alloc, line, files, others)?;
+    told(alloc, scenario, task)
 }
 
 // The brief report on a scenario, or why there is none.
@@ -199,10 +196,6 @@ pub(crate) fn report(
     files: &[File],
     others: &[File],
 ) -> Result<Bytes, Memory> {
-    let request = request(alloc, line)?;
-    let mut shelf = shelf(alloc, files, others)?;
-    match read_task(alloc, &request, &mut shelf) {
-        Ok(task) => task_report(alloc, scenario, &task),
-        Err(_) => Err(Memory),
-    }
+    let task = task(alloc, line, files, others)?;
+    task_report(alloc, scenario, &task)
 }

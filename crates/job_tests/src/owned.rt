@@ -27,23 +27,53 @@ const ROWS: &[(Scenario, &[u8], &str)] = &[
     (
         Scenario::Purge,
         b"dir /etc\nfits\n",
-        "colis brief 1\nscenario purge outcomes 3\noutcome 1 done Not-Installed\ntrace 2:0:67 4:0:68 4:1:67\noutcome 2 done Not-Installed\ntrace 2:0:67 4:0:68 4:1:68\noutcome 3 done Not-Installed\ntrace 2:0:68 4:0:66 4:1:66\nverdict 0\n",
+        "\
+colis brief 1
+scenario purge outcomes 3
+outcome 1 done Not-Installed
+trace 2:0:67 4:0:68 4:1:67
+outcome 2 done Not-Installed
+trace 2:0:67 4:0:68 4:1:68
+outcome 3 done Not-Installed
+trace 2:0:68 4:0:66 4:1:66
+verdict 0
+",
     ),
     (
         Scenario::Purge,
         b"dir /etc\nfits\nown\n",
-        "colis brief 1\nscenario purge outcomes 2\noutcome 1 done Not-Installed\ntrace 2:0:67 4:0:68 4:1:68\noutcome 2 done Not-Installed\ntrace 2:0:68 4:0:66 4:1:66\nverdict 0\n",
+        "\
+colis brief 1
+scenario purge outcomes 2
+outcome 1 done Not-Installed
+trace 2:0:67 4:0:68 4:1:68
+outcome 2 done Not-Installed
+trace 2:0:68 4:0:66 4:1:66
+verdict 0
+",
     ),
     (
         Scenario::Purge,
         b"dir /etc\nfile /etc/foo/a.conf\nown\n",
-        "colis brief 1\nscenario purge outcomes 1\noutcome 1 done Not-Installed\ntrace 2:0:67 4:0:68 4:1:68\nverdict 0\n",
+        "\
+colis brief 1
+scenario purge outcomes 1
+outcome 1 done Not-Installed
+trace 2:0:67 4:0:68 4:1:68
+verdict 0
+",
     ),
     // A directory of the base may hold anything, and stays.
     (
         Scenario::Purge,
         b"dir /etc\ndir /etc/foo\nown\n",
-        "colis brief 1\nscenario purge outcomes 1\noutcome 1 done Not-Installed\ntrace 4:0:68\nverdict 0\n",
+        "\
+colis brief 1
+scenario purge outcomes 1
+outcome 1 done Not-Installed
+trace 4:0:68
+verdict 0
+",
     ),
 ];
 
@@ -81,7 +111,11 @@ fn forty_folders_are_removed_in_one_way(rt: HostRuntime) -> Result<(), Fail> {
     assert!(rt;
         begins(
             &text,
-            "colis brief 1\nscenario remove outcomes 1\noutcome 1 done Not-Installed\n"
+            "\
+colis brief 1
+scenario remove outcomes 1
+outcome 1 done Not-Installed
+"
         )
     );
     let open: &[File] = &[("b", b"dir /srv\n")];

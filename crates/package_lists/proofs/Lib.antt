@@ -1,4 +1,3 @@
-mod PathSets
 mod NamesBelow
 mod AgainNamed
 mod Endings

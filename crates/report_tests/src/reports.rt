@@ -32,7 +32,16 @@ const PARTS: &[(Scenario, &[ShortRow<'static>], &str, &str)] = &[
             (2, INSTALLED, &[(3, 17, 66), (3, 34, 68)]),
             (3, INSTALLED, &[(3, 17, 67)]),
         ],
-        "scenario install outcomes 3\noutcome 1 incomplete link 3:17\ntrace 3:17:65\noutcome 2 done Installed\ntrace 3:17:66 3:34:68\noutcome 3 done Installed\ntrace 3:17:67\nverdict 2\n",
+        "\
+scenario install outcomes 3
+outcome 1 incomplete link 3:17
+trace 3:17:65
+outcome 2 done Installed
+trace 3:17:66 3:34:68
+outcome 3 done Installed
+trace 3:17:67
+verdict 2
+",
         "after\nplace incomplete 3:17 1\nverdict 2\n",
     ),
     (
@@ -42,13 +51,27 @@ const PARTS: &[(Scenario, &[ShortRow<'static>], &str, &str)] = &[
             (2, BROKEN, &[(3, 17, 67), (3, 30, 67)]),
             (3, BROKEN, &[(3, 17, 68), (3, 30, 67)]),
         ],
-        "scenario install outcomes 3\noutcome 1 incomplete link 3:17\ntrace 3:17:65\noutcome 2 failed Half-Configured\ntrace 3:17:67 3:30:67\noutcome 3 failed Half-Configured\ntrace 3:17:68 3:30:67\nverdict 1\n",
+        "\
+scenario install outcomes 3
+outcome 1 incomplete link 3:17
+trace 3:17:65
+outcome 2 failed Half-Configured
+trace 3:17:67 3:30:67
+outcome 3 failed Half-Configured
+trace 3:17:68 3:30:67
+verdict 1
+",
         "after\nplace incomplete 3:17 1\nplace failed 3:30 2\nverdict 1\n",
     ),
     (
         Scenario::Install,
         &[(1, BROKEN, &[])],
-        "scenario install outcomes 1\noutcome 1 failed Half-Configured\ntrace\nverdict 1\n",
+        "\
+scenario install outcomes 1
+outcome 1 failed Half-Configured
+trace
+verdict 1
+",
         "after\nplace failed - 1\nverdict 1\n",
     ),
     (
@@ -58,7 +81,16 @@ const PARTS: &[(Scenario, &[ShortRow<'static>], &str, &str)] = &[
             (2, INSTALLED, &[(3, 16, 66)]),
             (3, BOUND, &[(3, 16, 67), (3, 16, 67)]),
         ],
-        "scenario install outcomes 3\noutcome 1 incomplete link 3:16\ntrace 3:16:65\noutcome 2 done Installed\ntrace 3:16:66\noutcome 3 bound 3:10\ntrace 3:16:67 3:16:67\nverdict 2\n",
+        "\
+scenario install outcomes 3
+outcome 1 incomplete link 3:16
+trace 3:16:65
+outcome 2 done Installed
+trace 3:16:66
+outcome 3 bound 3:10
+trace 3:16:67 3:16:67
+verdict 2
+",
         "after\nplace incomplete 3:16 1\nplace bound 3:10 1\nverdict 2\n",
     ),
     (
@@ -68,13 +100,29 @@ const PARTS: &[(Scenario, &[ShortRow<'static>], &str, &str)] = &[
             (2, PURGED, &[(2, 0, 67), (4, 0, 68), (4, 1, 68)]),
             (3, PURGED, &[(2, 0, 68), (4, 0, 66), (4, 1, 66)]),
         ],
-        "scenario purge outcomes 3\noutcome 1 done Not-Installed\ntrace 2:0:67 4:0:68 4:1:67\noutcome 2 done Not-Installed\ntrace 2:0:67 4:0:68 4:1:68\noutcome 3 done Not-Installed\ntrace 2:0:68 4:0:66 4:1:66\nverdict 0\n",
+        "\
+scenario purge outcomes 3
+outcome 1 done Not-Installed
+trace 2:0:67 4:0:68 4:1:67
+outcome 2 done Not-Installed
+trace 2:0:67 4:0:68 4:1:68
+outcome 3 done Not-Installed
+trace 2:0:68 4:0:66 4:1:66
+verdict 0
+",
         "after\nverdict 0\n",
     ),
     (
         Scenario::Install,
         &[(1, SLASH, &[(3, 17, 64)]), (2, INSTALLED, &[(3, 17, 72)])],
-        "scenario install outcomes 2\noutcome 1 incomplete slash 3:17\ntrace 3:17:64\noutcome 2 done Installed\ntrace 3:17:72\nverdict 2\n",
+        "\
+scenario install outcomes 2
+outcome 1 incomplete slash 3:17
+trace 3:17:64
+outcome 2 done Installed
+trace 3:17:72
+verdict 2
+",
         "after\nplace incomplete 3:17 1\nverdict 2\n",
     ),
     (
@@ -85,7 +133,18 @@ const PARTS: &[(Scenario, &[ShortRow<'static>], &str, &str)] = &[
             (3, BROKEN, &[(3, 17, 66)]),
             (4, BROKEN, &[(3, 17, 67), (3, 30, 66)]),
         ],
-        "scenario install outcomes 4\noutcome 1 failed Half-Configured\ntrace 3:30:66\noutcome 2 incomplete link 3:17\ntrace 3:30:67\noutcome 3 failed Half-Configured\ntrace 3:17:66\noutcome 4 failed Half-Configured\ntrace 3:17:67 3:30:66\nverdict 1\n",
+        "\
+scenario install outcomes 4
+outcome 1 failed Half-Configured
+trace 3:30:66
+outcome 2 incomplete link 3:17
+trace 3:30:67
+outcome 3 failed Half-Configured
+trace 3:17:66
+outcome 4 failed Half-Configured
+trace 3:17:67 3:30:66
+verdict 1
+",
         "after\nplace failed 3:30 2\nplace incomplete 3:17 1\nplace failed 3:17 1\nverdict 1\n",
     ),
 ];

@@ -24,7 +24,16 @@ const RUNS: &[(RunRow<'static>, &str, u8)] = &[
             &[(false, ScriptKind::Postinst, &["configure", ""], CallEnd::Ok)],
             "d /srv\nf /srv/a\nf /srv/a\\x20b\nf /srv/b\n",
         ),
-        "result done Installed\ntrace 3:54:67 3:54:67 3:54:67\ncall new postinst configure \\e ok\nafter\nd /srv\nf /srv/a\nf /srv/a\\x20b\nf /srv/b\n",
+        "\
+result done Installed
+trace 3:54:67 3:54:67 3:54:67
+call new postinst configure \\e ok
+after
+d /srv
+f /srv/a
+f /srv/a\\x20b
+f /srv/b
+",
         0,
     ),
     (
@@ -42,7 +51,13 @@ const RUNS: &[(RunRow<'static>, &str, u8)] = &[
             ],
             "",
         ),
-        "result done Installed\ntrace\ncall old prerm upgrade 2 failed\ncall new prerm failed-upgrade 1 2 ok\nafter\n",
+        "\
+result done Installed
+trace
+call old prerm upgrade 2 failed
+call new prerm failed-upgrade 1 2 ok
+after
+",
         0,
     ),
     (
@@ -66,7 +81,14 @@ const RUNS: &[(RunRow<'static>, &str, u8)] = &[
             ],
             "",
         ),
-        "result failed Half-Configured\ntrace\ncall old prerm upgrade 2 failed\ncall new prerm failed-upgrade 1 2 failed\ncall old postinst abort-upgrade 2 failed\nafter\n",
+        "\
+result failed Half-Configured
+trace
+call old prerm upgrade 2 failed
+call new prerm failed-upgrade 1 2 failed
+call old postinst abort-upgrade 2 failed
+after
+",
         1,
     ),
     (
@@ -81,7 +103,12 @@ const RUNS: &[(RunRow<'static>, &str, u8)] = &[
             )],
             "",
         ),
-        "result incomplete call 3:17\ntrace\ncall new postinst configure \\e ended\nafter\n",
+        "\
+result incomplete call 3:17
+trace
+call new postinst configure \\e ended
+after
+",
         2,
     ),
     (
@@ -91,7 +118,13 @@ const RUNS: &[(RunRow<'static>, &str, u8)] = &[
             &[],
             "d /srv\nf /srv/a\n",
         ),
-        "result bound 3:10\ntrace 3:16:67 3:16:67\nafter\nd /srv\nf /srv/a\n",
+        "\
+result bound 3:10
+trace 3:16:67 3:16:67
+after
+d /srv
+f /srv/a
+",
         2,
     ),
 ];

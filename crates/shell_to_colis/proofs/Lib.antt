@@ -9,3 +9,4 @@ mod Same
 mod SameScript
 mod Made
 mod DefNames
+pub mod TextSets

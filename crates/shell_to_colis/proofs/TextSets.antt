@@ -1,4 +1,4 @@
--- A set of paths after one more.
+-- A set of texts after one more.
 use Rattle.std.proofs.Common.{◌≡◌, ℕ, Bool, true, false, List, Vec, refl, sym, ap, subst, ◌∙◌}
 use Rattle.std.specs.Prelude.{◌||◌}
 use Rattle.std.specs.BTreeSet.{BTreeSet, UpdatesBy, contains_by}
@@ -22,21 +22,21 @@ equal Less e = cc
 equal Equal e = refl
 equal Greater e = cc
 
-same_text : (q path : List ℕ) → eq_by_cmp texts q path ≡ true → q ≡ path
-same_text q path e = slice_cmp-IsAntisymmetric nat_cmp-IsAntisymmetric q path (equal _ e)
+same_text : (q text : List ℕ) → eq_by_cmp texts q text ≡ true → q ≡ text
+same_text q text e = slice_cmp-IsAntisymmetric nat_cmp-IsAntisymmetric q text (equal _ e)
 
 differ : true ≡ false → ⊥
 differ e = cc
 
-other_way : (path q : List ℕ) → bytes_eq path q ≡ false → bytes_eq q path ≡ false
-other_way path q e =
-    false_from_ne_true (bytes_eq q path) (λ t. absurd (differ (sym ((bytes_eq-Decides path q).1 (sym ((bytes_eq-Decides q path).0 t))) ∙ e)))
+other_way : (text q : List ℕ) → bytes_eq text q ≡ false → bytes_eq q text ≡ false
+other_way text q e =
+    false_from_ne_true (bytes_eq q text) (λ t. absurd (differ (sym ((bytes_eq-Decides text q).1 (sym ((bytes_eq-Decides q text).0 t))) ∙ e)))
 
 -- the text is the one added, or it is not
-pub by_text : (path q : List ℕ) (P : Bool → Type 0) → (path ≡ q → P true) → ((bytes_eq path q ≡ false) → P false) → P (bytes_eq path q)
-by_text path q P same other =
-    elim (bytes_eq path q) as (λ b. bytes_eq path q ≡ b → P b) [
-      | true ↦ λ e. same ((bytes_eq-Decides path q).0 e)
+pub by_text : (text q : List ℕ) (P : Bool → Type 0) → (text ≡ q → P true) → ((bytes_eq text q ≡ false) → P false) → P (bytes_eq text q)
+by_text text q P same other =
+    elim (bytes_eq text q) as (λ b. bytes_eq text q ≡ b → P b) [
+      | true ↦ λ e. same ((bytes_eq-Decides text q).0 e)
       | false ↦ λ e. other e
     ] refl
 
@@ -50,15 +50,15 @@ module _ {A : Type 0} where
   pub same_key : (q : List ℕ) → IsKeyTest (eq_by_cmp key_cmp) (is_key q)
   same_key q x y e = ap (λ n. is_eq (texts n y.items)) (same_text q x.items e)
 
-  pub apart : (path q : List ℕ) → bytes_eq path q ≡ false → AreApart (is_key path) (is_key q)
-  apart path q e k h =
-      subst (λ n. is_eq (texts q n) ≡ false) (same_text path k.items h)
-      (is_eq-slice_cmp q path ∙ other_way path q e)
+  pub apart : (text q : List ℕ) → bytes_eq text q ≡ false → AreApart (is_key text) (is_key q)
+  apart text q e k h =
+      subst (λ n. is_eq (texts q n) ≡ false) (same_text text k.items h)
+      (is_eq-slice_cmp q text ∙ other_way text q e)
 
-  pub adds : (m n : BTreeSet (Vec ℕ A)) (path : List ℕ) → UpdatesBy key_cmp (λ k. texts path k.items) m n true
-      → (q : List ℕ) → contains_by (λ k. texts q k.items) n ≡ (bytes_eq path q || contains_by (λ k. texts q k.items) m)
+  pub adds : (m n : BTreeSet (Vec ℕ A)) (text : List ℕ) → UpdatesBy key_cmp (λ k. texts text k.items) m n true
+      → (q : List ℕ) → contains_by (λ k. texts q k.items) n ≡ (bytes_eq text q || contains_by (λ k. texts q k.items) m)
   unfolding KeepsOthers
-  adds m n path h q =
-      by_text path q (λ b. contains_by (λ k. texts q k.items) n ≡ (b || contains_by (λ k. texts q k.items) m))
+  adds m n text h q =
+      by_text text q (λ b. contains_by (λ k. texts q k.items) n ≡ (b || contains_by (λ k. texts q k.items) m))
       (λ same. subst (λ x. contains_by (λ k. texts x k.items) n ≡ true) same h.1)
-      (λ other. h.3 (is_key q) (same_key q) (apart path q other))
+      (λ other. h.3 (is_key q) (same_key q) (apart text q other))
