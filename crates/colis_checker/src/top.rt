@@ -92,9 +92,9 @@ pub fn run_words<R: Threads + Sync, G: Gate, S: Shelf, O: Sink, E: Sink>(
     ensures kept { (S.state shelf.new).holds ≡ (S.state shelf.old).holds }
 
     // 0, 1, 2: no read and no write failed, and the text of what the words ask for was written: a report that has, for
-    // each chosen scenario, all ways in which it can end, and the status is its verdict; or the summary of such a report
-    // on a made package; or a run, and the status says how it ended; or a program that does what the script does, and
-    // the status is 0.
+    // each chosen scenario, all ways in which it can end, and the status is its verdict; or the summary of such a
+    // report on a made package; or a run, and the status says how it ended; or a program that does what the script
+    // does, and the status is 0.
     ensures reported { result ≤ 2 → Reported (form words.now) (S.state shelf.old) (S.state shelf.new)
         (O.state out.old) (O.state out.new) (E.state err.old) (E.state err.new) result }
 

@@ -1,7 +1,8 @@
 // The places where the outcomes of a scenario end that aren't done, counted.
 ghost use Rattle.std.specs.Prelude.{◌≡◌, ◌<◌, ◌-◌, ◌^◌, ◌++◌, IfOk, OnOk};
 ghost use Rattle.std.specs.List.{filter_map};
-ghost use Rattle.outcome_report.specs.Places.{unsited, sited, failed_at, end_place, entry_place, end_places, place_counts};
+ghost use Rattle.outcome_report.specs.Places.{unsited, sited, failed_at, end_place, entry_place, end_places};
+ghost use Rattle.outcome_report.specs.Places.{place_counts};
 ghost use Rattle.outcome_report.specs.Counting.{as_list, count_in, add_place};
 
 use crate::outcome_report::ReportEntry;

@@ -33,8 +33,8 @@ pub enum BaseLine {
     /// directory. In an upgrade this is said of the entries that the old package does not list.
     Fits,
     /// The folders of a package hold no foreign entry. In a removal and a purge, also one of a package that was removed
-    /// before, this is said of the folders that the package lists and that are no directories of the base; in an upgrade
-    /// of those of the old package that the new one does not list.
+    /// before, this is said of the folders that the package lists and that are no directories of the base; in an
+    /// upgrade of those of the old package that the new one does not list.
     Own,
     /// Each call of a command in the scripts ends so, prints nothing and changes nothing.
     Call(StatedCall),
@@ -111,9 +111,9 @@ fn add_directory(alloc: Global, lines: &mut List<BaseLine>, path: &[u8]) -> Resu
 }
 
 /// What a text says of the system, a line each: `dir PATH`, `file PATH`, `absent PATH` and `nodir PATH`, for a
-/// directory, a regular file, nothing, and no directory at the path; `fits`; `own`; `call NAME ok` and `call NAME fails`;
-/// empty lines and those that begin with `#` are passed over. The last line may lack its newline. The whys: 1, any other
-/// line; 2, an earlier line states how the calls of that name end.
+/// directory, a regular file, nothing, and no directory at the path; `fits`; `own`; `call NAME ok` and
+/// `call NAME fails`; empty lines and those that begin with `#` are passed over. The last line may lack its newline.
+/// The whys: 1, any other line; 2, an earlier line states how the calls of that name end.
 pub fn read_base(alloc: Global, text: &[u8]) -> Result<Base, LineFault>
     ensures { IsBase (base_of text.now) result }
 {

@@ -22,8 +22,8 @@ enum Told {
     Nothing,
 }
 
-// Two scenarios: of the first an outcome that is done, with a clause of no literals, and one that is failed, with a call
-// and two literals; of the second one that is incomplete.
+// Two scenarios: of the first an outcome that is done, with a clause of no literals, and one that is failed, with a
+// call and two literals; of the second one that is incomplete.
 const WHOLE: &str =
     "{\"colis\":1,\"scenarios\":[{\"name\":\"install\",\"outcomes\":[{\"after\":[\"d /srv\",\"f /srv/a\"],\"calls\":[],\"clause\":{\"literals\":[],\"now\":4,\"start\":4},\"confirmed\":true,\"number\":1,\"result\":\"done Installed\",\"shown\":[\"d /srv\"],\"trace\":\"3:17:67\"},{\"after\":[\"d /srv\"],\"calls\":[\"call new postinst configure \\\\e failed\"],\"clause\":{\"literals\":[\"kind v1 dir\",\"notempty v0\"],\"now\":1,\"start\":0},\"confirmed\":true,\"number\":2,\"result\":\"failed Half-Configured\",\"shown\":[\"l /srv a\\\\x20b\"],\"trace\":\"3:17:67 3:34:66\"}]},{\"name\":\"purge-later\",\"outcomes\":[{\"after\":[\"o /srv\"],\"calls\":[],\"clause\":{\"literals\":[],\"now\":0,\"start\":0},\"confirmed\":true,\"number\":1,\"result\":\"incomplete link 3:17\",\"shown\":[],\"trace\":\"\"}]}],\"verdict\":1}\n";
 

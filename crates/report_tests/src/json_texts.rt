@@ -13,8 +13,8 @@ const BROKEN: Ending = Ending::Failed(State::HalfConfigured);
 
 const LINK: Ending = Ending::Incomplete(Reason::Link, Site { step: 3, at: 17 });
 
-// Of the first scenario an outcome that is done, with a clause of no literals, and a tree of two lines after it; and one
-// that is failed, with a call, two acts and two literals. Of the second one that is incomplete and not confirmed,
+// Of the first scenario an outcome that is done, with a clause of no literals, and a tree of two lines after it; and
+// one that is failed, with a call, two acts and two literals. Of the second one that is incomplete and not confirmed,
 // without acts, shown on the empty tree.
 const BOTH: &[PartRow<'static>] = &[
     (

@@ -19,6 +19,7 @@ pub record AreEndings (run : Value → Option Replayed) (start : Value → Type 
   pub are : endings_of outcomes ≡ endings
 
 -- The answer: the endings of the outcomes; and a fault exactly as for the outcomes themselves.
-abbrev pub EndingsAnswer : (Value → Option Replayed) → (Value → Type 0) → ℕ → Result (List Ending) OutcomesFault → Type 0
+abbrev pub EndingsAnswer : (Value → Option Replayed) → (Value → Type 0) → ℕ → Result (List Ending) OutcomesFault
+    → Type 0
 EndingsAnswer run start limit (Ok endings) = AreEndings run start limit endings
 EndingsAnswer run start limit (Err fault) = Answers run start limit (Err fault)

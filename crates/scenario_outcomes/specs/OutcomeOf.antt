@@ -38,7 +38,8 @@ abbrev pub path_endings : List Path → List Ending
 path_endings paths = map (λ path. path.value.0) paths
 
 -- these paths have pairs, are no more than the limit, and whatever outcomes they are told as are the answer
-pub record ArePaths (run : Value → Option Replayed) (start : Value → Type 0) (limit : ℕ) (paths : List Path) : Type 0 where
+pub record ArePaths (run : Value → Option Replayed) (start : Value → Type 0) (limit : ℕ) (paths : List Path)
+    : Type 0 where
   pub told : (outcomes : List Outcome) → AreOutcomes 0 paths outcomes → Answers run start limit (Ok outcomes)
   pub alive : AllAlive (states paths)
   pub few : length paths ≤ limit
