@@ -44,11 +44,14 @@ pub(crate) fn list_at<'a>(value: &'a Value, key: &str) -> Option<&'a [Value]>
     }
 }
 
+// The first number that is no `u32`.
+const TOO_LARGE: u64 = 4_294_967_296;
+
 // A number below 2 ^ 32.
 pub(crate) fn short(number: u64) -> Option<u32>
     ensures { result ≡ short number }
 {
-    if number < 4294967296 {
+    if number < TOO_LARGE {
         Some(number as u32)
     } else {
         None
