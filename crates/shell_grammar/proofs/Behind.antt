@@ -17,7 +17,7 @@ use Rattle.shell_grammar.specs.declared.look.Reserved.{Reserved}
 use Rattle.shell_grammar.specs.declared.look.Reserved.TheVariants.{Open, Close, Bang, Then, Elif, Else, Fi, Do, Done, Esac}
 use Rattle.shell_grammar.specs.Forms.{command_form, starts, is_some, is_word, is_separator, link_and, redirection, ends_arm, loop_word}
 use Rattle.shell_grammar.specs.Look.{Text, Tokens, look, word, kind_look, kind_word, word_look, begun_look, whole_look, first_look, reserved, is_name, assigns_from}
-use Rattle.shell_grammar.specs.PlainGrammar.{IsSeparator, semicolon, line_end, IsList, a_list, AreMembers, no_member, last_separator, one_member, IsAndOr, an_and_or, AreLinks, no_link, and_link, or_link, IsPipeline, plain_pipeline, not_pipeline, IsSequence, a_sequence, ArePiped, no_pipe, one_pipe, IsCommand, simple_command, compound_command, definition, IsCompound, brace_group, subshell, if_command, for_loop, while_loop, case_command, IsElse, no_else, elif_part, else_part, AreForWords, in_words, for_semicolon, no_in, AreArms, no_arm, last_arm, one_arm, IsArm, open_arm, bare_arm, IsArmRest, arm_rest, IsArmList, no_arm_list, arm_list, IsBraces, braces, IsSimple, begins_with_assignment, begins_with_redirect, begins_with_word, AreItems, no_item, assignment_item, redirect_item, word_item, IsWord, the_word}
+use Rattle.shell_grammar.specs.PlainGrammar.{IsSeparator, semicolon, line_end, IsList, a_list, AreMembers, no_member, last_separator, one_member, IsAndOr, an_and_or, AreLinks, no_link, and_link, or_link, IsPipeline, plain_pipeline, not_pipeline, IsSequence, a_sequence, ArePiped, no_pipe, one_pipe, IsCommand, simple_command, compound_command, definition, IsCompound, brace_group, subshell, if_command, for_loop, while_loop, case_command, IsElse, no_else, elif_part, else_part, AreForWords, in_words, for_semicolon, no_in, AreArms, no_arm, last_arm, one_arm, IsArm, open_arm, arm_without_paren, IsArmRest, arm_rest, IsArmList, no_arm_list, arm_list, IsBraces, braces, IsSimple, begins_with_assignment, begins_with_redirect, begins_with_word, AreItems, no_item, assignment_item, redirect_item, word_item, IsWord, the_word}
 use Rattle.shell_grammar.proofs.Unique.{clash, none_some}
 
 -- ---- what may stand behind a command, a pipeline, an and-or list, a list
@@ -261,11 +261,11 @@ arm_rest_look (arm_rest w ws x a p s n l e) = word_is a
 
 pub arm_esac : {end : ℕ} {ts rest : Tokens} {a : CaseArm} → IsArm end ts a rest → look ts ≡ Keyword Esac → ⊥
 arm_esac (open_arm s x) h = cc (sym s.0 ∙ h)
-arm_esac (bare_arm k x) h = k h
+arm_esac (arm_without_paren k x) h = k h
 
 arm_newline : {end : ℕ} {ts rest : Tokens} {a : CaseArm} → IsArm end ts a rest → is_newline (look ts) ≡ false
 arm_newline (open_arm s x) = ap is_newline s.0
-arm_newline {ts = ts} (bare_arm k x) = word_newline (look ts) (arm_rest_look x)
+arm_newline {ts = ts} (arm_without_paren k x) = word_newline (look ts) (arm_rest_look x)
 
 pub arms_newline : {end : ℕ} {ts rest : Tokens} {arms : List CaseArm} → AreArms end ts arms rest → look rest ≡ Keyword Esac → is_newline (look ts) ≡ false
 arms_newline (no_arm e f) k = ap (λ t. is_newline (look t)) (sym e) ∙ ap is_newline k

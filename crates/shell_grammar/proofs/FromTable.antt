@@ -26,7 +26,7 @@ use Rattle.shell_grammar.specs.Look.{Tokens, look, place}
 use Rattle.shell_grammar.specs.Reading.{Out, Whole, Judged, Faultless, Faulty, after, IsRule, rule, IsAll, no_more, one_more, one_stops, IsSign, is, is_not, opens, opens_not, too_deep, a_word as reads_word, a_word_stops, no_word, here, never, of, inside, IsParts, no_parts, plain_part, run_part, run_stops, run_deep}
 use Rattle.shell_grammar.specs.Spelling.{no_limit, Spells}
 use Rattle.shell_grammar.specs.Trees.{pipe_of, redirected, link, case_arm, simple, named}
-use Rattle.shell_grammar.specs.PlainGrammar.{Stands, AreNewlines, no_newline, newline, IsSeparator, semicolon, line_end, AreRedirects, no_redirect, one_redirect, IsScript, no_script, a_script, IsList, a_list, AreMembers, no_member, last_separator, one_member, IsAndOr, an_and_or, AreLinks, no_link, and_link, or_link, IsPipeline, plain_pipeline, not_pipeline, IsSequence, a_sequence, ArePiped, no_pipe, one_pipe, IsCommand, simple_command, compound_command, definition, IsBlock, a_block, IsCompound, brace_group, subshell, if_command, for_loop, while_loop, case_command, IsClause, a_clause, IsElse, no_else, elif_part, else_part, IsName, a_name, AreForWords, in_words, for_semicolon, no_in, AreWords, no_words, one_word, AreArms, no_arm, last_arm, one_arm, IsArm, open_arm, bare_arm, IsArmRest, arm_rest, ArePatterns, no_pattern, one_pattern, IsArmList, no_arm_list, arm_list, IsBraces, braces, IsSimple, begins_with_assignment, begins_with_redirect, begins_with_word, AreItems, no_item, assignment_item, redirect_item, word_item, IsWord, the_word, PartsAre, no_part, a_part, a_substitution}
+use Rattle.shell_grammar.specs.PlainGrammar.{Stands, AreNewlines, no_newline, newline, IsSeparator, semicolon, line_end, AreRedirects, no_redirect, one_redirect, IsScript, no_script, a_script, IsList, a_list, AreMembers, no_member, last_separator, one_member, IsAndOr, an_and_or, AreLinks, no_link, and_link, or_link, IsPipeline, plain_pipeline, not_pipeline, IsSequence, a_sequence, ArePiped, no_pipe, one_pipe, IsCommand, simple_command, compound_command, definition, IsBlock, a_block, IsCompound, brace_group, subshell, if_command, for_loop, while_loop, case_command, IsClause, a_clause, IsElse, no_else, elif_part, else_part, IsName, a_name, AreForWords, in_words, for_semicolon, no_in, AreWords, no_words, one_word, AreArms, no_arm, last_arm, one_arm, IsArm, open_arm, arm_without_paren, IsArmRest, arm_rest, ArePatterns, no_pattern, one_pattern, IsArmList, no_arm_list, arm_list, IsBraces, braces, IsSimple, begins_with_assignment, begins_with_redirect, begins_with_word, AreItems, no_item, assignment_item, redirect_item, word_item, IsWord, the_word, PartsAre, no_part, a_part, a_substitution}
 use Rattle.shell_grammar.proofs.Unique.{clash, not_both, wholes, fines, somes, none_some}
 use Rattle.shell_grammar.proofs.Begun.{whole_from}
 use Rattle.shell_grammar.proofs.Faults.{ended, behind_end}
@@ -264,7 +264,7 @@ step end CaseArms l ts vs r k x = let m = two_of x in m.2 ts vs.0 (m.1 (λ h. cc
 step end CaseMore DoubleSemi ts vs r k x = let m = three_of x in λ t0 a y. one_arm a vs.1.1.0 y m.2.0 m.3 m.4 refl
 step end CaseMore l ts vs r k x = λ t0 a y. last_arm a (subst (IsArm end t0 a) (sym (none_of x)) y) refl
 step end OneArm LeftParen ts vs r k x = let m = two_of x in λ h. open_arm m.1.0 m.2
-step end OneArm l ts vs r k x = λ h. bare_arm h (one_of x)
+step end OneArm l ts vs r k x = λ h. arm_without_paren h (one_of x)
 step end ArmRest l ts vs r k (one_sign t1 p (one_sign t2 s (one_sign t3 n (one_sign t4 b no_signs)))) = arm_rest p.0 p.1 vs.1.1.1.0 p.3 p.4 s.0 n b (ap (λ ws. case_arm ws vs.1.1.1.0) p.5)
 step end Patterns l ts vs r k (one_sign t1 w (one_sign t2 m no_signs)) = (vs.0, vs.1.0, t1, w, m, refl)
 step end MorePatterns Bar ts vs r k x = let m = three_of x in one_pattern vs.1.0 vs.1.1.0 m.2.0 m.3 m.4 refl

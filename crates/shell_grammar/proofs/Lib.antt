@@ -1,4 +1,4 @@
-pub mod Bared
+pub mod RunsLeftOut
 pub mod Begun
 pub mod Behind
 pub mod Faults

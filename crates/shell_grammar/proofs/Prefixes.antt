@@ -6,10 +6,10 @@ use Rattle.shell_grammar.specs.Grammar.{Rule, Sign, Of, Inside, Tree, Value, Val
 use Rattle.shell_grammar.specs.Reading.{Out, Whole, IsRule, rule, IsAll, no_more, one_more, one_stops, IsSign, is, is_not, opens, opens_not, too_deep, a_word, a_word_stops, no_word, here, never, of, inside}
 use Rattle.shell_grammar.specs.Begins.{BeginsAll, begins_none, begins_first, begins_later, BeginsSign, begins_is, begins_opens, begins_word, begins_of, begins_inside, BeginsRule, begins_rule, Begins}
 use Rattle.shell_grammar.proofs.Begun.{rest_of, rest_turned, again_sign, begun_sign}
-use Rattle.shell_grammar.specs.Bare.{bare}
+use Rattle.shell_grammar.specs.WithoutRuns.{without_runs}
 use Rattle.shell_grammar.specs.Spelling.{no_limit}
 use Rattle.shell_grammar.proofs.Fronts.{tails, same_front, compare}
-use Rattle.shell_grammar.proofs.Bared.{bare_append}
+use Rattle.shell_grammar.proofs.RunsLeftOut.{append_without_runs}
 
 nothing_left : (u w w1 ts : Tokens) → ts ≡ u ++ w → w ≡ w1 ++ ts → u ≡ []
 nothing_left [] w w1 ts e f = refl
@@ -111,4 +111,4 @@ module _ (end : ℕ) where
 -- what begins a script does so with its last tokens taken away
 pub fewer_begin : (d end : ℕ) (u w : Tokens) (l : ℕ) → Begins d end (u ++ w) l → (l2 : ℕ) × Begins d end u l2
 fewer_begin d end [] w l b = (d, begins_rule (begins_none refl refl))
-fewer_begin d end (t ∷ u) w l b = let f = prefix_rule end b (bare (t ∷ u)) (bare w) (bare_append (t ∷ u) w) in (f.level, begins_rule f.begins)
+fewer_begin d end (t ∷ u) w l b = let f = prefix_rule end b (without_runs (t ∷ u)) (without_runs w) (append_without_runs (t ∷ u) w) in (f.level, begins_rule f.begins)

@@ -22,7 +22,7 @@ use Rattle.shell_grammar.specs.Look.{Text, Tokens, look, place}
 use Rattle.shell_grammar.specs.Reading.{Whole, Faultless, IsRule, rule, IsAll, no_more, one_more, IsSign, is, opens, a_word as reads_word, here, of, inside, IsParts, no_parts, plain_part, run_part}
 use Rattle.shell_grammar.specs.Spelling.{no_limit, Spells}
 use Rattle.shell_grammar.specs.Trees.{an_assign, a_word, a_redirect, joined, assigned, Defines, Continues, word_at}
-use Rattle.shell_grammar.specs.PlainGrammar.{Stands, AreNewlines, no_newline, newline, IsSeparator, semicolon, line_end, AreRedirects, no_redirect, one_redirect, IsScript, no_script, a_script, IsList, a_list, AreMembers, no_member, last_separator, one_member, IsAndOr, an_and_or, AreLinks, no_link, and_link, or_link, IsPipeline, plain_pipeline, not_pipeline, IsSequence, a_sequence, ArePiped, no_pipe, one_pipe, IsCommand, simple_command, compound_command, definition, IsBlock, a_block, IsCompound, brace_group, subshell, if_command, for_loop, while_loop, case_command, IsClause, a_clause, IsElse, no_else, elif_part, else_part, IsName, a_name, AreForWords, in_words, for_semicolon, no_in, AreWords, no_words, one_word, AreArms, no_arm, last_arm, one_arm, IsArm, open_arm, bare_arm, IsArmRest, arm_rest, ArePatterns, no_pattern, one_pattern, IsArmList, no_arm_list, arm_list, IsBraces, braces, IsSimple, begins_with_assignment, begins_with_redirect, begins_with_word, AreItems, no_item, assignment_item, redirect_item, word_item, IsWord, the_word, PartsAre, no_part, a_part, a_substitution}
+use Rattle.shell_grammar.specs.PlainGrammar.{Stands, AreNewlines, no_newline, newline, IsSeparator, semicolon, line_end, AreRedirects, no_redirect, one_redirect, IsScript, no_script, a_script, IsList, a_list, AreMembers, no_member, last_separator, one_member, IsAndOr, an_and_or, AreLinks, no_link, and_link, or_link, IsPipeline, plain_pipeline, not_pipeline, IsSequence, a_sequence, ArePiped, no_pipe, one_pipe, IsCommand, simple_command, compound_command, definition, IsBlock, a_block, IsCompound, brace_group, subshell, if_command, for_loop, while_loop, case_command, IsClause, a_clause, IsElse, no_else, elif_part, else_part, IsName, a_name, AreForWords, in_words, for_semicolon, no_in, AreWords, no_words, one_word, AreArms, no_arm, last_arm, one_arm, IsArm, open_arm, arm_without_paren, IsArmRest, arm_rest, ArePatterns, no_pattern, one_pattern, IsArmList, no_arm_list, arm_list, IsBraces, braces, IsSimple, begins_with_assignment, begins_with_redirect, begins_with_word, AreItems, no_item, assignment_item, redirect_item, word_item, IsWord, the_word, PartsAre, no_part, a_part, a_substitution}
 use Rattle.shell_grammar.proofs.Unique.{clash}
 use Rattle.shell_grammar.proofs.Behind.{behind_command, behind_pipeline, behind_and_or, behind_list, is_newline, is_open, list_separator, list_newline, list_starts_none, and_or_link, command_redirection, start_newline, start_arm, form_starts, separator_word, name_or_other, word_is, braces_look, compound_look, command_look, sequence_look, and_or_look, list_look, pipeline_look, separator_look, arm_rest_look, arm_esac, arms_newline, arm_list_newline, for_words_newline, members_behind, links_behind, piped_behind, else_behind, items_open}
 
@@ -249,7 +249,7 @@ mutual
 
   to_arm : (d : ℕ) {end : ℕ} {ts rest : Tokens} {a : CaseArm} → IsArm end ts a rest → ends_arm (look rest) ≡ true → behind_list (look rest) ≡ true → IsRule no_limit d end OneArm ts (Whole a rest)
   to_arm d {a = a} (open_arm s x) g h = ruled LeftParen s.0 (_, (a, tt)) (more (tok s) (more (of (to_arm_rest d x g h)) done))
-  to_arm d {ts = ts} {a = a} (bare_arm k x) g h = made _ (one_arm_row (look ts) (arm_rest_look x)) (a, tt) (more (of (to_arm_rest d x g h)) done)
+  to_arm d {ts = ts} {a = a} (arm_without_paren k x) g h = made _ (one_arm_row (look ts) (arm_rest_look x)) (a, tt) (more (of (to_arm_rest d x g h)) done)
 
   to_arm_rest : (d : ℕ) {end : ℕ} {ts rest : Tokens} {a : CaseArm} → IsArmRest end ts a rest → ends_arm (look rest) ≡ true → behind_list (look rest) ≡ true → IsRule no_limit d end ArmRest ts (Whole a rest)
   to_arm_rest d {end} {ts} (arm_rest w ws x a p s n l e) g h =

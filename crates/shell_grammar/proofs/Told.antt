@@ -13,7 +13,7 @@ use Rattle.shell_grammar.specs.declared.look.Look.{Look}
 use Rattle.shell_grammar.specs.declared.look.Look.TheVariants.{Assignment, Other}
 use Rattle.shell_grammar.specs.Look.{Text, Tokens, look, word, behind, place, kind_look, kind_word, word_look, first_look, assigns_from}
 use Rattle.shell_grammar.specs.Forms.{is_token}
-use Rattle.shell_grammar.specs.Bare.{bare, bare_parts, bare_token}
+use Rattle.shell_grammar.specs.WithoutRuns.{without_runs, parts_without_runs, token_without_runs}
 use Rattle.shell_grammar.specs.Grammar.{Rule, Script, Sign, Is, Opens, AWord, Here, Never, Of, Inside, Tree, Value, Values, production}
 use Rattle.shell_grammar.specs.Reading.{Out, Whole, Stop, turned, Judged, Faultless, Faulty, after, plainly, IsRule, rule, IsAll, no_more, one_more, one_stops, IsSign, is, is_not, opens, opens_not, too_deep, a_word, a_word_stops, no_word, here, never, of, inside, IsParts, no_parts, plain_part, run_part, run_stops, run_deep}
 use Rattle.shell_grammar.specs.Spelling.{no_limit, deep_64}
@@ -25,7 +25,7 @@ use Rattle.shell_grammar.proofs.Limits.{free_rule, is_deep_fault}
 use Rattle.shell_grammar.proofs.Levels.{level_rule}
 use Rattle.shell_grammar.proofs.Fronts.{tails, too_long, same_front, in_either}
 use Rattle.shell_grammar.proofs.Begun.{again_sign, late_rule}
-use Rattle.shell_grammar.proofs.Bared.{look_bare, place_bare, behind_bare, word_bare, bare_option, fine_bare, bare_append}
+use Rattle.shell_grammar.proofs.RunsLeftOut.{look_without_runs, place_without_runs, behind_without_runs, word_without_runs, option_without_runs, fine_without_runs, append_without_runs}
 use Rattle.shell_grammar.proofs.Fits.{Fits, fits, is_mark}
 
 -- ---- tokens that are no common word hold no substitution
@@ -144,49 +144,49 @@ fine_both R1 R2 R f f1 a b first later = λ u t w e.
 -- ---- what is reached of a sign, of signs, of a rule
 
 abbrev pub ReachSign : ℕ → ℕ → Sign → Tokens → ℕ → Type 0
-ReachSign d end s x l = BeginsSign end d s (bare x) l
+ReachSign d end s x l = BeginsSign end d s (without_runs x) l
 
 abbrev pub ReachAll : ℕ → ℕ → List Sign → Tokens → ℕ → Type 0
-ReachAll d end ss x l = BeginsAll end d ss (bare x) l
+ReachAll d end ss x l = BeginsAll end d ss (without_runs x) l
 
 -- behind a whole sign
-behind_whole : (d end : ℕ) (s : Sign) (ss : List Sign) (ts r0 u1 : Tokens) (v2 : Value s) (l : ℕ) → ts ≡ u1 ++ r0 → IsSign no_limit d end s (bare ts) (Whole v2 (bare r0)) → (t0 : Token) (w w2 : Tokens) → r0 ≡ t0 ∷ w → BeginsAll end d ss (bare (t0 ∷ w2)) l → BeginsAll end d (s ∷ ss) (bare (u1 ++ t0 ∷ w2)) l
+behind_whole : (d end : ℕ) (s : Sign) (ss : List Sign) (ts r0 u1 : Tokens) (v2 : Value s) (l : ℕ) → ts ≡ u1 ++ r0 → IsSign no_limit d end s (without_runs ts) (Whole v2 (without_runs r0)) → (t0 : Token) (w w2 : Tokens) → r0 ≡ t0 ∷ w → BeginsAll end d ss (without_runs (t0 ∷ w2)) l → BeginsAll end d (s ∷ ss) (without_runs (u1 ++ t0 ∷ w2)) l
 behind_whole d end s ss ts r0 u1 v2 l e x t0 w w2 h b =
-    let a = again_sign x v2 (bare_token t0) (bare w) (ap (λ r. Whole v2 (bare r)) h) in
-    let same = same_front a.front (bare u1) (bare (t0 ∷ w)) (sym a.split ∙ ap bare e ∙ bare_append u1 r0 ∙ ap (λ r. bare u1 ++ bare r) h) in
-    subst (λ x. BeginsAll end d (s ∷ ss) x l) (ap (λ x. x ++ bare (t0 ∷ w2)) same ∙ sym (bare_append u1 (t0 ∷ w2)))
-    (begins_later v2 (bare_token t0) (bare w2) (a.again (bare w2)) b)
+    let a = again_sign x v2 (token_without_runs t0) (without_runs w) (ap (λ r. Whole v2 (without_runs r)) h) in
+    let same = same_front a.front (without_runs u1) (without_runs (t0 ∷ w)) (sym a.split ∙ ap without_runs e ∙ append_without_runs u1 r0 ∙ ap (λ r. without_runs u1 ++ without_runs r) h) in
+    subst (λ x. BeginsAll end d (s ∷ ss) x l) (ap (λ x. x ++ without_runs (t0 ∷ w2)) same ∙ sym (append_without_runs u1 (t0 ∷ w2)))
+    (begins_later v2 (token_without_runs t0) (without_runs w2) (a.again (without_runs w2)) b)
 
-reach_later : (d end : ℕ) (s : Sign) (ss : List Sign) (ts r0 f : Tokens) (v2 : Value s) → ts ≡ f ++ r0 → IsSign no_limit d end s (bare ts) (Whole v2 (bare r0)) → (u : Tokens) (t : Token) (w : Tokens) (l : ℕ) → r0 ≡ u ++ t ∷ w → ReachAll d end ss (u ++ t ∷ []) l → ReachAll d end (s ∷ ss) (f ++ (u ++ t ∷ [])) l
+reach_later : (d end : ℕ) (s : Sign) (ss : List Sign) (ts r0 f : Tokens) (v2 : Value s) → ts ≡ f ++ r0 → IsSign no_limit d end s (without_runs ts) (Whole v2 (without_runs r0)) → (u : Tokens) (t : Token) (w : Tokens) (l : ℕ) → r0 ≡ u ++ t ∷ w → ReachAll d end ss (u ++ t ∷ []) l → ReachAll d end (s ∷ ss) (f ++ (u ++ t ∷ [])) l
 reach_later d end s ss ts r0 f v2 e x [] t w l h b = behind_whole d end s ss ts r0 f v2 l e x t w [] h b
 reach_later d end s ss ts r0 f v2 e x (t0 ∷ u) t w l h b = behind_whole d end s ss ts r0 f v2 l e x t0 (u ++ t ∷ w) (u ++ t ∷ []) h b
 
-seen_from : (ts u : Tokens) (t : Token) (w : Tokens) → ts ≡ u ++ t ∷ w → look ts ≡ look (bare (u ++ t ∷ []))
-seen_from ts [] t w e = ap look e ∙ sym (look_bare (t ∷ []))
-seen_from ts (a ∷ u) t w e = ap look e ∙ sym (look_bare (a ∷ (u ++ t ∷ [])))
+seen_from : (ts u : Tokens) (t : Token) (w : Tokens) → ts ≡ u ++ t ∷ w → look ts ≡ look (without_runs (u ++ t ∷ []))
+seen_from ts [] t w e = ap look e ∙ sym (look_without_runs (t ∷ []))
+seen_from ts (a ∷ u) t w e = ap look e ∙ sym (look_without_runs (a ∷ (u ++ t ∷ [])))
 
-reach_rule : (d end : ℕ) (n : Rule) (ts u : Tokens) (t : Token) (w : Tokens) (l : ℕ) → ts ≡ u ++ t ∷ w → ReachAll d end (production n (look ts)).signs (u ++ t ∷ []) l → BeginsRule end d n (bare (u ++ t ∷ [])) l
-reach_rule d end n ts u t w l e b = begins_rule (subst (λ look. BeginsAll end d (production n look).signs (bare (u ++ t ∷ [])) l) (seen_from ts u t w e) b)
+reach_rule : (d end : ℕ) (n : Rule) (ts u : Tokens) (t : Token) (w : Tokens) (l : ℕ) → ts ≡ u ++ t ∷ w → ReachAll d end (production n (look ts)).signs (u ++ t ∷ []) l → BeginsRule end d n (without_runs (u ++ t ∷ [])) l
+reach_rule d end n ts u t w l e b = begins_rule (subst (λ look. BeginsAll end d (production n look).signs (without_runs (u ++ t ∷ [])) l) (seen_from ts u t w e) b)
 
--- ---- the reading of the bare tokens, and what it tells
+-- ---- the reading of the without_runs tokens, and what it tells
 
 abbrev pub SignTold : ℕ → ℕ → (s : Sign) → Tokens → Out (Value s) → Type 0
-SignTold d end s ts (Whole v r) = ((v2 : Value s) × IsSign no_limit d end s (bare ts) (Whole v2 (bare r))) × Read (ReachSign d end s) ts r
-SignTold d end s ts (Stop f r) = (IsSign no_limit d end s (bare ts) (Stop f (bare r)) × (f ≡ Syntax (place end r)) × Read (ReachSign d end s) ts r) ⊎ Faulted (ReachSign d end s) ts f
+SignTold d end s ts (Whole v r) = ((v2 : Value s) × IsSign no_limit d end s (without_runs ts) (Whole v2 (without_runs r))) × Read (ReachSign d end s) ts r
+SignTold d end s ts (Stop f r) = (IsSign no_limit d end s (without_runs ts) (Stop f (without_runs r)) × (f ≡ Syntax (place end r)) × Read (ReachSign d end s) ts r) ⊎ Faulted (ReachSign d end s) ts f
 
 abbrev pub AllTold : ℕ → ℕ → (ss : List Sign) → Tokens → Out (Values ss) → Type 0
-AllTold d end ss ts (Whole v r) = ((v2 : Values ss) × IsAll no_limit d end ss (bare ts) (Whole v2 (bare r))) × Read (ReachAll d end ss) ts r
-AllTold d end ss ts (Stop f r) = (IsAll no_limit d end ss (bare ts) (Stop f (bare r)) × (f ≡ Syntax (place end r)) × Read (ReachAll d end ss) ts r) ⊎ Faulted (ReachAll d end ss) ts f
+AllTold d end ss ts (Whole v r) = ((v2 : Values ss) × IsAll no_limit d end ss (without_runs ts) (Whole v2 (without_runs r))) × Read (ReachAll d end ss) ts r
+AllTold d end ss ts (Stop f r) = (IsAll no_limit d end ss (without_runs ts) (Stop f (without_runs r)) × (f ≡ Syntax (place end r)) × Read (ReachAll d end ss) ts r) ⊎ Faulted (ReachAll d end ss) ts f
 
 abbrev pub RuleTold : ℕ → ℕ → (n : Rule) → Tokens → Out (Tree n) → Type 0
-RuleTold d end n ts (Whole v r) = ((v2 : Tree n) × IsRule no_limit d end n (bare ts) (Whole v2 (bare r))) × Read (ReachAll d end (production n (look ts)).signs) ts r
-RuleTold d end n ts (Stop f r) = (IsRule no_limit d end n (bare ts) (Stop f (bare r)) × (f ≡ Syntax (place end r)) × Read (ReachAll d end (production n (look ts)).signs) ts r) ⊎ Faulted (ReachAll d end (production n (look ts)).signs) ts f
+RuleTold d end n ts (Whole v r) = ((v2 : Tree n) × IsRule no_limit d end n (without_runs ts) (Whole v2 (without_runs r))) × Read (ReachAll d end (production n (look ts)).signs) ts r
+RuleTold d end n ts (Stop f r) = (IsRule no_limit d end n (without_runs ts) (Stop f (without_runs r)) × (f ≡ Syntax (place end r)) × Read (ReachAll d end (production n (look ts)).signs) ts r) ⊎ Faulted (ReachAll d end (production n (look ts)).signs) ts f
 
 module _ (d end : ℕ) (s : Sign) (ss : List Sign) (ts : Tokens) where
   first_reach : (u : Tokens) (t : Token) (w : Tokens) (l : ℕ) → ts ≡ u ++ t ∷ w → ReachSign d end s (u ++ t ∷ []) l → ReachAll d end (s ∷ ss) (u ++ t ∷ []) l
   first_reach u t w l e b = begins_first b
 
-  module _ (r : Tokens) (v2 : Value s) (x : IsSign no_limit d end s (bare ts) (Whole v2 (bare r))) (a : Read (ReachSign d end s) ts r) where
+  module _ (r : Tokens) (v2 : Value s) (x : IsSign no_limit d end s (without_runs ts) (Whole v2 (without_runs r))) (a : Read (ReachSign d end s) ts r) where
     read_both : (r2 : Tokens) → Read (ReachAll d end ss) r r2 → Read (ReachAll d end (s ∷ ss)) ts r2
     read_both r2 m = record {
       front = a.front ++ m.front;
@@ -210,20 +210,20 @@ module _ (d end : ℕ) (s : Sign) (ss : List Sign) (ts : Tokens) where
     }
 
   both_told : (r : Tokens) (v : Value s) (q1 : Out (Values ss)) → SignTold d end s ts (Whole v r) → AllTold d end ss r q1 → AllTold d end (s ∷ ss) ts (turned (λ vs. (v, vs)) q1)
-  both_told r v (Whole vs r2) a m = (((a.0.0, m.0.0), one_more a.0.0 (bare r) (Whole m.0.0 (bare r2)) a.0.1 m.0.1 refl), read_both r a.0.0 a.0.1 a.1 r2 m.1)
-  both_told r v (Stop f r2) a (inl m) = inl (one_more a.0.0 (bare r) (Stop f (bare r2)) a.0.1 m.0 refl, m.1, read_both r a.0.0 a.0.1 a.1 r2 m.2)
+  both_told r v (Whole vs r2) a m = (((a.0.0, m.0.0), one_more a.0.0 (without_runs r) (Whole m.0.0 (without_runs r2)) a.0.1 m.0.1 refl), read_both r a.0.0 a.0.1 a.1 r2 m.1)
+  both_told r v (Stop f r2) a (inl m) = inl (one_more a.0.0 (without_runs r) (Stop f (without_runs r2)) a.0.1 m.0 refl, m.1, read_both r a.0.0 a.0.1 a.1 r2 m.2)
   both_told r v (Stop f r2) a (inr w) = inr (faulted_both r a.0.0 a.0.1 a.1 f w)
 
   stop_told : (f : ParseFault) (r : Tokens) → SignTold d end s ts (Stop f r) → AllTold d end (s ∷ ss) ts (Stop f r)
-  stop_told f r (inl x) = inl (one_stops f (bare r) x.0 refl, x.1, read_map (ReachSign d end s) (ReachAll d end (s ∷ ss)) ts first_reach r x.2)
+  stop_told f r (inl x) = inl (one_stops f (without_runs r) x.0 refl, x.1, read_map (ReachSign d end s) (ReachAll d end (s ∷ ss)) ts first_reach r x.2)
   stop_told f r (inr w) = inr (faulted_map (ReachSign d end s) (ReachAll d end (s ∷ ss)) ts first_reach f w)
 
-pub made_bare : {d end : ℕ} {n : Rule} {ts : Tokens} (l : Look) → look ts ≡ l → (q : Out (Values (production n l).signs)) → IsAll no_limit d end (production n l).signs ts q → IsRule no_limit d end n ts (turned (production n l).tree q)
-made_bare {d} {end} {n} {ts} l e q x = subst (λ l. (q : Out (Values (production n l).signs)) → IsAll no_limit d end (production n l).signs ts q → IsRule no_limit d end n ts (turned (production n l).tree q)) e (λ q x. rule q x refl) q x
+pub made_without_runs : {d end : ℕ} {n : Rule} {ts : Tokens} (l : Look) → look ts ≡ l → (q : Out (Values (production n l).signs)) → IsAll no_limit d end (production n l).signs ts q → IsRule no_limit d end n ts (turned (production n l).tree q)
+made_without_runs {d} {end} {n} {ts} l e q x = subst (λ l. (q : Out (Values (production n l).signs)) → IsAll no_limit d end (production n l).signs ts q → IsRule no_limit d end n ts (turned (production n l).tree q)) e (λ q x. rule q x refl) q x
 
 rule_told : (d end : ℕ) (n : Rule) (ts : Tokens) (q1 : Out (Values (production n (look ts)).signs)) → AllTold d end (production n (look ts)).signs ts q1 → RuleTold d end n ts (turned (production n (look ts)).tree q1)
-rule_told d end n ts (Whole v r) x = (((production n (look ts)).tree x.0.0, made_bare (look ts) (look_bare ts) (Whole x.0.0 (bare r)) x.0.1), x.1)
-rule_told d end n ts (Stop f r) (inl x) = inl (made_bare (look ts) (look_bare ts) (Stop f (bare r)) x.0, x.1, x.2)
+rule_told d end n ts (Whole v r) x = (((production n (look ts)).tree x.0.0, made_without_runs (look ts) (look_without_runs ts) (Whole x.0.0 (without_runs r)) x.0.1), x.1)
+rule_told d end n ts (Stop f r) (inl x) = inl (made_without_runs (look ts) (look_without_runs ts) (Stop f (without_runs r)) x.0, x.1, x.2)
 rule_told d end n ts (Stop f r) (inr w) = inr w
 
 of_told : (d end : ℕ) (n : Rule) (ts : Tokens) (q : Out (Tree n)) → RuleTold d end n ts q → SignTold d end (Of n) ts q
@@ -240,14 +240,14 @@ inside_told d end n ts (Stop f r) (inr w) = inr (faulted_map (ReachAll (suc d) e
 
 is_told : (d end : ℕ) (l : Look) (ts : Tokens) → d ≤ 64 → is_mark l ≡ true → look ts ≡ l → SignTold d end (Is l) ts (Whole (place end ts) (behind ts))
 is_told d end l ts h m k = (
-  (place end ts, is (look_bare ts ∙ k) (ap (λ n. Whole n (bare (behind ts))) (sym (place_bare end ts)) ∙ ap (Whole (place end (bare ts))) (sym (behind_bare ts)))),
-  read_one (ReachSign d end (Is l)) ts (λ t r g. record { level = d; reaches = begins_is (bare_token t) refl (look_bare (t ∷ []) ∙ ap look (sym g) ∙ k) refl; within = h; holds = mark_holds d t l (ap look (sym g) ∙ k) m }),
+  (place end ts, is (look_without_runs ts ∙ k) (ap (λ n. Whole n (without_runs (behind ts))) (sym (place_without_runs end ts)) ∙ ap (Whole (place end (without_runs ts))) (sym (behind_without_runs ts)))),
+  read_one (ReachSign d end (Is l)) ts (λ t r g. record { level = d; reaches = begins_is (token_without_runs t) refl (look_without_runs (t ∷ []) ∙ ap look (sym g) ∙ k) refl; within = h; holds = mark_holds d t l (ap look (sym g) ∙ k) m }),
 )
 
 opens_told : (d end : ℕ) (l : Look) (ts : Tokens) → d < 64 → is_mark l ≡ true → look ts ≡ l → SignTold d end (Opens l) ts (Whole (place end ts) (behind ts))
 opens_told d end l ts h m k = (
-  (place end ts, opens (look_bare ts ∙ k) refl (ap (λ n. Whole n (bare (behind ts))) (sym (place_bare end ts)) ∙ ap (Whole (place end (bare ts))) (sym (behind_bare ts)))),
-  read_one (ReachSign d end (Opens l)) ts (λ t r g. record { level = suc d; reaches = begins_opens (bare_token t) refl (look_bare (t ∷ []) ∙ ap look (sym g) ∙ k) refl; within = omega (arith, h); holds = mark_holds (suc d) t l (ap look (sym g) ∙ k) m }),
+  (place end ts, opens (look_without_runs ts ∙ k) refl (ap (λ n. Whole n (without_runs (behind ts))) (sym (place_without_runs end ts)) ∙ ap (Whole (place end (without_runs ts))) (sym (behind_without_runs ts)))),
+  read_one (ReachSign d end (Opens l)) ts (λ t r g. record { level = suc d; reaches = begins_opens (token_without_runs t) refl (look_without_runs (t ∷ []) ∙ ap look (sym g) ∙ k) refl; within = omega (arith, h); holds = mark_holds (suc d) t l (ap look (sym g) ∙ k) m }),
 )
 
 deep_told : (d end : ℕ) (l : Look) (ts : Tokens) → 64 ≤ d → is_token l ≡ true → look ts ≡ l → SignTold d end (Opens l) ts (Stop (Deep (place end ts)) ts)
@@ -259,15 +259,15 @@ deep_told d end l (t ∷ ts) h m k = inr (record {
   split = refl;
   fine = none_fine (ReachSign d end (Opens l));
   level = suc d;
-  reaches = begins_opens (bare_token t) refl (look_bare (t ∷ []) ∙ k) refl;
+  reaches = begins_opens (token_without_runs t) refl (look_without_runs (t ∷ []) ∙ k) refl;
   why = opens_too_many (omega (arith, h)) refl;
 })
 
 word_told : (d end : ℕ) (ts : Tokens) (raws : List RawPart) (ps : List Part) → d ≤ 64 → word ts ≡ Some raws → IsParts deep_64 d raws (Faultless ps) → SignTold d end AWord ts (Whole (word_at (place end ts) ps) (behind ts))
 word_told d end ts raws ps h w x =
-    let m = fine_bare d raws in (
-      (word_at (place end (bare ts)) m.0, a_word (bare_parts raws) m.0 (word_bare ts ∙ ap bare_option w) m.1 (ap (Whole (word_at (place end (bare ts)) m.0)) (sym (behind_bare ts)))),
-      read_one (ReachSign d end AWord) ts (λ t r g. record { level = d; reaches = begins_word (bare_token t) (bare_parts raws) refl (word_bare (t ∷ []) ∙ ap bare_option (ap word (sym g) ∙ w)) refl; within = h; holds = λ raws2 w2. record { parts = ps; reads = subst (λ raws. IsParts deep_64 d raws (Faultless ps)) (somes (sym w ∙ ap word g ∙ w2)) x } }),
+    let m = fine_without_runs d raws in (
+      (word_at (place end (without_runs ts)) m.0, a_word (parts_without_runs raws) m.0 (word_without_runs ts ∙ ap option_without_runs w) m.1 (ap (Whole (word_at (place end (without_runs ts)) m.0)) (sym (behind_without_runs ts)))),
+      read_one (ReachSign d end AWord) ts (λ t r g. record { level = d; reaches = begins_word (token_without_runs t) (parts_without_runs raws) refl (word_without_runs (t ∷ []) ∙ ap option_without_runs (ap word (sym g) ∙ w)) refl; within = h; holds = λ raws2 w2. record { parts = ps; reads = subst (λ raws. IsParts deep_64 d raws (Faultless ps)) (somes (sym w ∙ ap word g ∙ w2)) x } }),
     )
 
 word_fault_told : (d end : ℕ) (ts : Tokens) (raws : List RawPart) (f : ParseFault) → d ≤ 64 → word ts ≡ Some raws → FaultIn d raws f → SignTold d end AWord ts (Stop f (behind ts))
@@ -279,19 +279,19 @@ word_fault_told d end (t ∷ ts) raws f h w x = inr (record {
   split = refl;
   fine = none_fine (ReachSign d end AWord);
   level = d;
-  reaches = begins_word (bare_token t) (bare_parts raws) refl (word_bare (t ∷ []) ∙ ap bare_option w) refl;
+  reaches = begins_word (token_without_runs t) (parts_without_runs raws) refl (word_without_runs (t ∷ []) ∙ ap option_without_runs w) refl;
   why = holds_fault raws h w x;
 })
 
 -- ---- where the tokens of a list are first at fault
 
 -- behind tokens that are read without a fault of theirs the next one cannot follow
-not_further : (d end : ℕ) (ts u : Tokens) (t : Token) (r : Tokens) (f : ParseFault) → ts ≡ u ++ t ∷ r → IsRule no_limit d end Script (bare ts) (Stop f (bare (t ∷ r))) → (l : ℕ) → Begins d end (u ++ t ∷ []) l → ⊥
+not_further : (d end : ℕ) (ts u : Tokens) (t : Token) (r : Tokens) (f : ParseFault) → ts ≡ u ++ t ∷ r → IsRule no_limit d end Script (without_runs ts) (Stop f (without_runs (t ∷ r))) → (l : ℕ) → Begins d end (u ++ t ∷ []) l → ⊥
 not_further d end ts u t r f e x l b =
-    let split = ap bare e ∙ bare_append u (t ∷ r) ∙ sym (append_assoc (bare u) (bare_token t ∷ []) (bare r)) ∙ ap (λ x. x ++ bare r) (sym (bare_append u (t ∷ []))) in
-    let y = subst (λ ts. IsRule no_limit d end Script ts (Stop f (bare (t ∷ r)))) split x in
-    let tail = late_rule b (bare r) (Stop f (bare (t ∷ r))) y in
-    too_long (bare_token t) (bare r) tail.front tail.split
+    let split = ap without_runs e ∙ append_without_runs u (t ∷ r) ∙ sym (append_assoc (without_runs u) (token_without_runs t ∷ []) (without_runs r)) ∙ ap (λ x. x ++ without_runs r) (sym (append_without_runs u (t ∷ []))) in
+    let y = subst (λ ts. IsRule no_limit d end Script ts (Stop f (without_runs (t ∷ r)))) split x in
+    let tail = late_rule b (without_runs r) (Stop f (without_runs (t ∷ r))) y in
+    too_long (token_without_runs t) (without_runs r) tail.front tail.split
 
 pub pass_front : (d end : ℕ) (ts f : Tokens) → AllFine (ReachAll d end (production Script (look ts)).signs) f → Pass d end f
 pass_front d end ts f a = λ u t w e. let x = a u t w e in record { level = x.level; begins = begins_rule x.reaches; within = x.within; holds = x.holds }
@@ -300,7 +300,7 @@ why_at : (d end : ℕ) (u : Tokens) (t : Token) (l : ℕ) (f : ParseFault) → B
 why_at d end u t l f b (opens_too_many h e) = too_far_in l b h e
 why_at d end u t l f b (holds_fault raws h w x) = in_word l raws b h w x
 
-fault_stands : (d end : ℕ) (ts : Tokens) (f : ParseFault) (r : Tokens) → IsRule deep_64 d end Script ts (Stop f r) → IsRule no_limit d end Script (bare ts) (Stop f (bare r)) → f ≡ Syntax (place end r) → Read (ReachAll d end (production Script (look ts)).signs) ts r → FirstFault d end ts f
+fault_stands : (d end : ℕ) (ts : Tokens) (f : ParseFault) (r : Tokens) → IsRule deep_64 d end Script ts (Stop f r) → IsRule no_limit d end Script (without_runs ts) (Stop f (without_runs r)) → f ≡ Syntax (place end r) → Read (ReachAll d end (production Script (look ts)).signs) ts r → FirstFault d end ts f
 fault_stands d end ts f [] x y e a = at_end
     (subst (Pass d end) (sym (append-nil a.front) ∙ sym a.split) (pass_front d end ts a.front a.fine))
     (λ body s. not_both (same_rule no_limit s.reads (level_rule (free_rule deep_64 x (ap is_deep_fault e)) 0)))
@@ -342,15 +342,15 @@ mutual
 
   told_sign : {d end : ℕ} {s : Sign} {ts : Tokens} {q : Out (Value s)} → IsSign deep_64 d end s ts q → d ≤ 64 → (ss : List Sign) → Fits d (s ∷ ss) → SignTold d end s ts q
   told_sign {d} {end} {s} {ts} (is {l = l} k e) h ss f = subst (SignTold d end s ts) (sym e) (is_told d end l ts h f.0 k)
-  told_sign {d} {end} {s} {ts} (is_not {l = l} k e) h ss f = subst (SignTold d end s ts) (sym e) (inl (is_not (λ g. k (sym (look_bare ts) ∙ g)) (ap (λ n. Stop (Syntax n) (bare ts)) (sym (place_bare end ts))), refl, read_none (ReachSign d end s) ts))
+  told_sign {d} {end} {s} {ts} (is_not {l = l} k e) h ss f = subst (SignTold d end s ts) (sym e) (inl (is_not (λ g. k (sym (look_without_runs ts) ∙ g)) (ap (λ n. Stop (Syntax n) (without_runs ts)) (sym (place_without_runs end ts))), refl, read_none (ReachSign d end s) ts))
   told_sign {d} {end} {s} {ts} (opens {l = l} k g e) h ss f = subst (SignTold d end s ts) (sym e) (opens_told d end l ts (open_below d g) f.1 k)
-  told_sign {d} {end} {s} {ts} (opens_not {l = l} k e) h ss f = subst (SignTold d end s ts) (sym e) (inl (opens_not (λ g. k (sym (look_bare ts) ∙ g)) (ap (λ n. Stop (Syntax n) (bare ts)) (sym (place_bare end ts))), refl, read_none (ReachSign d end s) ts))
+  told_sign {d} {end} {s} {ts} (opens_not {l = l} k e) h ss f = subst (SignTold d end s ts) (sym e) (inl (opens_not (λ g. k (sym (look_without_runs ts) ∙ g)) (ap (λ n. Stop (Syntax n) (without_runs ts)) (sym (place_without_runs end ts))), refl, read_none (ReachSign d end s) ts))
   told_sign {d} {end} {s} {ts} (too_deep {l = l} k g e) h ss f = subst (SignTold d end s ts) (sym e) (deep_told d end l ts (leb-true 64 d g) f.0 k)
   told_sign {d} {end} {s} {ts} (a_word raws ps w x e) h ss f = subst (SignTold d end s ts) (sym e) (word_told d end ts raws ps h w x)
   told_sign {d} {end} {s} {ts} (a_word_stops raws g w x e) h ss f = subst (SignTold d end s ts) (sym e) (word_fault_told d end ts raws g h w (told_parts x h g refl))
-  told_sign {d} {end} {s} {ts} (no_word w e) h ss f = subst (SignTold d end s ts) (sym e) (inl (no_word (word_bare ts ∙ ap bare_option w) (ap (λ n. Stop (Syntax n) (bare ts)) (sym (place_bare end ts))), refl, read_none (ReachSign d end s) ts))
-  told_sign {d} {end} {s} {ts} (here e) h ss f = subst (SignTold d end s ts) (sym e) ((place end ts, here (ap (λ n. Whole n (bare ts)) (sym (place_bare end ts)))), read_none (ReachSign d end s) ts)
-  told_sign {d} {end} {s} {ts} (never e) h ss f = subst (SignTold d end s ts) (sym e) (inl (never (ap (λ n. Stop (Syntax n) (bare ts)) (sym (place_bare end ts))), refl, read_none (ReachSign d end s) ts))
+  told_sign {d} {end} {s} {ts} (no_word w e) h ss f = subst (SignTold d end s ts) (sym e) (inl (no_word (word_without_runs ts ∙ ap option_without_runs w) (ap (λ n. Stop (Syntax n) (without_runs ts)) (sym (place_without_runs end ts))), refl, read_none (ReachSign d end s) ts))
+  told_sign {d} {end} {s} {ts} (here e) h ss f = subst (SignTold d end s ts) (sym e) ((place end ts, here (ap (λ n. Whole n (without_runs ts)) (sym (place_without_runs end ts)))), read_none (ReachSign d end s) ts)
+  told_sign {d} {end} {s} {ts} (never e) h ss f = subst (SignTold d end s ts) (sym e) (inl (never (ap (λ n. Stop (Syntax n) (without_runs ts)) (sym (place_without_runs end ts))), refl, read_none (ReachSign d end s) ts))
   told_sign {d} {end} {ts = ts} {q = q} (of {n = n} x) h ss f = of_told d end n ts q (told_rule x h)
   told_sign {d} {end} {ts = ts} {q = q} (inside {n = n} x) h ss f = inside_told d end n ts q (told_rule x (omega (arith, f.0)))
 

@@ -3,7 +3,7 @@ use Rattle.std.specs.Prelude.{◌≡◌, ℕ, suc, List, [], ◌∷◌, Some}
 use Rattle.shell_lexer.specs.declared.token.Token.{Token}
 use Rattle.shell_lexer.specs.declared.token.RawPart.{RawPart}
 use Rattle.shell_grammar.specs.declared.look.Look.{Look}
-use Rattle.shell_grammar.specs.Bare.{bare}
+use Rattle.shell_grammar.specs.WithoutRuns.{without_runs}
 use Rattle.shell_grammar.specs.Grammar.{Rule, Script, Sign, Is, Opens, AWord, Of, Inside, Value}
 use Rattle.shell_grammar.specs.Grammar.{production}
 use Rattle.shell_grammar.specs.Look.{Tokens, look, word}
@@ -43,4 +43,4 @@ module _ (end : ℕ) where
 -- tokens that stand inside d levels, in a text that ends at an offset, begin some script's, whatever the
 -- substitutions of their words hold, and so many levels are open behind them
 abbrev pub Begins : ℕ → ℕ → Tokens → ℕ → Type 0
-Begins d end ts level = BeginsRule end d Script (bare ts) level
+Begins d end ts level = BeginsRule end d Script (without_runs ts) level

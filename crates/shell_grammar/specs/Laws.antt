@@ -3,7 +3,7 @@ use Rattle.std.specs.Prelude.{◌≡◌, ◌↔◌, ℕ, [], ◌∷◌, ◌++◌
 use Rattle.shell_syntax.specs.declared.syntax.Command.{Command}
 use Rattle.shell_lexer.specs.declared.token.Token.{Token}
 use Rattle.shell_grammar.specs.declared.fault.ParseFault.{ParseFault}
-use Rattle.shell_grammar.specs.Bare.{bare}
+use Rattle.shell_grammar.specs.WithoutRuns.{without_runs}
 use Rattle.shell_grammar.specs.Begins.{Begins}
 use Rattle.shell_grammar.specs.Look.{Tokens}
 use Rattle.shell_grammar.specs.Places.{Pass, FirstFault, NoFault}
@@ -29,7 +29,7 @@ ScriptsPass = (end : ℕ) (ts : Tokens) (body : Command) → SpellsWithin end ts
 -- what a script's tokens begin with, whatever their substitutions hold, begins a script
 abbrev pub ScriptsBegin : Type 0
 ScriptsBegin = (end : ℕ) (ts front later : Tokens) (body : Command) → Spells end ts body
-    → bare ts ≡ bare front ++ later → (level : ℕ) × Begins 0 end front level
+    → without_runs ts ≡ without_runs front ++ later → (level : ℕ) × Begins 0 end front level
 
 -- the first tokens of those that begin some script begin one
 abbrev pub FewerBegin : Type 0

@@ -1,4 +1,4 @@
-pub mod Bare
+pub mod WithoutRuns
 pub mod Begins
 pub mod Forms
 pub mod Grammar
