@@ -1,6 +1,7 @@
 //! What stands at a place, and how a word looks.
 
-ghost use Rattle.std.specs.Prelude.{◌≡◌, ◌≤◌, length, drop, true};
+ghost use Rattle.std.specs.Prelude.{◌≡◌, ◌≤◌, length, drop, true, if◌then◌else◌, Some as Found};
+ghost use Rattle.std.specs.Str.{bytes_eq};
 ghost use Rattle.shell_grammar.specs.Look.{look as look_of, kind_look as kind_look_of, word_look as word_look_of};
 ghost use Rattle.shell_grammar.specs.Look.{seen_look, whole_look as whole_look_of, begun_look as begun_look_of};
 ghost use Rattle.shell_grammar.specs.Look.{name_from, assigns_from, is_name_byte as is_name_byte_of};
@@ -143,23 +144,35 @@ fn is_digit(byte: u8) -> bool
 fn reserved(text: &[u8]) -> Option<Reserved>
     ensures { result ≡ reserved_of text.now }
 {
-    match text {
-        b"{" => Some(Reserved::Open),
-        b"}" => Some(Reserved::Close),
-        b"!" => Some(Reserved::Bang),
-        b"if" => Some(Reserved::If),
-        b"then" => Some(Reserved::Then),
-        b"elif" => Some(Reserved::Elif),
-        b"else" => Some(Reserved::Else),
-        b"fi" => Some(Reserved::Fi),
-        b"for" => Some(Reserved::For),
-        b"in" => Some(Reserved::In),
-        b"do" => Some(Reserved::Do),
-        b"done" => Some(Reserved::Done),
-        b"while" => Some(Reserved::While),
-        b"until" => Some(Reserved::Until),
-        b"case" => Some(Reserved::Case),
-        b"esac" => Some(Reserved::Esac),
-        _ => None,
+    let found = or_word(text, b"esac", Reserved::Esac, None);
+    let found = or_word(text, b"case", Reserved::Case, found);
+    let found = or_word(text, b"until", Reserved::Until, found);
+    let found = or_word(text, b"while", Reserved::While, found);
+    let found = or_word(text, b"done", Reserved::Done, found);
+    let found = or_word(text, b"do", Reserved::Do, found);
+    let found = or_word(text, b"in", Reserved::In, found);
+    let found = or_word(text, b"for", Reserved::For, found);
+    let found = or_word(text, b"fi", Reserved::Fi, found);
+    let found = or_word(text, b"else", Reserved::Else, found);
+    let found = or_word(text, b"elif", Reserved::Elif, found);
+    let found = or_word(text, b"then", Reserved::Then, found);
+    let found = or_word(text, b"if", Reserved::If, found);
+    let found = or_word(text, b"!", Reserved::Bang, found);
+    let found = or_word(text, b"}", Reserved::Close, found);
+    or_word(text, b"{", Reserved::Open, found)
+}
+
+/// The word that is spelled so, if the text spells it, else the other.
+fn or_word(
+    text: &[u8],
+    spelling: &[u8],
+    which: Reserved,
+    other: Option<Reserved>,
+) -> Option<Reserved>
+    ensures { result ≡ (if bytes_eq text.now spelling.now then Found which else other) }
+{
+    if text == spelling {
+        return Some(which);
     }
+    other
 }

@@ -4,6 +4,7 @@ ghost use Rattle.std.specs.Prelude.{◌≡◌, [], ◌∷◌, ◌++◌, length, 
 ghost use Rattle.shell_grammar.specs.Trees.{seq_of as seq_tree, chain_of as chain_tree, pipe_of as pipe_tree};
 ghost use Rattle.shell_grammar.specs.Trees.{link, if_arm, case_arm};
 ghost use Rattle.shell_syntax.specs.declared.syntax.Part.TheVariants.{Param};
+ghost use Rattle.shell_syntax.specs.declared.syntax.Command.TheVariants.{Define};
 ghost use Rattle.shell_grammar.specs.Trees.{redirected as redirected_tree, simple as simple_tree};
 ghost use Rattle.shell_grammar.specs.Trees.{no_items as no_items_of, an_assign, a_word, a_redirect, joined};
 ghost use Rattle.shell_grammar.specs.Trees.{word_text as word_text_of};
@@ -93,6 +94,19 @@ pub fn simple_of(alloc: Global, at: u32, items: Items) -> Result<Boxed<Command>,
     Ok(redirected(alloc, at, body, redirects)?)
 }
 
+/// One command, in a list with room for so many.
+pub fn one_command(
+    alloc: Global,
+    room: usize,
+    tree: Boxed<Command>,
+) -> Result<List<Command>, Memory>
+    ensures { IfOk result (λ all. all ≡ tree ∷ []) }
+{
+    let mut all = List::with_room(alloc, room)?;
+    all.add(tree.into_inner())?;
+    Ok(all)
+}
+
 /// Commands, and one more.
 pub fn with_command(trees: List<Command>, tree: Boxed<Command>) -> Result<List<Command>, Memory>
     ensures { IfOk result (λ all. all ≡ trees ++ tree ∷ []) }
@@ -110,6 +124,18 @@ pub fn with_link(links: List<Link>, and: bool, tree: Boxed<Command>) -> Result<L
     let command = tree.into_inner();
     all.add(Link { and, command })?;
     Ok(all)
+}
+
+/// One arm of an `if`.
+pub fn one_if_arm(
+    alloc: Global,
+    cond: Boxed<Command>,
+    body: Boxed<Command>,
+) -> Result<List<IfArm>, Memory>
+    ensures { IfOk result (λ all. all ≡ if_arm cond body ∷ []) }
+{
+    let none = List::with_room(alloc, 1)?;
+    Ok(with_if_arm(none, cond, body)?)
 }
 
 /// Arms of an `if`, and one more.
@@ -151,6 +177,23 @@ pub fn no_items(alloc: Global, words: usize) -> Result<Items, Memory>
         words,
         redirects: List::new(alloc),
     })
+}
+
+/// A word, in a list with room for one.
+pub fn one_word(alloc: Global, word: Word) -> Result<List<Word>, Memory>
+    ensures { IfOk result (λ all. all ≡ word ∷ []) }
+{
+    let mut all = List::with_room(alloc, 1)?;
+    all.add(word)?;
+    Ok(all)
+}
+
+/// A word as the one item, with room for so many words.
+pub fn first_item(alloc: Global, room: usize, word: Word) -> Result<Items, Memory>
+    ensures { IfOk result (λ items. items ≡ joined no_items_of (a_word word)) }
+{
+    let none = no_items(alloc, room)?;
+    Ok(with_word(none, word)?)
 }
 
 pub fn with_assign(items: Items, assign: Assign) -> Result<Items, Memory>
@@ -237,4 +280,17 @@ pub fn name_of(alloc: Global, word: &Word) -> Result<Bytes, Memory>
     ensures { IfOk result (λ name. name ≡ word_text_of word.now) }
 {
     Bytes::from_slice(alloc, word_text(word))
+}
+
+/// The definition of a function, by the word that names it.
+pub fn defined(
+    alloc: Global,
+    at: u32,
+    word: Word,
+    body: Boxed<Command>,
+) -> Result<Boxed<Command>, Memory>
+    ensures { IfOk result (λ tree. tree ≡ Define at (word_text_of word) body) }
+{
+    let name = name_of(alloc, &word)?;
+    Ok(Boxed::new(alloc, Command::Define { at, name, body })?)
 }

@@ -12,7 +12,7 @@ use crate::looks::look;
 use crate::parser::lists::members;
 use crate::parser::words::word;
 use crate::tokens::{arm_begin, newlines, opens, place, stands, take};
-use crate::trees::{seq_of, with_case_arm};
+use crate::trees::{one_word, seq_of, with_case_arm};
 use script_names::{Boxed, List};
 use shell_grammar::{Look, ParseFault, Reserved};
 use shell_lexer::Token;
@@ -162,8 +162,7 @@ fn patterns(
         Ok(found) => found,
         Err(fault) => return Err(fault),
     };
-    let mut words = List::with_room(alloc, 1)?;
-    words.add(first)?;
+    let mut words = one_word(alloc, first)?;
     let mut now = behind;
     while stands(ts, now, Look::Bar) {
         let (next, behind) = match word(alloc, level, end, ts, now + 1) {

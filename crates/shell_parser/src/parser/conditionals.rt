@@ -9,7 +9,7 @@ ghost use Rattle.shell_parser.specs.Reads.{Reads, ArmRead};
 
 use crate::parser::lists::block;
 use crate::tokens::{opens, place, stands, take};
-use crate::trees::with_if_arm;
+use crate::trees::{one_if_arm, with_if_arm};
 use script_names::{Boxed, List};
 use shell_grammar::{Look, ParseFault, Reserved};
 use shell_lexer::Token;
@@ -70,8 +70,7 @@ fn clause(
         Ok(found) => found,
         Err(fault) => return Err(fault),
     };
-    let none = List::with_room(alloc, 1)?;
-    let mut arms = with_if_arm(none, cond, body)?;
+    let mut arms = one_if_arm(alloc, cond, body)?;
     let mut now = behind;
     while stands(ts, now, Look::Keyword(Reserved::Elif)) {
         let ((cond, body), behind) = match if_arm(alloc, level, end, ts, now + 1) {

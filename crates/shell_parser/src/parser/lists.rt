@@ -8,7 +8,7 @@ use crate::forms::{link_and, same_look, starts};
 use crate::looks::look;
 use crate::parser::commands::command;
 use crate::tokens::{link_room, list_room, newlines, place, separates, stands};
-use crate::trees::{chain_of, pipe_of, seq_of, with_command, with_link};
+use crate::trees::{chain_of, one_command, pipe_of, seq_of, with_command, with_link};
 use script_names::{Boxed, List};
 use shell_grammar::{Look, ParseFault, Reserved};
 use shell_lexer::Token;
@@ -77,8 +77,7 @@ pub(super) fn members(
         Ok(found) => found,
         Err(fault) => return Err(fault),
     };
-    let none = List::with_room(alloc, list_room(ts, behind))?;
-    let mut trees = with_command(none, first)?;
+    let mut trees = one_command(alloc, list_room(ts, behind), first)?;
     let mut now = behind;
     while separates(ts, now) {
         now = newlines(level, end, ts, now + 1);
@@ -180,8 +179,7 @@ fn piped(
     if !stands(ts, behind, Look::Bar) {
         return Ok((first, behind));
     }
-    let none = List::with_room(alloc, 2)?;
-    let mut parts = with_command(none, first)?;
+    let mut parts = one_command(alloc, 2, first)?;
     let mut now = behind;
     while stands(ts, now, Look::Bar) {
         now = newlines(level, end, ts, now + 1);

@@ -13,7 +13,9 @@ use crate::looks::look;
 use crate::parser::commands::braces;
 use crate::parser::words::{assignment, word};
 use crate::tokens::{newlines, place, stands, take, words_from};
-use crate::trees::{name_of, no_items, simple_of, with_assign, with_redirect, with_word};
+use crate::trees::{
+    defined, first_item, no_items, simple_of, with_assign, with_redirect, with_word,
+};
 use script_names::Boxed;
 use shell_grammar::{Item, Items, Look, ParseFault};
 use shell_lexer::Token;
@@ -43,19 +45,10 @@ pub(super) fn named(
             Ok(found) => found,
             Err(fault) => return Err(fault),
         };
-        let name = name_of(alloc, &first)?;
-        let tree = Boxed::new(
-            alloc,
-            Command::Define {
-                at: place(ts, at, end),
-                name,
-                body,
-            },
-        )?;
+        let tree = defined(alloc, place(ts, at, end), first, body)?;
         return Ok((tree, last));
     }
-    let none = no_items(alloc, words_from(ts, at))?;
-    let begun = with_word(none, first)?;
+    let begun = first_item(alloc, words_from(ts, at), first)?;
     let (all, last) = match items(alloc, level, end, ts, behind, true, begun) {
         Ok(found) => found,
         Err(fault) => return Err(fault),

@@ -1,6 +1,7 @@
-use Rattle.std.proofs.Common.{◌∙◌, ◌+◌, ◌<◌, ◌∷◌, Some, length, drop, sym, ap, refl, subst, arith}
+use Rattle.std.proofs.Common.{◌∙◌, ◌+◌, ◌<◌, [], ◌∷◌, Some, length, drop, sym, ap, refl, subst, arith}
 use Rattle.std.proofs.lemmas.List.{drop_more, drop_all}
 use Rattle.shell_grammar.specs.Forms as form
+use Rattle.shell_grammar.specs.Trees as tree
 use Rattle.shell_parser.specs.Reads.{ItemsFrom, Caused, Gives, Stops}
 use Rattle.shell_grammar.specs.Grammar.{Script}
 use Rattle.shell_parser.proofs.Compounds as k
@@ -71,7 +72,7 @@ pub lists::members-returns-in-Err : goal.lists::members-returns-in-Err
 lists::members-returns-in-Err t c = s.passed_on (λ f r x. m.members_stop x) c.in-Err.fault c.in-Err.ensures
 
 pub lists::members-loop-now-init : goal.lists::members-loop-now-init
-lists::members-loop-now-init t c = (c.in-Ok.ensures.0, c.in-Ok.ensures.1, m.members_begin _ _ _ _ _ c.in_ok-none.ensures c.in_ok-trees.ensures c.in-Ok.ensures.2)
+lists::members-loop-now-init t c = (c.in-Ok.ensures.0, c.in-Ok.ensures.1, m.members_begin _ _ _ [] _ refl c.in_ok-trees.ensures c.in-Ok.ensures.2)
 
 pub lists::members-returns-then-not-starts : goal.lists::members-returns-then-not-starts
 lists::members-returns-then-not-starts t c = (omega (arith, c.loop-now.invariant.0, c.newlines-now.ensures.0), c.newlines-now.ensures.1, m.members_last _ c.args.ts.now c.loop-now.now _ c.loop-now.trees _ c.in_ok-seq_of.ensures c.loop-now.invariant.2 (sym c.separates.ensures.looks ∙ c.loop-now-test.true) c.newlines-now.ensures.2 (ap form.starts (sym c.look.ensures) ∙ sym c.starts.ensures ∙ c.if-not-starts.true))
@@ -94,7 +95,7 @@ pub lists::piped-returns-then-not-stands : goal.lists::piped-returns-then-not-st
 lists::piped-returns-then-not-stands t c = (c.in-Ok.ensures.0, c.in-Ok.ensures.1, m.piped_one _ _ _ c.in-Ok.ensures.2 (λ q. let t = c.stands.ensures.looks.1 q in let f = c.if-not-stands.true in cc))
 
 pub lists::piped-loop-now-init : goal.lists::piped-loop-now-init
-lists::piped-loop-now-init t c = (c.in-Ok.ensures.0, c.in-Ok.ensures.1, m.bars_begin _ _ _ _ _ c.in_ok-none.ensures c.in_ok-parts.ensures c.in-Ok.ensures.2)
+lists::piped-loop-now-init t c = (c.in-Ok.ensures.0, c.in-Ok.ensures.1, m.bars_begin _ _ _ [] _ refl c.in_ok-parts.ensures c.in-Ok.ensures.2)
 
 pub lists::piped-returns-in-Err-command : goal.lists::piped-returns-in-Err-command
 lists::piped-returns-in-Err-command t c = s.passed_on (λ f r x. m.bars_stops _ c.args.ts.now c.loop-now.now _ r f c.loop-now.parts c.loop-now.invariant.2 (c.stands-in-loop-now.ensures.looks.0 c.loop-now-test.true) c.newlines-now.ensures.2 x) c.in-Err-command.fault c.in-Err-command.ensures
@@ -158,7 +159,7 @@ pub conditionals::clause-returns-in-Err : goal.conditionals::clause-returns-in-E
 conditionals::clause-returns-in-Err t c = c.in-Err.ensures
 
 pub conditionals::clause-loop-arms-init : goal.conditionals::clause-loop-arms-init
-conditionals::clause-loop-arms-init t c = (c.in-Ok.ensures.0, c.in-Ok.ensures.1, k.arms_begin _ _ _ _ _ c.in_ok-none.ensures c.in_ok-arms.ensures c.in-Ok.ensures.2)
+conditionals::clause-loop-arms-init t c = (c.in-Ok.ensures.0, c.in-Ok.ensures.1, k.arms_begin _ _ _ [] _ refl c.in_ok-arms.ensures c.in-Ok.ensures.2)
 
 pub conditionals::clause-returns-in-Err-if_arm : goal.conditionals::clause-returns-in-Err-if_arm
 conditionals::clause-returns-in-Err-if_arm t c = s.passed_on (λ f r x. k.arms_stops _ c.args.ts.now c.loop-arms.now r f c.loop-arms.arms c.loop-arms.invariant.2 (c.stands.ensures.looks.0 c.loop-arms-test.true) x) c.in-Err-if_arm.fault c.in-Err-if_arm.ensures
@@ -317,13 +318,13 @@ pub cases::patterns-returns-in-Err : goal.cases::patterns-returns-in-Err
 cases::patterns-returns-in-Err t c = s.passed_sign (λ f r x. o.patterns_stop f x) c.in-Err.fault c.in-Err.ensures
 
 pub cases::patterns-loop-alloc-init : goal.cases::patterns-loop-alloc-init
-cases::patterns-loop-alloc-init t c = (omega (arith, c.in-Ok.ensures.0), c.in-Ok.ensures.1, o.patterns_begin _ _ _ _ _ c.in_ok-words.ensures c.in_ok-add.ensures.ok c.in-Ok.ensures.2)
+cases::patterns-loop-alloc-init t c = (omega (arith, c.in-Ok.ensures.0), c.in-Ok.ensures.1, o.patterns_begin _ _ _ [] _ refl c.in_ok-words.ensures c.in-Ok.ensures.2)
 
 pub cases::patterns-returns-in-Err-word : goal.cases::patterns-returns-in-Err-word
 cases::patterns-returns-in-Err-word t c = s.passed_sign (λ f r x. o.patterns_stops _ c.args.ts.now c.loop-alloc.now r f c.loop-alloc.words c.loop-alloc.invariant.2 (c.stands.ensures.looks.0 c.loop-alloc-test.true) x) c.in-Err-word.fault c.in-Err-word.ensures
 
 pub cases::patterns-loop-alloc-preserved : goal.cases::patterns-loop-alloc-preserved
-cases::patterns-loop-alloc-preserved t c = (omega (arith, c.loop-alloc.invariant.0, c.in-Ok-word.ensures.0), c.in-Ok-word.ensures.1, o.patterns_go _ c.args.ts.now c.loop-alloc.now _ _ c.loop-alloc.words _ c.loop-alloc.invariant.2 (c.stands.ensures.looks.0 c.loop-alloc-test.true) c.in-Ok-word.ensures.2 c.in_ok-add-2.ensures.ok)
+cases::patterns-loop-alloc-preserved t c = (omega (arith, c.loop-alloc.invariant.0, c.in-Ok-word.ensures.0), c.in-Ok-word.ensures.1, o.patterns_go _ c.args.ts.now c.loop-alloc.now _ _ c.loop-alloc.words _ c.loop-alloc.invariant.2 (c.stands.ensures.looks.0 c.loop-alloc-test.true) c.in-Ok-word.ensures.2 c.in_ok-add.ensures.ok)
 
 pub cases::patterns-returns : goal.cases::patterns-returns
 cases::patterns-returns t c = (c.loop-alloc.invariant.0, c.loop-alloc.invariant.1, o.patterns_end _ _ c.loop-alloc.words c.loop-alloc.invariant.2 (λ q. let t = c.stands.ensures.looks.1 q in let f = c.loop-alloc-test.false in cc))
@@ -343,13 +344,13 @@ pub simple_commands::named-returns-in-Err-definition : goal.simple_commands::nam
 simple_commands::named-returns-in-Err-definition t c = s.passed_on (λ f r x. i.define_stops _ f c.requires.form c.in-Ok.ensures.2 x) c.in-Err-definition.fault c.in-Err-definition.ensures
 
 pub simple_commands::named-returns-then-stands : goal.simple_commands::named-returns-then-stands
-simple_commands::named-returns-then-stands t c = (omega (arith, c.in-Ok.ensures.0, c.in-Ok-definition.ensures.0), c.in-Ok-definition.ensures.1, s.built c.in_ok-tree.ensures (i.define_ok _ _ _ _ c.place.ensures c.in_ok-name.ensures c.requires.form c.in-Ok.ensures.2 c.in-Ok-definition.ensures.2))
+simple_commands::named-returns-then-stands t c = (omega (arith, c.in-Ok.ensures.0, c.in-Ok-definition.ensures.0), c.in-Ok-definition.ensures.1, s.built c.in_ok-tree.ensures (i.define_ok _ _ _ _ c.place.ensures refl c.requires.form c.in-Ok.ensures.2 c.in-Ok-definition.ensures.2))
 
 pub simple_commands::named-returns-in-Err-items : goal.simple_commands::named-returns-in-Err-items
 simple_commands::named-returns-in-Err-items t c = s.passed_on (λ f r x. i.continue_stops _ f c.requires.form c.in-Ok.ensures.2 (λ q. let t = c.stands.ensures.looks.1 q in let f = c.if-stands.false in cc) x) c.in-Err-items.fault c.in-Err-items.ensures
 
 pub simple_commands::named-returns : goal.simple_commands::named-returns
-simple_commands::named-returns t c = (omega (arith, c.in-Ok.ensures.0, c.in-Ok-items.ensures.0), c.in-Ok-items.ensures.1, i.continue_ok _ _ _ _ _ _ c.in_ok-none.ensures c.in_ok-begun.ensures c.place-2.ensures c.in_ok-simple_of.ensures c.requires.form c.in-Ok.ensures.2 (λ q. let t = c.stands.ensures.looks.1 q in let f = c.if-stands.false in cc) c.in-Ok-items.ensures.2)
+simple_commands::named-returns t c = (omega (arith, c.in-Ok.ensures.0, c.in-Ok-items.ensures.0), c.in-Ok-items.ensures.1, i.continue_ok _ tree.no_items _ _ _ _ refl c.in_ok-begun.ensures c.place-2.ensures c.in_ok-simple_of.ensures c.requires.form c.in-Ok.ensures.2 (λ q. let t = c.stands.ensures.looks.1 q in let f = c.if-stands.false in cc) c.in-Ok-items.ensures.2)
 
 pub simple_commands::definition-returns-in-Err : goal.simple_commands::definition-returns-in-Err
 simple_commands::definition-returns-in-Err t c = s.passed_sign (λ f r x. i.definition_open f c.requires.looks x) c.in-Err.fault c.in-Err.ensures
