@@ -5,6 +5,8 @@
 #![tactic(auto)]
 
 mod case;
+mod cell;
+mod cells;
 mod clause;
 mod cuts;
 mod deciding;
@@ -15,6 +17,7 @@ mod read;
 mod rising;
 mod text;
 pub mod theorems;
+mod whole;
 
 pub use case::Case;
 pub use clause::{Clause, Literal, Var};
