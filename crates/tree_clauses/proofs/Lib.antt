@@ -7,6 +7,7 @@ pub mod CellValues
 pub mod CellEntries
 pub mod Passing
 pub mod MadeEdits
+pub mod EditSearch
 pub mod Decided
 pub mod Pieces
 pub mod ClauseLaw

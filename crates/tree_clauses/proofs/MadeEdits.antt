@@ -1,5 +1,6 @@
 -- The edits of a directory that a literal makes, gathered one by one.
-use Rattle.std.proofs.Common.{◌≡◌, ℕ, zero, suc, ◌+◌, ◌-◌, ◌<◌, ◌≤◌, List, [], ◌∷◌, ◌++◌, length, map, take, drop, get_or, Option, Some, Bor, refl, sym, ap, subst, ◌∙◌, arith}
+use Rattle.std.proofs.Common.{◌≡◌, ℕ, zero, suc, ◌+◌, ◌-◌, ◌<◌, ◌≤◌, List, [], ◌∷◌, ◌++◌, length, map, take, drop, get_or, Option, Some, Bor, refl, sym, ap, subst, ◌∙◌, arith, append-nil, append_assoc}
+use Rattle.std.proofs.lemmas.List.{map_push}
 use Rattle.feature_trees.specs.declared.shape.Entry.{Entry}
 use Rattle.feature_trees.specs.declared.value.Value.{Value}
 use Rattle.feature_trees.specs.Tree.{update}
@@ -10,6 +11,7 @@ use Rattle.tree_clauses.specs.MadeValues.{entry_value, replaced}
 use Rattle.tree_clauses.specs.Steps.{Known}
 use Rattle.tree_clauses.proofs.CellEntries.{edited_push}
 use Rattle.tree_clauses.proofs.Edited.{replaced_next}
+use Rattle.tree_clauses.proofs.EditSearch.{names_of_edits}
 use Rattle.tree_clauses.proofs.Passing.{rest_is}
 
 -- the names from a place on
@@ -43,3 +45,24 @@ edits_go values known y fs i d (l ∷ ls) n literal edits edit new all lt same w
     ∙ sym (replaced_next known y f (names_from (i + 1) fs) l ls old v first)
     ∙ ap (λ ns. replaced known y ns (l ∷ ls) old) (sym (names_at fs i d lt))
     ∙ inv es
+
+-- the names of the edits, and those that are left
+pub names_go : (fs : List (Bor (List ℕ))) (i : ℕ) (d : Bor (List ℕ)) (edits new : List Edit) (edit : Edit) → i < length fs → edit.name ≡ (get_or fs i d).now → new ≡ edits ++ edit ∷ []
+    → names_of_edits edits ++ names_from i fs ≡ names_from 0 fs → names_of_edits new ++ names_from (i + 1) fs ≡ names_from 0 fs
+names_go fs i d edits new edit lt named e inv =
+    let rest = names_from (i + 1) fs in
+    ap (λ all. names_of_edits all ++ rest) e
+    ∙ ap (λ ns. ns ++ rest) (map_push (λ (x : Edit). x.name) edits edit)
+    ∙ append_assoc (names_of_edits edits) (edit.name ∷ []) rest
+    ∙ ap (λ f. names_of_edits edits ++ f ∷ rest) named
+    ∙ ap (λ ns. names_of_edits edits ++ ns) (sym (names_at fs i d lt))
+    ∙ inv
+
+none_from : (fs : List (Bor (List ℕ))) (i : ℕ) → length fs ≤ i → names_from i fs ≡ []
+none_from [] zero le = refl
+none_from [] (suc i) le = refl
+none_from (f ∷ fs) zero le = absurd (omega arith)
+none_from (f ∷ fs) (suc i) le = none_from fs i (omega arith)
+
+pub names_end : (fs : List (Bor (List ℕ))) (i : ℕ) (edits : List Edit) → length fs ≤ i → names_of_edits edits ++ names_from i fs ≡ names_from 0 fs → names_of_edits edits ≡ names_from 0 fs
+names_end fs i edits le inv = sym (append-nil (names_of_edits edits)) ∙ ap (λ ns. names_of_edits edits ++ ns) (sym (none_from fs i le)) ∙ inv

@@ -8,6 +8,7 @@ use Rattle.feature_trees.specs.declared.value.Value.TheVariants as value
 use Rattle.feature_trees.specs.Sound.{sound}
 use Rattle.feature_trees.specs.Tree.{update, entries_of}
 use Rattle.tree_clauses.specs.declared.cell.Edit.{Edit}
+use Rattle.tree_clauses.specs.Solved.{Rising}
 use Rattle.tree_clauses.specs.declared.cell.Cell.{Cell}
 use Rattle.tree_clauses.specs.declared.cell.Cell.TheVariants as cell
 use Rattle.tree_clauses.specs.declared.cell.Found.{Found}
@@ -52,14 +53,15 @@ abbrev pub AreBelow : ℕ → List Edit → Type 0
 AreBelow place [] = Unit {0}
 AreBelow place (edit ∷ edits) = (edit.place < place) × AreBelow place edits
 
--- the cell speaks of places below this one alone
+-- the cell speaks of places below this one alone, and its edits stand in the order of their names
 abbrev pub IsBelow : ℕ → Cell → Type 0
 IsBelow place (cell.Seen v) = Unit {0}
 IsBelow place cell.Absent = Unit {0}
 IsBelow place cell.Reg = Unit {0}
 IsBelow place (cell.Link target) = Unit {0}
 IsBelow place cell.Empty = Unit {0}
-IsBelow place (cell.Edited from edits) = (from < place) × AreBelow place edits
+IsBelow place (cell.Edited from edits) =
+    (from < place) × AreBelow place edits × Rising (map (λ (edit : Edit). edit.name) edits)
 
 -- each cell speaks of the places before its own alone, where the first one's place is this
 abbrev pub AreInOrder : ℕ → List Cell → Type 0
@@ -166,7 +168,8 @@ IsEdit values f v None = v ≡ None
 IsEdit values f v (Some edit) =
     (v ≡ Some (value_at values edit.place)) × (edit.name ≡ f) × (edit.place < length values)
 
--- the edits, if any, are of places of values
-abbrev pub AreEditsWithin : List Value → Option (List Edit) → Type 0
-AreEditsWithin values None = Unit {0}
-AreEditsWithin values (Some edits) = AreBelow (length values) edits
+-- the edits, if any, are of places of values and have these names
+abbrev pub AreEditsOf : List Value → List (List ℕ) → Option (List Edit) → Type 0
+AreEditsOf values names None = Unit {0}
+AreEditsOf values names (Some edits) =
+    AreBelow (length values) edits × (map (λ (edit : Edit). edit.name) edits ≡ names)

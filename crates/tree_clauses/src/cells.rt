@@ -1,10 +1,12 @@
-ghost use Rattle.std.specs.Prelude.{◌≡◌, ℕ, List, ◌<◌, ◌↔◌, [], length, None, IsTrue};
+ghost use Rattle.std.specs.Prelude.{◌≡◌, ℕ, List, ◌<◌, ◌↔◌, [], length, map, slice_index_or, None, Some, IsTrue};
 ghost use Rattle.std.specs.Prelude.{IfOk, OnErr, MatchOption, MatchResult};
 ghost use Rattle.feature_trees.specs.declared.value.Value.{Value};
 ghost use Rattle.feature_trees.specs.declared.value.Value.TheVariants as value;
 ghost use Rattle.feature_trees.specs.declared.kind.Kind.TheVariants as kinds;
 ghost use Rattle.feature_trees.specs.Tree.{entry, entries_of, is_dir, kind_of};
-ghost use Rattle.tree_clauses.specs.Cells.{value_at, edited, cell_value, place_if, place_under, found_value};
+ghost use Rattle.tree_clauses.specs.declared.cell.Edit.{Edit as AnyEdit};
+ghost use Rattle.tree_clauses.specs.Solved.{Rising};
+ghost use Rattle.tree_clauses.specs.Cells.{value_at, edited, cell_value, place_under, found_value};
 ghost use Rattle.tree_clauses.specs.Cells.{AreBelow, IsBelow, AreSound, IsSeenSound, IsFoundBelow};
 ghost use Rattle.tree_clauses.specs.Cells.{made_value, whole_value, IsMadeBelow, IsPlaced, IsChain, IsSource};
 
@@ -353,27 +355,26 @@ fn seen_entry<'a>(value: &'a Value, f: &Name) -> Found<'a>
     }
 }
 
-// The place of the last edit of a name.
+// The place of the edit of a name.
 fn place_under(edits: &[Edit], f: &Name) -> Option<usize>
+    requires { Rising (map (λ edit. edit.name) edits.now) }
     ensures { result ≡ place_under None f.now edits.now }
 {
-    let mut found = None;
-    let mut left = edits;
-    while let [edit, rest @ ..] = left {
-        found = place_if(edit, f, found);
-        left = rest;
+    match edit_at(edits, f) {
+        Ok(at) => Some(edits[at].place),
+        Err(_) => None,
     }
-    found
 }
 
-// The place of an edit, where it is one of the name, else the place that was found.
-fn place_if(edit: &Edit, f: &Name, found: Option<usize>) -> Option<usize>
-    ensures { result ≡ place_if edit.now f.now found }
+// Where the edit of a name is, or where it would go, by halving.
+fn edit_at(edits: &[Edit], f: &Name) -> Result<usize, usize>
+    requires { Rising (map (λ edit. edit.name) edits.now) }
+    ensures { MatchResult result
+        (λ at. (at < length edits.now)
+        × ((d : AnyEdit) → place_under None f.now edits.now ≡ Some (slice_index_or edits.now at d).place))
+        (λ at. place_under None f.now edits.now ≡ None) }
 {
-    if edit.name.as_slice() == f.as_slice() {
-        return Some(edit.place);
-    }
-    found
+    edits.binary_search_by(|edit| edit.name.compare(f))
 }
 
 // Whether a kind is that of nothing.

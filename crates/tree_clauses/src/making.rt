@@ -3,7 +3,7 @@ ghost use Rattle.std.specs.Option.{option_map};
 ghost use Rattle.feature_trees.specs.declared.shape.Entry.{Entry};
 ghost use Rattle.feature_trees.specs.declared.value.Value.{Value as AnyValue};
 ghost use Rattle.tree_clauses.specs.declared.clause.Literal.TheVariants as Literal;
-ghost use Rattle.tree_clauses.specs.Cells.{edited, made_value, AreEditsWithin, IsEdit, IsMadeWithin};
+ghost use Rattle.tree_clauses.specs.Cells.{edited, made_value, AreEditsOf, IsEdit, IsMadeWithin};
 ghost use Rattle.tree_clauses.specs.KnownValues.{known_in};
 ghost use Rattle.tree_clauses.specs.MadeValues.{entry_value, replaced};
 ghost use Rattle.tree_clauses.specs.Solved.{BeginEmpty, IsNoFence};
@@ -125,7 +125,7 @@ fn edits(
         IfOk result (λ found. (es : AnyList Entry) →
         option_map (edited values.now.cells es) found
         ≡ replaced (known_in values.now) y.0 names literals.now es) }
-    ensures within { IfOk result (AreEditsWithin values.now.cells) }
+    ensures names { IfOk result (AreEditsOf values.now.cells (map (λ f. f.now) names.now)) }
 {
     let mut edits = List::new(alloc);
     let mut left = literals;

@@ -4,7 +4,7 @@ use Rattle.tree_clauses.specs.KnownValues.{known_in}
 use Rattle.tree_clauses.specs.MadeValues.{entry_value, replaced}
 use Rattle.tree_clauses.proofs.CellEntries.{below_push}
 use Rattle.tree_clauses.proofs.Decided.{none_left}
-use Rattle.tree_clauses.proofs.MadeEdits.{edits_go}
+use Rattle.tree_clauses.proofs.MadeEdits.{edits_go, names_go}
 use Rattle.tree_clauses.proofs.making.edits.Goals as goal
 
 pub returns-in-empty-clause-edits : goal.returns-in-empty-clause-edits
@@ -20,6 +20,7 @@ loop-f-preserved c =
     let made = subst (IsEdit cells _ (entry_value known c.args.y.0 _ c.literal-item.result)) c.in-Some.is c.in_ok-edit-in-len1-up.ensures in
     record {
       below = subst (AreBelow (length cells)) (sym c.in_ok-add-in-Some.ensures.ok) (below_push (length cells) c.loop-f.edits more c.loop-f.invariant.below made.2);
+      named = names_go c.args.names.now c.loop-f.f-index _ c.loop-f.edits c.add.new.self more c.loop-f-test.true made.1 c.in_ok-add-in-Some.ensures.ok c.loop-f.invariant.named;
       same = λ es. edits_go cells known c.args.y.0 c.args.names.now c.loop-f.f-index _ c.loop-f.left.now _ c.literal-item.result c.loop-f.edits more c.add.new.self
           (λ all. replaced known c.args.y.0 (map (λ f. f.now) c.args.names.now) c.args.literals.now all)
           c.loop-f-test.true refl c.in-len1-up.len_at_least c.literal-item.is made c.in_ok-add-in-Some.ensures.ok c.loop-f.invariant.same es;

@@ -1,6 +1,8 @@
 use Rattle.std.proofs.Common.{None, length, subst, sym, ap, ◌∙◌}
 use Rattle.feature_trees.specs.Tree.{entry}
 use Rattle.tree_clauses.specs.Cells.{cell_value, place_under, IsBelow}
+use Rattle.tree_clauses.specs.Solved.{Rising}
+use Rattle.tree_clauses.proofs.EditSearch.{names_of_edits}
 use Rattle.tree_clauses.proofs.CellEntries.{entry_found, entry_passed}
 use Rattle.tree_clauses.proofs.cells.Cells.entry_or_source.Goals as goal
 
@@ -32,3 +34,8 @@ returns-in-None-place_under c =
           (c.in-Some.ensures.2 ∙ ap (cell_value values) c.in-Edited.is)
           (sym (c.in-None-place_under.ensures ∙ ap (place_under None c.args.f.now) c.as_slice.ensures)),
     )
+
+pub place_under-requires : goal.place_under-requires
+place_under-requires c =
+    let below = subst (IsBelow c.args.at) c.in-Edited.is c.in-Some.ensures.1 in
+    subst (λ edits. Rising (names_of_edits edits)) (sym c.as_slice.ensures) below.2
