@@ -63,8 +63,8 @@ fn pass(
     }
 }
 
-// The variable that a literal can make known.
-fn subject(literal: &Literal) -> Var
+/// The variable that a literal can make known.
+pub fn subject(literal: &Literal) -> Var
     ensures { result.0 ≡ subject literal.now }
 {
     match literal {

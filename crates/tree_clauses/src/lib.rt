@@ -21,6 +21,6 @@ mod whole;
 
 pub use case::Case;
 pub use clause::{Clause, Literal, Var};
-pub use deciding::meets;
+pub use deciding::{meets, subject};
 pub use read::{ClauseFault, read_clause};
 pub use text::{print_clause, put_clause};
