@@ -84,6 +84,14 @@ fact_entry known x y f v w b p q h = (
       ),
 )
 
+pub fact_target : (known : Known) (x : Var) (target : List ℕ) (v : Value) (b : Bool) → Some v ≡ known x.0 → IsTrue b ↔ (v ≡ Link target) → FactIs known (L.Target x target) (Some b)
+fact_target known x target v b p h = (
+  λ numbers are. (are x.0).1 (known_there known x.0 v p),
+  λ g s agrees.
+      let at_x = agrees x.0 v (sym p) in
+      (λ t. at_x ∙ h.0 t, λ m. h.1 (sym at_x ∙ m)),
+)
+
 pub fact_fence : (known : Known) (x : Var) (names listed : List (List ℕ)) (v : Value) (b : Bool) → Some v ≡ known x.0 → listed ≡ names → IsTrue b ↔ ((f : List ℕ) → ¬ (Contains listed f) → entry v f ≡ Absent) → FactIs known (L.Fence x names) (Some b)
 fact_fence known x names listed v b p same h = (
   λ numbers are. (are x.0).1 (known_there known x.0 v p),

@@ -195,3 +195,10 @@ replaced_missing known numbers y (n ∷ names) (literal ∷ literals) es are e =
   | inr some ↦ replaced_missing known numbers y names literals (update es n some.0) are
       (then_missing (λ v. replaced known y names literals (update es n v)) (entry_value known y n literal) some.0 some.1 e) h.1
 ]
+
+-- one entry is replaced, or none can be
+pub replaced_next : (known : Known) (y : ℕ) (n : List ℕ) (names : List (List ℕ)) (literal : Literal) (literals : List Literal) (es : List Entry) (v : Value) → entry_value known y n literal ≡ Some v → replaced known y (n ∷ names) (literal ∷ literals) es ≡ replaced known y names literals (update es n v)
+replaced_next known y n names literal literals es v e = ap (option_and_then (λ w. replaced known y names literals (update es n w))) e
+
+pub replaced_never : (known : Known) (y : ℕ) (n : List ℕ) (names : List (List ℕ)) (literal : Literal) (literals : List Literal) (es : List Entry) → entry_value known y n literal ≡ None → replaced known y (n ∷ names) (literal ∷ literals) es ≡ None
+replaced_never known y n names literal literals es e = ap (option_and_then (λ w. replaced known y names literals (update es n w))) e

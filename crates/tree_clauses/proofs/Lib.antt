@@ -3,7 +3,11 @@ pub mod Values
 pub mod Orders
 pub mod Edited
 pub mod Valuations
+pub mod CellValues
+pub mod CellEntries
 pub mod Passing
+pub mod MadeEdits
+pub mod EditSearch
 pub mod Decided
 pub mod Pieces
 pub mod ClauseLaw

@@ -2,6 +2,7 @@
 use Rattle.std.proofs.Common.{◌≡◌, ℕ, ◌-◌, ◌<◌, ◌≤◌, ◌⊎◌, ◌↔◌, inl, inr, Bool, true, false, IsTrue, List, [], ◌∷◌, length, take, drop, get_or, Option, Some, None, refl, sym, ap, subst, ◌∙◌, arith, take_all}
 use Rattle.std.specs.List.{Contains}
 use Rattle.std.specs.Prelude.{◌&&◌}
+use Rattle.std.specs.Option.{option_map}
 use Rattle.std.proofs.lemmas.Bool.{and_parts, and_from}
 use Rattle.feature_trees.specs.declared.value.Value.{Value}
 use Rattle.feature_trees.specs.declared.value.Value.TheVariants.{Absent, Reg, Link, Other, Dir}
@@ -246,10 +247,24 @@ ends_known clause tree known holds v h e =
       ),
     )
 
+-- whether the value of the variable is a directory, where it is known
+pub ends_directory : (clause : Clause) (tree : Value) (known : Known) (holds b : Bool) → Going clause.start.0 tree clause.literals known [] holds → Some b ≡ option_map is_dir (known clause.now.0) → Decides clause tree (Some (holds && b))
+ends_directory clause tree known holds b h e = step (known clause.now.0) refl e
+  where
+    step : (k : Option Value) → known clause.now.0 ≡ k → Some b ≡ option_map is_dir k → Decides clause tree (Some (holds && b))
+    step None is q = let bad : Some b ≡ None = q in cc
+    step (Some v) is q =
+        let same : b ≡ is_dir v = cc in
+        subst (λ d. Decides clause tree (Some (holds && d))) (sym same) (ends_known clause tree known holds v h is)
+
+pub unknown_from : (k : Option Value) → None ≡ option_map is_dir k → k ≡ None
+unknown_from None e = refl
+unknown_from (Some v) e = let bad : None ≡ Some (is_dir v) = e in cc
+
 -- ---- at the places of a list that is gone through
 
 -- what is behind the first literal
-rest_is : (l : Literal) (ls : List Literal) → take (length (l ∷ ls) - 1) (drop 1 (l ∷ ls)) ≡ ls
+pub rest_is : (l : Literal) (ls : List Literal) → take (length (l ∷ ls) - 1) (drop 1 (l ∷ ls)) ≡ ls
 rest_is l ls = let e : length (l ∷ ls) - 1 ≡ length ls = omega arith in rw e (take_all (length ls) ls (omega arith))
 
 pub goes_on : (start : ℕ) (tree : Value) (all : List Literal) (known new : Known) (left : List Literal) (n : ℕ) (literal : Literal) (holds one : Bool) → n ≡ length left → 1 ≤ length left → literal ≡ get_or left 0 literal → Going start tree all known left holds → StepIs known new literal (take (n - 1) (drop 1 left)) (Some one) → Going start tree all new (take (n - 1) (drop 1 left)) (holds && one)

@@ -4,7 +4,8 @@ pub mod Solved
 pub mod Decides
 pub mod Steps
 pub mod MadeValues
-pub mod Held
+pub mod Cells
+pub mod KnownValues
 pub mod Cuts
 pub mod ClauseRead
 pub mod Plain

@@ -1,12 +1,11 @@
 ghost use Rattle.std.specs.Prelude.{◌≡◌, IfOk};
-ghost use Rattle.feature_trees.specs.Tree.{is_dir};
 ghost use Rattle.tree_clauses.specs.Decides.{Decides};
-ghost use Rattle.tree_clauses.specs.Held.{known_in};
+ghost use Rattle.tree_clauses.specs.KnownValues.{known_in};
 ghost use Rattle.tree_clauses.specs.Solved.{subject};
 ghost use Rattle.tree_clauses.specs.Steps.{StepIs};
 
 use crate::clause::{Clause, Literal, Var};
-use crate::facts::{is_directory, read_fact};
+use crate::facts::read_fact;
 use crate::known_values::Values;
 use crate::making::make;
 use feature_trees::Value;
@@ -29,8 +28,8 @@ pub fn meets(alloc: Global, clause: &Clause, tree: &Value) -> Result<Option<bool
         }
         left = rest;
     }
-    match values.get(clause.now) {
-        Some(now) => Ok(Some(holds & is_directory(now))),
+    match values.is_directory(clause.now) {
+        Some(directory) => Ok(Some(holds & directory)),
         None => Ok(None),
     }
 }
@@ -54,8 +53,8 @@ fn pass(
                 return Ok(None);
             }
             match make(alloc, values, literal, rest)? {
-                Some(value) => {
-                    values.give(y, value)?;
+                Some(made) => {
+                    values.give(y, made)?;
                     Ok(Some(true))
                 }
                 None => Ok(None),
@@ -64,8 +63,8 @@ fn pass(
     }
 }
 
-// The variable that a literal can make known.
-fn subject(literal: &Literal) -> Var
+/// The variable that a literal can make known.
+pub fn subject(literal: &Literal) -> Var
     ensures { result.0 ≡ subject literal.now }
 {
     match literal {

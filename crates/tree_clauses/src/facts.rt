@@ -2,12 +2,13 @@ ghost use Rattle.std.specs.Prelude.{◌≡◌, ◌≢◌, ◌↔◌, ℕ, List, 
 ghost use Rattle.feature_trees.specs.declared.kind.Kind.TheVariants as kind;
 ghost use Rattle.feature_trees.specs.declared.value.Value.TheVariants as value;
 ghost use Rattle.feature_trees.specs.Tree.{entry, entries_of, is_dir, kind_of};
-ghost use Rattle.tree_clauses.specs.Held.{known_in};
+ghost use Rattle.tree_clauses.specs.KnownValues.{known_in};
+ghost use Rattle.tree_clauses.specs.declared.clause.Literal.TheVariants as Literal;
 ghost use Rattle.tree_clauses.specs.Literals.{AgreesOutside};
 ghost use Rattle.tree_clauses.specs.MadeValues.{without};
 ghost use Rattle.tree_clauses.specs.Steps.{FactIs};
 
-use crate::clause::Literal;
+use crate::clause::{Literal, Var};
 use crate::known_values::Values;
 use feature_trees::{Entries, Value};
 use script_names::{Bytes, Copied, Memory, Name};
@@ -22,47 +23,55 @@ pub(crate) fn read_fact(
     ensures { IfOk result (λ found. FactIs (known_in values.now) literal.now found) }
 {
     match literal {
-        Literal::Entry(x, f, y) => match values.get(*x) {
-            Some(x) => match values.get(*y) {
-                Some(y) => Ok(Some(is_entry(x, f, y))),
-                None => Ok(None),
-            },
+        Literal::Entry(x, f, y) => {
+            let found = values.is_entry(alloc, *x, f, *y)?;
+            Ok(found)
+        }
+        Literal::Kind(x, kinds) => match values.kind(*x) {
+            Some(kind) => Ok(Some(kinds.has(kind))),
             None => Ok(None),
         },
-        Literal::Kind(x, kinds) => match values.get(*x) {
-            Some(x) => Ok(Some(kinds.has(x.kind()))),
+        Literal::Fence(x, names) => match values.whole(alloc, *x)? {
+            Some(x) => {
+                let fenced = is_fenced(alloc, x.value(), names.as_slice())?;
+                Ok(Some(fenced))
+            }
             None => Ok(None),
         },
-        Literal::Fence(x, names) => match values.get(*x) {
-            Some(x) => Ok(Some(is_fenced(alloc, x, names.as_slice())?)),
+        Literal::NotEmpty(x) => match values.whole(alloc, *x)? {
+            Some(x) => Ok(Some(has_entry(x.value()))),
             None => Ok(None),
         },
-        Literal::NotEmpty(x) => match values.get(*x) {
-            Some(x) => Ok(Some(has_entry(x))),
-            None => Ok(None),
-        },
-        Literal::Similar(y, names, x) => match values.get(*y) {
-            Some(y) => match values.get(*x) {
-                Some(x) => Ok(Some(is_similar(alloc, y, names.as_slice(), x)?)),
-                None => Ok(None),
-            },
-            None => Ok(None),
-        },
-        Literal::Target(x, target) => match values.get(*x) {
-            Some(x) => Ok(Some(is_link_to(x, target))),
-            None => Ok(None),
-        },
+        Literal::Similar(y, names, x) => {
+            let found = read_similar(alloc, values, *y, names.as_slice(), *x)?;
+            Ok(found)
+        }
+        Literal::Target(x, target) => Ok(values.is_link_to(*x, target)),
     }
 }
 
-// Whether the entry of a value under a name is another value.
-fn is_entry(x: &Value, f: &Name, y: &Value) -> bool
-    ensures { IsTrue result ↔ (y.now ≡ entry x.now f.now) }
+// Whether a known variable is a directory that has the entries of another under every name but these.
+fn read_similar(
+    alloc: Global,
+    values: &Values,
+    y: Var,
+    names: &[Name],
+    x: Var,
+) -> Result<Option<bool>, Memory>
+    ensures { IfOk result (λ found.
+        (listed : List (List ℕ)) → listed ≡ names.now
+        → FactIs (known_in values.now) (Literal.Similar y listed x) found) }
 {
-    match x.entry(f) {
-        Some(there) => y.equal(there),
-        None => matches!(y, Value::Absent),
-    }
+    let y = match values.whole(alloc, y)? {
+        Some(y) => y,
+        None => return Ok(None),
+    };
+    let x = match values.whole(alloc, x)? {
+        Some(x) => x,
+        None => return Ok(None),
+    };
+    let similar = is_similar(alloc, y.value(), names, x.value())?;
+    Ok(Some(similar))
 }
 
 // Whether a value has entries under these names alone.
@@ -117,8 +126,8 @@ fn same_entries(left: Entries, right: Entries) -> bool
     Value::Dir(left).equal(&Value::Dir(right))
 }
 
-// Whether a value is a link to a target.
-fn is_link_to(x: &Value, target: &Bytes) -> bool
+/// Whether a value is a link to a target.
+pub(crate) fn is_link_to(x: &Value, target: &Bytes) -> bool
     ensures { IsTrue result ↔ (x.now ≡ value.Link target.now) }
 {
     match x {

@@ -5,6 +5,8 @@
 #![tactic(auto)]
 
 mod case;
+mod cell;
+mod cells;
 mod clause;
 mod cuts;
 mod deciding;
@@ -15,9 +17,10 @@ mod read;
 mod rising;
 mod text;
 pub mod theorems;
+mod whole;
 
 pub use case::Case;
 pub use clause::{Clause, Literal, Var};
-pub use deciding::meets;
+pub use deciding::{meets, subject};
 pub use read::{ClauseFault, read_clause};
 pub use text::{print_clause, put_clause};

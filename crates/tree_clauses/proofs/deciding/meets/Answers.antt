@@ -1,9 +1,7 @@
-use Rattle.std.proofs.Common.{Some, true, refl, subst, sym}
-use Rattle.std.specs.Prelude.{◌&&◌}
-use Rattle.tree_clauses.specs.Decides.{Decides}
-use Rattle.tree_clauses.specs.Held.{known_in}
+use Rattle.std.proofs.Common.{true, refl, subst, sym}
+use Rattle.tree_clauses.specs.KnownValues.{known_in}
 use Rattle.tree_clauses.specs.Steps.{StepIs}
-use Rattle.tree_clauses.proofs.Passing.{Going, begins, goes_on, stops_at, at_end, ends_known, ends_unknown}
+use Rattle.tree_clauses.proofs.Passing.{Going, begins, goes_on, stops_at, at_end, ends_directory, ends_unknown, unknown_from}
 use Rattle.tree_clauses.proofs.deciding.meets.Goals as goal
 
 pub loop-left-init : goal.loop-left-init
@@ -27,17 +25,17 @@ returns-in-None c =
     refl c.in-len1-up.len_at_least c.literal-item.is c.loop-left.invariant
     (subst (StepIs _ _ _ _) c.in-None.is c.in_ok-one.ensures)
 
-pub returns-in-Some-get : goal.returns-in-Some-get
-returns-in-Some-get c =
+pub returns-in-Some-is_directory : goal.returns-in-Some-is_directory
+returns-in-Some-is_directory c =
     let clause = c.args.clause.now in
     let known = known_in c.loop-left.values in
     let going = at_end clause.start.0 c.args.tree.now clause.literals known c.loop-left.left.now c.loop-left.holds c.in_default.len_below c.loop-left.invariant in
-    subst (λ b. Decides clause c.args.tree.now (Some (c.loop-left.holds && b))) (sym c.is_directory.ensures)
-    (ends_known clause c.args.tree.now known c.loop-left.holds c.in-Some-get.now.now going (sym c.in-Some-get.ensures))
+    ends_directory clause c.args.tree.now known c.loop-left.holds c.in-Some-is_directory.directory going c.in-Some-is_directory.ensures
 
 pub returns : goal.returns
 returns c =
     let clause = c.args.clause.now in
     let known = known_in c.loop-left.values in
     let going = at_end clause.start.0 c.args.tree.now clause.literals known c.loop-left.left.now c.loop-left.holds c.in_default.len_below c.loop-left.invariant in
-    ends_unknown clause.start.0 c.args.tree.now clause.literals known c.loop-left.holds clause.now.0 going (sym c.in-None-get.ensures)
+    ends_unknown clause.start.0 c.args.tree.now clause.literals known c.loop-left.holds clause.now.0 going
+    (unknown_from (known clause.now.0) c.in-None-is_directory.ensures)

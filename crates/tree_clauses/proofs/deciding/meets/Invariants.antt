@@ -1,5 +1,5 @@
 use Rattle.std.proofs.Common.{length}
-use Rattle.tree_clauses.specs.Held.{known_in}
+use Rattle.tree_clauses.specs.KnownValues.{known_in}
 use Rattle.tree_clauses.proofs.Passing.{Going}
 use Rattle.tree_clauses.proofs.deciding.meets.Given as goal
 
