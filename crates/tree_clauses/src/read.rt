@@ -40,7 +40,7 @@ fn read_var(word: &[u8]) -> Option<Var>
 {
     match word {
         [] => None,
-        [_, digits @ ..] => match read_number(digits, 4294967295) {
+        [_, digits @ ..] => match read_number(digits, u32::MAX) {
             Some(n) => Some(Var(n)),
             None => None,
         },
