@@ -35,10 +35,11 @@ pub(crate) fn resolve(vars: &Shared<Variable>, kin: &Shared<Kin>, x: u32, f: &Na
         match here {
             None => return found_at(vars, end),
             Some(m) => {
-                if let Some(y) = value_under(definition_at(vars, m as usize), f) {
+                let definition = definition_at(vars, m as usize);
+                if let Some(y) = value_under(definition, f) {
                     return Found::Known(y);
                 }
-                here = behind(vars, kin, m, f);
+                here = behind(definition, kin, m, f);
             }
         }
     }

@@ -4,7 +4,7 @@
 ghost use Rattle.std.specs.Prelude.{◌≡◌, ℕ, ◌<◌, ◌≤◌, ◌↔◌, ◌++◌, [], ◌∷◌, IsTrue, List, length};
 ghost use Rattle.std.specs.Prelude.{MatchOption, IfOk, OnOk};
 ghost use Rattle.clause_solver.specs.declared.variable.Definition.TheVariants.{Child, Derived};
-ghost use Rattle.clause_solver.specs.Variables.{IsChild, var_at};
+ghost use Rattle.clause_solver.specs.Variables.{IsChild};
 ghost use Rattle.clause_solver.specs.Differences.{difference};
 ghost use Rattle.clause_solver.specs.Linked.{AreLinked, AreLinks, between, kin_at, link_at};
 ghost use Rattle.clause_solver.specs.Linked.{more_links, more_places, other_kin, with_entry};
@@ -70,14 +70,12 @@ pub(crate) fn link_at(links: &[Link], place: u32) -> Option<u32>
 }
 
 /// The place where a name differs first from that of an entry or of a derived directory.
-pub(crate) fn difference_at(vars: &Shared<Variable>, m: u32, f: &Name) -> u32
-    requires { m < length vars.now }
-    ensures is { (p : ℕ) (h : List ℕ) → (var_at vars.now m).definition ≡ Child p h → result ≡ difference f.now h }
-    ensures derived { (x y : ℕ) (h : List ℕ) → (var_at vars.now m).definition ≡ Derived x h y
-        → result ≡ difference f.now h }
+pub(crate) fn difference_from(definition: &Definition, f: &Name) -> u32
+    ensures is { (p : ℕ) (h : List ℕ) → definition.now ≡ Child p h → result ≡ difference f.now h }
+    ensures derived { (x y : ℕ) (h : List ℕ) → definition.now ≡ Derived x h y → result ≡ difference f.now h }
     ensures small { result ≤ 2295 }
 {
-    match definition_at(vars, m as usize) {
+    match definition {
         Definition::Child(_, h) => difference(f, h),
         Definition::Derived(_, h, _) => difference(f, h),
         _ => 0,
@@ -85,15 +83,14 @@ pub(crate) fn difference_at(vars: &Shared<Variable>, m: u32, f: &Name) -> u32
 }
 
 /// The entry, or the derived directory, to look at behind one that has another name.
-pub(crate) fn behind(vars: &Shared<Variable>, kin: &Shared<Kin>, m: u32, f: &Name) -> Option<u32>
-    requires inside { m < length vars.now }
-    requires counted { length kin.now ≡ length vars.now }
-    ensures entry { (p : ℕ) (h : List ℕ) → (var_at vars.now m).definition ≡ Child p h
+pub(crate) fn behind(definition: &Definition, kin: &Shared<Kin>, m: u32, f: &Name) -> Option<u32>
+    requires { m < length kin.now }
+    ensures entry { (p : ℕ) (h : List ℕ) → definition.now ≡ Child p h
         → result ≡ link_at (kin_at kin.now m).links (difference h f.now) }
-    ensures derived { (x y : ℕ) (h : List ℕ) → (var_at vars.now m).definition ≡ Derived x h y
+    ensures derived { (x y : ℕ) (h : List ℕ) → definition.now ≡ Derived x h y
         → result ≡ link_at (kin_at kin.now m).links (difference h f.now) }
 {
-    match definition_at(vars, m as usize) {
+    match definition {
         Definition::Child(_, h) => link_at(links_at(kin, m as usize), difference(h, f)),
         Definition::Derived(_, h, _) => link_at(links_at(kin, m as usize), difference(h, f)),
         _ => None,
@@ -111,10 +108,11 @@ pub(crate) fn find(vars: &Shared<Variable>, kin: &Shared<Kin>, of: u32, f: &Name
         match here {
             None => return None,
             Some(m) => {
-                if is_child(definition_at(vars, m as usize), of, f) {
+                let definition = definition_at(vars, m as usize);
+                if is_child(definition, of, f) {
                     return Some(m);
                 }
-                here = behind(vars, kin, m, f);
+                here = behind(definition, kin, m, f);
             }
         }
     }
@@ -198,7 +196,7 @@ pub(crate) fn links_of(
         match here {
             None => return Ok(links),
             Some(m) => {
-                let place = difference_at(vars, m, f);
+                let place = difference_from(definition_at(vars, m as usize), f);
                 let own = links_at(kin, m as usize);
                 from = add_links(&mut links, from, place, m, own)?;
                 here = link_at(own, place);

@@ -6,7 +6,7 @@ ghost use Rattle.clause_solver.specs.declared.variable.Definition.TheVariants.{D
 ghost use Rattle.clause_solver.specs.Linked.{AreLinked, AreLinksDown, kin_at, other_kin};
 
 use crate::children::{
-    add_between, add_links, difference_at, kin_at, link_at, links_at, other_kin,
+    add_between, add_links, difference_from, kin_at, link_at, links_at, other_kin,
 };
 use crate::kin::{Kin, Link};
 use crate::places::definition_at;
@@ -54,9 +54,10 @@ fn links_down(
         match here {
             None => return Ok(links),
             Some(m) => {
-                let place = difference_at(vars, m, f);
+                let definition = definition_at(vars, m as usize);
+                let place = difference_from(definition, f);
                 let own = links_at(kin, m as usize);
-                if let Some(_) = value_under(definition_at(vars, m as usize), f) {
+                if let Some(_) = value_under(definition, f) {
                     add_between(&mut links, own, from, place + 1)?;
                     return Ok(links);
                 }

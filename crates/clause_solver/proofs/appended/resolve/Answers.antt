@@ -23,7 +23,7 @@ returns-in-Some-value_under c =
     let m = c.in-Some.m in
     let here : IsFollowed vars kin c.args.x c.args.f.now (Some m) = subst (IsFollowed vars kin c.args.x c.args.f.now) c.in-Some.is c.directories.invariant in
     let put = c.in-Some-value_under.ensures in
-    followed_known vars kin c.requires.linked c.args.x c.args.f.now m here c.in-Some-value_under.y c.requires.order (put.0, sym c.definition_at.ensures ∙ put.1)
+    followed_known vars kin c.requires.linked c.args.x c.args.f.now m here c.in-Some-value_under.y c.requires.order (put.0, sym c.definition_at-definition.ensures ∙ put.1)
 
 pub directories-smaller : goal.directories-smaller
 directories-smaller c =
@@ -33,7 +33,7 @@ directories-smaller c =
     let here : IsFollowed vars kin c.args.x c.args.f.now (Some m) = subst (IsFollowed vars kin c.args.x c.args.f.now) c.in-Some.is c.directories.invariant in
     let name = name_followed vars kin c.requires.linked c.args.x c.args.f.now m here in
     let e : c.behind-here.result ≡ link_at (kin_at kin m).links (difference name c.args.f.now) =
-    c.behind-here.ensures.derived _ _ name (is_followed vars kin c.requires.linked c.args.x c.args.f.now m here) in
+    c.behind-here.ensures.derived here.down.1.0 here.down.1.1 name (c.definition_at-definition.ensures ∙ is_followed vars kin c.requires.linked c.args.x c.args.f.now m here) in
     rw (e, c.in-Some.is) (followed_falls vars kin c.requires.linked c.args.x c.args.f.now m here)
 
 pub directories-preserved : goal.directories-preserved
@@ -45,8 +45,8 @@ directories-preserved c =
     let name = name_followed vars kin c.requires.linked c.args.x c.args.f.now m here in
     let is = is_followed vars kin c.requires.linked c.args.x c.args.f.now m here in
     let e : c.behind-here.result ≡ link_at (kin_at kin m).links (difference name c.args.f.now) =
-    c.behind-here.ensures.derived _ _ name is in
+    c.behind-here.ensures.derived here.down.1.0 here.down.1.1 name (c.definition_at-definition.ensures ∙ is) in
     let none = c.in_default.ensures in
     let other : c.args.f.now ≢ name = λ q.
-    none here.down.1.0 here.down.1.1 (c.definition_at.ensures ∙ is ∙ ap (λ g. Derived here.down.1.0 g here.down.1.1) (sym q)) in
+    none here.down.1.0 here.down.1.1 (c.definition_at-definition.ensures ∙ is ∙ ap (λ g. Derived here.down.1.0 g here.down.1.1) (sym q)) in
     rw e (followed_on vars kin c.requires.linked c.args.x c.args.f.now m here other)

@@ -18,9 +18,9 @@ returns-in-Some-value_under c =
     let known : AreKnownDown vars kin c.args.x c.args.f.now c.directories.links c.directories.from (Some m) = subst (AreKnownDown vars kin c.args.x c.args.f.now c.directories.links c.directories.from) c.in-Some.is c.directories.invariant in
     let name = name_known vars kin c.args.x c.args.f.now c.requires.linked c.directories.links c.directories.from m known in
     let is = is_known vars kin c.args.x c.args.f.now c.requires.linked c.directories.links c.directories.from m known in
-    let place : c.difference_at-place.result ≡ difference c.args.f.now name = c.difference_at-place.ensures.derived _ _ name is in
+    let place : c.difference_from-place.result ≡ difference c.args.f.now name = c.difference_from-place.ensures.derived known.entry.1.0 known.entry.1.1 name (c.definition_at-definition.ensures ∙ is) in
     let here = c.in-Some-value_under.ensures in
-    let put : Derived _ name _ ≡ Derived here.0 c.args.f.now c.in-Some-value_under.field-0 = sym is ∙ sym c.definition_at.ensures ∙ here.1 in
+    let put : Derived _ name _ ≡ Derived here.0 c.args.f.now c.in-Some-value_under.field-0 = sym is ∙ sym c.definition_at-definition.ensures ∙ here.1 in
     let same : name ≡ c.args.f.now = cc in
     let links : c.add_between.new.links ≡ c.directories.links ++ between c.directories.from (difference c.args.f.now name + 1) (kin_at kin m).links =
     rw (c.links_at-own.ensures, place) at c.in_ok-add_between-in-Some.ensures in
@@ -34,7 +34,7 @@ directories-smaller c =
     let known : AreKnownDown vars kin c.args.x c.args.f.now c.directories.links c.directories.from (Some m) = subst (AreKnownDown vars kin c.args.x c.args.f.now c.directories.links c.directories.from) c.in-Some.is c.directories.invariant in
     let name = name_known vars kin c.args.x c.args.f.now c.requires.linked c.directories.links c.directories.from m known in
     let is = is_known vars kin c.args.x c.args.f.now c.requires.linked c.directories.links c.directories.from m known in
-    let place : c.difference_at-place.result ≡ difference c.args.f.now name = c.difference_at-place.ensures.derived _ _ name is in
+    let place : c.difference_from-place.result ≡ difference c.args.f.now name = c.difference_from-place.ensures.derived known.entry.1.0 known.entry.1.1 name (c.definition_at-definition.ensures ∙ is) in
     let e : c.link_at-here.result ≡ link_at (kin_at kin m).links (difference c.args.f.now name) = rw (c.links_at-own.ensures, place) at c.link_at-here.ensures in
     rw (e, c.in-Some.is) (known_down_falls vars kin c.args.x c.args.f.now c.requires.linked c.directories.links c.directories.from m known)
 
@@ -46,7 +46,7 @@ directories-preserved c =
     let known : AreKnownDown vars kin c.args.x c.args.f.now c.directories.links c.directories.from (Some m) = subst (AreKnownDown vars kin c.args.x c.args.f.now c.directories.links c.directories.from) c.in-Some.is c.directories.invariant in
     let name = name_known vars kin c.args.x c.args.f.now c.requires.linked c.directories.links c.directories.from m known in
     let is = is_known vars kin c.args.x c.args.f.now c.requires.linked c.directories.links c.directories.from m known in
-    let place : c.difference_at-place.result ≡ difference c.args.f.now name = c.difference_at-place.ensures.derived _ _ name is in
+    let place : c.difference_from-place.result ≡ difference c.args.f.now name = c.difference_from-place.ensures.derived known.entry.1.0 known.entry.1.1 name (c.definition_at-definition.ensures ∙ is) in
     let e : c.link_at-here.result ≡ link_at (kin_at kin m).links (difference c.args.f.now name) = rw (c.links_at-own.ensures, place) at c.link_at-here.ensures in
     let links : c.add_links.new.links ≡ more_links c.directories.links c.directories.from (difference c.args.f.now name) m (kin_at kin m).links =
     rw (c.links_at-own.ensures, place) at c.in_ok-from-in-Some.ensures.links in
