@@ -74,3 +74,12 @@ difference_turned (a ∷ f) (b ∷ g) = elim (eq_cases a b) [
 -- the second differs earlier from the first than the third
 pub differs_past : (f h g : List ℕ) → difference f h < difference f g → difference h g ≡ difference f h
 differs_past f h g w = difference_turned g h ∙ differs_below f g h w
+
+-- no name differs from another behind that one's end
+pub differs_most : (f g : List ℕ) → difference f g ≤ difference f f
+differs_most [] g = omega arith
+differs_most (a ∷ f) [] = omega arith
+differs_most (a ∷ f) (b ∷ g) = rw (same_yes a a refl) (elim (eq_cases a b) [
+  | inl e ↦ rw e.1 (let w = differs_most f g in omega (arith, w))
+  | inr ne ↦ rw ne.1 (let w = bits_most 8 a b in omega (arith, w))
+])

@@ -13,20 +13,20 @@ use Rattle.clause_solver.proofs.Differences.{differs_below, differs_past}
 use Rattle.clause_solver.proofs.Links.{below_or, left_of}
 use Rattle.clause_solver.proofs.Names.{nat_cases, bool_cases, eq_cases, same_yes}
 
-option_cases : (o : Option ℕ) → ((m : ℕ) × (o ≡ Some m)) ⊎ (o ≡ None)
+pub option_cases : (o : Option ℕ) → ((m : ℕ) × (o ≡ Some m)) ⊎ (o ≡ None)
 option_cases None = inr refl
 option_cases (Some m) = inl (m, refl)
 
 -- ---- links for a place of difference
 
-at_first : (some more : List Link) (place m : ℕ) → link_at some place ≡ Some m → link_at (some ++ more) place ≡ Some m
+pub at_first : (some more : List Link) (place m : ℕ) → link_at some place ≡ Some m → link_at (some ++ more) place ≡ Some m
 at_first [] more place m e = cc
 at_first (link ∷ some) more place m e = elim (eq_cases link.place place) [
   | inl is ↦ rw is.1 (rw is.1 at e)
   | inr other ↦ rw other.1 (at_first some more place m (rw other.1 at e))
 ]
 
-at_next : (some more : List Link) (place : ℕ) → link_at some place ≡ None → link_at (some ++ more) place ≡ link_at more place
+pub at_next : (some more : List Link) (place : ℕ) → link_at some place ≡ None → link_at (some ++ more) place ≡ link_at more place
 at_next [] more place e = refl
 at_next (link ∷ some) more place e = elim (eq_cases link.place place) [
   | inl is ↦ let bad : Some link.to ≡ None = rw is.1 at e in cc
@@ -45,7 +45,7 @@ outside low high place out = elim out [
   | inr w ↦ let b : nat_lt place high ≡ false = grind (arith, nat_tests, w) in elim (bool_cases (nat_le low place)) [ inl t ↦ rw (t, b) refl | inr t ↦ rw t refl ]
 ]
 
-between_at : (low high place : ℕ) (links : List Link) → low ≤ place → place < high → link_at (between low high links) place ≡ link_at links place
+pub between_at : (low high place : ℕ) (links : List Link) → low ≤ place → place < high → link_at (between low high links) place ≡ link_at links place
 between_at low high place [] l h = refl
 between_at low high place (link ∷ links) l h = elim (eq_cases link.place place) [
   | inl e ↦
@@ -57,7 +57,7 @@ between_at low high place (link ∷ links) l h = elim (eq_cases link.place place
   ]
 ]
 
-not_between : (low high place : ℕ) (links : List Link) → (place < low) ⊎ (high ≤ place) → link_at (between low high links) place ≡ None
+pub not_between : (low high place : ℕ) (links : List Link) → (place < low) ⊎ (high ≤ place) → link_at (between low high links) place ≡ None
 not_between low high place [] out = refl
 not_between low high place (link ∷ links) out = elim (eq_cases link.place place) [
   | inl e ↦

@@ -1,39 +1,20 @@
--- An entry is followed through the definitions, and where it is found.
-use Rattle.std.proofs.Common.{◌≡◌, ◌≢◌, ℕ, ◌+◌, ◌<◌, List, [], ◌∷◌, ◌++◌, length, take, refl, sym, ap, ◌∙◌, arith}
+-- Where an entry is found that was followed through the definitions.
+use Rattle.std.proofs.Common.{◌≡◌, ℕ, ◌+◌, ◌<◌, List, [], ◌∷◌, ◌++◌, length, take, refl, sym, ap, ◌∙◌, arith}
 use Rattle.std.proofs.lemmas.List.{take_all, get_or-take}
 use Rattle.feature_trees.specs.declared.value.Value.TheVariants as value
 use Rattle.feature_trees.specs.Tree.{entry}
 use Rattle.clause_solver.specs.declared.appended.Found.TheVariants.{Known, Nothing, At}
 use Rattle.clause_solver.specs.declared.variable.MadeValue.TheVariants as made
 use Rattle.clause_solver.specs.declared.variable.Definition.{Definition}
-use Rattle.clause_solver.specs.declared.variable.Definition.TheVariants.{Child, Derived, Made}
+use Rattle.clause_solver.specs.declared.variable.Definition.TheVariants.{Child, Made}
 use Rattle.clause_solver.specs.declared.variable.Variable.{Variable}
 use Rattle.tree_clauses.specs.Literals.{Valuation, value_of_variable, IsSound}
 use Rattle.clause_solver.specs.Stands.{Seen, Extends, HasEntry}
-use Rattle.clause_solver.specs.Variables.{var_at, AllFit, Earlier, Ordered, IsChild, defined}
-use Rattle.clause_solver.specs.Appends.{SameEntry, LeadsTo}
+use Rattle.clause_solver.specs.Variables.{AllFit, Earlier, Ordered, IsChild, defined}
+use Rattle.clause_solver.specs.Appends.{LeadsTo}
 use Rattle.clause_solver.specs.Fresh.{fresh}
-use Rattle.tree_clauses.proofs.Values.{derived_same, derived_other}
-use Rattle.clause_solver.proofs.Pairs.{sound_at, fits_from}
+use Rattle.clause_solver.proofs.Pairs.{fits_from}
 use Rattle.clause_solver.proofs.OneMore.{seen_of, longer, append_down, sound_take}
-
-module _ (vars : List Variable) (order : Ordered vars) (x here of y : ℕ) (name f : List ℕ) (inside : here < length vars) (e : (var_at vars here).definition ≡ Derived of name y) (same : SameEntry vars x f here) where
-  pub leads_here : name ≡ f → LeadsTo vars x f (Known y)
-  leads_here q =
-      let before = rw e at (order.earlier here inside) in (
-        omega (arith, before.1),
-        λ g s fits.
-            let at_here : value_of_variable g here ≡ defined g (Derived of name y) = (fits here inside).is ∙ ap (defined g) e in
-            same g s fits ∙ ap (λ v. entry v f) at_here ∙ ap (entry (defined g (Derived of name y))) (sym q) ∙ derived_same (value_of_variable g of) (value_of_variable g y) name (sound_at g s of),
-      )
-
-  pub leads_on : name ≢ f → SameEntry vars x f of
-  leads_on ne g s fits =
-      let at_here : value_of_variable g here ≡ defined g (Derived of name y) = (fits here inside).is ∙ ap (defined g) e in
-      same g s fits ∙ ap (λ v. entry v f) at_here ∙ derived_other (value_of_variable g of) (value_of_variable g y) name f (sound_at g s of) ne
-
-  pub leads_before : (of < here) × (of < length vars)
-  leads_before = let before = rw e at (order.earlier here inside) in (before.0, omega (arith, before.0))
 
 -- a store that is as before extends itself
 pub extends_itself : (s : Seen) → Extends s s

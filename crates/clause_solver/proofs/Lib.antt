@@ -10,8 +10,10 @@ pub mod Grown
 pub mod NewNames
 pub mod Alive
 pub mod Leads
+pub mod Downward
 pub mod Links
 pub mod Indexing
+pub mod Following
 pub mod Settles
 pub mod InOrder
 pub mod Covering

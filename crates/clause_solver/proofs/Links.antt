@@ -10,9 +10,8 @@ use Rattle.clause_solver.specs.declared.variable.Definition.TheVariants.{Start, 
 use Rattle.clause_solver.specs.declared.variable.Variable.{Variable}
 use Rattle.clause_solver.specs.Variables.{var_at, no_variable, limited, Earlier, Ordered}
 use Rattle.clause_solver.specs.Fresh.{fresh}
-use Rattle.clause_solver.specs.Appends.{Within}
-use Rattle.clause_solver.specs.Builds.{ParentBelow}
-use Rattle.clause_solver.specs.Linked.{no_kin, kin_at, link_at, IsChildOf, IsLastChild, LeadsToEntry, AreLinks, AreLinked, with_entry, WithVariable}
+use Rattle.clause_solver.specs.Linked.{other_kin, no_kin, kin_at, link_at, IsChildOf, IsLastChild, LeadsToEntry, AreLinks, IsEnd, AreLinkedDown, AreLinked, with_entry, WithVariable}
+use Rattle.clause_solver.proofs.Downward.{IsKept, same_down, ended_down, derived_down, ensured_down, first_down}
 use Rattle.clause_solver.proofs.Names.{nat_cases, last_cases}
 use Rattle.clause_solver.proofs.OneMore.{longer, old_at, new_at}
 use Rattle.clause_solver.proofs.Limited.{limited_definition}
@@ -58,6 +57,7 @@ same_linked vars new kin long same linked = record {
   youngest = λ p w. rw long (same_last vars new p (length vars) _ (λ i b. same i) (linked.youngest p (rw long at w)));
   older = λ i p w child. same_last vars new p i _ (λ j b. same j) (linked.older i p (rw long at w) (child.0, sym (same i) ∙ child.1));
   links = λ i p f w e. same_links vars new p i f _ (λ j b. same j) (linked.links i p f (rw long at w) (sym (same i) ∙ e));
+  below = same_down vars new kin long same linked.below;
 }
 
 pub limited_linked : (vars : List Variable) (kin : List Kin) (x : ℕ) (k : Kinds) → x < length vars → AreLinked vars kin → AreLinked (limited vars x k) kin
@@ -114,8 +114,10 @@ module _ (vars : List Variable) (kin new : List Kin) (order : Ordered vars) (lin
       → ((p : ℕ) → ((f : List ℕ) × (d ≡ Child p f)) ⊎ ((f : List ℕ) → d ≡ Child p f → ⊥))
       → ((i : ℕ) → i < length vars → (kin_at new i).links ≡ (kin_at kin i).links)
       → ((p : ℕ) (f : List ℕ) → d ≡ Child p f → AreLinks vars p f (length vars) (kin_at new (length vars)).links)
+      → AreLinkedDown (vars ++ fresh d ∷ []) new
       → AreLinked (vars ++ fresh d ∷ []) new
-  more_linked long kept_young its_young none_young kept_old its_old cases kept_links its_links = record {
+  more_linked long kept_young its_young none_young kept_old its_old cases kept_links its_links down = record {
+    below = down;
     counted = long ∙ ap (λ n. n + 1) linked.counted ∙ sym (longer vars order d before);
     youngest = λ p w'.
         let w : p < length vars + 1 = rw longer at w' in
@@ -147,27 +149,34 @@ module _ (vars : List Variable) (kin new : List Kin) (order : Ordered vars) (lin
         ];
   }
 
-  other_linked : ((p : ℕ) (f : List ℕ) → d ≡ Child p f → ⊥) → new ≡ kin ++ no_kin ∷ [] → AreLinked (vars ++ fresh d ∷ []) new
-  other_linked none is =
-      let count = linked.counted in
-      let seam : kin_at new (length vars) ≡ no_kin = rw (is, ← count) (get_or-append_seam kin no_kin [] no_kin) in
-      let old : (i : ℕ) → i < length vars → kin_at new i ≡ kin_at kin i = λ i w. let w' : i < length kin = rw count w in rw is (get_or_append_left kin (no_kin ∷ []) no_kin i w') in
-      more_linked
-      (rw is (length-append kin (no_kin ∷ [])))
-      (λ p w other. ap (λ (k : Kin). k.youngest) (old p w))
-      (λ p f e. absurd (none p f e))
-      (ap (λ (k : Kin). k.youngest) seam)
-      (λ i w. ap (λ (k : Kin). k.older) (old i w))
-      (λ p f e. absurd (none p f e))
-      (λ p. inr (none p))
-      (λ i w. ap (λ (k : Kin). k.links) (old i w))
-      (λ p f e. absurd (none p f e))
+  module _ (own : Kin) (is : new ≡ kin ++ own ∷ []) where
+    other_seam : kin_at new (length vars) ≡ own
+    other_seam = let count = linked.counted in rw (is, ← count) (get_or-append_seam kin own [] no_kin)
+
+    other_old : (i : ℕ) → i < length vars → kin_at new i ≡ kin_at kin i
+    other_old i w = let w' : i < length kin = rw linked.counted w in rw is (get_or_append_left kin (own ∷ []) no_kin i w')
+
+    other_kept : (i : ℕ) → i < length vars → IsKept (kin_at kin i) (kin_at new i)
+    other_kept i w = let e = other_old i w in (ap (λ (k : Kin). k.end) e, ap (λ (k : Kin). k.top) e, ap (λ (k : Kin). k.links) e)
+
+    other_linked : ((p : ℕ) (f : List ℕ) → d ≡ Child p f → ⊥) → own.youngest ≡ None → AreLinkedDown (vars ++ fresh d ∷ []) new → AreLinked (vars ++ fresh d ∷ []) new
+    other_linked none young down = more_linked
+        (rw is (length-append kin (own ∷ [])))
+        (λ p w other. ap (λ (k : Kin). k.youngest) (other_old p w))
+        (λ p f e. absurd (none p f e))
+        (ap (λ (k : Kin). k.youngest) other_seam ∙ young)
+        (λ i w. ap (λ (k : Kin). k.older) (other_old i w))
+        (λ p f e. absurd (none p f e))
+        (λ p. inr (none p))
+        (λ i w. ap (λ (k : Kin). k.links) (other_old i w))
+        (λ p f e. absurd (none p f e))
+        down
 
   entry_linked : (p : ℕ) (f : List ℕ) (links : List Link) → d ≡ Child p f → p < length vars → AreLinks vars p f (length vars) links → new ≡ with_entry kin p links → AreLinked (vars ++ fresh d ∷ []) new
   entry_linked p f links e inside its is =
       let count = linked.counted in
       let changed : Kin = record (kin_at kin p) { youngest = Some (length kin) } in
-      let entry : Kin = record { youngest = None; older = (kin_at kin p).youngest; links = links } in
+      let entry : Kin = record (other_kin links None (length kin)) { older = (kin_at kin p).youngest } in
       let p_in : p < length kin = rw count inside in
       let long_set : length (set kin p changed) ≡ length vars = length-set kin p changed ∙ count in
       let seam : kin_at new (length vars) ≡ entry = rw (is, ← long_set) (get_or-append_seam (set kin p changed) entry [] no_kin) in
@@ -207,25 +216,51 @@ module _ (vars : List Variable) (kin new : List Kin) (order : Ordered vars) (lin
       let ep : p ≡ q = cc in
       let ef : f ≡ g = cc in
       rw (← ep, ← ef, seam) its)
+      (ended_down vars kin new order linked.below d before entry seam
+      (λ i w. elim (nat_cases i p) [
+        | inl same ↦
+            let k : kin_at new i ≡ changed = ap (kin_at new) same ∙ here in
+            let old : kin_at kin p ≡ kin_at kin i = ap (kin_at kin) (sym same) in (
+              ap (λ (k : Kin). k.end) k ∙ ap (λ (k : Kin). k.end) old,
+              ap (λ (k : Kin). k.top) k ∙ ap (λ (k : Kin). k.top) old,
+              ap (λ (k : Kin). k.links) k ∙ ap (λ (k : Kin). k.links) old,
+            )
+        | inr ne ↦ let k = there i w ne in (ap (λ (k : Kin). k.end) k, ap (λ (k : Kin). k.top) k, ap (λ (k : Kin). k.links) k)
+      ])
+      count refl (subst IsEnd (sym e) tt)
+      (λ x y g q. let bad : Child p f ≡ Derived x g y = sym e ∙ q in absurd (cc)))
 
 pub variable_linked : (vars : List Variable) (kin new : List Kin) → Ordered vars → AreLinked vars kin → (d : Definition) → Earlier vars (length vars) d → WithVariable vars kin d new → AreLinked (vars ++ fresh d ∷ []) new
-variable_linked vars kin new order linked Start before is = other_linked vars kin new order linked Start before (λ p f e. let q : Start ≡ Child p f = e in cc) is
+variable_linked vars kin new order linked Start before is =
+    let own = other_kin [] None (length kin) in
+    other_linked vars kin new order linked Start before own is (λ p f e. let q : Start ≡ Child p f = e in cc) refl
+    (ended_down vars kin new order linked.below Start before own (other_seam vars kin new order linked Start before own is) (other_kept vars kin new order linked Start before own is) linked.counted refl tt (λ x y f e. let q : Start ≡ Derived x f y = e in cc))
 variable_linked vars kin new order linked (Child p f) before is = entry_linked vars kin new order linked (Child p f) before p f is.0 refl before.0 is.1 is.2
-variable_linked vars kin new order linked (Derived x f y) before is = other_linked vars kin new order linked (Derived x f y) before (λ p g e. let q : Derived x f y ≡ Child p g = e in cc) is
-variable_linked vars kin new order linked (Ensured x) before is = other_linked vars kin new order linked (Ensured x) before (λ p f e. let q : Ensured x ≡ Child p f = e in cc) is
-variable_linked vars kin new order linked (Made m) before is = other_linked vars kin new order linked (Made m) before (λ p f e. let q : Made m ≡ Child p f = e in cc) is
-
--- the place of a definition stands below the variables' count
-pub parent_below : (vars : List Variable) (d : Definition) → Within vars d → ParentBelow (length vars) d
-parent_below vars Start w = w
-parent_below vars (Child p f) w = w
-parent_below vars (Derived x f y) w = w
-parent_below vars (Ensured x) w = w
-parent_below vars (Made m) w = w
+variable_linked vars kin new order linked (Derived x f y) before is =
+    let own = other_kin is.0 (Some (length kin)) (kin_at kin x).end in
+    let d = Derived x f y in
+    other_linked vars kin new order linked d before own is.2 (λ p g e. let q : Derived x f y ≡ Child p g = e in cc) refl
+    (derived_down vars kin new order linked.below d before own (other_seam vars kin new order linked d before own is.2) (other_kept vars kin new order linked d before own is.2) x y f refl before.0 refl (ap Some linked.counted) is.1)
+variable_linked vars kin new order linked (Ensured x) before is =
+    let own = other_kin [] (kin_at kin x).top (kin_at kin x).end in
+    let d = Ensured x in
+    other_linked vars kin new order linked d before own is (λ p f e. let q : Ensured x ≡ Child p f = e in cc) refl
+    (ensured_down vars kin new order linked.below d before own (other_seam vars kin new order linked d before own is) (other_kept vars kin new order linked d before own is) x refl before refl refl)
+variable_linked vars kin new order linked (Made m) before is =
+    let own = other_kin [] None (length kin) in
+    let d = Made m in
+    other_linked vars kin new order linked d before own is (λ p f e. let q : Made m ≡ Child p f = e in cc) refl
+    (ended_down vars kin new order linked.below d before own (other_seam vars kin new order linked d before own is) (other_kept vars kin new order linked d before own is) linked.counted refl tt (λ x y f e. let q : Made m ≡ Derived x f y = e in cc))
 
 -- the start tree alone has no entry
 pub first_linked : (v : Variable) → v.definition ≡ Start → AreLinked (v ∷ []) (no_kin ∷ [])
-first_linked v e = record { counted = refl; youngest = young; older = old; links = λ i p f w child. absurd (none p i w (f, child)) }
+first_linked v e = record {
+  counted = refl;
+  youngest = young;
+  older = old;
+  links = λ i p f w child. absurd (none p i w (f, child));
+  below = first_down v e;
+}
   where
     none : (p i : ℕ) → i < 1 → IsChildOf (v ∷ []) p i → ⊥
     none p zero w child = let q : Start ≡ Child p child.0 = sym e ∙ child.1 in cc

@@ -29,8 +29,8 @@ pub record IsAppended (vars : List Variable) (best : List Kind) (kin : List Kin)
 abbrev pub Within : List Variable → Definition → Type 0
 Within vars Start = Unit {0}
 Within vars (Child p f) = p < length vars
-Within vars (Derived x f y) = Unit {0}
-Within vars (Ensured x) = Unit {0}
+Within vars (Derived x f y) = x < length vars
+Within vars (Ensured x) = x < length vars
 Within vars (Made m) = Unit {0}
 
 -- the entry f of x is the entry f of another variable, in every valuation that is left

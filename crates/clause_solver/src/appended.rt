@@ -1,10 +1,10 @@
-ghost use Rattle.std.specs.Prelude.{◌≡◌, ℕ, ◌<◌, ◌≤◌, ◌↔◌, IsTrue, List, length, MatchOption, IfOk, OnErr};
-ghost use Rattle.clause_solver.specs.Variables.{Ordered, IsChild};
-ghost use Rattle.clause_solver.specs.declared.variable.Definition.TheVariants.{Child};
+ghost use Rattle.std.specs.Prelude.{◌≡◌, ℕ, ◌<◌, ◌≤◌, List, length, IfOk, OnErr};
+ghost use Rattle.clause_solver.specs.Variables.{Ordered, var_at};
 ghost use Rattle.clause_solver.specs.Appends.{IsAppended, LeadsTo, Within};
-ghost use Rattle.clause_solver.specs.Linked.{AreLinked};
+ghost use Rattle.clause_solver.specs.Linked.{AreLinked, IsEnd, WithVariable};
 
-use crate::children::with_variable;
+use crate::children::{behind, kin_at, links_of, with_entry};
+use crate::derivations::{value_under, with_derived, with_end, with_ensured};
 use crate::greatest::greatest_by;
 use crate::kin::Kin;
 use crate::places::definition_at;
@@ -23,25 +23,40 @@ pub(crate) enum Found {
 }
 
 /// Follows an entry through the definitions.
-pub(crate) fn resolve(vars: &Shared<Variable>, x: u32, f: &Name) -> Found
+pub(crate) fn resolve(vars: &Shared<Variable>, kin: &Shared<Kin>, x: u32, f: &Name) -> Found
+    requires linked { AreLinked vars.now kin.now }
     requires order { Ordered vars.now }
     requires inside { x < length vars.now }
     ensures { LeadsTo vars.now x f.now result }
 {
-    let mut here = x;
-    loop {
-        match definition_at(vars, here as usize) {
-            Definition::Start => return Found::At(here),
-            Definition::Child(_, _) => return Found::At(here),
-            Definition::Derived(of, name, value) => {
-                if name.equal(f) {
-                    return Found::Known(*value);
+    let end = kin_at(kin, x as usize).end;
+    let mut here = kin_at(kin, x as usize).top;
+    'directories: loop {
+        match here {
+            None => return found_at(vars, end),
+            Some(m) => {
+                let definition = definition_at(vars, m as usize);
+                if let Some(y) = value_under(definition, f) {
+                    return Found::Known(y);
                 }
-                here = *of;
+                here = behind(definition, kin, m, f);
             }
-            Definition::Ensured(of) => here = *of,
-            Definition::Made(_) => return Found::Nothing,
         }
+    }
+}
+
+// What an entry is where the way down through the definitions ends at a variable.
+fn found_at(vars: &Shared<Variable>, end: u32) -> Found
+    requires inside { end < length vars.now }
+    requires end { IsEnd (var_at vars.now end).definition }
+    ensures { (f : List ℕ) → LeadsTo vars.now end f result }
+{
+    match definition_at(vars, end as usize) {
+        Definition::Start => Found::At(end),
+        Definition::Child(_, _) => Found::At(end),
+        Definition::Derived(_, _, _) => Found::Nothing,
+        Definition::Ensured(_) => Found::Nothing,
+        Definition::Made(_) => Found::Nothing,
     }
 }
 
@@ -82,4 +97,29 @@ pub(crate) fn append(
     *best = kinds;
     *kin = links;
     Ok(y as u32)
+}
+
+// The links with those of one variable more.
+fn with_variable(
+    alloc: Global,
+    vars: &Shared<Variable>,
+    kin: &Shared<Kin>,
+    definition: &Definition,
+) -> Result<Shared<Kin>, Memory>
+    requires within { Within vars.now definition.now }
+    requires linked { AreLinked vars.now kin.now }
+    requires small { length vars.now ≤ 4294967295 }
+    ensures { IfOk result (λ new. WithVariable vars.now kin.now definition.now new) }
+{
+    match definition {
+        Definition::Start => with_end(alloc, kin),
+        Definition::Child(p, f) => {
+            let links = links_of(alloc, vars, kin, *p, f)?;
+            let new = with_entry(alloc, kin, *p as usize, links)?;
+            Ok(new)
+        }
+        Definition::Derived(x, f, _) => with_derived(alloc, vars, kin, *x, f),
+        Definition::Ensured(x) => with_ensured(alloc, kin, *x as usize),
+        Definition::Made(_) => with_end(alloc, kin),
+    }
 }

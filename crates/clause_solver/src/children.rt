@@ -3,12 +3,11 @@
 
 ghost use Rattle.std.specs.Prelude.{◌≡◌, ℕ, ◌<◌, ◌≤◌, ◌↔◌, ◌++◌, [], ◌∷◌, IsTrue, List, length};
 ghost use Rattle.std.specs.Prelude.{MatchOption, IfOk, OnOk};
-ghost use Rattle.clause_solver.specs.declared.variable.Definition.TheVariants.{Child};
-ghost use Rattle.clause_solver.specs.Variables.{IsChild, var_at};
-ghost use Rattle.clause_solver.specs.Builds.{ParentBelow};
+ghost use Rattle.clause_solver.specs.declared.variable.Definition.TheVariants.{Child, Derived};
+ghost use Rattle.clause_solver.specs.Variables.{IsChild};
 ghost use Rattle.clause_solver.specs.Differences.{difference};
-ghost use Rattle.clause_solver.specs.Linked.{AreLinked, AreLinks, WithVariable, between, kin_at, link_at};
-ghost use Rattle.clause_solver.specs.Linked.{more_links, more_places, no_kin, with_entry};
+ghost use Rattle.clause_solver.specs.Linked.{AreLinked, AreLinks, between, kin_at, link_at};
+ghost use Rattle.clause_solver.specs.Linked.{more_links, more_places, other_kin, with_entry};
 
 use crate::difference::difference;
 use crate::kin::{Kin, Link};
@@ -19,14 +18,21 @@ use shared_table::{Shared, fork_alone, push_alone, set_alone};
 use std::alloc::Global;
 
 /// The links of a variable that has no entry and is none.
-pub(crate) fn no_kin(alloc: Global) -> Result<Kin, Memory>
-    ensures { IfOk result (λ kin. kin ≡ no_kin) }
+pub(crate) fn other_kin(
+    alloc: Global,
+    links: List<Link>,
+    top: Option<u32>,
+    end: u32,
+) -> Result<Kin, Memory>
+    ensures { IfOk result (λ kin. kin ≡ other_kin links top end) }
 {
-    let links = Common::new(alloc, List::new(alloc))?;
+    let links = Common::new(alloc, links)?;
     Ok(Kin {
         youngest: None,
         older: None,
         links,
+        top,
+        end,
     })
 }
 
@@ -41,16 +47,16 @@ pub(crate) fn kin_at(kin: &Shared<Kin>, i: usize) -> &Kin
     }
 }
 
-// An entry's links to entries before it.
-fn links_at(kin: &Shared<Kin>, i: usize) -> &[Link]
+/// The links of the variable with this number to others.
+pub(crate) fn links_at(kin: &Shared<Kin>, i: usize) -> &[Link]
     requires { i < length kin.now }
     ensures { result.now ≡ (kin_at kin.now i).links }
 {
     kin_at(kin, i).links.get().as_slice()
 }
 
-// Where the link for a place of difference leads, where there is one.
-fn link_at(links: &[Link], place: u32) -> Option<u32>
+/// Where the link for a place of difference leads, where there is one.
+pub(crate) fn link_at(links: &[Link], place: u32) -> Option<u32>
     ensures { result ≡ link_at links.now place }
 {
     let mut left = links;
@@ -63,27 +69,30 @@ fn link_at(links: &[Link], place: u32) -> Option<u32>
     None
 }
 
-// The place where a name differs first from that of an entry.
-fn difference_at(vars: &Shared<Variable>, m: u32, f: &Name) -> u32
-    requires { m < length vars.now }
-    ensures is { (p : ℕ) (h : List ℕ) → (var_at vars.now m).definition ≡ Child p h → result ≡ difference f.now h }
+/// The place where a name differs first from that of an entry or of a derived directory.
+pub(crate) fn difference_from(definition: &Definition, f: &Name) -> u32
+    ensures is { (p : ℕ) (h : List ℕ) → definition.now ≡ Child p h → result ≡ difference f.now h }
+    ensures derived { (x y : ℕ) (h : List ℕ) → definition.now ≡ Derived x h y → result ≡ difference f.now h }
     ensures small { result ≤ 2295 }
 {
-    match definition_at(vars, m as usize) {
+    match definition {
         Definition::Child(_, h) => difference(f, h),
+        Definition::Derived(_, h, _) => difference(f, h),
         _ => 0,
     }
 }
 
-// The entry to look at behind one that has another name.
-fn behind(vars: &Shared<Variable>, kin: &Shared<Kin>, m: u32, f: &Name) -> Option<u32>
-    requires inside { m < length vars.now }
-    requires counted { length kin.now ≡ length vars.now }
-    ensures { (p : ℕ) (h : List ℕ) → (var_at vars.now m).definition ≡ Child p h
+/// The entry, or the derived directory, to look at behind one that has another name.
+pub(crate) fn behind(definition: &Definition, kin: &Shared<Kin>, m: u32, f: &Name) -> Option<u32>
+    requires { m < length kin.now }
+    ensures entry { (p : ℕ) (h : List ℕ) → definition.now ≡ Child p h
+        → result ≡ link_at (kin_at kin.now m).links (difference h f.now) }
+    ensures derived { (x y : ℕ) (h : List ℕ) → definition.now ≡ Derived x h y
         → result ≡ link_at (kin_at kin.now m).links (difference h f.now) }
 {
-    match definition_at(vars, m as usize) {
+    match definition {
         Definition::Child(_, h) => link_at(links_at(kin, m as usize), difference(h, f)),
+        Definition::Derived(_, h, _) => link_at(links_at(kin, m as usize), difference(h, f)),
         _ => None,
     }
 }
@@ -99,10 +108,11 @@ pub(crate) fn find(vars: &Shared<Variable>, kin: &Shared<Kin>, of: u32, f: &Name
         match here {
             None => return None,
             Some(m) => {
-                if is_child(definition_at(vars, m as usize), of, f) {
+                let definition = definition_at(vars, m as usize);
+                if is_child(definition, of, f) {
                     return Some(m);
                 }
-                here = behind(vars, kin, m, f);
+                here = behind(definition, kin, m, f);
             }
         }
     }
@@ -118,8 +128,13 @@ fn is_child(definition: &Definition, of: u32, f: &Name) -> bool
     }
 }
 
-// Adds the links for the places of difference from one up to another.
-fn add_between(links: &mut List<Link>, own: &[Link], low: u32, high: u32) -> Result<(), Memory>
+/// Adds the links for the places of difference from one up to another.
+pub(crate) fn add_between(
+    links: &mut List<Link>,
+    own: &[Link],
+    low: u32,
+    high: u32,
+) -> Result<(), Memory>
     ensures { OnOk result (links.new ≡ links.old ++ between low high own.now) }
 {
     let mut left = own;
@@ -141,9 +156,9 @@ fn add_link(links: &mut List<Link>, link: Link, low: u32, high: u32) -> Result<(
     Ok(())
 }
 
-// Adds the links of a further entry for the places from one on up to that where its name differs first from that of
-// the entry m. Answers below which place the links are known then.
-fn add_links(
+/// Adds the links of a further entry for the places from one on up to that where its name differs first from that of
+/// the entry m. Answers below which place the links are known then.
+pub(crate) fn add_links(
     links: &mut List<Link>,
     from: u32,
     place: u32,
@@ -162,8 +177,8 @@ fn add_links(
     Ok(place + 1)
 }
 
-// The links of a further entry f of the place p.
-fn links_of(
+/// The links of a further entry f of the place p.
+pub(crate) fn links_of(
     alloc: Global,
     vars: &Shared<Variable>,
     kin: &Shared<Kin>,
@@ -181,7 +196,7 @@ fn links_of(
         match here {
             None => return Ok(links),
             Some(m) => {
-                let place = difference_at(vars, m, f);
+                let place = difference_from(definition_at(vars, m as usize), f);
                 let own = links_at(kin, m as usize);
                 from = add_links(&mut links, from, place, m, own)?;
                 here = link_at(own, place);
@@ -190,42 +205,8 @@ fn links_of(
     }
 }
 
-/// The links with those of one variable more.
-pub(crate) fn with_variable(
-    alloc: Global,
-    vars: &Shared<Variable>,
-    kin: &Shared<Kin>,
-    definition: &Definition,
-) -> Result<Shared<Kin>, Memory>
-    requires parent { ParentBelow (length vars.now) definition.now }
-    requires linked { AreLinked vars.now kin.now }
-    requires small { length vars.now ≤ 4294967295 }
-    ensures { IfOk result (λ new. WithVariable vars.now kin.now definition.now new) }
-{
-    match definition {
-        Definition::Start => with_other(alloc, kin),
-        Definition::Child(p, f) => {
-            let links = links_of(alloc, vars, kin, *p, f)?;
-            let new = with_entry(alloc, kin, *p as usize, links)?;
-            Ok(new)
-        }
-        Definition::Derived(_, _, _) => with_other(alloc, kin),
-        Definition::Ensured(_) => with_other(alloc, kin),
-        Definition::Made(_) => with_other(alloc, kin),
-    }
-}
-
-// The links with those of one more variable that is no entry of a place.
-fn with_other(alloc: Global, kin: &Shared<Kin>) -> Result<Shared<Kin>, Memory>
-    ensures { IfOk result (λ new. new ≡ kin.now ++ no_kin ∷ []) }
-{
-    let mut new = fork_alone(kin)?;
-    push_alone(&mut new, no_kin(alloc)?)?;
-    Ok(new)
-}
-
-// The links with one more entry of a place, which has these links of its own.
-fn with_entry(
+/// The links with one more entry of a place, which has these links of its own.
+pub(crate) fn with_entry(
     alloc: Global,
     kin: &Shared<Kin>,
     p: usize,
@@ -242,12 +223,16 @@ fn with_entry(
         youngest: Some(y),
         older: parent.older,
         links: parent.links.fork()?,
+        top: parent.top,
+        end: parent.end,
     };
     set_alone(&mut new, p, last)?;
     let entry = Kin {
         youngest: None,
         older: parent.youngest,
         links: Common::new(alloc, links)?,
+        top: None,
+        end: y,
     };
     push_alone(&mut new, entry)?;
     Ok(new)

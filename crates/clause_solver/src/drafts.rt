@@ -127,7 +127,7 @@ impl Draft {
     {
         f.is_sound();
         let n = self.place(x);
-        match resolve(&self.lists.vars, n, f) {
+        match resolve(&self.lists.vars, &self.lists.kin, n, f) {
             Found::Known(y) => {
                 self.put(v, y)?;
                 Ok(())

@@ -6,6 +6,7 @@
 mod add_case;
 mod appended;
 mod children;
+mod derivations;
 mod difference;
 mod drafts;
 mod emptying;

@@ -17,7 +17,7 @@ ghost use Rattle.feature_trees.specs.declared.value.Value.TheVariants as value;
 
 use crate::add_case::drafted;
 use crate::appended::{Found, append, resolve};
-use crate::children::{find, no_kin};
+use crate::children::{find, other_kin};
 use crate::emptying::{with_fence, without_entries};
 use crate::greatest::kind_made;
 use crate::lists::Lists;
@@ -73,7 +73,7 @@ impl Store {
         let mut best = Shared::new(alloc);
         push_alone(&mut best, Kind::Dir)?;
         let mut kin = Shared::new(alloc);
-        push_alone(&mut kin, no_kin(alloc)?)?;
+        push_alone(&mut kin, other_kin(alloc, Names::new(alloc), None, 0)?)?;
         let lists = Lists {
             vars,
             best,
@@ -142,7 +142,7 @@ impl Store {
         requires { x.0 < self.now.count }
         ensures { IfSome result (λ y. HasEntry self.now x.0 f.now y.0) }
     {
-        match resolve(&self.lists.vars, x.0, f) {
+        match resolve(&self.lists.vars, &self.lists.kin, x.0, f) {
             Found::Known(y) => Some(Var(y)),
             Found::Nothing => None,
             Found::At(n) => {
@@ -163,7 +163,7 @@ impl Store {
         ensures count { self.new.count ≤ self.old.count + 1 }
     {
         f.is_sound();
-        match resolve(&self.lists.vars, x.0, f) {
+        match resolve(&self.lists.vars, &self.lists.kin, x.0, f) {
             Found::Known(y) => Ok(Var(y)),
             Found::Nothing => {
                 let made = Definition::Made(MadeValue::Absent);

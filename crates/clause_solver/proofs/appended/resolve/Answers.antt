@@ -1,26 +1,52 @@
-use Rattle.std.proofs.Common.{◌≡◌, ◌≢◌, ◌∙◌, sym}
+use Rattle.std.proofs.Common.{◌≡◌, ◌≢◌, ◌∙◌, Some, ap, sym, subst}
+use Rattle.clause_solver.specs.declared.kin.Kin.{Kin}
 use Rattle.clause_solver.specs.declared.variable.Definition.TheVariants.{Derived}
-use Rattle.clause_solver.specs.Variables.{var_at}
-use Rattle.clause_solver.proofs.Leads.{leads_here, leads_on, leads_before}
+use Rattle.clause_solver.specs.Appends.{LeadsTo}
+use Rattle.clause_solver.specs.Differences.{difference}
+use Rattle.clause_solver.specs.Linked.{kin_at, link_at}
+use Rattle.clause_solver.proofs.Following.{IsFollowed, followed_known, followed_last, followed_on, followed_falls, is_followed, name_followed}
 use Rattle.clause_solver.proofs.appended.resolve.Goals as goal
 
-pub returns-then-equal : goal.returns-then-equal
-returns-then-equal c =
+pub returns-in-None : goal.returns-in-None
+returns-in-None c =
     let vars = c.args.vars.now in
-    let inv = c.loop-of.invariant in
-    let e : (var_at vars c.loop-of.here).definition ≡ Derived c.in-Derived.of c.in-Derived.name c.in-Derived.value =
-    sym c.definition_at.ensures ∙ c.in-Derived.is in
-    leads_here vars c.requires.order c.args.x c.loop-of.here c.in-Derived.of c.in-Derived.value c.in-Derived.name c.args.f.now inv.inside e inv.same (c.equal.ensures.0 c.if-equal.true)
+    let kin = c.args.kin.now in
+    let here = subst (IsFollowed vars kin c.args.x c.args.f.now) c.in-None.is c.directories.invariant in
+    let end : c.kin_at.result.now.end ≡ (kin_at kin c.args.x).end = ap (λ (k : Kin). k.end) c.kin_at.ensures in
+    followed_last vars kin c.requires.linked c.args.x c.args.f.now c.found_at.result here
+    (subst (λ n. LeadsTo vars n c.args.f.now c.found_at.result) end (c.found_at.ensures c.args.f.now))
 
-pub loop-of-preserved-in-Derived : goal.loop-of-preserved-in-Derived
-loop-of-preserved-in-Derived c =
+pub returns-in-Some-value_under : goal.returns-in-Some-value_under
+returns-in-Some-value_under c =
     let vars = c.args.vars.now in
-    let inv = c.loop-of.invariant in
-    let e : (var_at vars c.loop-of.here).definition ≡ Derived c.in-Derived.of c.in-Derived.name c.in-Derived.value =
-    sym c.definition_at.ensures ∙ c.in-Derived.is in
-    let ne : c.in-Derived.name ≢ c.args.f.now = λ q. let t = c.equal.ensures.1 q in let f = c.if-equal.false in cc in
-    let before = leads_before vars c.requires.order c.args.x c.loop-of.here c.in-Derived.of c.in-Derived.value c.in-Derived.name c.args.f.now inv.inside e inv.same in
-    record {
-      inside = before.1;
-      same = leads_on vars c.requires.order c.args.x c.loop-of.here c.in-Derived.of c.in-Derived.value c.in-Derived.name c.args.f.now inv.inside e inv.same ne;
-    }
+    let kin = c.args.kin.now in
+    let m = c.in-Some.m in
+    let here : IsFollowed vars kin c.args.x c.args.f.now (Some m) = subst (IsFollowed vars kin c.args.x c.args.f.now) c.in-Some.is c.directories.invariant in
+    let put = c.in-Some-value_under.ensures in
+    followed_known vars kin c.requires.linked c.args.x c.args.f.now m here c.in-Some-value_under.y c.requires.order (put.0, sym c.definition_at-definition.ensures ∙ put.1)
+
+pub directories-smaller : goal.directories-smaller
+directories-smaller c =
+    let vars = c.args.vars.now in
+    let kin = c.args.kin.now in
+    let m = c.in-Some.m in
+    let here : IsFollowed vars kin c.args.x c.args.f.now (Some m) = subst (IsFollowed vars kin c.args.x c.args.f.now) c.in-Some.is c.directories.invariant in
+    let name = name_followed vars kin c.requires.linked c.args.x c.args.f.now m here in
+    let e : c.behind-here.result ≡ link_at (kin_at kin m).links (difference name c.args.f.now) =
+    c.behind-here.ensures.derived here.down.1.0 here.down.1.1 name (c.definition_at-definition.ensures ∙ is_followed vars kin c.requires.linked c.args.x c.args.f.now m here) in
+    rw (e, c.in-Some.is) (followed_falls vars kin c.requires.linked c.args.x c.args.f.now m here)
+
+pub directories-preserved : goal.directories-preserved
+directories-preserved c =
+    let vars = c.args.vars.now in
+    let kin = c.args.kin.now in
+    let m = c.in-Some.m in
+    let here : IsFollowed vars kin c.args.x c.args.f.now (Some m) = subst (IsFollowed vars kin c.args.x c.args.f.now) c.in-Some.is c.directories.invariant in
+    let name = name_followed vars kin c.requires.linked c.args.x c.args.f.now m here in
+    let is = is_followed vars kin c.requires.linked c.args.x c.args.f.now m here in
+    let e : c.behind-here.result ≡ link_at (kin_at kin m).links (difference name c.args.f.now) =
+    c.behind-here.ensures.derived here.down.1.0 here.down.1.1 name (c.definition_at-definition.ensures ∙ is) in
+    let none = c.in_default.ensures in
+    let other : c.args.f.now ≢ name = λ q.
+    none here.down.1.0 here.down.1.1 (c.definition_at-definition.ensures ∙ is ∙ ap (λ g. Derived here.down.1.0 g here.down.1.1) (sym q)) in
+    rw e (followed_on vars kin c.requires.linked c.args.x c.args.f.now m here other)

@@ -1,12 +1,9 @@
-use Rattle.std.proofs.Common.{◌<◌, length}
-use Rattle.clause_solver.specs.Appends.{SameEntry}
+use Rattle.clause_solver.proofs.Following.{IsFollowed}
+use Rattle.clause_solver.proofs.Links.{left_of}
 use Rattle.clause_solver.proofs.appended.resolve.Given as goal
 
-abbrev pub invariant-loop-of : goal.invariant-loop-of
-invariant-loop-of l = record {
-  inside : l.here < length l.vars;
-  same : SameEntry l.vars l.x l.f l.here;
-}
+abbrev pub invariant-directories : goal.invariant-directories
+invariant-directories l = IsFollowed l.vars l.kin l.x l.f l.here
 
-abbrev pub decreases-loop-of : goal.decreases-loop-of
-decreases-loop-of l = l.here
+abbrev pub decreases-directories : goal.decreases-directories
+decreases-directories l = left_of l.here

@@ -22,7 +22,7 @@ entries-smaller c =
     let m = c.in-Some.m in
     let here : IsSought vars c.args.of c.args.f.now (Some m) = subst (IsSought vars c.args.of c.args.f.now) c.in-Some.is c.entries.invariant in
     let name = name_here vars c.args.kin.now c.args.of c.args.f.now c.requires.linked m here in
-    let e : c.behind-here.result ≡ link_at (kin_at c.args.kin.now m).links (difference name c.args.f.now) = c.behind-here.ensures c.args.of name here.entry.1.1 in
+    let e : c.behind-here.result ≡ link_at (kin_at c.args.kin.now m).links (difference name c.args.f.now) = c.behind-here.ensures.entry c.args.of name (c.definition_at-definition.ensures ∙ here.entry.1.1) in
     rw (e, c.in-Some.is) (behind_falls vars c.args.kin.now c.args.of c.args.f.now c.requires.linked m here)
 
 pub entries-preserved : goal.entries-preserved
@@ -31,7 +31,7 @@ entries-preserved c =
     let m = c.in-Some.m in
     let here : IsSought vars c.args.of c.args.f.now (Some m) = subst (IsSought vars c.args.of c.args.f.now) c.in-Some.is c.entries.invariant in
     let name = name_here vars c.args.kin.now c.args.of c.args.f.now c.requires.linked m here in
-    let e : c.behind-here.result ≡ link_at (kin_at c.args.kin.now m).links (difference name c.args.f.now) = c.behind-here.ensures c.args.of name here.entry.1.1 in
+    let e : c.behind-here.result ≡ link_at (kin_at c.args.kin.now m).links (difference name c.args.f.now) = c.behind-here.ensures.entry c.args.of name (c.definition_at-definition.ensures ∙ here.entry.1.1) in
     let other : (var_at vars m).definition ≡ Child c.args.of c.args.f.now → ⊥ =
-    λ q. let t = c.is_child.ensures.1 (c.definition_at.ensures ∙ q) in let f = c.if-is_child.false in absurd (cc) in
+    λ q. let t = c.is_child.ensures.1 (c.definition_at-definition.ensures ∙ q) in let f = c.if-is_child.false in absurd (cc) in
     rw e (behind_sought vars c.args.kin.now c.args.of c.args.f.now c.requires.linked m here other)

@@ -1,4 +1,4 @@
-use Rattle.std.proofs.Common.{◌≡◌, Some, ap, subst}
+use Rattle.std.proofs.Common.{◌≡◌, ◌∙◌, Some, ap, subst}
 use Rattle.clause_solver.specs.declared.kin.Kin.{Kin}
 use Rattle.clause_solver.specs.Differences.{difference}
 use Rattle.clause_solver.specs.Linked.{kin_at, link_at, more_links, more_places}
@@ -22,7 +22,7 @@ entries-smaller c =
     let m = c.in-Some.m in
     let known : AreKnown vars c.args.p c.args.f.now c.entries.links c.entries.from (Some m) = subst (AreKnown vars c.args.p c.args.f.now c.entries.links c.entries.from) c.in-Some.is c.entries.invariant in
     let name = name_known vars kin c.args.p c.args.f.now c.requires.linked c.entries.links c.entries.from m known in
-    let place : c.difference_at-place.result ≡ difference c.args.f.now name = c.difference_at-place.ensures.is c.args.p name known.entry.1.1 in
+    let place : c.difference_from-place.result ≡ difference c.args.f.now name = c.difference_from-place.ensures.is c.args.p name (c.definition_at.ensures ∙ known.entry.1.1) in
     let e : c.link_at-here.result ≡ link_at (kin_at kin m).links (difference c.args.f.now name) = rw (c.links_at-own.ensures, place) at c.link_at-here.ensures in
     rw (e, c.in-Some.is) (known_falls vars kin c.args.p c.args.f.now c.requires.linked c.entries.links c.entries.from m known)
 
@@ -33,7 +33,7 @@ entries-preserved c =
     let m = c.in-Some.m in
     let known : AreKnown vars c.args.p c.args.f.now c.entries.links c.entries.from (Some m) = subst (AreKnown vars c.args.p c.args.f.now c.entries.links c.entries.from) c.in-Some.is c.entries.invariant in
     let name = name_known vars kin c.args.p c.args.f.now c.requires.linked c.entries.links c.entries.from m known in
-    let place : c.difference_at-place.result ≡ difference c.args.f.now name = c.difference_at-place.ensures.is c.args.p name known.entry.1.1 in
+    let place : c.difference_from-place.result ≡ difference c.args.f.now name = c.difference_from-place.ensures.is c.args.p name (c.definition_at.ensures ∙ known.entry.1.1) in
     let e : c.link_at-here.result ≡ link_at (kin_at kin m).links (difference c.args.f.now name) = rw (c.links_at-own.ensures, place) at c.link_at-here.ensures in
     let links : c.add_links.new.links ≡ more_links c.entries.links c.entries.from (difference c.args.f.now name) m (kin_at kin m).links =
     rw (c.links_at-own.ensures, place) at c.in_ok-from-in-Some.ensures.links in
