@@ -3,7 +3,6 @@
 ghost use Rattle.std.specs.Prelude.{◌≡◌, ◌≤◌, ◌<◌, ◌∷◌, length, drop, IfOk};
 ghost use Rattle.tree_clauses.specs.declared.clause.Literal.TheVariants as literal;
 ghost use Rattle.tree_clauses.specs.Plain.{IsPlain};
-ghost use Rattle.tree_clauses.specs.Solved.{subject};
 ghost use Rattle.clause_solver.specs.Drafts.{CanGo, GoesOn, IsDrafted};
 ghost use Rattle.clause_solver.specs.Decided.{AreDecided};
 
@@ -13,7 +12,7 @@ use crate::variable::MadeValue;
 use feature_trees::{Kind, Kinds};
 use script_names::{Copied, Memory, Name};
 use std::alloc::Global;
-use tree_clauses::{Case, Literal, Var};
+use tree_clauses::{Case, Literal, Var, subject};
 
 /// The lists of a store with what the literals of a case leave, whose variable 0 stands for the tree now.
 pub(crate) fn drafted(alloc: Global, lists: &Lists, now: u32, case: &Case) -> Result<Draft, Memory>
@@ -133,19 +132,5 @@ fn pass_similar<'a>(
                 Ok(more)
             }
         },
-    }
-}
-
-// The variable that a literal can make known.
-fn subject(literal: &Literal) -> Var
-    ensures { result.0 ≡ subject literal.now }
-{
-    match literal {
-        Literal::Entry(_, _, y) => *y,
-        Literal::Kind(y, _) => *y,
-        Literal::Fence(x, _) => *x,
-        Literal::NotEmpty(x) => *x,
-        Literal::Similar(y, _, _) => *y,
-        Literal::Target(y, _) => *y,
     }
 }

@@ -64,13 +64,16 @@ fn next_letter(vars: &Shared<Variable>, p: &[u8], room: usize, left: usize) -> (
     }
 }
 
+// So many names have 32 letters, of which each is one of two.
+const ALL_NAMES: usize = 4_294_967_296;
+
 /// A name that no definition uses: 32 letters, each chosen so that fewer of the names go on with it.
 pub(crate) fn new_name(alloc: Global, vars: &Shared<Variable>) -> Result<Name, Memory>
     requires { length vars.now ≤ 4294967295 }
     ensures { IfOk result (IsNew vars.now) }
 {
     let mut bytes = Vec::new(alloc);
-    let mut room: usize = 4294967296;
+    let mut room = ALL_NAMES;
     let mut left = vars.len();
     for i in 0usize..32 {
         room /= 2;

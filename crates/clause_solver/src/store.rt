@@ -307,8 +307,8 @@ impl Store {
         Ok(left)
     }
 
-    /// Leaves the pairs in which a variable has entries under these names alone, and says whether one is left; there may
-    /// be further variables. What is no directory has no entry. For want of memory the store is as before.
+    /// Leaves the pairs in which a variable has entries under these names alone, and says whether one is left; there
+    /// may be further variables. What is no directory has no entry. For want of memory the store is as before.
     pub fn fence(&mut self, x: Var, names: &Names<Name>) -> Result<bool, Memory>
         requires { x.0 < self.old.count }
         ensures fences { IfOk result (λ left. Fences self.old self.new x.0 names.now) }
