@@ -1,5 +1,5 @@
 -- Reports of whose parts this is told.
-use Rattle.std.proofs.Common.{◌≡◌, ℕ, Bool, List, [], ◌∷◌, ◌++◌, drop, refl, sym, ap, ◌∙◌, subst}
+use Rattle.std.proofs.Common.{◌≡◌, ℕ, Bool, List, [], ◌∷◌, ◌++◌, refl, sym, ap, ◌∙◌, subst}
 use Rattle.std.specs.Prelude.{◌||◌, if◌then◌else◌}
 use Rattle.std.specs.List.{flat_map, list_any}
 use Rattle.outcome_report.specs.declared.outcome_report.ReportPart.{ReportPart}
@@ -7,7 +7,7 @@ use Rattle.outcome_report.specs.declared.outcome_report.Report.{Report}
 use Rattle.outcome_report.specs.declared.told_part.ToldPart.{ToldPart}
 use Rattle.outcome_report.specs.OutcomeReport.{part_has, report_has, verdict_of}
 use Rattle.outcome_report.specs.ReportText.{part_text, line_of_verdict, verdict_line, report_text}
-use Rattle.outcome_report.specs.Told.{first_line, Tells, AreTold, told_verdict, lines_behind, BeginsReport, AllBeginReports}
+use Rattle.outcome_report.specs.Told.{first_line, AreTold, told_verdict, lines_behind, BeginsReport, AllBeginReports}
 use Rattle.outcome_report.specs.Whole.{AllPartsRepresentable}
 
 -- ---- the verdict
@@ -68,6 +68,14 @@ text_so report told lines text verdict are l v e =
     ∙ ap (λ (t : List ℕ). t ++ line_of_verdict verdict)
     (l ∙ ap (λ (t : List ℕ). first_line ++ t) (lines_so report.parts told are))
     ∙ ap (λ (n : ℕ). (first_line ++ flat_map part_text report.parts) ++ line_of_verdict n) (v ∙ verdict_so report told are)
+
+-- ---- the parts so far
+
+-- the lines of the parts that were passed, behind the first line of a report
+pub record JoinedSoFar (all passed left : List ToldPart) (text : List ℕ) : Type 0 where
+  pub joined : passed ++ left ≡ all
+  pub begin : AllBeginReports left
+  pub text_is : text ≡ first_line ++ flat_map lines_of passed
 
 -- ---- what the types represent
 

@@ -14,10 +14,11 @@ each_replays : (run : Value → Option Replayed) (place : ℕ) (paths : List Pat
     → ((at : ℕ) (path : Path) → IsAt paths at path → PathReplays run (place + at) path) → PathsReplay run place paths
 each_replays run place [] each = tt
 each_replays run place (path ∷ paths) each =
-    let first = subst (λ (n : ℕ). PathReplays run n path) (omega arith) (each 0 path refl) in (
-      first,
-      each_replays run (suc place) paths
-      (λ at other there. subst (λ (n : ℕ). PathReplays run n other) (omega arith) (each (suc at) other there)),
+    let P : Path → ℕ → Type 0 = λ other n. PathReplays run n other in
+    let here : place + 0 ≡ place = omega arith in
+    let behind : (at : ℕ) → place + suc at ≡ suc place + at = λ at. omega arith in (
+      subst (P path) here (each 0 path refl),
+      each_replays run (suc place) paths (λ at other there. subst (P other) (behind at) (each (suc at) other there)),
     )
 
 module _ (run : Value → Option Replayed) (start : Value → Type 0) (limit : ℕ)
@@ -31,4 +32,4 @@ module _ (run : Value → Option Replayed) (start : Value → Type 0) (limit : �
   pub paths_replay : (paths : List Path) → ArePaths run start limit paths → PathsReplay run 0 paths
   paths_replay paths are =
       each_replays run 0 paths
-      (λ at path there. subst (λ (n : ℕ). PathReplays run n path) (omega arith) (replays paths are at path there))
+      (λ at path there. let e : at ≡ 0 + at = omega arith in subst (λ (n : ℕ). PathReplays run n path) e (replays paths are at path there))

@@ -1,8 +1,8 @@
 -- What is told of the paths so far, and of all of them.
-use Rattle.std.proofs.Common.{◌≡◌, ℕ, suc, ◌+◌, Bool, false, List, [], ◌∷◌, ◌++◌, map, length, Option, Ok, refl, sym, ap, ◌∙◌, subst, arith, append_assoc, append-nil, length-append}
+use Rattle.std.proofs.Common.{◌≡◌, ℕ, suc, ◌+◌, Bool, false, List, [], ◌∷◌, ◌++◌, map, length, Option, refl, sym, ap, ◌∙◌, subst, arith, append_assoc, append-nil, length-append}
 use Rattle.std.specs.Prelude.{◌||◌, ◌==◌}
-use Rattle.std.specs.List.{flat_map, filter_map, list_any}
-use Rattle.std.proofs.lemmas.Bool.{or-false}
+use Rattle.std.specs.List.{flat_map, list_any}
+use Rattle.std.proofs.Math.Bool.{or-false}
 use Rattle.std.proofs.lemmas.List.Concat.{flat_map-append}
 use Rattle.std.proofs.lemmas.List.Elements.{filter_map-append}
 use Rattle.std.proofs.lemmas.List.Folds.{list_any-append}
@@ -14,11 +14,10 @@ use Rattle.scenario_runs.specs.declared.replayed.Replayed.{Replayed}
 use Rattle.scenario_outcomes.specs.declared.outcome.Outcome.{Outcome}
 use Rattle.scenario_outcomes.specs.OutcomeOf.{Path, IsOutcomeOf, AreOutcomes, ArePaths}
 use Rattle.outcome_report.specs.declared.outcome_report.ReportEntry.{ReportEntry}
-use Rattle.outcome_report.specs.declared.outcome_report.ReportPart.{ReportPart}
 use Rattle.outcome_report.specs.declared.places.EndPlace.{EndPlace}
 use Rattle.outcome_report.specs.declared.told_part.ToldPart.{ToldPart}
 use Rattle.outcome_report.specs.Counting.{as_list}
-use Rattle.outcome_report.specs.OutcomeReport.{IsEntryOf, AllEntries, ending_verdict}
+use Rattle.outcome_report.specs.OutcomeReport.{AllEntries, ending_verdict}
 use Rattle.outcome_report.specs.Places.{entry_place, end_places, place_counts}
 use Rattle.outcome_report.specs.PlaceText.{place_line}
 use Rattle.outcome_report.specs.ReportText.{heading, entry_text, scenario_line, part_text}
@@ -163,6 +162,10 @@ as_many first [] (x ∷ entries) all = absurd all
 as_many first (p ∷ paths) [] all = absurd all
 as_many first (p ∷ paths) (x ∷ entries) all = ap suc (as_many (suc first) paths entries all.1)
 
+empty : (paths : List Path) → length paths ≡ 0 → paths ≡ []
+empty [] none = refl
+empty (p ∷ paths) none = absurd (omega (arith, none))
+
 -- the lines of a part, behind the first line of a report
 part_lines : (scenario : Scenario) (entries : List ReportEntry) (begun old new : List ℕ) (places : List EndPlace)
     → begun ≡ first_line ++ heading scenario (length entries) → old ≡ begun ++ flat_map entry_text entries
@@ -182,13 +185,13 @@ abbrev pub begun : Scenario → ℕ → List ℕ
 begun scenario outcomes = first_line ++ heading scenario outcomes
 
 pub all_told : (run : Value → Option Replayed) (scenario : Scenario) (all passed left : List Path) (number : ℕ)
-    (told last : ToldPart) (places : List EndPlace) → left ≡ []
+    (told last : ToldPart) (places : List EndPlace) → length left ≡ 0
     → last.text ≡ told.text ++ flat_map place_line (place_counts places) → last.failed ≡ told.failed
     → last.unfinished ≡ told.unfinished → ToldSoFar run all passed left (begun scenario (length all)) number told places
     → TellsPaths run scenario all last
 all_told run scenario all passed left number told last places none text failed unfinished so_far =
     let same : passed ≡ all =
-    sym (append-nil passed) ∙ ap (λ (xs : List Path). passed ++ xs) (sym none) ∙ so_far.joined in
+    sym (append-nil passed) ∙ ap (λ (xs : List Path). passed ++ xs) (sym (empty left none)) ∙ so_far.joined in
     let P : List Path → Type 0 = λ xs. AreOutcomes 0 xs (map outcome_of so_far.entries) in
     let outcomes : P all = subst P same so_far.outcomes in
     let count : length all ≡ length so_far.entries = as_many 0 all so_far.entries outcomes in

@@ -1,5 +1,5 @@
 -- How a part of a report is told of the paths of a job.
-use Rattle.std.specs.Prelude.{◌≡◌, ℕ, suc, Bool, ◌||◌, ◌==◌, List, [], ◌∷◌, ◌++◌, map, Option}
+use Rattle.std.specs.Prelude.{◌≡◌, ℕ, suc, ◌||◌, ◌==◌, List, [], ◌∷◌, ◌++◌, map, Option}
 use Rattle.feature_trees.specs.declared.value.Value.{Value}
 use Rattle.dpkg_scenarios.specs.declared.scenario.Scenario.{Scenario}
 use Rattle.scenario_runs.specs.declared.replayed.Replayed.{Replayed}

@@ -1,4 +1,4 @@
-use Rattle.std.proofs.Common.{◌≡◌, [], List, Some, refl, sym, ap, ◌∙◌, subst}
+use Rattle.std.proofs.Common.{◌≡◌, [], List, refl, sym, ◌∙◌, subst}
 use Rattle.scenario_runs.specs.Runs.{scenario_run}
 use Rattle.scenario_outcomes.specs.declared.outcome.Outcome.{Outcome}
 use Rattle.outcome_report.specs.declared.outcome_report.ReportEntry.{ReportEntry}

@@ -4,8 +4,8 @@ use Rattle.outcome_report.proofs.PathReplays.{paths_replay}
 use Rattle.outcome_report.proofs.Telling.{part_told}
 use Rattle.outcome_report.proofs.told_part.tell_part.Goals as goal
 
-pub tell_paths-requires-replays : goal.tell_paths-requires-replays
-tell_paths-requires-replays c =
+pub tell_paths-requires-clause-replays : goal.tell_paths-requires-clause-replays
+tell_paths-requires-clause-replays c =
     paths_replay (scenario_run c.args.job.now) (IsStart c.args.needs.now) c.args.limit (λ tree is. is.is_tree.dir)
     c.in-Ok.paths c.in-Ok.ensures
 
