@@ -4,6 +4,7 @@ pub mod LoadEndings
 pub mod Refused
 pub mod Parts
 pub mod Settled
+pub mod ToldParts
 pub mod Shared
 pub mod OneRefusal
 pub mod Quiet

@@ -21,7 +21,7 @@ pub one_loaded : (number : ℕ) (one other : Packages) → AreLoaded number one 
 one_loaded number one other x y =
     same_packages (one_package number one.new_package other.new_package x.made y.made) (x.alone ∙ sym y.alone) (x.on ∙ sym y.on)
 
-small : (failed unfinished : Bool) → (if failed then 1 else (if unfinished then 2 else 0)) ≤ 2
+pub small : (failed unfinished : Bool) → (if failed then 1 else (if unfinished then 2 else 0)) ≤ 2
 small true unfinished = omega arith
 small false true = omega arith
 small false false = omega arith

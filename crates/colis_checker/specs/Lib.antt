@@ -3,6 +3,7 @@ pub mod Settled
 pub mod Reports
 pub mod Loads
 pub mod LoadEndings
+pub mod ToldParts
 pub mod Tasks
 pub mod ErrorLines
 pub mod Delivery

@@ -15,6 +15,7 @@ mod tasks;
 #[cfg(test)]
 mod tests;
 pub mod theorems;
+mod told_reports;
 mod top;
 mod written;
 

@@ -6,12 +6,13 @@ ghost use Rattle.colis_checker.specs.Reports.{chosen, layout_text, PartGives, Pa
 ghost use Rattle.colis_checker.specs.Settled.{settled};
 
 use crate::faults::{Refusal, TaskFault};
+use crate::told_reports::write_plain;
 use crate::written::Written;
 use case_pool::{Gate, map_jobs};
 use checker_input::Packages;
 use command_words::Layout;
 use dpkg_scenarios::Scenario;
-use outcome_report::{Report, ReportPart, make_part, render_brief, render_text, verdict};
+use outcome_report::{Report, ReportPart, make_part, render_brief, verdict};
 use package_jobs::{job_of, needs_of};
 use report_json::render_json;
 use scenario_outcomes::OutcomesFault;
@@ -122,15 +123,11 @@ pub fn make_report<R: Threads + Sync, G: Gate>(
     }
 }
 
-// The text of a report in a layout.
-fn render(alloc: Global, report: &Report, layout: Layout) -> Result<Bytes, Memory>
-    ensures { IfOk result (λ text. text ≡ layout_text layout report.now) }
-{
-    match layout {
-        Layout::Plain => render_text(alloc, report),
-        Layout::Brief => render_brief(alloc, report),
-        Layout::Json => render_json(alloc, report),
-    }
+// The text of a whole report, with its verdict.
+fn written(report: &Report, text: Bytes) -> Written {
+    report.is_representable();
+    let status = verdict(report);
+    Written { text, status }
 }
 
 /// The report on packages in a layout, and its verdict; or why there is none.
@@ -146,9 +143,17 @@ pub fn write_report<R: Threads + Sync, G: Gate>(
 ) -> Result<Written, TaskFault>
     ensures { ReportGives packages.now turns limit (chosen scenario) layout result }
 {
-    let report = make_report(rt, alloc, gate, packages, turns, limit, scenario)?;
-    report.is_representable();
-    let text = render(alloc, &report, layout)?;
-    let status = verdict(&report);
-    Ok(Written { text, status })
+    match layout {
+        Layout::Plain => write_plain(rt, alloc, gate, packages, turns, limit, scenario),
+        Layout::Brief => {
+            let report = make_report(rt, alloc, gate, packages, turns, limit, scenario)?;
+            let text = render_brief(alloc, &report)?;
+            Ok(written(&report, text))
+        }
+        Layout::Json => {
+            let report = make_report(rt, alloc, gate, packages, turns, limit, scenario)?;
+            let text = render_json(alloc, &report)?;
+            Ok(written(&report, text))
+        }
+    }
 }

@@ -184,7 +184,7 @@ counted_below places i es q most lt e =
 
 -- ---- the places of entries
 
-one_place : {A : Type 0} (h : A → Option EndPlace) (x : A) → filter_map h (x ∷ []) ≡ as_list (h x)
+pub one_place : {A : Type 0} (h : A → Option EndPlace) (x : A) → filter_map h (x ∷ []) ≡ as_list (h x)
 one_place h x = step (h x)
   where
     step : (o : Option EndPlace) → cons_option o [] ≡ as_list o

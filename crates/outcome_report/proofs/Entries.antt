@@ -27,7 +27,7 @@ same_run : (o : Option Replayed) (a b : Replayed) → o ≡ Some a → o ≡ Som
 same_run o a b p q = cc
 
 module _ (run : Value → Option Replayed) (start : Value → Type 0) (dirs : (tree : Value) → start tree → kind_of tree ≡ Dir) where
-  replays_at : (outcomes : List Outcome) → IsExact run start outcomes → (place : ℕ) (outcome : Outcome)
+  pub replays_at : (outcomes : List Outcome) → IsExact run start outcomes → (place : ℕ) (outcome : Outcome)
       → slice_get outcomes place ≡ Some outcome → Replays run outcome
   replays_at outcomes exact place outcome at =
       let covers : CoversTree outcome.clause outcome.shown = exact.shown place outcome at in
@@ -46,7 +46,7 @@ module _ (run : Value → Option Replayed) (start : Value → Type 0) (dirs : (t
 
 -- ---- one more entry
 
-entries_more : (run : Value → Option Replayed) (old : List ReportEntry) (entry : ReportEntry) → AllEntries run old
+pub entries_more : (run : Value → Option Replayed) (old : List ReportEntry) (entry : ReportEntry) → AllEntries run old
     → IsEntryOf run entry → AllEntries run (old ++ entry ∷ [])
 entries_more run [] entry all one = (one, tt)
 entries_more run (e ∷ es) entry all one = (all.0, entries_more run es entry all.1 one)
@@ -70,7 +70,7 @@ next_dir run all made before rest outcome next so_far =
     let Q : List Outcome → Type 0 = λ os. EntriesSoFar run all made os in
     (subst Q next so_far).left.0.dir
 
-module _ (run : Value → Option Replayed) (all : List Outcome) (old : List ReportEntry) (entry : ReportEntry) (outcome : Outcome)
+module _ (run : Value → Option Replayed) (entry : ReportEntry) (outcome : Outcome)
     (same : entry.outcome ≡ outcome) (whole : Replayed) (replayed : run outcome.shown ≡ Some whole) (kept : entry.replayed ≡ replay_of whole)
     (confirms : Agrees entry → IsTrue entry.confirmed) where
   agrees : Replays run outcome → Agrees entry
@@ -79,7 +79,7 @@ module _ (run : Value → Option Replayed) (all : List Outcome) (old : List Repo
     trace = ap (λ (r : Replay). r.trace) kept ∙ is.trace whole replayed ∙ ap (λ (o : Outcome). o.trace) (sym same);
   }
 
-  is_entry : Replays run outcome → IsEntryOf run entry
+  pub is_entry : Replays run outcome → IsEntryOf run entry
   is_entry is = record {
     whole = whole;
     replayed = ap (λ (o : Outcome). run o.shown) same ∙ replayed;
@@ -88,17 +88,18 @@ module _ (run : Value → Option Replayed) (all : List Outcome) (old : List Repo
     confirmed = confirms (agrees is);
   }
 
-  step : (rest : List Outcome) → EntriesSoFar run all old (outcome ∷ rest) → EntriesSoFar run all (old ++ entry ∷ []) rest
-  step rest so_far = record {
-    joined = outcomes_more old entry rest
-        ∙ ap (λ (o : Outcome). map (λ (e : ReportEntry). e.outcome) old ++ (o ∷ rest)) same ∙ so_far.joined;
-    left = so_far.left.1;
-    entries = entries_more run old entry so_far.entries (is_entry so_far.left.0);
-  }
+  module _ (all : List Outcome) (old : List ReportEntry) where
+    step : (rest : List Outcome) → EntriesSoFar run all old (outcome ∷ rest) → EntriesSoFar run all (old ++ entry ∷ []) rest
+    step rest so_far = record {
+      joined = outcomes_more old entry rest
+          ∙ ap (λ (o : Outcome). map (λ (e : ReportEntry). e.outcome) old ++ (o ∷ rest)) same ∙ so_far.joined;
+      left = so_far.left.1;
+      entries = entries_more run old entry so_far.entries (is_entry so_far.left.0);
+    }
 
-  pub one_more : (new : List ReportEntry) (before rest : List Outcome) → new ≡ old ++ entry ∷ [] → before ≡ outcome ∷ rest
-      → EntriesSoFar run all old before → EntriesSoFar run all new rest
-  one_more new before rest added next so_far =
-      let P : List ReportEntry → Type 0 = λ es. EntriesSoFar run all es rest in
-      let Q : List Outcome → Type 0 = λ os. EntriesSoFar run all old os in
-      subst P (sym added) (step rest (subst Q next so_far))
+    pub one_more : (new : List ReportEntry) (before rest : List Outcome) → new ≡ old ++ entry ∷ [] → before ≡ outcome ∷ rest
+        → EntriesSoFar run all old before → EntriesSoFar run all new rest
+    one_more new before rest added next so_far =
+        let P : List ReportEntry → Type 0 = λ es. EntriesSoFar run all es rest in
+        let Q : List Outcome → Type 0 = λ os. EntriesSoFar run all old os in
+        subst P (sym added) (step rest (subst Q next so_far))

@@ -12,3 +12,6 @@ pub mod WholeLines
 pub mod TreeTexts
 mod TypeFacts
 pub mod TextApart
+mod PathReplays
+mod Telling
+pub mod Joined

@@ -14,3 +14,5 @@ pub mod PieceRead
 pub mod PieceLaws
 pub mod Whole
 pub mod TextLaws
+pub mod Told
+pub mod Telling

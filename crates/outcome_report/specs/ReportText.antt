@@ -12,6 +12,7 @@ use Rattle.feature_trees.specs.TreeText.{tree_text}
 use Rattle.tree_clauses.specs.ClauseText.{clause_text}
 use Rattle.dpkg_scenarios.specs.declared.scenario.Ending.{Ending}
 use Rattle.dpkg_scenarios.specs.declared.scenario.Ending.TheVariants.{Done, Failed, Incomplete, Bound}
+use Rattle.dpkg_scenarios.specs.declared.scenario.Scenario.{Scenario}
 use Rattle.scenario_runs.specs.declared.call.ScriptCall.{ScriptCall}
 use Rattle.outcome_report.specs.declared.outcome_report.ReportEntry.{ReportEntry}
 use Rattle.outcome_report.specs.declared.outcome_report.ReportPart.{ReportPart}
@@ -79,17 +80,25 @@ entry_text entry =
     ++ trees_text entry
 
 -- the name of a scenario, and how many outcomes it has
+abbrev pub heading : Scenario → ℕ → List ℕ
+heading scenario outcomes =
+    line (codes "scenario " ++ scenario_name scenario ++ codes " outcomes " ++ decimal outcomes)
+
+-- those of a part
 unfoldable pub scenario_line : ReportPart → List ℕ
-scenario_line part =
-    line (codes "scenario " ++ scenario_name part.scenario ++ codes " outcomes " ++ decimal (length part.entries))
+scenario_line part = heading part.scenario (length part.entries)
 
 -- the lines of a scenario: its outcomes, and behind them the places where those end that aren't done
 unfoldable pub part_text : ReportPart → List ℕ
 part_text part = scenario_line part ++ flat_map entry_text part.entries ++ places_text part.entries
 
+-- the line of a verdict
+abbrev pub line_of_verdict : ℕ → List ℕ
+line_of_verdict verdict = line (codes "verdict " ++ decimal verdict)
+
 -- the verdict
 unfoldable pub verdict_line : Report → List ℕ
-verdict_line report = line (codes "verdict " ++ decimal (verdict_of report))
+verdict_line report = line_of_verdict (verdict_of report)
 
 -- the text of a report
 unfoldable pub report_text : Report → List ℕ

@@ -17,6 +17,8 @@ mod representable_pieces;
 mod representable_trees;
 mod run_text;
 pub mod theorems;
+mod told_part;
+mod told_report;
 mod verdicts;
 
 pub use brief_text::render_brief;
@@ -27,4 +29,6 @@ pub use report_names::scenario_name;
 pub use report_text::{put_calls, put_result, render_text};
 pub use representable_clauses::is_representable_clause;
 pub use run_text::render_run;
+pub use told_part::{ToldPart, tell_part};
+pub use told_report::{join_told, told_verdict};
 pub use verdicts::{ending_verdict, run_status, verdict};

@@ -2,9 +2,10 @@
 ghost use Rattle.std.specs.Prelude.{◌≡◌, ◌++◌, OnOk};
 ghost use Rattle.std.specs.List.{flat_map};
 ghost use Rattle.outcome_report.specs.PlaceText.{kind_name, place_site, place_line, places_text};
+ghost use Rattle.outcome_report.specs.Places.{place_counts};
 
 use crate::outcome_report::ReportEntry;
-use crate::places::{EndKind, EndPlace, entry_places};
+use crate::places::{EndKind, EndPlace, count_places, end_places};
 use indexmap::IndexMap;
 use script_names::{Bytes, Memory, Site};
 use shown_texts::{push_number, push_site};
@@ -61,6 +62,18 @@ fn put_counts(text: &mut Bytes, counts: &IndexMap<EndPlace, u64>) -> Result<(), 
     Ok(())
 }
 
+/// Adds the lines of the different ones of some places, in the order in which they first appear.
+pub(crate) fn put_counted_places(
+    alloc: Global,
+    text: &mut Bytes,
+    places: &[EndPlace],
+) -> Result<(), Memory>
+    ensures { OnOk result (text.new ≡ text.old ++ flat_map place_line (place_counts places.now)) }
+{
+    let counts = count_places(alloc, places)?;
+    put_counts(text, &counts)
+}
+
 /// Adds the lines of the places where the outcomes of a scenario end that aren't done.
 pub(crate) fn put_places(
     alloc: Global,
@@ -69,6 +82,6 @@ pub(crate) fn put_places(
 ) -> Result<(), Memory>
     ensures { OnOk result (text.new ≡ text.old ++ places_text entries.now) }
 {
-    let counts = entry_places(alloc, entries)?;
-    put_counts(text, &counts)
+    let places = end_places(alloc, entries)?;
+    put_counted_places(alloc, text, places.as_slice())
 }

@@ -63,8 +63,8 @@ fn failed_at(trace: &[Mark]) -> EndPlace
     }
 }
 
-// The place of an ending behind these marks, unless it is done.
-fn end_place(ending: Ending, trace: &[Mark]) -> Option<EndPlace>
+/// The place of an ending behind these marks, unless it is done.
+pub(crate) fn end_place(ending: Ending, trace: &[Mark]) -> Option<EndPlace>
     ensures { result ≡ end_place ending trace.now }
 {
     match ending {
@@ -75,8 +75,8 @@ fn end_place(ending: Ending, trace: &[Mark]) -> Option<EndPlace>
     }
 }
 
-// Adds a place, where there is one.
-fn add_some(places: &mut List<EndPlace>, place: Option<EndPlace>) -> Result<(), Memory>
+/// Adds a place, where there is one.
+pub(crate) fn add_some(places: &mut List<EndPlace>, place: Option<EndPlace>) -> Result<(), Memory>
     ensures { OnOk result (places.new ≡ places.old ++ as_list place) }
 {
     match place {
@@ -85,8 +85,8 @@ fn add_some(places: &mut List<EndPlace>, place: Option<EndPlace>) -> Result<(), 
     }
 }
 
-// The places where the outcomes end that aren't done.
-fn end_places(alloc: Global, entries: &[ReportEntry]) -> Result<List<EndPlace>, Memory>
+/// The places where the outcomes end that aren't done.
+pub(crate) fn end_places(alloc: Global, entries: &[ReportEntry]) -> Result<List<EndPlace>, Memory>
     ensures { IfOk result (λ places. places ≡ end_places entries.now) }
 {
     let mut places = List::new(alloc);
@@ -117,8 +117,11 @@ fn count_one(counts: &mut IndexMap<EndPlace, u64>, place: EndPlace) -> Result<()
     Ok(())
 }
 
-// The different places in the order in which they first appear, with their counts.
-fn count_places(alloc: Global, places: &[EndPlace]) -> Result<IndexMap<EndPlace, u64>, Memory>
+/// The different places in the order in which they first appear, with their counts.
+pub(crate) fn count_places(
+    alloc: Global,
+    places: &[EndPlace],
+) -> Result<IndexMap<EndPlace, u64>, Memory>
     ensures { IfOk result (λ counts. counts.entries ≡ place_counts places.now) }
 {
     let mut counts: IndexMap<EndPlace, u64> = IndexMap::new(alloc);
@@ -126,16 +129,4 @@ fn count_places(alloc: Global, places: &[EndPlace]) -> Result<IndexMap<EndPlace,
         count_one(&mut counts, *place)?;
     }
     Ok(counts)
-}
-
-/// The different places where outcomes end that aren't done, in the order in which they first appear, with their
-/// counts.
-pub(crate) fn entry_places(
-    alloc: Global,
-    entries: &[ReportEntry],
-) -> Result<IndexMap<EndPlace, u64>, Memory>
-    ensures { IfOk result (λ counts. counts.entries ≡ place_counts (end_places entries.now)) }
-{
-    let places = end_places(alloc, entries)?;
-    count_places(alloc, places.as_slice())
 }

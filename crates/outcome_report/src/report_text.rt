@@ -2,7 +2,8 @@ ghost use Rattle.std.specs.Prelude.{◌≡◌, ◌++◌, length, take, IfOk, OnO
 ghost use Rattle.std.specs.List.{flat_map};
 ghost use Rattle.outcome_report.specs.ReportText.{stop_text, result_text, outcome_line, trace_mark, trace_line};
 ghost use Rattle.outcome_report.specs.ReportText.{confirmed_line, call_word, call_line, trees_text, entry_text};
-ghost use Rattle.outcome_report.specs.ReportText.{scenario_line, part_text, verdict_line, report_text};
+ghost use Rattle.outcome_report.specs.ReportText.{heading, scenario_line, part_text, line_of_verdict, verdict_line};
+ghost use Rattle.outcome_report.specs.ReportText.{report_text};
 
 use crate::outcome_report::{Report, ReportEntry, ReportPart};
 use crate::place_text::put_places;
@@ -10,7 +11,7 @@ use crate::report_names::{
     call_end_name, confirmed_name, scenario_name, script_name, side_name, state_name,
 };
 use crate::verdicts::verdict;
-use dpkg_scenarios::Ending;
+use dpkg_scenarios::{Ending, Scenario};
 use feature_trees::put_tree;
 use scenario_runs::ScriptCall;
 use script_names::{Bytes, Mark, Memory, Reason, Site};
@@ -164,8 +165,9 @@ fn put_trees(alloc: Global, text: &mut Bytes, entry: &ReportEntry) -> Result<(),
     put_tree(alloc, text, &entry.replayed.after)
 }
 
+/// Adds the lines of an outcome and its replay.
 #[tactic(auto, unfolding(crate::specs::ReportText::entry_text))]
-fn put_entry(alloc: Global, text: &mut Bytes, entry: &ReportEntry) -> Result<(), Memory>
+pub(crate) fn put_entry(alloc: Global, text: &mut Bytes, entry: &ReportEntry) -> Result<(), Memory>
     ensures { OnOk result (text.new ≡ text.old ++ entry_text entry.now) }
 {
     put_outcome(text, entry)?;
@@ -186,15 +188,26 @@ fn put_entries(alloc: Global, text: &mut Bytes, entries: &[ReportEntry]) -> Resu
 }
 
 /// Adds the line of a scenario's name and how many outcomes it has.
+pub(crate) fn put_heading(
+    text: &mut Bytes,
+    scenario: Scenario,
+    outcomes: usize,
+) -> Result<(), Memory>
+    ensures { OnOk result (text.new ≡ text.old ++ heading scenario outcomes) }
+{
+    text.extend(b"scenario ")?;
+    text.extend(scenario_name(scenario))?;
+    text.extend(b" outcomes ")?;
+    push_number(text, outcomes as u64)?;
+    text.extend(b"\n")
+}
+
+/// Adds the same line of a part.
 #[tactic(auto, unfolding(crate::specs::ReportText::scenario_line))]
 pub(crate) fn put_scenario(text: &mut Bytes, part: &ReportPart) -> Result<(), Memory>
     ensures { OnOk result (text.new ≡ text.old ++ scenario_line part.now) }
 {
-    text.extend(b"scenario ")?;
-    text.extend(scenario_name(part.scenario))?;
-    text.extend(b" outcomes ")?;
-    push_number(text, part.entries.len() as u64)?;
-    text.extend(b"\n")
+    put_heading(text, part.scenario, part.entries.len())
 }
 
 #[tactic(auto, unfolding(crate::specs::ReportText::part_text))]
@@ -216,14 +229,21 @@ pub(crate) fn put_parts(alloc: Global, text: &mut Bytes, parts: &[ReportPart]) -
     Ok(())
 }
 
-/// Adds the line of the verdict.
+/// Adds the line of a verdict.
+pub(crate) fn put_verdict_line(text: &mut Bytes, verdict: u8) -> Result<(), Memory>
+    ensures { OnOk result (text.new ≡ text.old ++ line_of_verdict verdict) }
+{
+    text.extend(b"verdict ")?;
+    push_number(text, u64::from(verdict))?;
+    text.extend(b"\n")
+}
+
+/// Adds the line of a report's verdict.
 #[tactic(auto, unfolding(crate::specs::ReportText::verdict_line))]
 pub(crate) fn put_verdict(text: &mut Bytes, report: &Report) -> Result<(), Memory>
     ensures { OnOk result (text.new ≡ text.old ++ verdict_line report.now) }
 {
-    text.extend(b"verdict ")?;
-    push_number(text, u64::from(verdict(report)))?;
-    text.extend(b"\n")
+    put_verdict_line(text, verdict(report))
 }
 
 /// The text of a report.

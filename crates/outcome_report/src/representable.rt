@@ -7,8 +7,8 @@ use crate::representable_clauses::is_representable_clause;
 use crate::representable_pieces::{are_calls, are_marks, is_ending};
 use crate::representable_trees::is_representable_tree;
 
-// An entry is one that its type represents.
-fn is_entry(entry: &ReportEntry)
+/// An entry is one that its type represents.
+pub(crate) fn is_entry(entry: &ReportEntry)
     ensures { IsRepresentableEntry entry.now }
 {
     let _number = entry.outcome.number;

@@ -47,7 +47,7 @@ module _ (job of : Job) (same : of ≡ job) (files : ArePerformed of.files) (law
 -- ---- the endings, without outcomes
 
 -- the outcome that a path could be told as, with the clause of its store
-abbrev outcome_of : ℕ → (path : Path) → Alive path.state.store → Outcome
+abbrev pub outcome_of : ℕ → (path : Path) → Alive path.state.store → Outcome
 outcome_of place path alive = record {
   number = place + 1;
   ending = path.value.0;
@@ -56,7 +56,7 @@ outcome_of place path alive = record {
   shown = alive.0;
 }
 
-is_outcome : (place : ℕ) (path : Path) (alive : Alive path.state.store) → IsOutcomeOf place path (outcome_of place path alive)
+pub is_outcome : (place : ℕ) (path : Path) (alive : Alive path.state.store) → IsOutcomeOf place path (outcome_of place path alive)
 is_outcome place path alive = record {
   number = refl;
   ending = refl;
@@ -66,12 +66,12 @@ is_outcome place path alive = record {
 }
 
 -- there are outcomes that these paths are told as, with their endings
-record Told (place : ℕ) (paths : List Path) : Type 0 where
-  outcomes : List Outcome
-  are : AreOutcomes place paths outcomes
-  endings : endings_of outcomes ≡ path_endings paths
+pub record Told (place : ℕ) (paths : List Path) : Type 0 where
+  pub outcomes : List Outcome
+  pub are : AreOutcomes place paths outcomes
+  pub endings : endings_of outcomes ≡ path_endings paths
 
-told : (place : ℕ) (paths : List Path) → AllAlive (states paths) → Told place paths
+pub told : (place : ℕ) (paths : List Path) → AllAlive (states paths) → Told place paths
 told place [] alive = record { outcomes = []; are = tt; endings = refl }
 told place (path ∷ paths) alive =
     let rest = told (suc place) paths alive.1 in

@@ -4,3 +4,4 @@ mod Played
 mod StoreClauses
 mod Answering
 pub mod Carrying
+pub mod OnePath

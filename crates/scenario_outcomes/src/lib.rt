@@ -7,5 +7,5 @@ mod job_runs;
 mod listing;
 mod outcome;
 
-pub use listing::{endings, outcomes};
-pub use outcome::{Outcome, OutcomesFault};
+pub use listing::{endings, job_paths, outcomes};
+pub use outcome::{Outcome, OutcomesFault, make_outcome};

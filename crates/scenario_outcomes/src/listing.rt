@@ -15,8 +15,9 @@ use script_names::{List, Memory};
 use start_trees::{Need, start_store};
 use std::alloc::Global;
 
-// The paths of a job's scenario from all trees of files that have what is needed, by rising trace.
-fn find_paths(
+/// The paths of a job's scenario from all trees of files that have what is needed, by rising trace. `make_outcome` makes
+/// the outcome of each. `NoStart` and `Over` come as for `outcomes`.
+pub fn job_paths(
     alloc: Global,
     job: &Job,
     needs: &List<Need>,
@@ -49,7 +50,7 @@ pub fn outcomes(
 ) -> Result<List<Outcome>, OutcomesFault>
     ensures { Answers (scenario_run job.now) (IsStart needs.now) limit result }
 {
-    match find_paths(alloc, job, needs, limit) {
+    match job_paths(alloc, job, needs, limit) {
         Ok(paths) => {
             let outcomes = make_outcomes(alloc, paths)?;
             Ok(outcomes)
@@ -82,7 +83,7 @@ pub fn endings(
 ) -> Result<List<Ending>, OutcomesFault>
     ensures { EndingsAnswer (scenario_run job.now) (IsStart needs.now) limit result }
 {
-    match find_paths(alloc, job, needs, limit) {
+    match job_paths(alloc, job, needs, limit) {
         Ok(paths) => {
             let endings = take_endings(alloc, paths.as_slice())?;
             Ok(endings)

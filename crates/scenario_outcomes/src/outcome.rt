@@ -44,8 +44,8 @@ impl From<Memory> for OutcomesFault {
     }
 }
 
-// The outcome of a path, by its place in the list of paths.
-fn make_outcome(
+/// The outcome of a path, by its place in the list of paths, counted from 0.
+pub fn make_outcome(
     alloc: Global,
     place: u32,
     path: Found<(Ending, List<ScriptCall>)>,

@@ -1,4 +1,4 @@
-use Rattle.std.proofs.Common.{◌≡◌, [], List, Some, refl, sym, ap, ◌∙◌, subst}
+use Rattle.std.proofs.Common.{◌≡◌, [], List, refl, sym, ◌∙◌, subst}
 use Rattle.scenario_runs.specs.Runs.{scenario_run}
 use Rattle.scenario_outcomes.specs.declared.outcome.Outcome.{Outcome}
 use Rattle.outcome_report.specs.declared.outcome_report.ReportEntry.{ReportEntry}
@@ -20,7 +20,7 @@ run-requires c =
 
 pub loop-outcome-preserved : goal.loop-outcome-preserved
 loop-outcome-preserved c =
-    one_more (scenario_run c.args.job.now) c.args.outcomes c.loop-outcome.entries c.make_entry.result c.in-Some.outcome
+    one_more (scenario_run c.args.job.now) c.make_entry.result c.in-Some.outcome
     c.make_entry.ensures.outcome c.in_ok-replayed.replayed c.in_ok-replayed.ensures (c.make_entry.ensures.replayed ∙ c.keep_replay.ensures)
-    c.make_entry.ensures.confirmed.1
+    c.make_entry.ensures.confirmed.1 c.args.outcomes c.loop-outcome.entries
     c.add.new.self c.loop-outcome.outcome-iterator.rest.items c.next.new.self.rest.items c.in_ok-add.ensures.ok c.in-Some.ensures.steps.0 c.loop-outcome.invariant

@@ -7,7 +7,7 @@ use Rattle.case_paths.specs.Paths.{Explored}
 use Rattle.start_trees.specs.Needs.{AreStarts}
 use Rattle.scenario_runs.specs.Deciding.{decision_of}
 use Rattle.scenario_outcomes.proofs.Answering.{paths_found, over_answer}
-use Rattle.scenario_outcomes.proofs.listing.find_paths.Goals as goal
+use Rattle.scenario_outcomes.proofs.listing.job_paths.Goals as goal
 
 pub explore-requires : goal.explore-requires
 explore-requires c =

@@ -1,0 +1,13 @@
+use Rattle.colis_checker.specs.Reports.{chosen}
+use Rattle.colis_checker.proofs.ToldParts.{begin_reports, plain_report}
+use Rattle.colis_checker.proofs.told_reports.write_plain.Goals as goal
+
+pub join_told-requires : goal.join_told-requires
+join_told-requires g c =
+    begin_reports c.args.packages.now c.args.turns c.args.limit (chosen c.args.scenario) c.in_ok-told.told
+    c.in_ok-told.ensures
+
+pub returns : goal.returns
+returns g c =
+    plain_report c.args.packages.now c.args.turns c.args.limit (chosen c.args.scenario) c.in_ok-told.told c.in_ok-text.text
+    c.told_verdict-status.result c.in_ok-told.ensures c.in_ok-text.ensures c.told_verdict-status.ensures

@@ -1,0 +1,86 @@
+-- Reports of whose parts this is told.
+use Rattle.std.proofs.Common.{◌≡◌, ℕ, Bool, List, [], ◌∷◌, ◌++◌, refl, sym, ap, ◌∙◌, subst}
+use Rattle.std.specs.Prelude.{◌||◌, if◌then◌else◌}
+use Rattle.std.specs.List.{flat_map, list_any}
+use Rattle.outcome_report.specs.declared.outcome_report.ReportPart.{ReportPart}
+use Rattle.outcome_report.specs.declared.outcome_report.Report.{Report}
+use Rattle.outcome_report.specs.declared.told_part.ToldPart.{ToldPart}
+use Rattle.outcome_report.specs.OutcomeReport.{part_has, report_has, verdict_of}
+use Rattle.outcome_report.specs.ReportText.{part_text, line_of_verdict, verdict_line, report_text}
+use Rattle.outcome_report.specs.Told.{first_line, AreTold, told_verdict, lines_behind, BeginsReport, AllBeginReports}
+use Rattle.outcome_report.specs.Whole.{AllPartsRepresentable}
+
+-- ---- the verdict
+
+failed_so : (parts : List ReportPart) (told : List ToldPart) → AreTold parts told
+    → list_any (λ (one : ToldPart). one.failed) told ≡ list_any (part_has 1) parts
+failed_so [] [] are = refl
+failed_so [] (one ∷ told) are = absurd are
+failed_so (part ∷ parts) [] are = absurd are
+failed_so (part ∷ parts) (one ∷ told) are =
+    ap (λ (b : Bool). b || list_any (λ (x : ToldPart). x.failed) told) are.0.failed
+    ∙ ap (λ (b : Bool). part_has 1 part || b) (failed_so parts told are.1)
+
+unfinished_so : (parts : List ReportPart) (told : List ToldPart) → AreTold parts told
+    → list_any (λ (one : ToldPart). one.unfinished) told ≡ list_any (part_has 2) parts
+unfinished_so [] [] are = refl
+unfinished_so [] (one ∷ told) are = absurd are
+unfinished_so (part ∷ parts) [] are = absurd are
+unfinished_so (part ∷ parts) (one ∷ told) are =
+    ap (λ (b : Bool). b || list_any (λ (x : ToldPart). x.unfinished) told) are.0.unfinished
+    ∙ ap (λ (b : Bool). part_has 2 part || b) (unfinished_so parts told are.1)
+
+pub verdict_so : (report : Report) (told : List ToldPart) → AreTold report.parts told → told_verdict told ≡ verdict_of report
+verdict_so report told are =
+    ap (λ (b : Bool). if b then 1 else (if list_any (λ (one : ToldPart). one.unfinished) told then 2 else 0))
+    (failed_so report.parts told are)
+    ∙ ap (λ (b : Bool). if report_has 1 report then 1 else (if b then 2 else 0)) (unfinished_so report.parts told are)
+
+-- ---- the text
+
+begins : (text rest : List ℕ) → text ≡ first_line ++ rest → BeginsReport text
+begins text rest is = subst BeginsReport (sym is) refl
+
+pub all_begin : (parts : List ReportPart) (told : List ToldPart) → AreTold parts told → AllBeginReports told
+all_begin [] [] are = tt
+all_begin [] (one ∷ told) are = absurd are
+all_begin (part ∷ parts) [] are = absurd are
+all_begin (part ∷ parts) (one ∷ told) are = (begins one.text (part_text part) are.0.text, all_begin parts told are.1)
+
+-- the lines of told parts, without the first
+abbrev pub lines_of : ToldPart → List ℕ
+lines_of one = lines_behind one.text
+
+lines_so : (parts : List ReportPart) (told : List ToldPart) → AreTold parts told → flat_map lines_of told ≡ flat_map part_text parts
+lines_so [] [] are = refl
+lines_so [] (one ∷ told) are = absurd are
+lines_so (part ∷ parts) [] are = absurd are
+lines_so (part ∷ parts) (one ∷ told) are =
+    ap (λ (t : List ℕ). lines_behind t ++ flat_map lines_of told) are.0.text
+    ∙ ap (λ (t : List ℕ). part_text part ++ t) (lines_so parts told are.1)
+
+pub text_so : (report : Report) (told : List ToldPart) (lines text : List ℕ) (verdict : ℕ) → AreTold report.parts told
+    → lines ≡ first_line ++ flat_map lines_of told → verdict ≡ told_verdict told → text ≡ lines ++ line_of_verdict verdict
+    → text ≡ report_text report
+unfolding report_text verdict_line
+text_so report told lines text verdict are l v e =
+    e
+    ∙ ap (λ (t : List ℕ). t ++ line_of_verdict verdict)
+    (l ∙ ap (λ (t : List ℕ). first_line ++ t) (lines_so report.parts told are))
+    ∙ ap (λ (n : ℕ). (first_line ++ flat_map part_text report.parts) ++ line_of_verdict n) (v ∙ verdict_so report told are)
+
+-- ---- the parts so far
+
+-- the lines of the parts that were passed, behind the first line of a report
+pub record JoinedSoFar (all passed left : List ToldPart) (text : List ℕ) : Type 0 where
+  pub joined : passed ++ left ≡ all
+  pub begin : AllBeginReports left
+  pub text_is : text ≡ first_line ++ flat_map lines_of passed
+
+-- ---- what the types represent
+
+pub all_representable : (parts : List ReportPart) (told : List ToldPart) → AreTold parts told → AllPartsRepresentable parts
+all_representable [] [] are = tt
+all_representable [] (one ∷ told) are = absurd are
+all_representable (part ∷ parts) [] are = absurd are
+all_representable (part ∷ parts) (one ∷ told) are = (are.0.representable, all_representable parts told are.1)
