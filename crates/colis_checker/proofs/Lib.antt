@@ -4,6 +4,7 @@ pub mod LoadEndings
 pub mod Refused
 pub mod Parts
 pub mod Settled
+pub mod Rendered
 pub mod ToldParts
 pub mod Shared
 pub mod OneRefusal

@@ -1,5 +1,5 @@
 -- What is told of scenarios is told of a report on them.
-use Rattle.std.proofs.Common.{◌≡◌, ℕ, ◌≤◌, List, [], ◌∷◌, Result, Ok, Err, sym, subst, ◌∙◌}
+use Rattle.std.proofs.Common.{◌≡◌, ℕ, List, [], ◌∷◌, Result, Ok, Err, ◌∙◌}
 use Rattle.std.specs.Prelude.{◌↔◌}
 use Rattle.std.specs.List.{AllZip}
 use Rattle.feature_trees.specs.declared.value.Value.{Value}
@@ -15,7 +15,7 @@ use Rattle.package_jobs.specs.StartTrees.{IsStartTree}
 use Rattle.outcome_report.specs.declared.outcome_report.ReportPart.{ReportPart}
 use Rattle.outcome_report.specs.declared.outcome_report.Report.{Report}
 use Rattle.outcome_report.specs.declared.told_part.ToldPart.{ToldPart}
-use Rattle.outcome_report.specs.OutcomeReport.{report_has, verdict_of}
+use Rattle.outcome_report.specs.OutcomeReport.{verdict_of}
 use Rattle.outcome_report.specs.ReportText.{report_text}
 use Rattle.outcome_report.specs.Told.{IsTold, AreTold, AllBeginReports}
 use Rattle.outcome_report.proofs.Joined.{all_begin, all_representable}
@@ -24,8 +24,8 @@ use Rattle.colis_checker.specs.declared.faults.TaskFault.TheVariants.{Refused, M
 use Rattle.colis_checker.specs.Settled.{settled}
 use Rattle.colis_checker.specs.Reports.{CanReport, AreParts, IsReportOf}
 use Rattle.colis_checker.specs.ToldParts.{IsToldOf, AreToldOf, ToldGives, AllToldGive}
-use Rattle.colis_checker.proofs.Loaded.{small}
 use Rattle.colis_checker.proofs.Parts.{part_reported}
+use Rattle.colis_checker.proofs.Rendered.{report_of}
 use Rattle.colis_checker.proofs.Settled.{Give, settles}
 
 -- ---- a scenario
@@ -96,12 +96,5 @@ module _ (packages : Packages) (turns limit : ℕ) where
       → ((report : Report) → AreTold report.parts told → status ≡ verdict_of report)
       → IsReportOf packages turns limit scenarios Plain text status
   plain_report scenarios told text status are text_is status_is =
-      let verdict = status_is are.report are.tell in
-      record {
-        report = are.report;
-        parts = are.parts;
-        representable = all_representable are.report.parts told are.tell;
-        text_is = text_is are.report are.tell;
-        status_is = verdict;
-        small = subst (λ n. n ≤ 2) (sym verdict) (small (report_has 1 are.report) (report_has 2 are.report));
-      }
+      report_of packages turns limit scenarios Plain are.report text status are.parts
+      (all_representable are.report.parts told are.tell) (text_is are.report are.tell) (status_is are.report are.tell)

@@ -2,7 +2,9 @@
 
 ghost use Rattle.std.specs.Prelude.{◌≡◌, IfOk};
 ghost use Rattle.std.specs.List.{AllZip};
-ghost use Rattle.colis_checker.specs.Reports.{chosen, layout_text, PartGives, PartsGive, ReportGives};
+ghost use Rattle.outcome_report.specs.OutcomeReport.{verdict_of};
+ghost use Rattle.outcome_report.specs.Whole.{IsRepresentable};
+ghost use Rattle.colis_checker.specs.Reports.{chosen, PartGives, PartsGive, ReportGives};
 ghost use Rattle.colis_checker.specs.Settled.{settled};
 
 use crate::faults::{Refusal, TaskFault};
@@ -123,8 +125,12 @@ pub fn make_report<R: Threads + Sync, G: Gate>(
     }
 }
 
-// The text of a whole report, with its verdict.
-fn written(report: &Report, text: Bytes) -> Written {
+// A text of a report, with the report's verdict.
+fn written(report: &Report, text: Bytes) -> Written
+    ensures text { result.text ≡ text }
+    ensures status { result.status ≡ verdict_of report.now }
+    ensures representable { IsRepresentable report.now }
+{
     report.is_representable();
     let status = verdict(report);
     Written { text, status }
