@@ -216,23 +216,11 @@ fn add_slash(
     cases.add(made)
 }
 
-// The names, copied.
-fn copy_names(alloc: Global, names: &[Name]) -> Result<List<Name>, Memory>
-    ensures { IfOk result (λ copies. copies ≡ names.now) }
-{
-    let mut copies = List::new(alloc);
-    for f in names {
-        let copy = f.copy(alloc)?;
-        copies.add(copy)?;
-    }
-    Ok(copies)
-}
-
 // Names, and the act's inner name behind them where it has one.
 fn inside_names(alloc: Global, act: &Act, names: &[Name]) -> Result<List<Name>, Memory>
     ensures { IfOk result (λ longer. longer ≡ with_name names.now (inner_name act.now)) }
 {
-    let mut names = copy_names(alloc, names)?;
+    let mut names = List::copies(alloc, names)?;
     match act.inner_name() {
         None => Ok(names),
         Some(f) => {

@@ -99,13 +99,22 @@ impl<T: Drop> List<T> {
     }
 }
 
-impl<T: Copied> Copied for List<T> {
-    fn copy(&self, alloc: Global) -> Result<List<T>, Memory> {
+impl<T: Copied> List<T> {
+    /// The list of copies of the items.
+    pub fn copies(alloc: Global, items: &[T]) -> Result<List<T>, Memory>
+        ensures { IfOk result (λ copies. copies ≡ items.now) }
+    {
         let mut copies = List::new(alloc);
-        for item in self.as_slice() {
+        for item in items {
             let copy = item.copy(alloc)?;
             copies.add(copy)?;
         }
         Ok(copies)
+    }
+}
+
+impl<T: Copied> Copied for List<T> {
+    fn copy(&self, alloc: Global) -> Result<List<T>, Memory> {
+        List::copies(alloc, self.as_slice())
     }
 }

@@ -131,7 +131,7 @@ impl Path {
         if names.is_empty() {
             return Ok(None);
         }
-        let names = copy_names(alloc, &names[..names.len() - 1])?;
+        let names = List::copies(alloc, &names[..names.len() - 1])?;
         Ok(Some(Path {
             names,
             slash: false,
@@ -169,23 +169,11 @@ fn begins(longer: &[Name], names: &[Name]) -> bool
     true
 }
 
-// A copy of names.
-fn copy_names(alloc: Global, names: &[Name]) -> Result<List<Name>, Memory>
-    ensures { IfOk result (λ copies. copies ≡ names.now) }
-{
-    let mut copies = List::new(alloc);
-    for name in names {
-        let copy = name.copy(alloc)?;
-        copies.add(copy)?;
-    }
-    Ok(copies)
-}
-
 // A copy of names, and one more.
 fn join_names(alloc: Global, names: &[Name], name: &Name) -> Result<List<Name>, Memory>
     ensures { IfOk result (λ longer. longer ≡ names.now ++ name.now ∷ []) }
 {
-    let mut longer = copy_names(alloc, names)?;
+    let mut longer = List::copies(alloc, names)?;
     let copy = name.copy(alloc)?;
     longer.add(copy)?;
     Ok(longer)

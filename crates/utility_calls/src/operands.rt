@@ -135,23 +135,11 @@ fn ensure_each(alloc: Global, path: Path) -> Result<List<Act>, Memory>
     let mut acts = List::new(alloc);
     let names = path.names();
     for count in 1..names.len() {
-        let above = copy_names(alloc, &names[..count])?;
+        let above = List::copies(alloc, &names[..count])?;
         acts.add(Act::EnsureDir(Path::new(above, false)))?;
     }
     acts.add(Act::EnsureDir(path))?;
     Ok(acts)
-}
-
-// Copies of names.
-fn copy_names(alloc: Global, names: &[Name]) -> Result<List<Name>, Memory>
-    ensures { IfOk result (λ copies. copies ≡ names.now) }
-{
-    let mut copies = List::new(alloc);
-    for name in names {
-        let copy = name.copy(alloc)?;
-        copies.add(copy)?;
-    }
-    Ok(copies)
 }
 
 // The acts of each operand.
