@@ -6,6 +6,7 @@
 mod assignments;
 mod forms;
 mod looks;
+mod made;
 mod parser;
 mod script;
 mod tokens;
