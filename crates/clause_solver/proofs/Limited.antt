@@ -1,5 +1,5 @@
 -- What a limit leaves.
-use Rattle.std.proofs.Common.{◌≡◌, ℕ, ◌<◌, ◌↔◌, inl, inr, IsTrue, Bool, true, false, if◌then◌else◌, subst, List, length, refl, sym, ap, ◌∙◌, length-set, get_or-set_other, get_or-set_same}
+use Rattle.std.proofs.Common.{◌≡◌, ℕ, ◌<◌, ◌↔◌, inl, inr, IsTrue, Bool, true, false, if◌then◌else◌, subst, List, length, refl, sym, ap, ◌∙◌, length-set, get_or-set_other, get_or-set_same, set}
 use Rattle.feature_trees.specs.declared.kind.Kind.{Kind}
 use Rattle.feature_trees.specs.declared.kind.Kinds.{Kinds}
 use Rattle.feature_trees.specs.declared.value.Value.{Value}
@@ -10,9 +10,10 @@ use Rattle.clause_solver.specs.declared.variable.Definition.TheVariants.{Start, 
 use Rattle.clause_solver.specs.declared.variable.Variable.{Variable}
 use Rattle.tree_clauses.specs.Literals.{Valuation, value_of_variable}
 use Rattle.clause_solver.specs.Stands.{Stands}
-use Rattle.clause_solver.specs.Variables.{var_at, defined, Fits, AllFit, Earlier, Ordered, AlwaysDir, OnlyDir, fixed_in, narrowed, limited, is_node}
+use Rattle.clause_solver.specs.Variables.{no_variable, var_at, defined, Fits, AllFit, Earlier, Ordered, AlwaysDir, OnlyDir, fixed_in, narrowed, limited, is_node}
 use Rattle.clause_solver.proofs.Names.{nat_cases}
 use Rattle.std.proofs.lemmas.Bool.{and_parts, and_from}
+use Rattle.std.proofs.lemmas.List.{set-get_or}
 use Rattle.tree_clauses.proofs.KindSets.{has_both}
 use Rattle.clause_solver.proofs.Pairs.{fits_from, fits_to}
 use Rattle.clause_solver.proofs.OneMore.{seen_of}
@@ -89,6 +90,10 @@ module _ (vars : List Variable) (x : ℕ) (k : Kinds) (inside : x < length vars)
 
   pub limited_always : (i : ℕ) → AlwaysDir vars i → AlwaysDir (limited vars x k) i
   limited_always i h g l s f = h g (rw length-set at l) s (limited_fits g f).0
+
+  -- kinds that the variable has already leave all as it is
+  pub limited_same : narrowed (var_at vars x) k ≡ (var_at vars x).kinds → limited vars x k ≡ vars
+  limited_same e = ap (λ ks. set vars x (record (var_at vars x) { kinds = ks })) e ∙ set-get_or vars x no_variable
 
   earlier_by : (i : ℕ) (d : Definition) → Earlier vars i d → Earlier (limited vars x k) i d
   earlier_by i Start q = q

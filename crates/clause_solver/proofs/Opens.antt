@@ -1,11 +1,12 @@
 -- Which places are shown with one more entry: enough of them, and only places without a fence.
-use Rattle.std.proofs.Common.{◌≡◌, ℕ, ◌+◌, ◌<◌, Bool, true, false, IsTrue, inl, inr, List, [], length, set, get_or-set_same, refl, sym, ◌∙◌}
+use Rattle.std.proofs.Common.{◌≡◌, ℕ, ◌+◌, ◌<◌, Bool, true, false, IsTrue, inl, inr, List, [], length, set, get_or-set_same, refl, sym, subst, ◌∙◌}
 use Rattle.feature_trees.specs.declared.kind.Kind.{Kind}
 use Rattle.clause_solver.specs.declared.variable.MadeValue.{MadeValue}
 use Rattle.clause_solver.specs.declared.variable.Definition.TheVariants.{Derived, Ensured, Made}
 use Rattle.clause_solver.specs.declared.variable.Variable.{Variable}
 use Rattle.clause_solver.specs.Variables.{var_at, is_node}
-use Rattle.clause_solver.specs.Greatest.{unfenced, unfenced_if, HasEntryOutside, free, child_present, here, below, kept}
+use Rattle.clause_solver.specs.Greatest.{IsSatisfied, unfenced, unfenced_if, HasEntryOutside, free, child_present, here, below, kept}
+use Rattle.clause_solver.specs.Decided.{AreFilled, number_at}
 use Rattle.clause_solver.specs.Opens.{mark_at, opened, IsRoot, itself, derived, ensured}
 use Rattle.clause_solver.proofs.Names.{last_cases}
 use Rattle.std.proofs.lemmas.Bool.{and_parts, and_from}
@@ -62,11 +63,21 @@ opened_more vars old new more n h = let q = and_parts (mark_at old n) (unfenced 
 pub has_entry_any : (vars : List Variable) (best : List Kind) (marks : List Bool) {n : ℕ} {ds : List (List ℕ)} → HasEntryOutside vars best (unfenced_if vars false) n ds → HasEntryOutside vars best (opened vars marks) n ds
 has_entry_any vars best marks h = has_entry_more vars best (unfenced_if vars false) (opened vars marks) (λ n f. cc) h
 
-pub has_entry_next : (vars : List Variable) (best : List Kind) (old new : List Bool) (i : ℕ) → ((n : ℕ) → IsTrue (mark_at old n) → IsTrue (mark_at new n)) → ((k : ℕ) → k < i → IsTrue (var_at vars k).not_empty → HasEntryOutside vars best (opened vars old) k []) → (IsTrue (var_at vars i).not_empty → HasEntryOutside vars best (opened vars new) i []) → (k : ℕ) → k < i + 1 → IsTrue (var_at vars k).not_empty → HasEntryOutside vars best (opened vars new) k []
-has_entry_next vars best old new i more before now k w t = elim (last_cases k i w) [
+-- where the numbers before one of these were looked at, the next one is
+pub has_entry_next : (vars : List Variable) (best : List Kind) (numbers : List ℕ) (old new : List Bool) (i : ℕ) → ((n : ℕ) → IsTrue (mark_at old n) → IsTrue (mark_at new n)) → ((k : ℕ) → k < i → IsTrue (var_at vars (number_at numbers k)).not_empty → HasEntryOutside vars best (opened vars old) (number_at numbers k) []) → (IsTrue (var_at vars (number_at numbers i)).not_empty → HasEntryOutside vars best (opened vars new) (number_at numbers i) []) → (k : ℕ) → k < i + 1 → IsTrue (var_at vars (number_at numbers k)).not_empty → HasEntryOutside vars best (opened vars new) (number_at numbers k) []
+has_entry_next vars best numbers old new i more before now k w t = elim (last_cases k i w) [
   | inl b ↦ has_entry_more vars best (opened vars old) (opened vars new) (opened_more vars old new more) (before k b t)
   | inr e ↦ rw e (now (rw e at t))
 ]
+
+-- where all numbers of those that have an entry were looked at, every variable is satisfied
+pub satisfied_opened : (vars : List Variable) (best : List Kind) (numbers : List ℕ) (marks : List Bool) → AreFilled vars numbers → IsSatisfied vars best (unfenced vars) → ((k : ℕ) → k < length numbers → IsTrue (var_at vars (number_at numbers k)).not_empty → HasEntryOutside vars best (opened vars marks) (number_at numbers k) []) → IsSatisfied vars best (opened vars marks)
+satisfied_opened vars best numbers marks listed satisfied looked i w = record {
+  fits = (satisfied i w).fits;
+  filled = λ t.
+      let k = listed.all i w t in
+      subst (λ n. HasEntryOutside vars best (opened vars marks) n []) k.2 (looked k.0 k.1 (subst (λ n. IsTrue (var_at vars n).not_empty) (sym k.2) t));
+}
 
 pub mark_same : (marks : List Bool) (r : ℕ) → r < length marks → mark_at (set marks r true) r ≡ true
 mark_same marks r w = get_or-set_same marks r true false w

@@ -7,7 +7,7 @@ use Rattle.feature_trees.specs.declared.value.Value.{Value}
 use Rattle.tree_clauses.proofs.Orders.{contains_nothing}
 use Rattle.tree_clauses.specs.Literals.{value_of_variable}
 use Rattle.clause_solver.specs.declared.variable.Variable.{Variable}
-use Rattle.clause_solver.specs.Stands.{Empties, Fences, HasNone, IsFenced}
+use Rattle.clause_solver.specs.Stands.{Empties, Fences, IsFenced}
 use Rattle.clause_solver.specs.Variables.{AllFit, Ordered, AlwaysDir}
 use Rattle.clause_solver.specs.Emptied.{ComesTo, IsEmptied, HasMore, HasNoneOutside, IsClosed, IsWithin, fenced}
 use Rattle.clause_solver.proofs.Names.{listed_from_contains, contains_from_listed}

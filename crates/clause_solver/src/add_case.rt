@@ -15,11 +15,11 @@ use std::alloc::Global;
 use tree_clauses::{Case, Literal, Var, subject};
 
 /// The lists of a store with what the literals of a case leave, whose variable 0 stands for the tree now.
-pub(crate) fn drafted(alloc: Global, lists: &Lists, now: u32, case: &Case) -> Result<Draft, Memory>
+pub(crate) fn drafted(alloc: Global, lists: Lists, now: u32, case: &Case) -> Result<Draft, Memory>
     requires plain { IsPlain case.now }
-    requires decided { AreDecided lists.now }
-    requires inside { now < length lists.now.vars }
-    ensures { IfOk result (IsDrafted lists.now.vars now case.now) }
+    requires decided { AreDecided lists }
+    requires inside { now < length lists.vars }
+    ensures { IfOk result (IsDrafted lists.vars now case.now) }
 {
     let mut draft = Draft::of(alloc, lists, now)?;
     let mut left = case.literals.as_slice();

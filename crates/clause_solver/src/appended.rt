@@ -1,10 +1,10 @@
-ghost use Rattle.std.specs.Prelude.{◌≡◌, ℕ, ◌<◌, ◌≤◌, List, length, IfOk, OnErr};
+ghost use Rattle.std.specs.Prelude.{◌≡◌, ℕ, ◌<◌, ◌≤◌, List, length, IfOk, OnErr, OnOk};
 ghost use Rattle.clause_solver.specs.Variables.{Ordered, var_at};
 ghost use Rattle.clause_solver.specs.Appends.{IsAppended, LeadsTo, Within};
 ghost use Rattle.clause_solver.specs.Linked.{AreLinked, IsEnd, WithVariable};
 
-use crate::children::{behind, kin_at, links_of, with_entry};
-use crate::derivations::{value_under, with_derived, with_end, with_ensured};
+use crate::children::{add_entry, behind, kin_at, links_of};
+use crate::derivations::{add_derived, add_end, add_ensured, value_under};
 use crate::greatest::greatest_by;
 use crate::kin::Kin;
 use crate::places::definition_at;
@@ -78,14 +78,37 @@ pub(crate) fn append(
     ensures ok { IfOk result (IsAppended vars.old best.old kin.old definition vars.new best.new kin.new) }
     ensures kept { OnErr result ((vars.new ≡ vars.old) × (best.new ≡ best.old) × (kin.new ≡ kin.old)) }
 {
+    let mut kinds = fork_alone(best)?;
+    let mut links = fork_alone(kin)?;
+    let y = append_in_place(alloc, vars, &mut kinds, &mut links, definition)?;
+    *best = kinds;
+    *kin = links;
+    Ok(y)
+}
+
+/// Adds a variable in place. For want of memory, or of numbers for variables, the variables are as before, but their
+/// kinds and links may not be.
+pub(crate) fn append_in_place(
+    alloc: Global,
+    vars: &mut Shared<Variable>,
+    best: &mut Shared<Kind>,
+    kin: &mut Shared<Kin>,
+    definition: Definition,
+) -> Result<u32, Memory>
+    requires same { length best.old ≡ length vars.old }
+    requires linked { AreLinked vars.old kin.old }
+    requires within { Within vars.old definition }
+    requires small { length vars.old ≤ 4294967295 }
+    ensures ok { IfOk result (IsAppended vars.old best.old kin.old definition vars.new best.new kin.new) }
+    ensures kept { OnErr result (vars.new ≡ vars.old) }
+{
     let y = vars.len();
     if y >= MOST_VARIABLES {
         return Err(Memory);
     }
     let kind = greatest_by(vars, best, Kinds::all(), &definition);
-    let mut kinds = fork_alone(best)?;
-    push_alone(&mut kinds, kind)?;
-    let links = with_variable(alloc, vars, kin, &definition)?;
+    push_alone(best, kind)?;
+    add_kin(alloc, vars, kin, &definition)?;
     let definition = Common::new(alloc, definition)?;
     let variable = Variable {
         definition,
@@ -94,32 +117,42 @@ pub(crate) fn append(
         not_empty: false,
     };
     push_alone(vars, variable)?;
-    *best = kinds;
-    *kin = links;
     Ok(y as u32)
 }
 
-// The links with those of one variable more.
-fn with_variable(
+// Adds the links of one variable more.
+fn add_kin(
     alloc: Global,
     vars: &Shared<Variable>,
-    kin: &Shared<Kin>,
+    kin: &mut Shared<Kin>,
     definition: &Definition,
-) -> Result<Shared<Kin>, Memory>
+) -> Result<(), Memory>
     requires within { Within vars.now definition.now }
-    requires linked { AreLinked vars.now kin.now }
+    requires linked { AreLinked vars.now kin.old }
     requires small { length vars.now ≤ 4294967295 }
-    ensures { IfOk result (λ new. WithVariable vars.now kin.now definition.now new) }
+    ensures { OnOk result (WithVariable vars.now kin.old definition.now kin.new) }
 {
     match definition {
-        Definition::Start => with_end(alloc, kin),
+        Definition::Start => {
+            add_end(alloc, kin)?;
+            Ok(())
+        }
         Definition::Child(p, f) => {
             let links = links_of(alloc, vars, kin, *p, f)?;
-            let new = with_entry(alloc, kin, *p as usize, links)?;
-            Ok(new)
+            add_entry(alloc, kin, *p as usize, links)?;
+            Ok(())
         }
-        Definition::Derived(x, f, _) => with_derived(alloc, vars, kin, *x, f),
-        Definition::Ensured(x) => with_ensured(alloc, kin, *x as usize),
-        Definition::Made(_) => with_end(alloc, kin),
+        Definition::Derived(x, f, _) => {
+            add_derived(alloc, vars, kin, *x, f)?;
+            Ok(())
+        }
+        Definition::Ensured(x) => {
+            add_ensured(alloc, kin, *x as usize)?;
+            Ok(())
+        }
+        Definition::Made(_) => {
+            add_end(alloc, kin)?;
+            Ok(())
+        }
     }
 }

@@ -14,7 +14,7 @@ use crate::kin::{Kin, Link};
 use crate::places::definition_at;
 use crate::variable::{Definition, Variable};
 use script_names::{Common, List, Memory, Name};
-use shared_table::{Shared, fork_alone, push_alone, set_alone};
+use shared_table::{Shared, push_alone, set_alone};
 use std::alloc::Global;
 
 /// The links of a variable that has no entry and is none.
@@ -205,20 +205,20 @@ pub(crate) fn links_of(
     }
 }
 
-/// The links with one more entry of a place, which has these links of its own.
-pub(crate) fn with_entry(
+/// Adds the links of one more entry of a place, which has these links of its own.
+pub(crate) fn add_entry(
     alloc: Global,
-    kin: &Shared<Kin>,
+    kin: &mut Shared<Kin>,
     p: usize,
     links: List<Link>,
-) -> Result<Shared<Kin>, Memory>
-    requires inside { p < length kin.now }
-    requires small { length kin.now ≤ 4294967295 }
-    ensures { IfOk result (λ new. new ≡ with_entry kin.now p links) }
+) -> Result<(), Memory>
+    requires inside { p < length kin.old }
+    requires small { length kin.old ≤ 4294967295 }
+    ensures { OnOk result (kin.new ≡ with_entry kin.old p links) }
 {
-    let mut new = fork_alone(kin)?;
     let y = kin.len() as u32;
     let parent = kin_at(kin, p);
+    let older = parent.youngest;
     let last = Kin {
         youngest: Some(y),
         older: parent.older,
@@ -226,14 +226,14 @@ pub(crate) fn with_entry(
         top: parent.top,
         end: parent.end,
     };
-    set_alone(&mut new, p, last)?;
+    set_alone(kin, p, last)?;
     let entry = Kin {
         youngest: None,
-        older: parent.youngest,
+        older,
         links: Common::new(alloc, links)?,
         top: None,
         end: y,
     };
-    push_alone(&mut new, entry)?;
-    Ok(new)
+    push_alone(kin, entry)?;
+    Ok(())
 }

@@ -1,7 +1,7 @@
 //! Directories that are derived one from another, each linked to those that it is derived from. To find an entry goes
 //! over few of them, by the links for the places where names differ first.
 
-ghost use Rattle.std.specs.Prelude.{◌≡◌, ℕ, ◌<◌, ◌≤◌, ◌++◌, [], ◌∷◌, length, MatchOption, IfOk};
+ghost use Rattle.std.specs.Prelude.{◌≡◌, ℕ, ◌<◌, ◌≤◌, ◌++◌, [], ◌∷◌, length, MatchOption, IfOk, OnOk};
 ghost use Rattle.clause_solver.specs.declared.variable.Definition.TheVariants.{Derived};
 ghost use Rattle.clause_solver.specs.Linked.{AreLinked, AreLinksDown, kin_at, other_kin};
 
@@ -12,7 +12,7 @@ use crate::kin::{Kin, Link};
 use crate::places::definition_at;
 use crate::variable::{Definition, Variable};
 use script_names::{List, Memory, Name};
-use shared_table::{Shared, fork_alone, push_alone};
+use shared_table::{Shared, push_alone};
 use std::alloc::Global;
 
 /// The value that a definition puts under a name, where it does.
@@ -68,59 +68,46 @@ fn links_down(
     }
 }
 
-/// The links with those of one more directory, which is derived from x with another value under f.
-pub(crate) fn with_derived(
+/// Adds the links of one more directory, which is derived from x with another value under f.
+pub(crate) fn add_derived(
     alloc: Global,
     vars: &Shared<Variable>,
-    kin: &Shared<Kin>,
+    kin: &mut Shared<Kin>,
     x: u32,
     f: &Name,
-) -> Result<Shared<Kin>, Memory>
+) -> Result<(), Memory>
     requires inside { x < length vars.now }
-    requires linked { AreLinked vars.now kin.now }
+    requires linked { AreLinked vars.now kin.old }
     requires small { length vars.now ≤ 4294967295 }
-    ensures { let end = (kin_at kin.now x).end in IfOk result (λ new.
-        (links : List Link) × AreLinksDown vars.now kin.now x f.now end (length vars.now) links
-        × (new ≡ kin.now ++ other_kin links (Some (length kin.now)) end ∷ [])) }
+    ensures { let end = (kin_at kin.old x).end in OnOk result (
+        (links : List Link) × AreLinksDown vars.now kin.old x f.now end (length vars.now) links
+        × (kin.new ≡ kin.old ++ other_kin links (Some (length kin.old)) end ∷ [])) }
 {
     let links = links_down(alloc, vars, kin, x, f)?;
     let y = kin.len() as u32;
     let own = other_kin(alloc, links, Some(y), kin_at(kin, x as usize).end)?;
-    let new = with_kin(kin, own)?;
-    Ok(new)
+    push_alone(kin, own)?;
+    Ok(())
 }
 
-/// The links with those of one more directory, which has the entries of x.
-pub(crate) fn with_ensured(
-    alloc: Global,
-    kin: &Shared<Kin>,
-    x: usize,
-) -> Result<Shared<Kin>, Memory>
-    requires { x < length kin.now }
-    ensures { IfOk result (λ new. new
-        ≡ kin.now ++ other_kin [] (kin_at kin.now x).top (kin_at kin.now x).end ∷ []) }
+/// Adds the links of one more directory, which has the entries of x.
+pub(crate) fn add_ensured(alloc: Global, kin: &mut Shared<Kin>, x: usize) -> Result<(), Memory>
+    requires { x < length kin.old }
+    ensures { OnOk result (kin.new
+        ≡ kin.old ++ other_kin [] (kin_at kin.old x).top (kin_at kin.old x).end ∷ []) }
 {
     let below = kin_at(kin, x);
     let own = other_kin(alloc, List::new(alloc), below.top, below.end)?;
-    let new = with_kin(kin, own)?;
-    Ok(new)
+    push_alone(kin, own)?;
+    Ok(())
 }
 
-/// The links with those of one more variable that is no entry of a place and has its value from no other.
-pub(crate) fn with_end(alloc: Global, kin: &Shared<Kin>) -> Result<Shared<Kin>, Memory>
-    requires { length kin.now ≤ 4294967295 }
-    ensures { IfOk result (λ new. new ≡ kin.now ++ other_kin [] None (length kin.now) ∷ []) }
+/// Adds the links of one more variable that is no entry of a place and has its value from no other.
+pub(crate) fn add_end(alloc: Global, kin: &mut Shared<Kin>) -> Result<(), Memory>
+    requires { length kin.old ≤ 4294967295 }
+    ensures { OnOk result (kin.new ≡ kin.old ++ other_kin [] None (length kin.old) ∷ []) }
 {
     let own = other_kin(alloc, List::new(alloc), None, kin.len() as u32)?;
-    let new = with_kin(kin, own)?;
-    Ok(new)
-}
-
-// The links with those of one variable more.
-fn with_kin(kin: &Shared<Kin>, own: Kin) -> Result<Shared<Kin>, Memory>
-    ensures { IfOk result (λ new. new ≡ kin.now ++ own ∷ []) }
-{
-    let mut new = fork_alone(kin)?;
-    push_alone(&mut new, own)?;
-    Ok(new)
+    push_alone(kin, own)?;
+    Ok(())
 }

@@ -8,7 +8,7 @@ ghost use Rattle.clause_solver.specs.Variables.{Earlier};
 ghost use Rattle.clause_solver.specs.Drafts.{place_in, IsPlaced, IsSteady, Says, IsPut, Adds, Makes};
 ghost use Rattle.clause_solver.specs.Appends.{IsSingle};
 
-use crate::appended::{Found, append, resolve};
+use crate::appended::{Found, append_in_place, resolve};
 use crate::children::find;
 use crate::emptying::without_entries;
 use crate::lists::Lists;
@@ -28,11 +28,10 @@ pub(crate) struct Draft {
 
 impl Draft {
     /// The lists of a store, with a place for variable 0 of a case.
-    pub(crate) fn of(alloc: Global, lists: &Lists, now: u32) -> Result<Draft, Memory>
-        ensures { IfOk result (λ draft. (draft.lists ≡ lists.now) × (place_in draft 0 ≡ Some now)
+    pub(crate) fn of(alloc: Global, lists: Lists, now: u32) -> Result<Draft, Memory>
+        ensures { IfOk result (λ draft. (draft.lists ≡ lists) × (place_in draft 0 ≡ Some now)
             × ((x : ℕ) → x ≢ 0 → place_in draft x ≡ None)) }
     {
-        let lists = lists.fork()?;
         let mut places = BTreeMap::new(alloc);
         places.insert(0, now)?;
         Ok(Draft { lists, places })
@@ -108,7 +107,7 @@ impl Draft {
         requires single { IsSingle self.old.lists.vars d }
         ensures { OnOk result (Adds self.old self.new v.0 d) }
     {
-        let y = append(
+        let y = append_in_place(
             alloc,
             &mut self.lists.vars,
             &mut self.lists.best,

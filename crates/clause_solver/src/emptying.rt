@@ -7,7 +7,7 @@ ghost use Rattle.clause_solver.specs.Decided.{AreDecided};
 ghost use Rattle.clause_solver.specs.Emptied.{EndsAt, HasItsVariable, HasMore, IsClosed, IsWithin};
 ghost use Rattle.clause_solver.specs.Emptied.{fenced, let_in, names_past, vars_past};
 
-use crate::appended::append;
+use crate::appended::append_in_place;
 use crate::children::find;
 use crate::greatest::{allows, is_member};
 use crate::lists::{Lists, have_entries};
@@ -16,7 +16,7 @@ use crate::settling::settle_entries;
 use crate::variable::{Definition, Variable};
 use feature_trees::{Kind, Kinds};
 use script_names::{Copied, List, Memory, Name};
-use shared_table::{Shared, set_alone};
+use shared_table::{Shared, fork_alone, set_alone};
 use std::alloc::Global;
 
 /// The way down from a variable that has entries under some names alone: the lists, in which the variables that were
@@ -114,7 +114,7 @@ fn enter(alloc: Global, lists: &mut Lists, n: u32, f: &Name) -> Result<(), Memor
         return Ok(());
     }
     let name = f.copy(alloc)?;
-    let _y = append(
+    let _y = append_in_place(
         alloc,
         &mut lists.vars,
         &mut lists.best,
@@ -201,7 +201,8 @@ fn closed(alloc: Global, lists: &Lists, n: u32, names: &[Name]) -> Result<Lists,
 {
     let mut new = with_entries(alloc, lists, n, names)?;
     enclose(alloc, &mut new.vars, n as usize, names)?;
-    let settled = settle_entries(&new.vars, &new.kin, &new.best, n as usize)?;
+    let best = fork_alone(&new.best)?;
+    let settled = settle_entries(&new.vars, &new.kin, best, n as usize)?;
     let have = have_entries(&new.vars, &settled.best, &new.kin, &new.filled);
     new.alive = (new.alive & settled.fits) & have;
     new.best = settled.best;

@@ -1,6 +1,6 @@
 //! What becomes known of a variable: its kinds, and that it has an entry.
 
-ghost use Rattle.std.specs.Prelude.{◌≡◌, ◌<◌, length, IfOk, OnOk, true};
+ghost use Rattle.std.specs.Prelude.{◌≡◌, ◌<◌, length, IfOk, OnOk, IsTrue, true};
 ghost use Rattle.clause_solver.specs.Variables.{filled, fixed_in, limited, narrowed, var_at};
 
 use crate::greatest::kind_made;
@@ -21,9 +21,28 @@ pub(crate) fn narrow(
     requires { x < length vars.old }
     ensures { OnOk result (vars.new ≡ limited vars.old x k) }
 {
+    if keeps_kinds(vars, x, k) {
+        return Ok(());
+    }
     let narrowed = narrowed_at(alloc, vars, x, k)?;
     set_alone(vars, x, narrowed)?;
     Ok(())
+}
+
+// Whether the limit to a set of kinds leaves the variable at a place as it is.
+fn keeps_kinds(vars: &Shared<Variable>, x: usize, k: Kinds) -> bool
+    requires { x < length vars.now }
+    ensures { IsTrue result → limited vars.now x k ≡ vars.now }
+{
+    let v = var_at(vars, x);
+    are_same(narrowed(v, k), v.kinds)
+}
+
+// Whether two sets of kinds are the same.
+fn are_same(a: Kinds, b: Kinds) -> bool
+    ensures { IsTrue result → a ≡ b }
+{
+    a == b
 }
 
 // The variable at a place, limited to a set of kinds.

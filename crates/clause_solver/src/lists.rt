@@ -64,7 +64,8 @@ impl Lists {
             return Ok(());
         }
         set_alone(&mut self.best, x, kind)?;
-        let settled = settle_entries(&self.vars, &self.kin, &self.best, x)?;
+        let best = fork_alone(&self.best)?;
+        let settled = settle_entries(&self.vars, &self.kin, best, x)?;
         let have = have_entries(&self.vars, &settled.best, &self.kin, &self.filled);
         self.alive = (self.alive & (fits & settled.fits)) & have;
         self.best = settled.best;
@@ -92,8 +93,8 @@ impl Lists {
     }
 }
 
-// The number at a place.
-fn number_at(numbers: &Shared<u32>, k: usize) -> u32
+/// The number at a place.
+pub(crate) fn number_at(numbers: &Shared<u32>, k: usize) -> u32
     requires { k < length numbers.now }
     ensures { result ≡ number_at numbers.now k }
 {

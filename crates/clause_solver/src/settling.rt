@@ -15,7 +15,7 @@ use crate::places::{kind_at, var_at};
 use crate::variable::Variable;
 use feature_trees::Kind;
 use script_names::Memory;
-use shared_table::{Shared, fork_alone, set_alone};
+use shared_table::{Shared, set_alone};
 
 /// Greatest kinds, and whether each variable whose kind changed may have its new one.
 #[derive(Drop)]
@@ -39,23 +39,23 @@ fn is_to_fall(vars: &Shared<Variable>, best: &Shared<Kind>, m: usize) -> bool
 pub(crate) fn settle_entries(
     vars: &Shared<Variable>,
     kin: &Shared<Kin>,
-    best: &Shared<Kind>,
+    best: Shared<Kind>,
     p: usize,
 ) -> Result<Settled, Memory>
-    requires same { length best.now ≡ length vars.now }
+    requires same { length best ≡ length vars.now }
     requires order { Ordered vars.now }
     requires linked { AreLinked vars.now kin.now }
     requires inside { p < length vars.now }
-    ensures { IfOk result (λ new. AreSettled vars.now p best.now new.best new.fits) }
+    ensures { IfOk result (λ new. AreSettled vars.now p best new.best new.fits) }
 {
-    let mut new = fork_alone(best)?;
+    let mut new = best;
     let mut fits = true;
     let mut here = kin_at(kin, p).youngest;
     'entries: loop {
         match here {
             None => return Ok(Settled { best: new, fits }),
             Some(m) => {
-                let entry = settle_entry(vars, kin, &new, m as usize)?;
+                let entry = settle_entry(vars, kin, new, m as usize)?;
                 fits = fits & entry.fits;
                 new = entry.best;
                 here = kin_at(kin, m as usize).older;
@@ -69,24 +69,21 @@ pub(crate) fn settle_entries(
 fn settle_entry(
     vars: &Shared<Variable>,
     kin: &Shared<Kin>,
-    best: &Shared<Kind>,
+    best: Shared<Kind>,
     m: usize,
 ) -> Result<Settled, Memory>
-    requires same { length best.now ≡ length vars.now }
+    requires same { length best ≡ length vars.now }
     requires order { Ordered vars.now }
     requires linked { AreLinked vars.now kin.now }
     requires inside { m < length vars.now }
-    ensures { IfOk result (λ new. IsSettledAt vars.now m best.now new.best new.fits) }
+    ensures { IfOk result (λ new. IsSettledAt vars.now m best new.best new.fits) }
 {
-    let mut new = fork_alone(best)?;
-    if !is_to_fall(vars, best, m) {
-        return Ok(Settled {
-            best: new,
-            fits: true,
-        });
+    if !is_to_fall(vars, &best, m) {
+        return Ok(Settled { best, fits: true });
     }
+    let mut new = best;
     set_alone(&mut new, m, Kind::Absent)?;
-    let below = settle_entries(vars, kin, &new, m)?;
+    let below = settle_entries(vars, kin, new, m)?;
     let may = var_at(vars, m).kinds.has(Kind::Absent);
     Ok(Settled {
         best: below.best,

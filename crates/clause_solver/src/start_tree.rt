@@ -4,6 +4,7 @@ ghost use Rattle.tree_clauses.specs.Literals.{value_of_variable};
 ghost use Rattle.clause_solver.specs.Variables.{Ordered, var_at};
 ghost use Rattle.clause_solver.specs.Greatest.{IsSatisfied, HasEntryOutside, unfenced, kind_at};
 ghost use Rattle.clause_solver.specs.Linked.{AreLinked};
+ghost use Rattle.clause_solver.specs.Decided.{AreFilled};
 ghost use Rattle.clause_solver.specs.Grown.{values, grown, some_target, extra};
 ghost use Rattle.clause_solver.specs.NewNames.{beginning, begins, name_used, IsNew};
 ghost use Rattle.clause_solver.specs.Opens.{mark_at, opened, IsRoot};
@@ -13,6 +14,7 @@ ghost use Rattle.clause_solver.specs.Builds.{AreWithoutChildren, laid_by, Parent
 use crate::greatest::{ReplacedNames, has_entry_outside};
 use crate::growing::Growing;
 use crate::kin::Kin;
+use crate::lists::number_at;
 use crate::places::{definition_at, kind_at, var_at};
 use crate::variable::{Definition, Variable};
 use feature_trees::{Entries, Kind, Value};
@@ -183,17 +185,20 @@ pub(crate) fn open_places(
     vars: &Shared<Variable>,
     best: &Shared<Kind>,
     kin: &Shared<Kin>,
+    filled: &Shared<u32>,
 ) -> Result<Vec<bool>, Memory>
     requires same { length best.now ≡ length vars.now }
     requires order { Ordered vars.now }
     requires linked { AreLinked vars.now kin.now }
+    requires filled { AreFilled vars.now filled.now }
     requires satisfied { IsSatisfied vars.now best.now (unfenced vars.now) }
     ensures same { IfOk result (λ v. length v.items ≡ length vars.now) }
     ensures satisfied { IfOk result (λ v. IsSatisfied vars.now best.now (opened vars.now v.items)) }
 {
     let mut marks = vec![in alloc; false; vars.len()]?;
-    for i in 0..vars.len() {
-        open_for(vars, best, kin, &mut marks, i);
+    for k in 0..filled.len() {
+        let x = number_at(filled, k) as usize;
+        open_for(vars, best, kin, &mut marks, x);
     }
     Ok(marks)
 }

@@ -331,7 +331,18 @@ impl Store {
         if is_excluded(self, case) {
             return Ok(None);
         }
-        let draft = drafted(self.alloc, &self.lists, self.current, case)?;
+        let fork = self.fork()?;
+        let found = fork.follow(case)?;
+        Ok(found)
+    }
+
+    /// What `add_case` gives, where this store is not needed any more: what it alone owns is changed in place.
+    pub fn follow(self, case: &Case) -> Result<Option<Store>, Memory>
+        requires plain { IsPlain case.now }
+        ensures { let old = self in let made = case.now in
+            IfOk result (λ found. MatchOption found (LeadsNowhere old made) (AddsCase old made)) }
+    {
+        let draft = drafted(self.alloc, self.lists, self.current, case)?;
         let current = draft.place(case.root);
         let left = draft.lists.alive;
         if !left {
@@ -377,7 +388,13 @@ impl Store {
         requires { Alive self.now }
         ensures { IfOk result (λ t. (g : Valuation) × Stands self.now t g) }
     {
-        let marks = open_places(alloc, &self.lists.vars, &self.lists.best, &self.lists.kin)?;
+        let marks = open_places(
+            alloc,
+            &self.lists.vars,
+            &self.lists.best,
+            &self.lists.kin,
+            &self.lists.filled,
+        )?;
         let z = new_name(alloc, &self.lists.vars)?;
         let tree = grow(alloc, &self.lists.vars, &self.lists.best, &marks, &z)?;
         Ok(tree)

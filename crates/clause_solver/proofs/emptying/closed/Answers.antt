@@ -41,7 +41,7 @@ module _ (c : In_ok-enclose) where
   numbers = subst (λ vs. AreFilled vs c.in_ok-new.new.filled) (sym vars_are) (fenced_numbers c.in_ok-new.new.vars c.args.n c.args.names.now c.in_ok-new.new.filled here c.in_ok-new.ensures.decided.filled)
 
 pub settle_entries-requires-clause-same : goal.settle_entries-requires-clause-same
-settle_entries-requires-clause-same c = same (goal.at.settle_entries-requires-clause-same c).In_ok-enclose
+settle_entries-requires-clause-same c = rw c.in_ok-best.ensures (same (goal.at.settle_entries-requires-clause-same c).In_ok-enclose)
 
 pub settle_entries-requires-clause-order : goal.settle_entries-requires-clause-order
 settle_entries-requires-clause-order c = order (goal.at.settle_entries-requires-clause-order c).In_ok-enclose
@@ -71,7 +71,7 @@ returns-clause-decided c =
     let fits = c.in_ok-settled.settled.fits in
     let have = c.have_entries-have.result in
     let after : Lists = record { vars = c.enclose.new.vars; best = best; kin = mid.kin; filled = mid.filled; alive = ((mid.alive && fits) && have) } in
-    let settled : AreSettled vars c.args.n mid.best best fits = rw c.in_ok-enclose.ensures at c.in_ok-settled.ensures in
+    let settled : AreSettled vars c.args.n mid.best best fits = rw (c.in_ok-enclose.ensures, c.in_ok-best.ensures) at c.in_ok-settled.ensures in
     let ih : IsTrue have ↔ HaveEntries vars best mid.filled = rw c.in_ok-enclose.ensures at c.have_entries-have.ensures in
     fenced_decided mid after c.args.n names c.in_ok-new.ensures.decided (here at_fence) (node at_fence) c.in_ok-new.ensures.known c.in_ok-enclose.ensures best fits have settled ih refl refl refl refl
 

@@ -12,9 +12,9 @@ module _ (c : In_ok-_y) where
   none i h = c.in_default.ensures i h
 
   abbrev after : Lists
-  after = record { vars = c.append.new.vars; best = c.append.new.best; kin = c.append.new.kin; filled = c.args.lists.now.filled; alive = c.args.lists.now.alive }
+  after = record { vars = c.append_in_place.new.vars; best = c.append_in_place.new.best; kin = c.append_in_place.new.kin; filled = c.args.lists.now.filled; alive = c.args.lists.now.alive }
 
-  is : IsAppended c.args.lists.now.vars c.args.lists.now.best c.args.lists.now.kin (Child c.args.n c.args.f.now) c.append.new.vars c.append.new.best c.append.new.kin c.in_ok-_y._y
+  is : IsAppended c.args.lists.now.vars c.args.lists.now.best c.args.lists.now.kin (Child c.args.n c.args.f.now) c.append_in_place.new.vars c.append_in_place.new.best c.append_in_place.new.kin c.in_ok-_y._y
   is = rw c.in_ok-name.ensures at c.in_ok-_y.ensures.ok
 
 pub returns-clause-decided : goal.returns-clause-decided

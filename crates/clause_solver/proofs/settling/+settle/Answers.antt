@@ -12,18 +12,18 @@ use Rattle.clause_solver.proofs.settling.+settle.Goals as goal
 pub settle_entries-entries-init : goal.settle_entries-entries-init
 settle_entries-entries-init t c =
     let e : c.kin_at.result.now.youngest ≡ (kin_at c.args.kin.now c.args.p).youngest = ap (λ (k : Kin). k.youngest) c.kin_at.ensures in
-    rw (c.in_ok-new.ensures, e) (first_gone c.args.vars.now c.args.kin.now c.args.p c.args.best.now c.requires.linked c.requires.inside)
+    rw e (first_gone c.args.vars.now c.args.kin.now c.args.p c.args.best c.requires.linked c.requires.inside)
 
 pub settle_entries-returns-in-None : goal.settle_entries-returns-in-None
 settle_entries-returns-in-None t c =
     let vars = c.args.vars.now in
-    let best = c.args.best.now in
+    let best = c.args.best in
     all_gone vars c.args.kin.now c.args.p best c.requires.linked c.entries.new c.entries.fits (subst (AreGoneOver vars c.args.p best c.entries.new c.entries.fits) c.in-None.is c.entries.invariant)
 
 pub settle_entries-entries-smaller : goal.settle_entries-entries-smaller
 settle_entries-entries-smaller t c =
     let vars = c.args.vars.now in
-    let best = c.args.best.now in
+    let best = c.args.best in
     let gone : AreGoneOver vars c.args.p best c.entries.new c.entries.fits (Some c.in-Some.m) = subst (AreGoneOver vars c.args.p best c.entries.new c.entries.fits) c.in-Some.is c.entries.invariant in
     let e : c.kin_at-in-Some.result.now.older ≡ (kin_at c.args.kin.now c.in-Some.m).older = ap (λ (k : Kin). k.older) c.kin_at-in-Some.ensures in
     let smaller : left_of c.kin_at-in-Some.result.now.older < left_of c.entries.here =
@@ -33,7 +33,7 @@ settle_entries-entries-smaller t c =
 pub settle_entries-entries-preserved : goal.settle_entries-entries-preserved
 settle_entries-entries-preserved t c =
     let vars = c.args.vars.now in
-    let best = c.args.best.now in
+    let best = c.args.best in
     let gone : AreGoneOver vars c.args.p best c.entries.new c.entries.fits (Some c.in-Some.m) = subst (AreGoneOver vars c.args.p best c.entries.new c.entries.fits) c.in-Some.is c.entries.invariant in
     let e : c.kin_at-in-Some.result.now.older ≡ (kin_at c.args.kin.now c.in-Some.m).older = ap (λ (k : Kin). k.older) c.kin_at-in-Some.ensures in
     let entry = c.in_ok-entry-in-Some.entry in
@@ -42,8 +42,8 @@ settle_entries-entries-preserved t c =
 pub settle_entry-returns : goal.settle_entry-returns
 settle_entry-returns t c =
     let vars = c.args.vars.now in
-    let best = c.args.best.now in
+    let best = c.args.best in
     let falls = c.is_to_fall.ensures.0 c.if-not-is_to_fall.false in
     let may : c.has-may.result ≡ has (var_at vars c.args.m).kinds Absent = c.has-may.ensures ∙ ap (λ (v : Variable). has v.kinds Absent) c.var_at.ensures in
     let below = c.in_ok-below.below in
-    fallen_settled vars best below.best c.args.m c.has-may.result below.fits c.requires.order c.requires.same c.requires.inside falls.0 falls.1 may (rw (c.in_ok-set_alone.ensures.ok, c.in_ok-new.ensures) at c.in_ok-below.ensures)
+    fallen_settled vars best below.best c.args.m c.has-may.result below.fits c.requires.order c.requires.same c.requires.inside falls.0 falls.1 may (rw c.in_ok-set_alone.ensures.ok at c.in_ok-below.ensures)

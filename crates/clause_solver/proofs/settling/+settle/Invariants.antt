@@ -10,7 +10,7 @@ abbrev pub decreases-settle_entry : goal.decreases-settle_entry
 decreases-settle_entry l = 2 * (length l.vars.now - l.m) + 1
 
 abbrev pub invariant-settle_entries-entries : goal.invariant-settle_entries-entries
-invariant-settle_entries-entries l = AreGoneOver l.vars l.p l.best l.new l.fits l.here
+invariant-settle_entries-entries l = AreGoneOver l.vars l.p l.initial.new l.new l.fits l.here
 
 abbrev pub decreases-settle_entries-entries : goal.decreases-settle_entries-entries
 decreases-settle_entries-entries l = left_of l.here

@@ -81,6 +81,6 @@ returns-clause-decided c =
     let have = c.have_entries-have.result in
     let after : Lists = record { vars = c.narrow.new.vars; best = best; kin = was.kin; filled = was.filled; alive = ((was.alive && (fits && below)) && have) } in
     let fell : kind_at was.best c.args.x ≢ kind = λ e. let t = c.is_same.ensures.1 (c.kind_at.ensures ∙ e) in let f = c.if-is_same.false in let bad : true ≡ false = sym t ∙ f in cc in
-    let settled : AreSettled vars c.args.x (set was.best c.args.x kind) best below = rw (c.in_ok-narrow.ensures, c.in_ok-set_alone.ensures.ok) at c.in_ok-settled.ensures in
+    let settled : AreSettled vars c.args.x (set was.best c.args.x kind) best below = rw (c.in_ok-narrow.ensures, c.in_ok-best.ensures, c.in_ok-set_alone.ensures.ok) at c.in_ok-settled.ensures in
     let ih : IsTrue have ↔ HaveEntries vars best was.filled = rw c.in_ok-narrow.ensures at c.have_entries-have.ensures in
     limit_falls was after c.args.x c.args.k c.requires.decided c.requires.inside c.in_ok-narrow.ensures refl refl kind (top_is at_same) fits (fits_is at_same) fell best below settled have ih refl refl
