@@ -1,7 +1,9 @@
-ghost use Rattle.std.specs.Prelude.{◌≡◌, IfOk, option_map};
+ghost use Rattle.std.specs.Prelude.{◌≡◌, ℕ, List as ListOf, IfOk, option_map};
 ghost use Rattle.std.specs.List.{list_any};
 ghost use Rattle.feature_trees.specs.declared.value.Value.{Value};
+ghost use Rattle.package_lists.specs.Bases.{is_base};
 ghost use Rattle.package_lists.specs.FileActs.{acts_of};
+ghost use Rattle.package_lists.specs.PathSets.{has};
 ghost use Rattle.scenario_runs.specs.Runs.{program_meaning, scenario_run};
 ghost use Rattle.package_jobs.specs.Made.{DoTheSame, IsMade};
 ghost use Rattle.package_jobs.specs.Written.{stated_meaning, is_conffile, is_plain, files_of, written_run};
@@ -10,7 +12,7 @@ use crate::sides::old_package;
 use checker_input::{Package, Packages, Scripts};
 use colis_syntax::Program;
 use dpkg_scenarios::{Scenario, StepWork};
-use package_lists::{Base, Entry, calls_of, file_acts};
+use package_lists::{Base, Entry, PathSet, base_paths, calls_of, file_acts};
 use scenario_runs::{FileActs, Files, Job};
 use script_names::{Copied, List, Memory, Slot};
 use shell_forms::Accepted;
@@ -100,8 +102,8 @@ fn has_conffile(entries: &[Entry]) -> bool
     false
 }
 
-// The acts on files of a step. More acts than a site can number, 4,294,967,295, would need as many entries, which no
-// memory holds: this is told as want of memory.
+// The acts on files of a step, where `kept` has the directories of the base. More acts than a site can number,
+// 4,294,967,295, would need as many entries, which no memory holds: this is told as want of memory.
 fn step_acts(
     alloc: Global,
     scenario: Scenario,
@@ -109,10 +111,12 @@ fn step_acts(
     new: &List<Entry>,
     old: &List<Entry>,
     base: &Base,
+    kept: &PathSet,
 ) -> Result<FileActs, Memory>
+    requires { (path : ListOf ℕ) → has kept.now path ≡ is_base base.now.lines path }
     ensures { IfOk result (λ acts. acts ≡ acts_of scenario work new.now old.now base.now.lines) }
 {
-    let acts = file_acts(alloc, scenario, work, new, old, base)?;
+    let acts = file_acts(alloc, scenario, work, new, old, base, kept)?;
     match FileActs::new(acts) {
         Some(acts) => Ok(acts),
         None => Err(Memory),
@@ -129,10 +133,19 @@ fn files_of(
 ) -> Result<Files, Memory>
     ensures { IfOk result (λ files. files ≡ files_of scenario new.now old.now base.now.lines) }
 {
-    let unpack = step_acts(alloc, scenario, StepWork::Unpack, new, old, base)?;
-    let remove_files = step_acts(alloc, scenario, StepWork::RemoveFiles, new, old, base)?;
-    let remove_old = step_acts(alloc, scenario, StepWork::RemoveOld, new, old, base)?;
-    let remove_conf = step_acts(alloc, scenario, StepWork::RemoveConf, new, old, base)?;
+    let kept = base_paths(alloc, base.lines.as_slice())?;
+    let unpack = step_acts(alloc, scenario, StepWork::Unpack, new, old, base, &kept)?;
+    let remove_files = step_acts(
+        alloc,
+        scenario,
+        StepWork::RemoveFiles,
+        new,
+        old,
+        base,
+        &kept,
+    )?;
+    let remove_old = step_acts(alloc, scenario, StepWork::RemoveOld, new, old, base, &kept)?;
+    let remove_conf = step_acts(alloc, scenario, StepWork::RemoveConf, new, old, base, &kept)?;
     Ok(Files {
         unpack,
         remove_files,

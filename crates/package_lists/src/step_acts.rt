@@ -1,13 +1,13 @@
-ghost use Rattle.std.specs.Prelude.{◌≡◌, ◌++◌, map, reverse, All, IfOk, OnOk};
+ghost use Rattle.std.specs.Prelude.{◌≡◌, ◌++◌, ℕ, List as ListOf, map, reverse, All, IfOk, OnOk};
 ghost use Rattle.std.specs.List.{flat_map};
 ghost use Rattle.utility_calls.specs.Acts.{IsPerformed};
+ghost use Rattle.package_lists.specs.Bases.{is_base};
 ghost use Rattle.package_lists.specs.FileActs.{places_conf, unpacked, folder_gone, removed};
 ghost use Rattle.package_lists.specs.FileActs.{removed_old, conf_gone, dir_gone, acts_of};
 ghost use Rattle.package_lists.specs.Paths.{path_text as path_text_of};
 ghost use Rattle.package_lists.specs.PathSets.{has};
 
 use crate::base::Base;
-use crate::base_sets::base_paths;
 use crate::entry::{Entry, entries_are_named};
 use crate::entry_sets::{Which, has_entry, paths_of};
 use crate::kind::EntryKind;
@@ -19,9 +19,9 @@ use std::alloc::Global;
 use utility_calls::acts::Act;
 
 /// The acts of a step of a scenario that places or takes away files, in order, from the entries of the new and of the
-/// old package and from the base (Debian Policy, 6.6 and 6.8). Entries are placed in the order of the list, and taken
-/// away from the last one to the first; a directory of the base is not taken away. A step that calls a script has no
-/// acts. Each act can be done on every tree.
+/// old package and from the base, of which `kept` has the directories (Debian Policy, 6.6 and 6.8). Entries are placed
+/// in the order of the list, and taken away from the last one to the first; a directory of the base is not taken away.
+/// A step that calls a script has no acts. Each act can be done on every tree.
 pub fn file_acts(
     alloc: Global,
     scenario: Scenario,
@@ -29,13 +29,15 @@ pub fn file_acts(
     new: &List<Entry>,
     old: &List<Entry>,
     base: &Base,
+    kept: &PathSet,
 ) -> Result<List<Act>, Memory>
+    requires { (path : ListOf ℕ) → has kept.now path ≡ is_base base.now.lines path }
     ensures acts { IfOk result (λ acts. acts ≡ acts_of scenario work new.now old.now base.now.lines) }
     ensures performed { IfOk result (λ acts. All IsPerformed acts) }
 {
     entries_are_named(new.as_slice());
     entries_are_named(old.as_slice());
-    let acts = acts_of_step(alloc, scenario, work, new, old, base)?;
+    let acts = acts_of_step(alloc, scenario, work, new, old, base, kept)?;
     Ok(acts)
 }
 
@@ -47,7 +49,9 @@ fn acts_of_step(
     new: &List<Entry>,
     old: &List<Entry>,
     base: &Base,
+    kept: &PathSet,
 ) -> Result<List<Act>, Memory>
+    requires { (path : ListOf ℕ) → has kept.now path ≡ is_base base.now.lines path }
     ensures { IfOk result (λ acts. acts ≡ acts_of scenario work new.now old.now base.now.lines) }
 {
     match work {
@@ -57,20 +61,17 @@ fn acts_of_step(
             unpack(alloc, scenario, &conffiles, new.as_slice())
         }
         StepWork::RemoveFiles => {
-            let kept = base_paths(alloc, base.lines.as_slice())?;
             let back = from_last(alloc, new.as_slice())?;
-            remove(alloc, &kept, back.as_slice())
+            remove(alloc, kept, back.as_slice())
         }
         StepWork::RemoveOld => {
             let listed = paths_of(alloc, Which::All, new.as_slice())?;
-            let kept = base_paths(alloc, base.lines.as_slice())?;
             let back = from_last(alloc, old.as_slice())?;
-            remove_old(alloc, &listed, &kept, back.as_slice())
+            remove_old(alloc, &listed, kept, back.as_slice())
         }
         StepWork::RemoveConf => {
-            let kept = base_paths(alloc, base.lines.as_slice())?;
             let back = from_last(alloc, new.as_slice())?;
-            remove_conf(alloc, &kept, back.as_slice())
+            remove_conf(alloc, kept, back.as_slice())
         }
     }
 }

@@ -3,7 +3,9 @@
 //! configuration file, and the base is the usual one.
 
 use dpkg_scenarios::{Scenario, ScriptKind, StepWork};
-use package_lists::{Base, Entry, LineFault, file_acts, read_base, read_conffiles, read_list};
+use package_lists::{
+    Base, Entry, LineFault, base_paths, file_acts, read_base, read_conffiles, read_list,
+};
 use script_names::{Bytes, List, Memory, Path};
 use std::alloc::Global;
 use std::test::Fail;
@@ -130,7 +132,8 @@ fn acts_text(
     base: &Base,
 ) -> Result<Bytes, LineFault> {
     let new = entries(alloc, PACKAGE, CONFFILES)?;
-    let acts = file_acts(alloc, scenario, work, &new, old, base)?;
+    let kept = base_paths(alloc, base.lines.as_slice())?;
+    let acts = file_acts(alloc, scenario, work, &new, old, base, &kept)?;
     let mut text = Bytes::new(alloc);
     for act in acts.as_slice() {
         put_act(&mut text, act)?;
