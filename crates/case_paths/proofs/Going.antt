@@ -1,5 +1,6 @@
 -- One run from a stage to its end, and the stages that part from it on the way.
-use Rattle.std.proofs.Common.{◌≡◌, ℕ, ◌<◌, ◌≤◌, ◌+◌, ◌-◌, List, [], ◌∷◌, ◌++◌, length, length-append, get_or, append_assoc, refl, sym, ap, ◌∙◌, subst, arith}
+use Rattle.std.proofs.Common.{◌≡◌, ℕ, ◌<◌, ◌≤◌, ◌+◌, ◌-◌, List, [], ◌∷◌, ◌++◌, length, length-append, get_or, append_assoc, Result, Ok, Err, Bool, true, false, IsTrue, refl, sym, ap, ◌∙◌, subst, arith}
+use Rattle.std.specs.Prelude.{◌↔◌, IsErrAnd}
 use Rattle.script_names.specs.declared.mark.Mark.{Mark}
 use Rattle.script_names.specs.declared.mark.Site.{Site}
 use Rattle.script_names.specs.declared.reason.Done.{Done}
@@ -16,7 +17,10 @@ use Rattle.case_paths.specs.declared.state.PathState.{PathState}
 use Rattle.case_paths.specs.declared.state.Ran.{Ran}
 use Rattle.case_paths.specs.declared.fork.Forks.{Forks}
 use Rattle.case_paths.specs.Paths.{Gives}
-use Rattle.case_paths.specs.Stages.{Parts, AreForks, IsLed, IsStageOf, IsStage, AllStages, HasEnded, Comes}
+use Rattle.case_paths.specs.declared.pursuit.Pursued.{Pursued}
+use Rattle.case_paths.specs.declared.state.PathsFault.{PathsFault}
+use Rattle.case_paths.specs.declared.state.PathsFault.TheVariants as fault
+use Rattle.case_paths.specs.Stages.{Parts, AreForks, IsLed, IsStageOf, IsStage, AllStages, HasEnded, Comes, IsPursued}
 use Rattle.case_paths.proofs.Plays.{next_act, at_end, extends}
 use Rattle.case_paths.proofs.Parting.{parts_alone, parts_replace, stages_append, stages_between}
 use Rattle.case_paths.proofs.Forking.{forks_have_pair, forks_part, forks_stages, pair_leads, followed_pair}
@@ -123,6 +127,20 @@ module _ {A : Type 0} (d : Decision A) (first : Value → Value) (trace : List M
         tree = ap (λ (q : Played A). q.tree) same;
       })
 
+-- want of memory is an answer
+pub no_memory : {A : Type 0} (d : Decision A) (first : Value → Value) (trace : List Mark) (x : PathState) (room : ℕ) (result : Result (Pursued A) PathsFault) → IsErrAnd result (λ f. f ≡ fault.Memory) → IsPursued d first trace x room result
+no_memory d first trace x room (Ok found) h = absurd h
+no_memory d first trace x room (Err f) h = subst (λ (f : PathsFault). IsPursued d first trace x room (Err f)) (sym h) tt
+
+-- the test of the room, either way
+pub not_over : (over : Bool) (lower higher room : ℕ) → (IsTrue over ↔ (room < lower + 1 + higher)) → over ≡ false → lower + 1 + higher ≤ room
+not_over over lower higher room h within =
+    let few : room < lower + 1 + higher → ⊥ = λ lt. (let x : over ≡ true = h.1 lt in absurd (cc)) in
+    omega (arith, few)
+
+pub is_over : (over : Bool) (lower higher room : ℕ) → (IsTrue over ↔ (room < lower + 1 + higher)) → over ≡ true → room < lower + 1 + higher
+is_over over lower higher room h x = h.0 x
+
 -- the state x comes of the stage x0 along the run that gave these: what it ends with, its marks and its acts; the
 -- others that x0 has parted into are stages, those with lower traces and those with higher ones
 pub record Follows {A : Type 0} (d : Decision A) (first : Value → Value) (trace : List Mark) (x0 : PathState) (value : A) (marks : List Mark) (run_acts : List Act) (lower : List PathState) (x : PathState) (higher : List PathState) : Type 0 where
@@ -182,10 +200,23 @@ module _ {A : Type 0} (d : Decision A) (first : Value → Value) (trace : List M
           ∙ ap (λ l. l ++ forks.followed ∷ (forks.higher ++ higher)) (sym below_is)
           ∙ ap (λ l. below ++ forks.followed ∷ l) (sym above_is)
 
-  pub follows_to_end : (i : ℕ) → i ≡ length x.trace → length marks ≤ i → Comes d first trace x0 (record { lower = lower; path = record { value = value; state = x }; higher = higher })
+  follows_to_end : (i : ℕ) → i ≡ length x.trace → length marks ≤ i → Comes d first trace x0 (record { lower = lower; path = record { value = value; state = x }; higher = higher })
   follows_to_end i e le = record {
     lower = f.lower_stages;
     ended = has_ended d first trace f.start marks run_acts f.marks_are f.acts_are x value f.going f.value_is (subst (λ n. length marks ≤ n) e le);
     higher = f.higher_stages;
     parts = f.parts;
+  }
+
+  -- at the end of the run its path is there, and there is room for what parted from it
+  pub pursued : (i room : ℕ) → i ≡ length x.trace → length marks ≤ i → length lower + 1 + length higher ≤ room → IsPursued d first trace x0 room (Ok (record { lower = lower; path = record { value = value; state = x }; higher = higher }))
+  pursued i room e le within = (follows_to_end i e le, within)
+
+  -- on the way the stage has parted into more than room
+  pub pursued_beyond : (room : ℕ) → room < length lower + 1 + length higher → IsPursued {A = A} d first trace x0 room (Err fault.Over)
+  pursued_beyond room lt = record {
+    states = lower ++ x ∷ higher;
+    stages = stages_append d first trace lower (x ∷ higher) f.lower_stages (f.going.stage, f.higher_stages);
+    parts = f.parts;
+    count = (let l = length-append lower (x ∷ higher) in omega (arith, l, lt));
   }

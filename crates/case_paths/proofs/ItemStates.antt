@@ -45,7 +45,7 @@ module _ {A : Type 0} (d : Decision A) (first : Value → Value) (trace : List M
   all_apart (Waiting x ∷ xs) ys h = let k = all_apart xs ys h.1 in ((h.0, k.0), k.1)
   all_apart (Ended path ∷ xs) ys h = let k = all_apart xs ys h.1 in ((h.0, k.0), k.1)
 
-  stages_all : (xs : List PathState) → AllStages d first trace xs → AllItems d first trace (stage_items xs)
+  pub stages_all : (xs : List PathState) → AllStages d first trace xs → AllItems d first trace (stage_items xs)
   stages_all [] h = tt
   stages_all (x ∷ xs) h = (h.0, stages_all xs h.1)
 
@@ -58,7 +58,7 @@ module _ {A : Type 0} (d : Decision A) (first : Value → Value) (trace : List M
 
 -- ---- stages, paths, and what comes of a stage, as items
 
-stages_states : (A : Type 0) (xs : List PathState) → item_states {A = A} (stage_items xs) ≡ xs
+pub stages_states : (A : Type 0) (xs : List PathState) → item_states {A = A} (stage_items xs) ≡ xs
 stages_states A [] = refl
 stages_states A (x ∷ xs) = ap (λ l. x ∷ l) (stages_states A xs)
 

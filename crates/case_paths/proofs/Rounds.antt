@@ -1,5 +1,5 @@
 -- A round over items: those that were looked at, with what came of them, and those that are left.
-use Rattle.std.proofs.Common.{◌≡◌, ℕ, ◌<◌, ◌≤◌, ◌+◌, List, [], ◌∷◌, ◌++◌, length, length-append, Ok, Err, sym, ap, ◌∙◌, subst, append_assoc, arith}
+use Rattle.std.proofs.Common.{◌≡◌, ℕ, ◌≤◌, ◌+◌, List, [], ◌∷◌, ◌++◌, length, length-append, Ok, Err, refl, sym, ap, ◌∙◌, subst, append_assoc, arith}
 use Rattle.script_names.specs.declared.mark.Mark.{Mark}
 use Rattle.feature_trees.specs.declared.value.Value.{Value}
 use Rattle.clause_solver.specs.Stands.{Alive}
@@ -11,11 +11,12 @@ use Rattle.case_paths.specs.declared.pursuit.Pursued.{Pursued}
 use Rattle.case_paths.specs.declared.items.Item.{Item}
 use Rattle.case_paths.specs.declared.items.Item.TheVariants.{Waiting, Ended}
 use Rattle.case_paths.specs.Paths.{AllAlive}
-use Rattle.case_paths.specs.Stages.{Parts, IsStage, Comes}
-use Rattle.case_paths.specs.Items.{found_items, item_states, AllItems, ended_count, Refine, Advanced}
+use Rattle.case_paths.specs.Stages.{Parts, IsStage, PartsBeyond, IsPursued}
+use Rattle.case_paths.specs.declared.state.PathsFault.{PathsFault}
+use Rattle.case_paths.specs.Items.{stage_items, found_items, item_states, AllItems, ended_count, Refine, Advanced}
 use Rattle.case_paths.proofs.Orders.{nil_right}
 use Rattle.case_paths.proofs.Parting.{parts_replace, alive_replace}
-use Rattle.case_paths.proofs.ItemStates.{states_behind, ended_behind, all_behind, all_apart, found_all, found_states, found_ended}
+use Rattle.case_paths.proofs.ItemStates.{items_length, states_behind, ended_behind, all_behind, all_apart, stages_all, stages_states, found_all, found_states, found_ended}
 
 -- those that were looked at and those that are left refine the items, and each that was looked at gave one path
 pub record Going {A : Type 0} (d : Decision A) (first : Value → Value) (trace : List Mark) (xs : List (Item A)) (room : ℕ) (seen items : List (Item A)) : Type 0 where
@@ -58,11 +59,12 @@ module _ {A : Type 0} (d : Decision A) (first : Value → Value) (trace : List M
       next [] a = a.0
       next (y ∷ ds) a = next ds a.1
 
-  found_refine : (x : PathState) (rest more : List (Item A)) (found : Pursued A) → items ≡ Waiting x ∷ rest → Comes d first trace x found → more ≡ seen ++ found_items found → Refine d first trace xs (more ++ rest)
-  found_refine x rest more found is c put = subst (Refine d first trace xs) (sym (append_assoc seen (found_items found) rest) ∙ ap (λ l. l ++ rest) (sym put)) (record {
-    items = all_behind d first trace seen (found_items found ++ rest) before.0 (all_behind d first trace (found_items found) rest (found_all d first trace x found c) before.1.1);
-    alive = subst AllAlive (sym all_states) (alive_replace (item_states seen) (found.lower ++ found.path.state ∷ found.higher) (item_states rest) x (subst AllAlive old_states g.refine.alive) c.parts.alive);
-    parts = λ y p. subst (Parts y) (sym all_states) (parts_replace y x (item_states seen) (found.lower ++ found.path.state ∷ found.higher) (item_states rest) (subst (Parts y) old_states (g.refine.parts y p)) c.parts);
+  -- what comes of a stage takes its place
+  got_refine : (x : PathState) (rest more got : List (Item A)) (ys : List PathState) → items ≡ Waiting x ∷ rest → AllItems d first trace got → item_states got ≡ ys → Parts x ys → more ≡ seen ++ got → Refine d first trace xs (more ++ rest)
+  got_refine x rest more got ys is all_got states_are parts put = subst (Refine d first trace xs) (sym (append_assoc seen got rest) ∙ ap (λ l. l ++ rest) (sym put)) (record {
+    items = all_behind d first trace seen (got ++ rest) before.0 (all_behind d first trace got rest all_got before.1.1);
+    alive = subst AllAlive (sym all_states) (alive_replace (item_states seen) ys (item_states rest) x (subst AllAlive old_states g.refine.alive) parts.alive);
+    parts = λ y p. subst (Parts y) (sym all_states) (parts_replace y x (item_states seen) ys (item_states rest) (subst (Parts y) old_states (g.refine.parts y p)) parts);
   })
     where
       before : AllItems d first trace seen × AllItems d first trace (Waiting x ∷ rest)
@@ -71,21 +73,41 @@ module _ {A : Type 0} (d : Decision A) (first : Value → Value) (trace : List M
       old_states : item_states (seen ++ items) ≡ item_states seen ++ x ∷ item_states rest
       old_states = ap (λ l. item_states (seen ++ l)) is ∙ states_behind seen (Waiting x ∷ rest)
 
-      all_states : item_states (seen ++ (found_items found ++ rest)) ≡ item_states seen ++ ((found.lower ++ found.path.state ∷ found.higher) ++ item_states rest)
-      all_states = states_behind seen (found_items found ++ rest) ∙ ap (λ l. item_states seen ++ l) (states_behind (found_items found) rest ∙ ap (λ l. l ++ item_states rest) (found_states found))
+      all_states : item_states (seen ++ (got ++ rest)) ≡ item_states seen ++ (ys ++ item_states rest)
+      all_states = states_behind seen (got ++ rest) ∙ ap (λ l. item_states seen ++ l) (states_behind got rest ∙ ap (λ l. l ++ item_states rest) states_are)
 
-  pub going_found : (x : PathState) (rest more : List (Item A)) (found : Pursued A) → items ≡ Waiting x ∷ rest → Comes d first trace x found → more ≡ seen ++ found_items found → length more + length rest ≤ room → Going d first trace xs room more rest
-  going_found x rest more found is c put le = record {
-    refine = found_refine x rest more found is c put;
+  -- so much room is left for what comes of a stage
+  pub room_left : (y : Item A) (rest : List (Item A)) → items ≡ y ∷ rest → length seen + 1 + length rest ≤ room
+  room_left y rest is = let k = ap length is in let w = g.within in omega (arith, k, w)
+
+  pub going_found : (x : PathState) (rest more : List (Item A)) (left : ℕ) (found : Pursued A) → items ≡ Waiting x ∷ rest → IsPursued d first trace x left (Ok found) → more ≡ seen ++ found_items found → left + length seen + length rest ≤ room → Going d first trace xs room more rest
+  going_found x rest more left found is c put le = record {
+    refine = got_refine x rest more (found_items found) (found.lower ++ found.path.state ∷ found.higher) is (found_all d first trace x found c.0) (found_states found) c.0.parts put;
     count = (
         let k = ap length is in let h = g.count in
         let e = ap ended_count put ∙ ended_behind seen (found_items found) in
         let one = found_ended found in omega (arith, k, h, e, one));
-    within = le;
+    within = (
+        let l = ap length put ∙ length-append seen (found_items found) in
+        let m = sym (items_length (found_items found)) ∙ ap length (found_states found) ∙ length-append found.lower (found.path.state ∷ found.higher) in
+        let w = c.1 in omega (arith, l, m, w, le));
   }
 
-  pub going_over : (x : PathState) (rest more : List (Item A)) (found : Pursued A) → items ≡ Waiting x ∷ rest → Comes d first trace x found → more ≡ seen ++ found_items found → room < length more + length rest → Advanced d first trace xs room (Err fault.Over)
-  going_over x rest more found is c put lt = (more ++ rest, found_refine x rest more found is c put, (let l = length-append more rest in omega (arith, l, lt)))
+  going_over : (x : PathState) (rest : List (Item A)) (left : ℕ) → items ≡ Waiting x ∷ rest → PartsBeyond d first trace x left → room ≤ left + length seen + length rest → Advanced d first trace xs room (Err fault.Over)
+  going_over x rest left is b le =
+      let got : List (Item A) = stage_items b.states in
+      let more = seen ++ got in (
+        more ++ rest,
+        got_refine x rest more got b.states is (stages_all d first trace b.states b.stages) (stages_states A b.states) b.parts refl,
+        (
+            let l = length-append more rest in let k = length-append seen got in
+            let m = sym (items_length got) ∙ ap length (stages_states A b.states) in
+            let c = b.count in omega (arith, l, k, m, c, le)),
+      )
+
+  pub going_fault : (x : PathState) (rest : List (Item A)) (left : ℕ) (f : PathsFault) → items ≡ Waiting x ∷ rest → IsPursued {A = A} d first trace x left (Err f) → room ≤ left + length seen + length rest → Advanced d first trace xs room (Err f)
+  going_fault x rest left fault.Over is p le = going_over x rest left is p le
+  going_fault x rest left fault.Memory is p le = tt
 
   pub rest_within : (y : Item A) (rest : List (Item A)) → items ≡ y ∷ rest → length rest ≤ room
   rest_within y rest is = let k = ap length is in let w = g.within in omega (arith, k, w)

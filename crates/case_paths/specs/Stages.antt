@@ -1,5 +1,6 @@
 -- What is known of a path before it has ended, and how one state parts into several.
-use Rattle.std.specs.Prelude.{◌≡◌, ℕ, ◌+◌, ◌<◌, ◌⊎◌, List, [], ◌∷◌, ◌++◌, length, slice_index_or, Contains}
+use Rattle.std.specs.Prelude.{◌≡◌, ℕ, ◌+◌, ◌<◌, ◌≤◌, ◌⊎◌, List, [], ◌∷◌, ◌++◌, length, slice_index_or, Contains}
+use Rattle.std.specs.Prelude.{Result, Ok, Err}
 use Rattle.script_names.specs.declared.mark.Mark.{Mark}
 use Rattle.script_names.specs.declared.mark.Site.{Site}
 use Rattle.feature_trees.specs.declared.value.Value.{Value}
@@ -10,6 +11,8 @@ use Rattle.clause_solver.specs.Adds.{AddsCase, LeadsNowhere}
 use Rattle.act_decisions.specs.Decisions.{Decision, play, AllPerformed}
 use Rattle.case_paths.specs.declared.state.PathState.{PathState}
 use Rattle.case_paths.specs.declared.state.Found.{Found}
+use Rattle.case_paths.specs.declared.state.PathsFault.{PathsFault}
+use Rattle.case_paths.specs.declared.state.PathsFault.TheVariants.{Over, Memory}
 use Rattle.case_paths.specs.declared.fork.Forks.{Forks}
 use Rattle.case_paths.specs.declared.pursuit.Pursued.{Pursued}
 use Rattle.case_paths.specs.Traces.{Rising, AllBegin}
@@ -86,6 +89,14 @@ abbrev pub AllEnded : {A : Type 0} → Decision A → (Value → Value) → List
 AllEnded d first trace [] = Unit {0}
 AllEnded d first trace (x ∷ xs) = HasEnded d first trace x × AllEnded d first trace xs
 
+-- the stage has parted into more stages than room
+pub record PartsBeyond {A : Type 0} (d : Decision A) (first : Value → Value) (trace : List Mark) (x : PathState)
+    (room : ℕ) : Type 0 where
+  pub states : List PathState
+  pub stages : AllStages d first trace states
+  pub parts : Parts x states
+  pub count : room < length states
+
 -- what comes of a stage: a path that has ended, and the further stages that part from it
 pub record Comes {A : Type 0} (d : Decision A) (first : Value → Value) (trace : List Mark) (x : PathState)
     (found : Pursued A) : Type 0 where
@@ -93,3 +104,12 @@ pub record Comes {A : Type 0} (d : Decision A) (first : Value → Value) (trace 
   pub ended : HasEnded d first trace found.path
   pub higher : AllStages d first trace found.higher
   pub parts : Parts x (found.lower ++ found.path.state ∷ found.higher)
+
+-- the answer of a pursuit: what comes of the stage, where there is room for that; `Over` where there is not; or there
+-- is no memory
+abbrev pub IsPursued : {A : Type 0} → Decision A → (Value → Value) → List Mark → PathState → ℕ
+    → Result (Pursued A) PathsFault → Type 0
+IsPursued d first trace x room (Ok found) =
+    Comes d first trace x found × (length found.lower + 1 + length found.higher ≤ room)
+IsPursued d first trace x room (Err Over) = PartsBeyond d first trace x room
+IsPursued d first trace x room (Err Memory) = Unit {0}

@@ -34,11 +34,12 @@ fn round<V: Drop, M: Machine<End = V>>(
             None => return Ok(seen),
             Some(Item::Ended(path)) => seen.push(Item::Ended(path))?,
             Some(Item::Waiting(stage)) => {
-                let found = pursue(alloc, machine, trace, stage)?;
+                let left = room - items.len() - seen.len();
+                let found = match pursue(alloc, machine, trace, stage, left) {
+                    Ok(found) => found,
+                    Err(fault) => return Err(fault),
+                };
                 put_found(&mut seen, found)?;
-                if seen.len() > room - items.len() {
-                    return Err(PathsFault::Over);
-                }
             }
         }
     }

@@ -60,7 +60,7 @@ fn gone_on(state: PathState, mark: Mark, case: &Case) -> Result<PathState, Memor
 {
     let PathState { store, trace } = state;
     let mut trace = trace;
-    let found = store.add_case(case)?;
+    let found = store.follow(case)?;
     trace.add(mark)?;
     match found {
         Some(store) => Ok(PathState { store, trace }),

@@ -1,15 +1,15 @@
 //! One run from a stage, followed to its end, and the stages that part from it on the way.
 
-ghost use Rattle.std.specs.Prelude.{IfOk};
+ghost use Rattle.std.specs.Prelude.{◌+◌, ◌<◌, ◌≤◌, ◌↔◌, IsTrue};
 ghost use Rattle.clause_solver.specs.Stands.{Alive};
-ghost use Rattle.case_paths.specs.Stages.{IsStage, Comes};
+ghost use Rattle.case_paths.specs.Stages.{IsStage, IsPursued};
 
 use crate::fork::{Forks, fork};
 use crate::machine::Machine;
 use crate::queue::Queue;
-use crate::state::{Found, PathState, Ran};
+use crate::state::{Found, PathState, PathsFault, Ran};
 use act_cases::cases;
-use script_names::{List, Mark, Memory};
+use script_names::{List, Mark};
 use std::alloc::Global;
 
 /// What comes of a stage: the path of one of its runs, and the stages that part from it, those with lower traces and
@@ -21,17 +21,27 @@ pub struct Pursued<V> {
     pub higher: Queue<PathState>,
 }
 
+// Whether the parts below a path, the path and the parts above it are more than the room.
+fn are_over(lower: usize, higher: usize, room: usize) -> bool
+    ensures { IsTrue result ↔ (room < lower + 1 + higher) }
+{
+    lower >= room || higher >= room - lower
+}
+
 /// What comes of a stage: the machine runs from a start tree of it, and its acts are taken one after the other for all
 /// pairs at once. At each act the pairs with the run's row go on; those with another row are a stage of their own.
+/// `Over` as soon as the stage has parted into more than `room`.
 pub fn pursue<V: Drop, M: Machine<End = V>>(
     alloc: Global,
     machine: &M,
     trace: &List<Mark>,
     stage: PathState,
-) -> Result<Pursued<V>, Memory>
+    room: usize,
+) -> Result<Pursued<V>, PathsFault>
     requires alive { Alive stage.store }
     requires stage { IsStage (M.decision machine.now) (M.first machine.now) trace.now stage }
-    ensures { IfOk result (λ found. Comes (M.decision machine.now) (M.first machine.now) trace.now stage found) }
+    requires room { 1 ≤ room }
+    ensures { IsPursued (M.decision machine.now) (M.first machine.now) trace.now stage room result }
 {
     let start = stage.store.start_tree(alloc)?;
     let Ran {
@@ -53,6 +63,9 @@ pub fn pursue<V: Drop, M: Machine<End = V>>(
         lower.put_last(forks.lower)?;
         higher.put_first(forks.higher)?;
         state = forks.followed;
+        if are_over(lower.len(), higher.len(), room) {
+            return Err(PathsFault::Over);
+        }
     }
     let path = Found { value, state };
     Ok(Pursued {
