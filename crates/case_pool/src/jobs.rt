@@ -36,19 +36,21 @@ fn joined<R: Drop>(first: List<R>, second: List<R>) -> Result<List<R>, Memory>
     Ok(all)
 }
 
-// The answers to the jobs, by at most so many workers, of which this thread is one.
+// The answers to the jobs, by at most so many workers, of which this thread is one. Where `last` of them or fewer are
+// left this thread answers them.
 #[cycle(answers)]
 fn answer_all<W: Threads + Sync, J: Sync, R: Send + Drop, F: Fn(&J) -> Result<R, Memory> + Sync>(
     rt: &W,
     alloc: Global,
     jobs: &[J],
+    last: usize,
     f: &F,
     workers: usize,
 ) -> Result<List<R>, Memory>
     requires { Accepts F.Fn f.now jobs.now }
     ensures { IfOk result (Answers F.Fn f.now jobs.now) }
 {
-    if workers < 2 || jobs.len() < 2 {
+    if workers < 2 || jobs.len() < 2 || jobs.len() <= last {
         return answer_in_turn(alloc, jobs, f);
     }
     let (low, high) = jobs.split_at(jobs.len() / 2);
@@ -57,26 +59,28 @@ fn answer_all<W: Threads + Sync, J: Sync, R: Send + Drop, F: Fn(&J) -> Result<R,
     let front = move || -> Result<List<R>, Memory>
         requires { IsSync W.row × IsSync J.row × IsSync F.row × IsSend R.row × Accepts F.Fn f.now low.now }
         ensures { IfOk result (Answers F.Fn f.entry.now low.entry.now) }
-    { answer_all(rt, alloc, low, f, fewer) };
+    { answer_all(rt, alloc, low, 1, f, fewer) };
     let back = move || -> Result<List<R>, Memory>
         requires { IsSync W.row × IsSync J.row × IsSync F.row × IsSend R.row × Accepts F.Fn f.now high.now }
         ensures { IfOk result (Answers F.Fn f.entry.now high.entry.now) }
-    { answer_all(rt, alloc, high, f, others) };
+    { answer_all(rt, alloc, high, last, f, others) };
     let (first, second) = join(rt, front, back);
     joined(first?, second?)
 }
 
 /// The answers of `f` to the jobs, in the jobs' order, by at most 64 workers: this thread and others that it starts,
-/// each with a job or a run of jobs. A thread that cannot start another answers its jobs itself. `Memory` comes where
-/// `f` answers it, and where there is no room for the answers.
+/// each with a job or a run of jobs. This thread answers the jobs at the end, of which `last` or fewer are not divided
+/// further: so jobs for which a thread is not worth its start can be left together. A thread that cannot start another
+/// answers its jobs itself. `Memory` comes where `f` answers it, and where there is no room for the answers.
 pub fn map_jobs<W: Threads + Sync, J: Sync, R: Send + Drop, F: Fn(&J) -> Result<R, Memory> + Sync>(
     rt: &W,
     alloc: Global,
     jobs: &List<J>,
+    last: usize,
     f: &F,
 ) -> Result<List<R>, Memory>
     requires { Accepts F.Fn f.now jobs.now }
     ensures { IfOk result (Answers F.Fn f.now jobs.now) }
 {
-    answer_all(rt, alloc, jobs.as_slice(), f, WORKERS)
+    answer_all(rt, alloc, jobs.as_slice(), last, f, WORKERS)
 }

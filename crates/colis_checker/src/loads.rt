@@ -74,7 +74,7 @@ fn answer_endings<R: Threads + Sync, G: Gate>(
         gate.enter();
         Ok(scenario_endings(alloc, packages, limit, *scenario))
     };
-    let answers = map_jobs(rt, alloc, scenarios, &answer)?;
+    let answers = map_jobs(rt, alloc, scenarios, 1, &answer)?;
     Ok(answers)
 }
 

@@ -16,11 +16,15 @@ use command_words::Layout;
 use dpkg_scenarios::Scenario;
 use outcome_report::{Report, ReportPart, make_part, render_brief, verdict};
 use package_jobs::{job_of, needs_of};
+use package_lists::Entry;
 use report_json::render_json;
 use scenario_outcomes::OutcomesFault;
 use script_names::{Bytes, List, Memory};
 use std::alloc::Global;
 use std::thread::Threads;
+
+// A package with as many entries at most has few.
+const FEW_ENTRIES: usize = 64;
 
 // The part of a report on a scenario, or why there is none.
 fn report_scenario(
@@ -64,6 +68,26 @@ pub fn chosen_scenarios(alloc: Global, scenario: Option<Scenario>) -> Result<Lis
     }
 }
 
+/// How many scenarios at the end are one worker's. Without a postrm and a configuration file there is little to do in
+/// the purge of a package that was removed before; where there is no prerm either, and the package has few entries, in
+/// a removal and a purge too. No clause rests on the number.
+pub fn light_scenarios(packages: &Packages) -> usize {
+    let package = &packages.new_package;
+    let entries = package.entries.as_slice();
+    if !package.scripts.postrm.is_none() || has_conffile(entries) {
+        return 1;
+    }
+    if package.scripts.prerm.is_none() && entries.len() <= FEW_ENTRIES {
+        return 3;
+    }
+    2
+}
+
+// Whether one of these entries is a configuration file.
+fn has_conffile(entries: &[Entry]) -> bool {
+    entries.iter().any(|entry| entry.kind().is_conf())
+}
+
 // What workers answer of each scenario, in the scenarios' order: the part of a report, or why there is none. A worker
 // enters the gate when it takes up a scenario.
 fn answer_scenarios<R: Threads + Sync, G: Gate>(
@@ -83,7 +107,7 @@ fn answer_scenarios<R: Threads + Sync, G: Gate>(
         gate.enter();
         Ok(report_scenario(alloc, packages, turns, limit, *scenario))
     };
-    let answers = map_jobs(rt, alloc, scenarios, &answer)?;
+    let answers = map_jobs(rt, alloc, scenarios, light_scenarios(packages), &answer)?;
     Ok(answers)
 }
 

@@ -7,7 +7,7 @@ ghost use Rattle.colis_checker.specs.Reports.{chosen, ReportGives};
 ghost use Rattle.colis_checker.specs.ToldParts.{ToldGives, AllToldGive};
 
 use crate::faults::{Refusal, TaskFault};
-use crate::reports::{chosen_scenarios, settle};
+use crate::reports::{chosen_scenarios, light_scenarios, settle};
 use crate::written::Written;
 use case_pool::{Gate, map_jobs};
 use checker_input::Packages;
@@ -58,7 +58,7 @@ fn tell_scenarios<R: Threads + Sync, G: Gate>(
         gate.enter();
         Ok(tell_scenario(alloc, packages, turns, limit, *scenario))
     };
-    let answers = map_jobs(rt, alloc, scenarios, &tell)?;
+    let answers = map_jobs(rt, alloc, scenarios, light_scenarios(packages), &tell)?;
     Ok(answers)
 }
 

@@ -74,7 +74,7 @@ fn doubles<W: Threads + Sync, G: Gate>(
         gate.enter();
         Ok(job.wrapping_mul(2))
     };
-    match map_jobs(rt, alloc, jobs, &f) {
+    match map_jobs(rt, alloc, jobs, 1, &f) {
         Ok(answers) => answers.as_slice() == wanted,
         Err(_) => false,
     }
