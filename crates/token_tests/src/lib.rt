@@ -1,9 +1,6 @@
-//! Tests of shell_syntax, shell_words and shell_lexer. They stand apart from these crates, so that no crate is proved
-//! twice.
+//! Tests of shell_lexer and shell_words. They stand apart from these crates, so that no crate is proved twice.
 #![tactic(auto)]
 
-#[cfg(test)]
-mod syntax;
 #[cfg(test)]
 mod tokens;
 #[cfg(test)]
