@@ -1,5 +1,5 @@
 -- Steps of simple commands and definitions.
-use Rattle.std.proofs.Common.{◌≡◌, ℕ, ◌+◌, ◌≤◌, Result, Ok, Err, Bool, true, false, arith, [], ◌∷◌, ◌++◌, Some, None, refl, sym, ap, ◌∙◌, subst, drop, append-nil, append_assoc}
+use Rattle.std.proofs.Common.{◌≡◌, ℕ, ◌+◌, Bool, true, false, [], ◌∷◌, ◌++◌, Some, None, refl, sym, ap, ◌∙◌, subst, drop, append-nil, append_assoc}
 use Rattle.shell_grammar.specs.declared.fault.ParseFault.{ParseFault}
 use Rattle.shell_grammar.specs.declared.fault.ParseFault.TheVariants.{Syntax, Deep, Memory}
 use Rattle.shell_grammar.specs.declared.look.Look.{Look}
@@ -19,9 +19,9 @@ use Rattle.shell_grammar.specs.Grammar as g
 use Rattle.shell_grammar.specs.Grammar.{Rule, Sign, Is, Opens, AWord, Here, Never, Of, Inside, Tree, Value, Values, Production, production}
 use Rattle.shell_grammar.specs.Reading.{Whole, Stop, IsRule, IsSign, here, of}
 use Rattle.shell_grammar.specs.Spelling.{deep_64}
-use Rattle.shell_parser.specs.Reads.{Caused, Stops, Reads, DefinitionReads}
+use Rattle.shell_parser.specs.Reads.{Caused, Stops}
 use Rattle.shell_parser.specs.Reads.{ItemsGiven, ItemsFrom, Assigns}
-use Rattle.shell_parser.proofs.Steps.{made, ruled, made_stops, rule_stops, more_of, stop_later, stop_here, all_done, there, passed_on}
+use Rattle.shell_parser.proofs.Steps.{made, ruled, made_stops, rule_stops, more_of, stop_later, stop_here, all_done, there}
 
 -- ---- what an item is
 
@@ -140,10 +140,3 @@ module _ {d end : ℕ} where
 
   pub definition_body : {ts r r2 r3 r4 : Tokens} (v v2 : ℕ) (f : ParseFault) → look ts ≡ LeftParen → IsSign deep_64 d end (Is LeftParen) ts (Whole v r) → IsSign deep_64 d end (Is RightParen) r (Whole v2 r2) → IsRule deep_64 d end g.Newlines r2 (Whole tt r3) → IsRule deep_64 d end g.Braces r3 (Stop f r4) → IsRule deep_64 d end g.Named ts (Stop f r4)
   definition_body v v2 f l s s2 n m = rule_stops LeftParen l (stop_later v s (stop_later v2 s2 (stop_later tt (of n) (stop_here (of m)))))
-
--- ---- what is read as what one of its signs is read as, with either outcome
-
--- the body of a function is read as the braces at its end
-pub definition_reads : (d end : ℕ) (ts : Tokens) (at first : ℕ) (result : Result (Command × ℕ) ParseFault) → at ≤ first → ((x : Command) (r : Tokens) → IsRule deep_64 d end g.Braces (drop first ts) (Whole x r) → IsRule deep_64 d end g.Named (drop at ts) (Whole (tree.Defines x) r)) → ((f : ParseFault) (r : Tokens) → IsRule deep_64 d end g.Braces (drop first ts) (Stop f r) → IsRule deep_64 d end g.Named (drop at ts) (Stop f r)) → Reads d end g.Braces ts first result → DefinitionReads d end ts at result
-definition_reads d end ts at first (Ok v) le ok stop x = (omega (arith, le, x.0), x.1, ok v.0 _ x.2)
-definition_reads d end ts at first (Err fault) le ok stop x = passed_on stop fault x

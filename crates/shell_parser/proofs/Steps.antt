@@ -1,5 +1,5 @@
 -- Steps of a reading at a place of a slice.
-use Rattle.std.proofs.Common.{◌≡◌, ℕ, zero, suc, ◌+◌, ◌<◌, ◌≤◌, true, false, List, [], ◌∷◌, ◌++◌, refl, sym, ap, ◌∙◌, subst, arith, Result, Ok, Err, length, drop, append_assoc, add-one}
+use Rattle.std.proofs.Common.{◌≡◌, ℕ, zero, suc, ◌+◌, ◌<◌, ◌≤◌, true, false, List, [], ◌∷◌, ◌++◌, refl, sym, ap, ◌∙◌, subst, arith, Ok, length, drop, append_assoc, add-one}
 use Rattle.shell_grammar.specs.declared.fault.ParseFault.{ParseFault}
 use Rattle.shell_grammar.specs.declared.fault.ParseFault.TheVariants.{Syntax, Deep, Memory}
 use Rattle.shell_grammar.specs.declared.look.Look.{Look}
@@ -9,7 +9,6 @@ use Rattle.shell_grammar.specs.Forms as form
 use Rattle.shell_grammar.specs.Grammar.{Rule, Sign, Is, Opens, Inside, Tree, Value, Values, Production, production}
 use Rattle.shell_grammar.specs.Reading.{Out, Whole, Stop, turned, IsRule, rule, IsAll, no_more, one_more, one_stops, IsSign, is, is_not, opens, opens_not, too_deep, inside}
 use Rattle.shell_grammar.specs.Spelling.{deep_64}
-use Rattle.shell_parser.specs.Carried.{Carried}
 use Rattle.shell_parser.specs.Reads.{Caused, Stops, SignStops, Takes}
 use Rattle.std.proofs.lemmas.List.{drop_all}
 use Rattle.std.proofs.lemmas.Bool.{lt-leb}
@@ -59,22 +58,6 @@ pub passed_sign : {d d1 end end1 : ℕ} {n : Rule} {s : Sign} {ts ts1 : Tokens} 
 passed_sign h (Syntax at) x = record { rest = x.rest; reads = h _ _ x.reads }
 passed_sign h (Deep at) x = record { rest = x.rest; reads = h _ _ x.reads }
 passed_sign h Memory x = tt
-
--- ---- what is made of a reading
-
-pub same_fault : {A : Type 0} {read : Result A ParseFault} (fault : ParseFault) → read ≡ Err fault → Caused (λ fault. read ≡ Err fault) fault
-same_fault (Syntax at) e = e
-same_fault (Deep at) e = e
-same_fault Memory e = tt
-
-pub carried_stop : {A : Type 0} (R : Result A ParseFault → Type 0) (read : Result A ParseFault) (fault : ParseFault) → Caused (λ fault. read ≡ Err fault) fault → R read → R (Err Memory) → R (Err fault)
-carried_stop R read (Syntax at) e x m = subst R e x
-carried_stop R read (Deep at) e x m = subst R e x
-carried_stop R read Memory e x m = m
-
-pub carried_by : {A B : Type 0} (R : Result (A × ℕ) ParseFault → Type 0) (S : Result (B × ℕ) ParseFault → Type 0) (make : A → B) → ((v : A) (n : ℕ) → R (Ok (v, n)) → S (Ok (make v, n))) → ((fault : ParseFault) → R (Err fault) → S (Err fault)) → R (Err Memory) → (read : Result (A × ℕ) ParseFault) → R read → (result : Result (B × ℕ) ParseFault) → Carried make read result → S result
-carried_by R S make ok stop m read x (Ok w) c = subst (λ u. S (Ok (u, w.1))) (sym c.is) (ok c.value w.1 (subst R c.read x))
-carried_by R S make ok stop m read x (Err fault) c = stop fault (carried_stop R read fault c x m)
 
 module _ {d end : ℕ} where
   -- ---- a rule by its production, and by what stands there

@@ -6,7 +6,6 @@
 mod assignments;
 mod forms;
 mod looks;
-mod made;
 mod parser;
 mod script;
 mod tokens;

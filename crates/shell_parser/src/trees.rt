@@ -188,15 +188,6 @@ pub fn one_word(alloc: Global, word: Word) -> Result<List<Word>, Memory>
     Ok(all)
 }
 
-/// Words, and one more.
-pub fn and_word(words: List<Word>, word: Word) -> Result<List<Word>, Memory>
-    ensures { IfOk result (λ all. all ≡ words ++ word ∷ []) }
-{
-    let mut all = words;
-    all.add(word)?;
-    Ok(all)
-}
-
 /// A word as the one item, with room for so many words.
 pub fn first_item(alloc: Global, room: usize, word: Word) -> Result<Items, Memory>
     ensures { IfOk result (λ items. items ≡ joined no_items_of (a_word word)) }

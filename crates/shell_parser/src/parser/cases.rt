@@ -1,21 +1,18 @@
 //! `case` (XCU 2.9.4.3 Case Conditional Construct).
 
-ghost use Rattle.std.specs.Prelude.{◌≡◌, ◌≤◌, ◌+◌, length, drop, Ok as Done};
-ghost use Rattle.shell_grammar.specs.Look.{look as look_of, place as place_of};
+ghost use Rattle.std.specs.Prelude.{◌≡◌, ◌≤◌, length, drop};
+ghost use Rattle.shell_grammar.specs.Look.{look as look_of};
 ghost use Rattle.shell_grammar.specs.Forms.{compound_form as compound_form_of};
-ghost use Rattle.shell_grammar.specs.Grammar.{Compound, CaseRest, CaseArms, Patterns, ArmBody, Opens};
-ghost use Rattle.shell_grammar.specs.declared.look.Look.TheVariants.{Keyword};
-ghost use Rattle.shell_grammar.specs.declared.look.Reserved.TheVariants.{Case};
+ghost use Rattle.shell_grammar.specs.Grammar.{Compound, CaseRest, CaseArms, Patterns, ArmBody};
 ghost use Rattle.shell_grammar.specs.declared.form.CompoundForm.TheVariants as a_compound;
-ghost use Rattle.shell_parser.specs.Reads.{Reads, Takes, CaseArmRead};
+ghost use Rattle.shell_parser.specs.Reads.{Reads, CaseArmRead};
 
 use crate::forms::ends_arm;
 use crate::looks::look;
-use crate::made::{first_word, next_case_arm, next_word, paired};
 use crate::parser::lists::members;
 use crate::parser::words::word;
 use crate::tokens::{arm_begin, newlines, opens, place, stands, take};
-use crate::trees::seq_of;
+use crate::trees::{one_word, seq_of, with_case_arm};
 use script_names::{Boxed, List};
 use shell_grammar::{Look, ParseFault, Reserved};
 use shell_lexer::Token;
@@ -40,27 +37,7 @@ pub(super) fn choice(
         Ok(next) => next,
         Err(fault) => return Err(fault),
     };
-    let read = case_rest(alloc, level + 1, end, ts, first);
-    case_end(alloc, level, end, ts, at, first, read)
-}
-
-/// `esac` behind the word and the arms of a `case`
-fn case_end(
-    alloc: Global,
-    level: usize,
-    end: u32,
-    ts: &[Token],
-    at: usize,
-    first: usize,
-    read: Result<((Word, List<CaseArm>), usize), ParseFault>,
-) -> Result<(Boxed<Command>, usize), ParseFault>
-    requires within { at ≤ length ts.now }
-    requires form { compound_form_of (look_of (drop at ts.now)) ≡ a_compound.Case }
-    requires opened { Takes level end (Opens (Keyword Case)) (place_of end (drop at ts.now)) ts.now at (Done first) }
-    requires body { Reads (level + 1) end CaseRest ts.now first read }
-    ensures { Reads level end Compound ts.now at result }
-{
-    let ((subject, arms), behind) = match read {
+    let ((subject, arms), behind) = match case_rest(alloc, level + 1, end, ts, first) {
         Ok(found) => found,
         Err(fault) => return Err(fault),
     };
@@ -102,8 +79,11 @@ fn case_rest(
         Err(fault) => return Err(fault),
     };
     let start = newlines(level, end, ts, first);
-    let read = case_arms(alloc, level, end, ts, start);
-    paired(subject, read)
+    let (arms, stop) = match case_arms(alloc, level, end, ts, start) {
+        Ok(found) => found,
+        Err(fault) => return Err(fault),
+    };
+    Ok(((subject, arms), stop))
 }
 
 /// `( arm ;; nl* )* [ arm ]`, before `esac`
@@ -122,12 +102,11 @@ fn case_arms(
     let mut arms = List::new(alloc);
     let mut now = at;
     while !stands(ts, now, Look::Keyword(Reserved::Esac)) {
-        let read = case_arm(alloc, level, end, ts, now);
-        let (more, behind) = match next_case_arm(arms, read) {
+        let ((patterns, body), behind) = match case_arm(alloc, level, end, ts, now) {
             Ok(found) => found,
             Err(fault) => return Err(fault),
         };
-        arms = more;
+        arms = with_case_arm(arms, patterns, body)?;
         if !stands(ts, behind, Look::DoubleSemi) {
             return Ok((arms, behind));
         }
@@ -159,8 +138,11 @@ fn case_arm(
         Err(fault) => return Err(fault),
     };
     let start = newlines(level, end, ts, next);
-    let read = arm_body(alloc, level, end, ts, start);
-    paired(patterns, read)
+    let (body, stop) = match arm_body(alloc, level, end, ts, start) {
+        Ok(found) => found,
+        Err(fault) => return Err(fault),
+    };
+    Ok(((patterns, body), stop))
 }
 
 /// `word ( | word )*`
@@ -176,20 +158,18 @@ fn patterns(
     requires shallow { level ≤ 64 }
     ensures { Reads level end Patterns ts.now at result }
 {
-    let first = word(alloc, level, end, ts, at);
-    let (begun, behind) = match first_word(alloc, first) {
+    let (first, behind) = match word(alloc, level, end, ts, at) {
         Ok(found) => found,
         Err(fault) => return Err(fault),
     };
-    let mut words = begun;
+    let mut words = one_word(alloc, first)?;
     let mut now = behind;
     while stands(ts, now, Look::Bar) {
-        let read = word(alloc, level, end, ts, now + 1);
-        let (more, behind) = match next_word(words, read) {
+        let (next, behind) = match word(alloc, level, end, ts, now + 1) {
             Ok(found) => found,
             Err(fault) => return Err(fault),
         };
-        words = more;
+        words.add(next)?;
         now = behind;
     }
     Ok((words, now))

@@ -1,14 +1,12 @@
 //! Commands by their first token, and groups (XCU 2.9.4 Compound Commands, 2.9.4.1 Grouping Commands).
 
-ghost use Rattle.std.specs.Prelude.{◌≡◌, ◌≤◌, ◌+◌, length, drop, Some as Found, Ok as Done};
-ghost use Rattle.shell_grammar.specs.Look.{look as look_of, place as place_of};
+ghost use Rattle.std.specs.Prelude.{◌≡◌, ◌≤◌, length, drop, Some as Found};
+ghost use Rattle.shell_grammar.specs.Look.{look as look_of};
 ghost use Rattle.shell_grammar.specs.Forms.{command_form as command_form_of, compound_form as compound_form_of};
-ghost use Rattle.shell_grammar.specs.Grammar.{ACommand, Block, Compound, Braces, Redirects, Opens};
-ghost use Rattle.shell_grammar.specs.declared.look.Look.TheVariants.{LeftParen, Keyword};
-ghost use Rattle.shell_grammar.specs.declared.look.Reserved.TheVariants.{Open};
+ghost use Rattle.shell_grammar.specs.Grammar.{ACommand, Compound, Braces, Redirects};
 ghost use Rattle.shell_grammar.specs.declared.form.CommandForm.TheVariants as a_command;
 ghost use Rattle.shell_grammar.specs.declared.form.CompoundForm.TheVariants as a_compound;
-ghost use Rattle.shell_parser.specs.Reads.{Reads, Takes};
+ghost use Rattle.shell_parser.specs.Reads.{Reads};
 
 use crate::forms::{command_form, compound_form, redirection};
 use crate::looks::look;
@@ -65,25 +63,7 @@ fn compound_command(
     requires form { command_form_of (look_of (drop at ts.now)) ≡ Found a_command.Compound }
     ensures { Reads level end ACommand ts.now at result }
 {
-    let read = compound(alloc, level, end, ts, at);
-    with_redirects(alloc, level, end, ts, at, read)
-}
-
-/// `redirect*` behind a compound command
-fn with_redirects(
-    alloc: Global,
-    level: usize,
-    end: u32,
-    ts: &[Token],
-    at: usize,
-    read: Result<(Boxed<Command>, usize), ParseFault>,
-) -> Result<(Boxed<Command>, usize), ParseFault>
-    requires within { at ≤ length ts.now }
-    requires form { command_form_of (look_of (drop at ts.now)) ≡ Found a_command.Compound }
-    requires body { Reads level end Compound ts.now at read }
-    ensures { Reads level end ACommand ts.now at result }
-{
-    let (body, behind) = match read {
+    let (body, behind) = match compound(alloc, level, end, ts, at) {
         Ok(found) => found,
         Err(fault) => return Err(fault),
     };
@@ -162,27 +142,7 @@ fn subshell(
         Ok(next) => next,
         Err(fault) => return Err(fault),
     };
-    let read = block(alloc, level + 1, end, ts, first);
-    subshell_end(alloc, level, end, ts, at, first, read)
-}
-
-/// `)` behind the block of a subshell
-fn subshell_end(
-    alloc: Global,
-    level: usize,
-    end: u32,
-    ts: &[Token],
-    at: usize,
-    first: usize,
-    read: Result<(Boxed<Command>, usize), ParseFault>,
-) -> Result<(Boxed<Command>, usize), ParseFault>
-    requires within { at ≤ length ts.now }
-    requires form { compound_form_of (look_of (drop at ts.now)) ≡ a_compound.Subshell }
-    requires opened { Takes level end (Opens LeftParen) (place_of end (drop at ts.now)) ts.now at (Done first) }
-    requires body { Reads (level + 1) end Block ts.now first read }
-    ensures { Reads level end Compound ts.now at result }
-{
-    let (body, behind) = match read {
+    let (body, behind) = match block(alloc, level + 1, end, ts, first) {
         Ok(found) => found,
         Err(fault) => return Err(fault),
     };
@@ -234,25 +194,7 @@ pub(super) fn braces(
         Ok(next) => next,
         Err(fault) => return Err(fault),
     };
-    let read = block(alloc, level + 1, end, ts, first);
-    braces_end(level, end, ts, at, first, read)
-}
-
-/// `}` behind a block
-fn braces_end(
-    level: usize,
-    end: u32,
-    ts: &[Token],
-    at: usize,
-    first: usize,
-    read: Result<(Boxed<Command>, usize), ParseFault>,
-) -> Result<(Boxed<Command>, usize), ParseFault>
-    requires within { at ≤ length ts.now }
-    requires opened { Takes level end (Opens (Keyword Open)) (place_of end (drop at ts.now)) ts.now at (Done first) }
-    requires body { Reads (level + 1) end Block ts.now first read }
-    ensures { Reads level end Braces ts.now at result }
-{
-    let (tree, behind) = match read {
+    let (tree, behind) = match block(alloc, level + 1, end, ts, first) {
         Ok(found) => found,
         Err(fault) => return Err(fault),
     };

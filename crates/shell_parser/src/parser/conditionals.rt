@@ -1,17 +1,15 @@
 //! `if` (XCU 2.9.4.4 The if Conditional Construct).
 
-ghost use Rattle.std.specs.Prelude.{◌≡◌, ◌≤◌, ◌+◌, length, drop, Ok as Done};
-ghost use Rattle.shell_grammar.specs.Look.{look as look_of, place as place_of};
+ghost use Rattle.std.specs.Prelude.{◌≡◌, ◌≤◌, length, drop};
+ghost use Rattle.shell_grammar.specs.Look.{look as look_of};
 ghost use Rattle.shell_grammar.specs.Forms.{compound_form as compound_form_of};
-ghost use Rattle.shell_grammar.specs.Grammar.{Compound, Clause, Opens};
-ghost use Rattle.shell_grammar.specs.declared.look.Look.TheVariants.{Keyword};
-ghost use Rattle.shell_grammar.specs.declared.look.Reserved.TheVariants.{If};
+ghost use Rattle.shell_grammar.specs.Grammar.{Compound, Clause};
 ghost use Rattle.shell_grammar.specs.declared.form.CompoundForm.TheVariants as a_compound;
-ghost use Rattle.shell_parser.specs.Reads.{Reads, Takes, ArmRead};
+ghost use Rattle.shell_parser.specs.Reads.{Reads, ArmRead};
 
-use crate::made::{first_if_arm, next_if_arm, paired, with_else};
 use crate::parser::lists::block;
 use crate::tokens::{opens, place, stands, take};
+use crate::trees::{one_if_arm, with_if_arm};
 use script_names::{Boxed, List};
 use shell_grammar::{Look, ParseFault, Reserved};
 use shell_lexer::Token;
@@ -36,27 +34,7 @@ pub(super) fn branches(
         Ok(next) => next,
         Err(fault) => return Err(fault),
     };
-    let read = clause(alloc, level + 1, end, ts, first);
-    if_end(alloc, level, end, ts, at, first, read)
-}
-
-/// `fi` behind the arms of an `if`
-fn if_end(
-    alloc: Global,
-    level: usize,
-    end: u32,
-    ts: &[Token],
-    at: usize,
-    first: usize,
-    read: Result<((List<IfArm>, Option<Boxed<Command>>), usize), ParseFault>,
-) -> Result<(Boxed<Command>, usize), ParseFault>
-    requires within { at ≤ length ts.now }
-    requires form { compound_form_of (look_of (drop at ts.now)) ≡ a_compound.If }
-    requires opened { Takes level end (Opens (Keyword If)) (place_of end (drop at ts.now)) ts.now at (Done first) }
-    requires body { Reads (level + 1) end Clause ts.now first read }
-    ensures { Reads level end Compound ts.now at result }
-{
-    let ((arms, otherwise), behind) = match read {
+    let ((arms, otherwise), behind) = match clause(alloc, level + 1, end, ts, first) {
         Ok(found) => found,
         Err(fault) => return Err(fault),
     };
@@ -88,25 +66,26 @@ fn clause(
     requires shallow { level ≤ 64 }
     ensures { Reads level end Clause ts.now at result }
 {
-    let first = if_arm(alloc, level, end, ts, at);
-    let (begun, behind) = match first_if_arm(alloc, first) {
+    let ((cond, body), behind) = match if_arm(alloc, level, end, ts, at) {
         Ok(found) => found,
         Err(fault) => return Err(fault),
     };
-    let mut arms = begun;
+    let mut arms = one_if_arm(alloc, cond, body)?;
     let mut now = behind;
     while stands(ts, now, Look::Keyword(Reserved::Elif)) {
-        let read = if_arm(alloc, level, end, ts, now + 1);
-        let (more, behind) = match next_if_arm(arms, read) {
+        let ((cond, body), behind) = match if_arm(alloc, level, end, ts, now + 1) {
             Ok(found) => found,
             Err(fault) => return Err(fault),
         };
-        arms = more;
+        arms = with_if_arm(arms, cond, body)?;
         now = behind;
     }
     if stands(ts, now, Look::Keyword(Reserved::Else)) {
-        let read = block(alloc, level, end, ts, now + 1);
-        return with_else(arms, read);
+        let (otherwise, behind) = match block(alloc, level, end, ts, now + 1) {
+            Ok(found) => found,
+            Err(fault) => return Err(fault),
+        };
+        return Ok(((arms, Some(otherwise)), behind));
     }
     Ok(((arms, None), now))
 }
@@ -132,6 +111,9 @@ fn if_arm(
         Ok(next) => next,
         Err(fault) => return Err(fault),
     };
-    let read = block(alloc, level, end, ts, next);
-    paired(cond, read)
+    let (body, last) = match block(alloc, level, end, ts, next) {
+        Ok(found) => found,
+        Err(fault) => return Err(fault),
+    };
+    Ok(((cond, body), last))
 }

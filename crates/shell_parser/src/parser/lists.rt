@@ -1,18 +1,14 @@
 //! Lists of commands, and-or lists and pipelines (XCU 2.9.2 Pipelines, 2.9.3 Lists).
 
-ghost use Rattle.std.specs.Prelude.{◌≡◌, ◌≤◌, ◌+◌, length, drop, Ok as Done};
-ghost use Rattle.shell_grammar.specs.Look.{look as look_of};
-ghost use Rattle.shell_grammar.specs.declared.look.Look.TheVariants.{AtEnd, Keyword};
-ghost use Rattle.shell_grammar.specs.declared.look.Reserved.TheVariants.{Bang};
-ghost use Rattle.shell_grammar.specs.Grammar.{Newlines, Block, Members, AndOr, Pipeline, Piped};
+ghost use Rattle.std.specs.Prelude.{◌≤◌, length};
+ghost use Rattle.shell_grammar.specs.Grammar.{Block, Members, AndOr, Pipeline, Piped};
 ghost use Rattle.shell_parser.specs.Reads.{Reads, Parses};
 
 use crate::forms::{link_and, same_look, starts};
 use crate::looks::look;
-use crate::made::{next_command, next_link};
 use crate::parser::commands::command;
 use crate::tokens::{link_room, list_room, newlines, place, separates, stands};
-use crate::trees::{chain_of, one_command, pipe_of, seq_of};
+use crate::trees::{chain_of, one_command, pipe_of, seq_of, with_command, with_link};
 use script_names::{Boxed, List};
 use shell_grammar::{Look, ParseFault, Reserved};
 use shell_lexer::Token;
@@ -35,24 +31,7 @@ pub fn script(
         let none = seq_of(alloc, List::new(alloc))?;
         return Ok(none);
     }
-    let read = members(alloc, level, end, ts, first);
-    script_end(level, end, ts, first, read)
-}
-
-/// The end of the tokens behind the list of a script
-fn script_end(
-    level: usize,
-    end: u32,
-    ts: &[Token],
-    first: usize,
-    read: Result<(Boxed<Command>, usize), ParseFault>,
-) -> Result<Boxed<Command>, ParseFault>
-    requires begun { Reads level end Newlines ts.now 0 (Done (tt, first)) }
-    requires looks { (look_of (drop first ts.now) ≡ AtEnd) → ⊥ }
-    requires body { Reads level end Members ts.now first read }
-    ensures { Parses level end ts.now result }
-{
-    let (tree, behind) = match read {
+    let (tree, behind) = match members(alloc, level, end, ts, first) {
         Ok(found) => found,
         Err(fault) => return Err(fault),
     };
@@ -105,12 +84,11 @@ pub(super) fn members(
         if !starts(look(ts, now)) {
             return Ok((seq_of(alloc, trees)?, now));
         }
-        let read = and_or(alloc, level, end, ts, now);
-        let (more, behind) = match next_command(trees, read) {
+        let (next, behind) = match and_or(alloc, level, end, ts, now) {
             Ok(found) => found,
             Err(fault) => return Err(fault),
         };
-        trees = more;
+        trees = with_command(trees, next)?;
         now = behind;
     }
     Ok((seq_of(alloc, trees)?, now))
@@ -141,12 +119,11 @@ fn and_or(
             None => return Ok((chain_of(alloc, first, links)?, now)),
         };
         now = newlines(level, end, ts, now + 1);
-        let read = pipeline(alloc, level, end, ts, now);
-        let (more, behind) = match next_link(links, and, read) {
+        let (command, behind) = match pipeline(alloc, level, end, ts, now) {
             Ok(found) => found,
             Err(fault) => return Err(fault),
         };
-        links = more;
+        links = with_link(links, and, command)?;
         now = behind;
     }
     Ok((chain_of(alloc, first, links)?, now))
@@ -166,38 +143,20 @@ fn pipeline(
     ensures { Reads level end Pipeline ts.now at result }
 {
     if stands(ts, at, Look::Keyword(Reserved::Bang)) {
-        let read = piped(alloc, level, end, ts, at + 1);
-        return turned(alloc, level, end, ts, at, read);
+        let (body, behind) = match piped(alloc, level, end, ts, at + 1) {
+            Ok(found) => found,
+            Err(fault) => return Err(fault),
+        };
+        let turned = Boxed::new(
+            alloc,
+            Command::Not {
+                at: place(ts, at, end),
+                body,
+            },
+        )?;
+        return Ok((turned, behind));
     }
     piped(alloc, level, end, ts, at)
-}
-
-/// A pipeline behind `!`
-fn turned(
-    alloc: Global,
-    level: usize,
-    end: u32,
-    ts: &[Token],
-    at: usize,
-    read: Result<(Boxed<Command>, usize), ParseFault>,
-) -> Result<(Boxed<Command>, usize), ParseFault>
-    requires within { at ≤ length ts.now }
-    requires looks { look_of (drop at ts.now) ≡ Keyword Bang }
-    requires body { Reads level end Piped ts.now (at + 1) read }
-    ensures { Reads level end Pipeline ts.now at result }
-{
-    let (body, behind) = match read {
-        Ok(found) => found,
-        Err(fault) => return Err(fault),
-    };
-    let tree = Boxed::new(
-        alloc,
-        Command::Not {
-            at: place(ts, at, end),
-            body,
-        },
-    )?;
-    Ok((tree, behind))
 }
 
 /// `command ( | nl* command )*`
@@ -224,12 +183,11 @@ fn piped(
     let mut now = behind;
     while stands(ts, now, Look::Bar) {
         now = newlines(level, end, ts, now + 1);
-        let read = command(alloc, level, end, ts, now);
-        let (more, behind) = match next_command(parts, read) {
+        let (part, behind) = match command(alloc, level, end, ts, now) {
             Ok(found) => found,
             Err(fault) => return Err(fault),
         };
-        parts = more;
+        parts = with_command(parts, part)?;
         now = behind;
     }
     Ok((pipe_of(alloc, place(ts, at, end), parts)?, now))

@@ -1,20 +1,18 @@
 //! `while`, `until` and `for` (XCU 2.9.4.2, 2.9.4.5, 2.9.4.6).
 
-ghost use Rattle.std.specs.Prelude.{◌≡◌, ◌≤◌, ◌+◌, length, drop, Ok as Done};
-ghost use Rattle.shell_grammar.specs.Look.{look as look_of, place as place_of};
-ghost use Rattle.shell_grammar.specs.Forms.{compound_form as compound_form_of, loop_word as loop_word_of};
-ghost use Rattle.shell_grammar.specs.Grammar.{Compound, Loop, ForRest, ForName, ForWords, Each, Opens};
-ghost use Rattle.shell_grammar.specs.declared.look.Look.TheVariants.{Keyword};
-ghost use Rattle.shell_grammar.specs.declared.look.Reserved.TheVariants.{For, In};
+ghost use Rattle.std.specs.Prelude.{◌≡◌, ◌≤◌, length, drop};
+ghost use Rattle.shell_grammar.specs.Look.{look as look_of};
+ghost use Rattle.shell_grammar.specs.Forms.{compound_form as compound_form_of};
+ghost use Rattle.shell_grammar.specs.Grammar.{Compound, Loop, ForRest, ForName, ForWords, Each};
 ghost use Rattle.shell_grammar.specs.declared.form.CompoundForm.TheVariants as a_compound;
-ghost use Rattle.shell_parser.specs.Reads.{Reads, Takes};
+ghost use Rattle.shell_parser.specs.Reads.{Reads};
 
 use crate::forms::{is_name_word, is_word, loop_word};
 use crate::looks::look;
-use crate::made::{for_parts, name_text, next_word, paired};
 use crate::parser::lists::block;
 use crate::parser::words::word;
 use crate::tokens::{apart, newlines, no_words, opens, place, stands, take};
+use crate::trees::name_of;
 use script_names::{Boxed, Bytes, List};
 use shell_grammar::{Look, ParseFault, Reserved};
 use shell_lexer::Token;
@@ -41,30 +39,7 @@ pub(super) fn turns(
         Ok(next) => next,
         Err(fault) => return Err(fault),
     };
-    let read = turn(alloc, level + 1, end, ts, first);
-    loop_end(alloc, level, end, ts, at, until, want, first, read)
-}
-
-/// `done` behind the condition and the body of a loop
-fn loop_end(
-    alloc: Global,
-    level: usize,
-    end: u32,
-    ts: &[Token],
-    at: usize,
-    until: bool,
-    want: Look,
-    first: usize,
-    read: Result<((Boxed<Command>, Boxed<Command>), usize), ParseFault>,
-) -> Result<(Boxed<Command>, usize), ParseFault>
-    requires within { at ≤ length ts.now }
-    requires form { compound_form_of (look_of (drop at ts.now)) ≡ a_compound.Loop until }
-    requires looks { want ≡ loop_word_of until }
-    requires opened { Takes level end (Opens want) (place_of end (drop at ts.now)) ts.now at (Done first) }
-    requires body { Reads (level + 1) end Loop ts.now first read }
-    ensures { Reads level end Compound ts.now at result }
-{
-    let ((cond, body), behind) = match read {
+    let ((cond, body), behind) = match turn(alloc, level + 1, end, ts, first) {
         Ok(found) => found,
         Err(fault) => return Err(fault),
     };
@@ -105,8 +80,11 @@ fn turn(
         Ok(next) => next,
         Err(fault) => return Err(fault),
     };
-    let read = block(alloc, level, end, ts, next);
-    paired(cond, read)
+    let (body, last) = match block(alloc, level, end, ts, next) {
+        Ok(found) => found,
+        Err(fault) => return Err(fault),
+    };
+    Ok(((cond, body), last))
 }
 
 /// `for NAME nl* [ in word* ] [ ; ] nl* do block done`
@@ -127,27 +105,7 @@ pub(super) fn for_loop(
         Ok(next) => next,
         Err(fault) => return Err(fault),
     };
-    let read = for_rest(alloc, level + 1, end, ts, first);
-    for_end(alloc, level, end, ts, at, first, read)
-}
-
-/// `done` behind the name, the words and the body of a `for`
-fn for_end(
-    alloc: Global,
-    level: usize,
-    end: u32,
-    ts: &[Token],
-    at: usize,
-    first: usize,
-    read: Result<((Bytes, Option<List<Word>>, Boxed<Command>), usize), ParseFault>,
-) -> Result<(Boxed<Command>, usize), ParseFault>
-    requires within { at ≤ length ts.now }
-    requires form { compound_form_of (look_of (drop at ts.now)) ≡ a_compound.For }
-    requires opened { Takes level end (Opens (Keyword For)) (place_of end (drop at ts.now)) ts.now at (Done first) }
-    requires body { Reads (level + 1) end ForRest ts.now first read }
-    ensures { Reads level end Compound ts.now at result }
-{
-    let ((name, words, body), behind) = match read {
+    let ((name, words, body), behind) = match for_rest(alloc, level + 1, end, ts, first) {
         Ok(found) => found,
         Err(fault) => return Err(fault),
     };
@@ -193,8 +151,11 @@ fn for_rest(
         Ok(next) => next,
         Err(fault) => return Err(fault),
     };
-    let read = block(alloc, level, end, ts, first);
-    for_parts(name, words, read)
+    let (body, stop) = match block(alloc, level, end, ts, first) {
+        Ok(found) => found,
+        Err(fault) => return Err(fault),
+    };
+    Ok(((name, words, body), stop))
 }
 
 /// The NAME of a `for`.
@@ -215,8 +176,12 @@ fn for_name(
             at: place(ts, at, end),
         });
     }
-    let read = word(alloc, level, end, ts, at);
-    name_text(alloc, read)
+    let (name, behind) = match word(alloc, level, end, ts, at) {
+        Ok(found) => found,
+        Err(fault) => return Err(fault),
+    };
+    let text = name_of(alloc, &name)?;
+    Ok((text, behind))
 }
 
 /// `[ in word* ] [ ; ] nl*`; a separator must follow the words.
@@ -235,24 +200,7 @@ fn for_words(
     if !stands(ts, at, Look::Keyword(Reserved::In)) {
         return Ok((None, no_words(level, end, ts, at)));
     }
-    let read = each(alloc, level, end, ts, at + 1);
-    words_end(level, end, ts, at, read)
-}
-
-/// `[ ; ] nl*` behind the words of a `for`
-fn words_end(
-    level: usize,
-    end: u32,
-    ts: &[Token],
-    at: usize,
-    read: Result<(List<Word>, usize), ParseFault>,
-) -> Result<(Option<List<Word>>, usize), ParseFault>
-    requires within { at ≤ length ts.now }
-    requires looks { look_of (drop at ts.now) ≡ Keyword In }
-    requires body { Reads level end Each ts.now (at + 1) read }
-    ensures { Reads level end ForWords ts.now at result }
-{
-    let (words, behind) = match read {
+    let (words, behind) = match each(alloc, level, end, ts, at + 1) {
         Ok(found) => found,
         Err(fault) => return Err(fault),
     };
@@ -279,12 +227,11 @@ fn each(
     let mut words = List::new(alloc);
     let mut now = at;
     while is_word(look(ts, now)) {
-        let read = word(alloc, level, end, ts, now);
-        let (more, behind) = match next_word(words, read) {
+        let (next, behind) = match word(alloc, level, end, ts, now) {
             Ok(found) => found,
             Err(fault) => return Err(fault),
         };
-        words = more;
+        words.add(next)?;
         now = behind;
     }
     Ok((words, now))

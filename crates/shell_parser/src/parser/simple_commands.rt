@@ -10,11 +10,12 @@ ghost use Rattle.shell_parser.specs.Reads.{Reads, ItemsRead, ItemRead, Definitio
 
 use crate::forms::{has_word, item};
 use crate::looks::look;
-use crate::made::{defines, next_assign, next_item, simple_end};
 use crate::parser::commands::braces;
 use crate::parser::words::{assignment, word};
 use crate::tokens::{newlines, place, stands, take, words_from};
-use crate::trees::{first_item, no_items, with_redirect};
+use crate::trees::{
+    defined, first_item, no_items, simple_of, with_assign, with_redirect, with_word,
+};
 use script_names::Boxed;
 use shell_grammar::{Item, Items, Look, ParseFault};
 use shell_lexer::Token;
@@ -40,12 +41,19 @@ pub(super) fn named(
         Err(fault) => return Err(fault),
     };
     if stands(ts, behind, Look::LeftParen) {
-        let body = definition(alloc, level, end, ts, behind);
-        return defines(alloc, place(ts, at, end), first, body);
+        let (body, last) = match definition(alloc, level, end, ts, behind) {
+            Ok(found) => found,
+            Err(fault) => return Err(fault),
+        };
+        let tree = defined(alloc, place(ts, at, end), first, body)?;
+        return Ok((tree, last));
     }
     let begun = first_item(alloc, words_from(ts, at), first)?;
-    let all = items(alloc, level, end, ts, behind, true, begun);
-    simple_end(alloc, place(ts, at, end), all)
+    let (all, last) = match items(alloc, level, end, ts, behind, true, begun) {
+        Ok(found) => found,
+        Err(fault) => return Err(fault),
+    };
+    Ok((simple_of(alloc, place(ts, at, end), all)?, last))
 }
 
 /// `( ) nl* { block }`
@@ -71,7 +79,11 @@ fn definition(
         Err(fault) => return Err(fault),
     };
     let start = newlines(level, end, ts, next);
-    braces(alloc, level, end, ts, start)
+    let (tree, stop) = match braces(alloc, level, end, ts, start) {
+        Ok(found) => found,
+        Err(fault) => return Err(fault),
+    };
+    Ok((tree, stop))
 }
 
 /// A simple command that does not begin with a name.
@@ -89,8 +101,11 @@ pub(super) fn simple(
     ensures { Reads level end ACommand ts.now at result }
 {
     let none = no_items(alloc, words_from(ts, at))?;
-    let all = items(alloc, level, end, ts, at, false, none);
-    simple_end(alloc, place(ts, at, end), all)
+    let (all, last) = match items(alloc, level, end, ts, at, false, none) {
+        Ok(found) => found,
+        Err(fault) => return Err(fault),
+    };
+    Ok((simple_of(alloc, place(ts, at, end), all)?, last))
 }
 
 /// `( assign | redirect )*` and words with redirections, behind the items begun.
@@ -146,16 +161,19 @@ fn one_item(
 {
     match which {
         Item::Assignment => {
-            let read = assignment(alloc, level, end, ts, at);
-            return next_assign(begun, read);
+            let (value, behind) = match assignment(alloc, level, end, ts, at) {
+                Ok(found) => found,
+                Err(fault) => return Err(fault),
+            };
+            Ok((with_assign(begun, value)?, behind))
         }
-        Item::Redirection(redirect) => {
-            let made = with_redirect(begun, redirect)?;
-            return Ok((made, at + 1));
-        }
+        Item::Redirection(redirect) => Ok((with_redirect(begun, redirect)?, at + 1)),
         Item::Word => {
-            let read = word(alloc, level, end, ts, at);
-            return next_item(begun, read);
+            let (value, behind) = match word(alloc, level, end, ts, at) {
+                Ok(found) => found,
+                Err(fault) => return Err(fault),
+            };
+            Ok((with_word(begun, value)?, behind))
         }
     }
 }

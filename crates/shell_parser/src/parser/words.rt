@@ -1,10 +1,9 @@
 //! Words and assignments, with the scripts of their substitutions (XCU 2.6.3 Command Substitution, 2.9.1).
 
-ghost use Rattle.std.specs.Prelude.{◌≡◌, ◌≤◌, ◌<◌, [], length, drop, Some as Found};
-ghost use Rattle.shell_grammar.specs.Look.{look as look_of, word as word_of};
-ghost use Rattle.shell_grammar.specs.Trees.{plain_part_of, behind_equals as behind_equals_of, rest_of as rest_of_raws};
+ghost use Rattle.std.specs.Prelude.{◌≡◌, ◌≤◌, length, drop};
+ghost use Rattle.shell_grammar.specs.Look.{look as look_of};
 ghost use Rattle.shell_grammar.specs.declared.look.Look.TheVariants.{Assignment};
-ghost use Rattle.shell_parser.specs.Reads.{PartsRead, PartRead, WordRead, AssignRead, raw_text as raw_text_of};
+ghost use Rattle.shell_parser.specs.Reads.{PartsRead, PartRead, WordRead, AssignRead};
 
 use crate::assignments::{behind_equals, plain_part, raw_text, rest_of, up_to_equals};
 use crate::parser::lists::script;
@@ -38,32 +37,10 @@ pub(super) fn assignment(
     };
     let text = raw_text(raws);
     let begun = plain_part(alloc, behind_equals(text), raws.len())?;
-    let read = parts(alloc, level, rest_of(raws), begun);
-    assignment_end(alloc, level, end, ts, at, raws, read)
-}
-
-/// The name and the value of a word NAME=.. whose parts are read.
-fn assignment_end(
-    alloc: Global,
-    level: usize,
-    end: u32,
-    ts: &[Token],
-    at: usize,
-    raws: &[RawPart],
-    read: Result<List<Part>, ParseFault>,
-) -> Result<(Assign, usize), ParseFault>
-    requires within { at < length ts.now }
-    requires looks { look_of (drop at ts.now) ≡ Assignment }
-    requires word { word_of (drop at ts.now) ≡ Found raws.now }
-    requires body { let value = behind_equals_of (raw_text_of raws.now) in
-        PartsRead level (plain_part_of value) (rest_of_raws raws.now) read }
-    ensures { AssignRead level end ts.now at result }
-{
-    let parts = match read {
+    let parts = match parts(alloc, level, rest_of(raws), begun) {
         Ok(parts) => parts,
         Err(fault) => return Err(fault),
     };
-    let text = raw_text(raws);
     let name = Bytes::from_slice(alloc, up_to_equals(text))?;
     let first = place(ts, at, end);
     let value = Word { at: first, parts };
@@ -90,25 +67,7 @@ pub(super) fn word(
         }),
     };
     let begun = List::with_room(alloc, raws.len())?;
-    let read = parts(alloc, level, raws, begun);
-    word_end(level, end, ts, at, raws, read)
-}
-
-/// A word whose parts are read.
-fn word_end(
-    level: usize,
-    end: u32,
-    ts: &[Token],
-    at: usize,
-    raws: &[RawPart],
-    read: Result<List<Part>, ParseFault>,
-) -> Result<(Word, usize), ParseFault>
-    requires within { at < length ts.now }
-    requires word { word_of (drop at ts.now) ≡ Found raws.now }
-    requires body { PartsRead level [] raws.now read }
-    ensures { WordRead level end ts.now at result }
-{
-    let parts = match read {
+    let parts = match parts(alloc, level, raws, begun) {
         Ok(parts) => parts,
         Err(fault) => return Err(fault),
     };

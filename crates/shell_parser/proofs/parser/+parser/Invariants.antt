@@ -135,11 +135,11 @@ invariant-lists::piped-loop-now l = (l.fn.at ≤ l.now) × (l.now ≤ length l.t
 abbrev pub decreases-lists::piped-loop-now : goal.decreases-lists::piped-loop-now
 decreases-lists::piped-loop-now l = length l.ts - l.now
 
-abbrev pub invariant-conditionals::clause-loop-read : goal.invariant-conditionals::clause-loop-read
-invariant-conditionals::clause-loop-read l = (l.fn.at ≤ l.now) × (l.now ≤ length l.ts) × ArmsFrom l.level l.end (drop l.fn.at l.ts) (drop l.now l.ts) l.arms
+abbrev pub invariant-conditionals::clause-loop-arms : goal.invariant-conditionals::clause-loop-arms
+invariant-conditionals::clause-loop-arms l = (l.fn.at ≤ l.now) × (l.now ≤ length l.ts) × ArmsFrom l.level l.end (drop l.fn.at l.ts) (drop l.now l.ts) l.arms
 
-abbrev pub decreases-conditionals::clause-loop-read : goal.decreases-conditionals::clause-loop-read
-decreases-conditionals::clause-loop-read l = length l.ts - l.now
+abbrev pub decreases-conditionals::clause-loop-arms : goal.decreases-conditionals::clause-loop-arms
+decreases-conditionals::clause-loop-arms l = length l.ts - l.now
 
 abbrev pub invariant-loops::each-loop-alloc : goal.invariant-loops::each-loop-alloc
 invariant-loops::each-loop-alloc l = (l.fn.at ≤ l.now) × (l.now ≤ length l.ts) × EachFrom l.level l.end (drop l.fn.at l.ts) (drop l.now l.ts) l.words

@@ -1,8 +1,0 @@
-use Rattle.shell_parser.proofs.Steps.{same_fault}
-use Rattle.shell_parser.proofs.made.name_text.Goals as goal
-
-pub returns-in-Err : goal.returns-in-Err
-returns-in-Err c = same_fault c.in-Err.fault c.in-Err.is
-
-pub returns : goal.returns
-returns c = record { value = c.in-Ok.found.0; read = c.in-Ok.is; is = c.in_ok-made.ensures }

@@ -1,9 +1,0 @@
-use Rattle.std.proofs.Common.{refl}
-use Rattle.shell_parser.proofs.Steps.{same_fault}
-use Rattle.shell_parser.proofs.made.with_else.Goals as goal
-
-pub returns-in-Err : goal.returns-in-Err
-returns-in-Err c = same_fault c.in-Err.fault c.in-Err.is
-
-pub returns : goal.returns
-returns c = record { value = c.in-Ok.found.0; read = c.in-Ok.is; is = refl }
