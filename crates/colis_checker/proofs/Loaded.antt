@@ -1,12 +1,11 @@
 -- The packages of a load are one, and the summary of a report on them is that of the load.
 use Rattle.std.proofs.Common.{◌≡◌, ℕ, ◌≤◌, Bool, true, false, List, Option, None, refl, sym, subst, ◌∙◌, arith}
-use Rattle.std.specs.Prelude.{if◌then◌else◌}
 use Rattle.package_lists.specs.declared.base.BaseLine.{BaseLine}
 use Rattle.checker_input.specs.declared.package.Package.{Package}
 use Rattle.checker_input.specs.declared.package.Packages.{Packages}
 use Rattle.load_maker.proofs.OnePackage.{one_package}
 use Rattle.outcome_report.specs.declared.outcome_report.Report.{Report}
-use Rattle.outcome_report.specs.OutcomeReport.{report_has, verdict_of}
+use Rattle.outcome_report.specs.OutcomeReport.{joint_verdict, report_has, verdict_of}
 use Rattle.load_summary.specs.Summary.{summary_text}
 use Rattle.colis_checker.specs.declared.loads.TheConstants.{TURNS}
 use Rattle.colis_checker.specs.Reports.{chosen, AreParts}
@@ -21,7 +20,7 @@ pub one_loaded : (number : ℕ) (one other : Packages) → AreLoaded number one 
 one_loaded number one other x y =
     same_packages (one_package number one.new_package other.new_package x.made y.made) (x.alone ∙ sym y.alone) (x.on ∙ sym y.on)
 
-pub small : (failed unfinished : Bool) → (if failed then 1 else (if unfinished then 2 else 0)) ≤ 2
+pub small : (failed unfinished : Bool) → joint_verdict failed unfinished ≤ 2
 small true unfinished = omega arith
 small false true = omega arith
 small false false = omega arith

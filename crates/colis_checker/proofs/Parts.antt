@@ -1,5 +1,5 @@
 -- The part of a report on a scenario, from what is answered of its job and its needs.
-use Rattle.std.proofs.Common.{◌≡◌, ℕ, List, Option, Result, Ok, Err, refl, subst, ◌∙◌}
+use Rattle.std.proofs.Common.{◌≡◌, ℕ, List, Option, Result, Ok, Err, refl, sym, subst, ◌∙◌}
 use Rattle.std.specs.Prelude.{◌↔◌}
 use Rattle.feature_trees.specs.declared.value.Value.{Value}
 use Rattle.dpkg_scenarios.specs.declared.scenario.Scenario.{Scenario}
@@ -15,8 +15,8 @@ use Rattle.scenario_outcomes.specs.declared.outcome.OutcomesFault.TheVariants as
 use Rattle.outcome_report.specs.declared.outcome_report.ReportPart.{ReportPart}
 use Rattle.outcome_report.specs.OutcomeReport.{PartAnswers}
 use Rattle.outcome_report.proofs.Carrying.{parts_carry_over}
-use Rattle.colis_checker.specs.declared.faults.Refusal.TheVariants.{NoStart, Limit}
-use Rattle.colis_checker.specs.Reports.{IsPartOf, IsRefused}
+use Rattle.colis_checker.specs.declared.faults.TaskFault.{TaskFault}
+use Rattle.colis_checker.specs.Reports.{task_fault, IsPartOf, IsFault}
 
 module _ (packages : Packages) (turns limit : ℕ) (scenario : Scenario) (job : Job) (needs : List Need)
     (runs : (tree : Value) → scenario_run job tree ≡ written_run scenario packages turns tree)
@@ -34,12 +34,13 @@ module _ (packages : Packages) (turns limit : ℕ) (scenario : Scenario) (job : 
       let all = carried (Ok part) answers in
       record { of_scenario = same; exact = all.0; bounded = record { starts = all.1; few = all.2 } }
 
-  pub start_refused : (fault : OutcomesFault) → fault ≡ outcomes.NoStart
-      → PartAnswers (scenario_run job) (IsStart needs) limit (Err fault) → IsRefused packages turns limit scenario (NoStart scenario)
-  start_refused fault is answers =
-      (refl, carried (Err outcomes.NoStart) (subst (λ (f : OutcomesFault). PartAnswers (scenario_run job) (IsStart needs) limit (Err f)) is answers))
+  is_fault : (fault : OutcomesFault) → PartAnswers (scenario_run job) (IsStart needs) limit (Err fault)
+      → IsFault packages turns limit scenario (task_fault scenario limit fault)
+  is_fault outcomes.NoStart answers = (refl, carried (Err outcomes.NoStart) answers)
+  is_fault outcomes.Over answers = (refl, refl, carried (Err outcomes.Over) answers)
+  is_fault outcomes.Memory answers = tt
 
-  pub limit_refused : (fault : OutcomesFault) → fault ≡ outcomes.Over
-      → PartAnswers (scenario_run job) (IsStart needs) limit (Err fault) → IsRefused packages turns limit scenario (Limit scenario limit)
-  limit_refused fault is answers =
-      (refl, refl, carried (Err outcomes.Over) (subst (λ (f : OutcomesFault). PartAnswers (scenario_run job) (IsStart needs) limit (Err f)) is answers))
+  -- the fault of a task that is made of this fault
+  pub faulted : (fault : OutcomesFault) (made : TaskFault) → made ≡ task_fault scenario limit fault
+      → PartAnswers (scenario_run job) (IsStart needs) limit (Err fault) → IsFault packages turns limit scenario made
+  faulted fault made is answers = subst (IsFault packages turns limit scenario) (sym is) (is_fault fault answers)

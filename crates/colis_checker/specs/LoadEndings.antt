@@ -7,9 +7,8 @@ use Rattle.outcome_report.specs.declared.outcome_report.Report.{Report}
 use Rattle.load_summary.specs.declared.endings.ScenarioEndings.{ScenarioEndings}
 use Rattle.load_summary.specs.Endings.{endings_of, HasEndings}
 use Rattle.colis_checker.specs.declared.faults.TaskFault.{TaskFault}
-use Rattle.colis_checker.specs.declared.faults.TaskFault.TheVariants.{Refused, Memory}
 use Rattle.colis_checker.specs.declared.loads.TheConstants.{TURNS}
-use Rattle.colis_checker.specs.Reports.{chosen, IsPartOf, IsRefused, AreParts, IsFirstRefused}
+use Rattle.colis_checker.specs.Reports.{chosen, IsPartOf, AreParts, IsFault, IsFirstFault}
 
 -- Packages are checked, with so many different traces at most in a scenario.
 module _ (packages : Packages) (limit : ℕ) where
@@ -25,14 +24,12 @@ module _ (packages : Packages) (limit : ℕ) where
     pub parts : AreParts packages TURNS limit (chosen None) report.parts
     pub are : HasEndings report endings
 
-  -- the endings of a scenario, or its refusal, or want of memory
+  -- the endings of a scenario, or why there are none
   abbrev pub EndingsGive : Scenario → Result ScenarioEndings TaskFault → Type 0
   EndingsGive scenario (Ok endings) = AreEndingsOf scenario endings
-  EndingsGive scenario (Err (Refused refusal)) = IsRefused packages TURNS limit scenario refusal
-  EndingsGive scenario (Err Memory) = Unit {0}
+  EndingsGive scenario (Err fault) = IsFault packages TURNS limit scenario fault
 
-  -- the endings of all scenarios, or the refusal of the first that has none, or want of memory
+  -- the endings of all scenarios, or why there are none
   abbrev pub AllEndingsGive : Result (List ScenarioEndings) TaskFault → Type 0
   AllEndingsGive (Ok endings) = AreAllEndings endings
-  AllEndingsGive (Err (Refused refusal)) = IsFirstRefused packages TURNS limit (chosen None) refusal
-  AllEndingsGive (Err Memory) = Unit {0}
+  AllEndingsGive (Err fault) = IsFirstFault packages TURNS limit (chosen None) fault

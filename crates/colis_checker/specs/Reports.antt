@@ -9,6 +9,8 @@ use Rattle.command_words.specs.declared.request.Layout.TheVariants.{Plain, Brief
 use Rattle.checker_input.specs.declared.package.Packages.{Packages}
 use Rattle.package_jobs.specs.Written.{written_run}
 use Rattle.package_jobs.specs.StartTrees.{IsStartTree}
+use Rattle.scenario_outcomes.specs.declared.outcome.OutcomesFault.{OutcomesFault}
+use Rattle.scenario_outcomes.specs.declared.outcome.OutcomesFault.TheVariants as outcomes
 use Rattle.scenario_outcomes.specs.Outcomes.{SomeStarts, AreFew, AreTooMany}
 use Rattle.outcome_report.specs.declared.outcome_report.ReportPart.{ReportPart}
 use Rattle.outcome_report.specs.declared.outcome_report.Report.{Report}
@@ -33,6 +35,12 @@ abbrev pub layout_text : Layout → Report → List ℕ
 layout_text Plain report = report_text report
 layout_text Brief report = brief_text report
 layout_text Json report = json_text report
+
+-- why a scenario has no report, by why it has no outcomes
+abbrev pub task_fault : Scenario → ℕ → OutcomesFault → TaskFault
+task_fault scenario limit outcomes.NoStart = Refused (NoStart scenario)
+task_fault scenario limit outcomes.Over = Refused (Limit scenario limit)
+task_fault scenario limit outcomes.Memory = Memory
 
 -- Packages are checked, with so many turns of loops in a run, and so many different traces at most in a scenario.
 module _ (packages : Packages) (turns limit : ℕ) where
@@ -94,20 +102,27 @@ module _ (packages : Packages) (turns limit : ℕ) where
 
   -- ---- what the code answers
 
-  -- the part of a scenario, or its refusal, or want of memory
+  -- why nothing is answered of a scenario: it is refused so, or memory is missing
+  abbrev pub IsFault : Scenario → TaskFault → Type 0
+  IsFault scenario (Refused refusal) = IsRefused scenario refusal
+  IsFault scenario Memory = Unit {0}
+
+  -- why nothing is answered of scenarios: the first that cannot be reported is refused so, or memory is missing
+  abbrev pub IsFirstFault : List Scenario → TaskFault → Type 0
+  IsFirstFault scenarios (Refused refusal) = IsFirstRefused scenarios refusal
+  IsFirstFault scenarios Memory = Unit {0}
+
+  -- the part of a scenario, or why there is none
   abbrev pub PartGives : Scenario → Result ReportPart TaskFault → Type 0
   PartGives scenario (Ok part) = IsPartOf scenario part
-  PartGives scenario (Err (Refused refusal)) = IsRefused scenario refusal
-  PartGives scenario (Err Memory) = Unit {0}
+  PartGives scenario (Err fault) = IsFault scenario fault
 
-  -- the parts of scenarios, or the refusal of the first that has none, or want of memory
+  -- the parts of scenarios, or why there are none
   abbrev pub PartsGive : List Scenario → Result Report TaskFault → Type 0
   PartsGive scenarios (Ok report) = AreParts scenarios report.parts
-  PartsGive scenarios (Err (Refused refusal)) = IsFirstRefused scenarios refusal
-  PartsGive scenarios (Err Memory) = Unit {0}
+  PartsGive scenarios (Err fault) = IsFirstFault scenarios fault
 
-  -- the same for the text of the report
+  -- the text of the report, or why there is none
   abbrev pub ReportGives : List Scenario → Layout → Result Written TaskFault → Type 0
   ReportGives scenarios layout (Ok written) = IsReportOf scenarios layout written.text written.status
-  ReportGives scenarios layout (Err (Refused refusal)) = IsFirstRefused scenarios refusal
-  ReportGives scenarios layout (Err Memory) = Unit {0}
+  ReportGives scenarios layout (Err fault) = IsFirstFault scenarios fault

@@ -7,8 +7,7 @@ use Rattle.outcome_report.specs.declared.outcome_report.Report.{Report}
 use Rattle.outcome_report.specs.declared.told_part.ToldPart.{ToldPart}
 use Rattle.outcome_report.specs.Told.{Tells, AreTold}
 use Rattle.colis_checker.specs.declared.faults.TaskFault.{TaskFault}
-use Rattle.colis_checker.specs.declared.faults.TaskFault.TheVariants.{Refused, Memory}
-use Rattle.colis_checker.specs.Reports.{IsPartOf, IsRefused, AreParts, IsFirstRefused}
+use Rattle.colis_checker.specs.Reports.{IsPartOf, AreParts, IsFault, IsFirstFault}
 
 -- Packages are checked, with so many turns of loops in a run, and so many different traces at most in a scenario.
 module _ (packages : Packages) (turns limit : ℕ) where
@@ -24,14 +23,12 @@ module _ (packages : Packages) (turns limit : ℕ) where
     pub parts : AreParts packages turns limit scenarios report.parts
     pub tell : AreTold report.parts told
 
-  -- what is told of a scenario, or its refusal, or want of memory
+  -- what is told of a scenario, or why nothing is
   abbrev pub ToldGives : Scenario → Result ToldPart TaskFault → Type 0
   ToldGives scenario (Ok told) = IsToldOf scenario told
-  ToldGives scenario (Err (Refused refusal)) = IsRefused packages turns limit scenario refusal
-  ToldGives scenario (Err Memory) = Unit {0}
+  ToldGives scenario (Err fault) = IsFault packages turns limit scenario fault
 
-  -- what is told of scenarios, or the refusal of the first of which nothing is, or want of memory
+  -- what is told of scenarios, or why nothing is
   abbrev pub AllToldGive : List Scenario → Result (List ToldPart) TaskFault → Type 0
   AllToldGive scenarios (Ok told) = AreToldOf scenarios told
-  AllToldGive scenarios (Err (Refused refusal)) = IsFirstRefused packages turns limit scenarios refusal
-  AllToldGive scenarios (Err Memory) = Unit {0}
+  AllToldGive scenarios (Err fault) = IsFirstFault packages turns limit scenarios fault

@@ -1,5 +1,9 @@
+ghost use Rattle.std.specs.Prelude.{◌≡◌};
+ghost use Rattle.colis_checker.specs.Reports.{task_fault};
+
 use checker_input::InputRefusal;
 use dpkg_scenarios::Scenario;
+use scenario_outcomes::OutcomesFault;
 use script_names::Memory;
 
 /// Input that is refused.
@@ -30,5 +34,16 @@ impl From<Memory> for TaskFault {
 
     fn from(_refused: Memory) -> TaskFault {
         TaskFault::Memory
+    }
+}
+
+/// Why a scenario has no report, by why it has no outcomes.
+pub fn task_fault(fault: OutcomesFault, scenario: Scenario, limit: u32) -> TaskFault
+    ensures { result ≡ task_fault scenario limit fault }
+{
+    match fault {
+        OutcomesFault::NoStart => TaskFault::Refused(Refusal::NoStart { scenario }),
+        OutcomesFault::Over => TaskFault::Refused(Refusal::Limit { scenario, limit }),
+        OutcomesFault::Memory => TaskFault::Memory,
     }
 }

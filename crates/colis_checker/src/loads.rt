@@ -5,7 +5,7 @@ ghost use Rattle.std.specs.List.{AllZip};
 ghost use Rattle.colis_checker.specs.Loads.{AreLoaded, LoadGives};
 ghost use Rattle.colis_checker.specs.LoadEndings.{EndingsGive, AllEndingsGive};
 
-use crate::faults::{Refusal, TaskFault};
+use crate::faults::{TaskFault, task_fault};
 use crate::reports::{chosen_scenarios, settle};
 use crate::written::Written;
 use case_pool::{Gate, map_jobs};
@@ -15,7 +15,7 @@ use load_maker::load;
 use load_summary::{ScenarioEndings, load_verdict, render_load};
 use package_jobs::{job_of, needs_of};
 use package_lists::Base;
-use scenario_outcomes::{OutcomesFault, endings};
+use scenario_outcomes::endings;
 use script_names::{List, Memory};
 use std::alloc::Global;
 use std::thread::Threads;
@@ -50,9 +50,7 @@ fn scenario_endings(
     let needs = needs_of(alloc, scenario, packages)?;
     match endings(alloc, &job, &needs, limit) {
         Ok(endings) => Ok(ScenarioEndings { scenario, endings }),
-        Err(OutcomesFault::NoStart) => Err(TaskFault::Refused(Refusal::NoStart { scenario })),
-        Err(OutcomesFault::Over) => Err(TaskFault::Refused(Refusal::Limit { scenario, limit })),
-        Err(OutcomesFault::Memory) => Err(TaskFault::Memory),
+        Err(fault) => Err(task_fault(fault, scenario, limit)),
     }
 }
 

@@ -1,13 +1,13 @@
 //! The report on packages, scenario by scenario.
 
-ghost use Rattle.std.specs.Prelude.{◌≡◌, IfOk};
+ghost use Rattle.std.specs.Prelude.{◌≡◌, ◌≤◌, IfOk};
 ghost use Rattle.std.specs.List.{AllZip};
 ghost use Rattle.outcome_report.specs.OutcomeReport.{verdict_of};
 ghost use Rattle.outcome_report.specs.Whole.{IsRepresentable};
 ghost use Rattle.colis_checker.specs.Reports.{chosen, PartGives, PartsGive, ReportGives};
 ghost use Rattle.colis_checker.specs.Settled.{settled};
 
-use crate::faults::{Refusal, TaskFault};
+use crate::faults::{TaskFault, task_fault};
 use crate::told_reports::write_plain;
 use crate::written::Written;
 use case_pool::{Gate, map_jobs};
@@ -15,10 +15,8 @@ use checker_input::Packages;
 use command_words::Layout;
 use dpkg_scenarios::Scenario;
 use outcome_report::{Report, ReportPart, make_part, render_brief, verdict};
-use package_jobs::{job_of, needs_of};
-use package_lists::Entry;
+use package_jobs::{is_plain, job_of, needs_of};
 use report_json::render_json;
-use scenario_outcomes::OutcomesFault;
 use script_names::{Bytes, List, Memory};
 use std::alloc::Global;
 use std::thread::Threads;
@@ -40,9 +38,7 @@ fn report_scenario(
     let needs = needs_of(alloc, scenario, packages)?;
     match make_part(alloc, &job, &needs, limit) {
         Ok(part) => Ok(part),
-        Err(OutcomesFault::NoStart) => Err(TaskFault::Refused(Refusal::NoStart { scenario })),
-        Err(OutcomesFault::Over) => Err(TaskFault::Refused(Refusal::Limit { scenario, limit })),
-        Err(OutcomesFault::Memory) => Err(TaskFault::Memory),
+        Err(fault) => Err(task_fault(fault, scenario, limit)),
     }
 }
 
@@ -71,21 +67,17 @@ pub fn chosen_scenarios(alloc: Global, scenario: Option<Scenario>) -> Result<Lis
 /// How many scenarios at the end are one worker's. Without a postrm and a configuration file there is little to do in
 /// the purge of a package that was removed before; where there is no prerm either, and the package has few entries, in
 /// a removal and a purge too. No clause rests on the number.
-pub fn light_scenarios(packages: &Packages) -> usize {
+pub fn light_scenarios(packages: &Packages) -> usize
+    ensures { 1 ≤ result × result ≤ 3 }
+{
     let package = &packages.new_package;
-    let entries = package.entries.as_slice();
-    if !package.scripts.postrm.is_none() || has_conffile(entries) {
+    if !is_plain(package) {
         return 1;
     }
-    if package.scripts.prerm.is_none() && entries.len() <= FEW_ENTRIES {
+    if package.scripts.prerm.is_none() && package.entries.len() <= FEW_ENTRIES {
         return 3;
     }
     2
-}
-
-// Whether one of these entries is a configuration file.
-fn has_conffile(entries: &[Entry]) -> bool {
-    entries.iter().any(|entry| entry.kind().is_conf())
 }
 
 // What workers answer of each scenario, in the scenarios' order: the part of a report, or why there is none. A worker

@@ -6,7 +6,7 @@ ghost use Rattle.command_words.specs.declared.request.Layout.TheVariants.{Plain}
 ghost use Rattle.colis_checker.specs.Reports.{chosen, ReportGives};
 ghost use Rattle.colis_checker.specs.ToldParts.{ToldGives, AllToldGive};
 
-use crate::faults::{Refusal, TaskFault};
+use crate::faults::{TaskFault, task_fault};
 use crate::reports::{chosen_scenarios, light_scenarios, settle};
 use crate::written::Written;
 use case_pool::{Gate, map_jobs};
@@ -14,7 +14,6 @@ use checker_input::Packages;
 use dpkg_scenarios::Scenario;
 use outcome_report::{ToldPart, join_told, tell_part, told_verdict};
 use package_jobs::{job_of, needs_of};
-use scenario_outcomes::OutcomesFault;
 use script_names::{List, Memory};
 use std::alloc::Global;
 use std::thread::Threads;
@@ -33,9 +32,7 @@ fn tell_scenario(
     let needs = needs_of(alloc, scenario, packages)?;
     match tell_part(alloc, &job, &needs, limit) {
         Ok(told) => Ok(told),
-        Err(OutcomesFault::NoStart) => Err(TaskFault::Refused(Refusal::NoStart { scenario })),
-        Err(OutcomesFault::Over) => Err(TaskFault::Refused(Refusal::Limit { scenario, limit })),
-        Err(OutcomesFault::Memory) => Err(TaskFault::Memory),
+        Err(fault) => Err(task_fault(fault, scenario, limit)),
     }
 }
 

@@ -1,11 +1,11 @@
 -- The endings of a report's scenarios, and what they make of the verdict.
-use Rattle.std.specs.Prelude.{◌≡◌, ℕ, Bool, List, map, ◌==◌, if◌then◌else◌}
+use Rattle.std.specs.Prelude.{◌≡◌, ℕ, Bool, List, map, ◌==◌}
 use Rattle.std.specs.List.{list_any}
 use Rattle.dpkg_scenarios.specs.declared.scenario.Ending.{Ending}
 use Rattle.outcome_report.specs.declared.outcome_report.ReportEntry.{ReportEntry}
 use Rattle.outcome_report.specs.declared.outcome_report.ReportPart.{ReportPart}
 use Rattle.outcome_report.specs.declared.outcome_report.Report.{Report}
-use Rattle.outcome_report.specs.OutcomeReport.{ending_verdict}
+use Rattle.outcome_report.specs.OutcomeReport.{ending_verdict, joint_verdict}
 use Rattle.load_summary.specs.declared.endings.ScenarioEndings.{ScenarioEndings}
 
 -- how an outcome ends
@@ -30,4 +30,4 @@ some_ends_so verdict scenarios = list_any (ends_so verdict) scenarios
 
 -- what the endings make of the verdict
 abbrev pub endings_verdict : List ScenarioEndings → ℕ
-endings_verdict scenarios = if some_ends_so 1 scenarios then 1 else (if some_ends_so 2 scenarios then 2 else 0)
+endings_verdict scenarios = joint_verdict (some_ends_so 1 scenarios) (some_ends_so 2 scenarios)

@@ -6,7 +6,7 @@ ghost use Rattle.outcome_report.specs.OutcomeReport.{verdict_of};
 ghost use Rattle.load_summary.specs.Endings.{HasEndings, ends_so, some_ends_so, endings_verdict};
 
 use dpkg_scenarios::{Ending, Scenario};
-use outcome_report::ending_verdict;
+use outcome_report::{ending_verdict, joint_verdict};
 use script_names::List;
 
 /// The endings of the outcomes of one scenario, in the outcomes' order.
@@ -38,13 +38,7 @@ fn some_ends_so(scenarios: &[ScenarioEndings], verdict: u8) -> bool
 pub(crate) fn endings_verdict(scenarios: &[ScenarioEndings]) -> u8
     ensures { result ≡ endings_verdict scenarios.now }
 {
-    if some_ends_so(scenarios, 1) {
-        1
-    } else if some_ends_so(scenarios, 2) {
-        2
-    } else {
-        0
-    }
+    joint_verdict(some_ends_so(scenarios, 1), some_ends_so(scenarios, 2))
 }
 
 /// The verdict of each report that has these endings.

@@ -1,7 +1,7 @@
 -- The brief text as a function of scenarios, endings and traces.
 use Rattle.std.proofs.Common.{◌≡◌, ℕ, suc, Bool, List, [], ◌∷◌, ◌++◌, map, length, refl, sym, ap, ◌∙◌}
 use Rattle.std.proofs.lemmas.List.{length-map}
-use Rattle.std.specs.Prelude.{◌||◌, ◌==◌, codes, if◌then◌else◌}
+use Rattle.std.specs.Prelude.{◌||◌, ◌==◌, codes}
 use Rattle.std.specs.List.{flat_map, list_any}
 use Rattle.std.specs.Fmt.{decimal}
 use Rattle.script_names.specs.declared.mark.Mark.{Mark}
@@ -11,7 +11,7 @@ use Rattle.shown_texts.specs.Lines.{line}
 use Rattle.outcome_report.specs.declared.outcome_report.ReportEntry.{ReportEntry}
 use Rattle.outcome_report.specs.declared.outcome_report.ReportPart.{ReportPart}
 use Rattle.outcome_report.specs.declared.outcome_report.Report.{Report}
-use Rattle.outcome_report.specs.OutcomeReport.{ending_verdict, part_has, report_has, verdict_of}
+use Rattle.outcome_report.specs.OutcomeReport.{ending_verdict, joint_verdict, part_has, report_has, verdict_of}
 use Rattle.outcome_report.specs.ReportNames.{scenario_name}
 use Rattle.outcome_report.specs.ReportText.{result_text, outcome_line, trace_line, scenario_line, verdict_line}
 use Rattle.outcome_report.specs.BriefText.{brief_entry, brief_part, brief_text}
@@ -95,12 +95,12 @@ parts_have v (part ∷ parts) =
     ∙ ap (λ b. has_told v (scenario_and_endings part) || b) (parts_have v parts)
 
 abbrev verdict_told : Scenarios → ℕ
-verdict_told ss = if list_any (has_told 1) ss then 1 else (if list_any (has_told 2) ss then 2 else 0)
+verdict_told ss = joint_verdict (list_any (has_told 1) ss) (list_any (has_told 2) ss)
 
 verdict_is : (report : Report) → verdict_of report ≡ verdict_told (map scenario_and_endings report.parts)
 verdict_is report =
-    ap (λ b. if b then 1 else (if report_has 2 report then 2 else 0)) (parts_have 1 report.parts)
-    ∙ ap (λ b. if list_any (has_told 1) (map scenario_and_endings report.parts) then 1 else (if b then 2 else 0)) (parts_have 2 report.parts)
+    ap (λ b. joint_verdict b (report_has 2 report)) (parts_have 1 report.parts)
+    ∙ ap (joint_verdict (list_any (has_told 1) (map scenario_and_endings report.parts))) (parts_have 2 report.parts)
 
 verdict_line_is : (report : Report) → verdict_line report ≡ line (codes "verdict " ++ decimal (verdict_told (map scenario_and_endings report.parts)))
 unfolding verdict_line

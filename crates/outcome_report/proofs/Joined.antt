@@ -1,11 +1,11 @@
 -- Reports of whose parts this is told.
 use Rattle.std.proofs.Common.{◌≡◌, ℕ, Bool, List, [], ◌∷◌, ◌++◌, refl, sym, ap, ◌∙◌, subst}
-use Rattle.std.specs.Prelude.{◌||◌, if◌then◌else◌}
+use Rattle.std.specs.Prelude.{◌||◌}
 use Rattle.std.specs.List.{flat_map, list_any}
 use Rattle.outcome_report.specs.declared.outcome_report.ReportPart.{ReportPart}
 use Rattle.outcome_report.specs.declared.outcome_report.Report.{Report}
 use Rattle.outcome_report.specs.declared.told_part.ToldPart.{ToldPart}
-use Rattle.outcome_report.specs.OutcomeReport.{part_has, report_has, verdict_of}
+use Rattle.outcome_report.specs.OutcomeReport.{joint_verdict, part_has, report_has, verdict_of}
 use Rattle.outcome_report.specs.ReportText.{part_text, line_of_verdict, verdict_line, report_text}
 use Rattle.outcome_report.specs.Told.{first_line, AreTold, told_verdict, lines_behind, BeginsReport, AllBeginReports}
 use Rattle.outcome_report.specs.Whole.{AllPartsRepresentable}
@@ -32,9 +32,9 @@ unfinished_so (part ∷ parts) (one ∷ told) are =
 
 pub verdict_so : (report : Report) (told : List ToldPart) → AreTold report.parts told → told_verdict told ≡ verdict_of report
 verdict_so report told are =
-    ap (λ (b : Bool). if b then 1 else (if list_any (λ (one : ToldPart). one.unfinished) told then 2 else 0))
+    ap (λ (b : Bool). joint_verdict b (list_any (λ (one : ToldPart). one.unfinished) told))
     (failed_so report.parts told are)
-    ∙ ap (λ (b : Bool). if report_has 1 report then 1 else (if b then 2 else 0)) (unfinished_so report.parts told are)
+    ∙ ap (joint_verdict (report_has 1 report)) (unfinished_so report.parts told are)
 
 -- ---- the text
 

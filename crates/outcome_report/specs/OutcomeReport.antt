@@ -70,6 +70,10 @@ part_has verdict part = list_any (λ entry. ending_verdict entry.outcome.ending 
 abbrev pub report_has : ℕ → Report → Bool
 report_has verdict report = list_any (part_has verdict) report.parts
 
--- the verdict of a report: 1 where some outcome is failed, else 2 where some is incomplete or bound, else 0
+-- the verdict on outcomes together: 1 where some failed, else 2 where some are incomplete or bound, else 0
+abbrev pub joint_verdict : Bool → Bool → ℕ
+joint_verdict failed unfinished = if failed then 1 else (if unfinished then 2 else 0)
+
+-- the verdict of a report
 abbrev pub verdict_of : Report → ℕ
-verdict_of report = if report_has 1 report then 1 else (if report_has 2 report then 2 else 0)
+verdict_of report = joint_verdict (report_has 1 report) (report_has 2 report)

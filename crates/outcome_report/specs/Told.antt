@@ -1,5 +1,5 @@
 -- What is told of the parts of a report: the lines on each, and what its outcomes make of the verdict.
-use Rattle.std.specs.Prelude.{◌≡◌, ℕ, List, [], ◌∷◌, ◌++◌, drop, if◌then◌else◌, codes, Option, Result, Ok, Err}
+use Rattle.std.specs.Prelude.{◌≡◌, ℕ, List, [], ◌∷◌, ◌++◌, drop, codes, Option, Result, Ok, Err}
 use Rattle.std.specs.List.{list_any}
 use Rattle.shown_texts.specs.Lines.{line}
 use Rattle.feature_trees.specs.declared.value.Value.{Value}
@@ -9,7 +9,7 @@ use Rattle.scenario_outcomes.specs.declared.outcome.OutcomesFault.{OutcomesFault
 use Rattle.outcome_report.specs.declared.outcome_report.ReportPart.{ReportPart}
 use Rattle.outcome_report.specs.declared.told_part.ToldPart.{ToldPart}
 use Rattle.outcome_report.specs.declared.told_report.TheConstants.{FIRST_LINE}
-use Rattle.outcome_report.specs.OutcomeReport.{PartAnswers, part_has}
+use Rattle.outcome_report.specs.OutcomeReport.{PartAnswers, joint_verdict, part_has}
 use Rattle.outcome_report.specs.ReportText.{part_text}
 use Rattle.outcome_report.specs.Whole.{AllRepresentable}
 
@@ -53,8 +53,7 @@ AreTold (part ∷ parts) (one ∷ told) = Tells part one × AreTold parts told
 -- what parts of which this is told make of the verdict
 abbrev pub told_verdict : List ToldPart → ℕ
 told_verdict told =
-    if list_any (λ (one : ToldPart). one.failed) told then 1
-    else (if list_any (λ (one : ToldPart). one.unfinished) told then 2 else 0)
+    joint_verdict (list_any (λ (one : ToldPart). one.failed) told) (list_any (λ (one : ToldPart). one.unfinished) told)
 
 -- the lines behind the first line of a report
 abbrev pub lines_behind : List ℕ → List ℕ

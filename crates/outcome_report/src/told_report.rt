@@ -11,6 +11,7 @@ ghost use Rattle.outcome_report.specs.Told.{AllBeginReports};
 
 use crate::report_text::put_verdict_line;
 use crate::told_part::ToldPart;
+use crate::verdicts::joint_verdict;
 use script_names::{Bytes, List, Memory};
 use shown_texts::push_line;
 use std::alloc::Global;
@@ -36,13 +37,7 @@ fn some_unfinished(told: &[ToldPart]) -> bool
 fn parts_verdict(told: &[ToldPart]) -> u8
     ensures { result ≡ told_verdict told.now }
 {
-    if some_failed(told) {
-        1
-    } else if some_unfinished(told) {
-        2
-    } else {
-        0
-    }
+    joint_verdict(some_failed(told), some_unfinished(told))
 }
 
 /// The verdict of each report of whose parts this is told.

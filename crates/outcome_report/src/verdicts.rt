@@ -1,5 +1,5 @@
 ghost use Rattle.std.specs.Prelude.{◌≡◌};
-ghost use Rattle.outcome_report.specs.OutcomeReport.{ending_verdict, part_has, report_has, verdict_of};
+ghost use Rattle.outcome_report.specs.OutcomeReport.{ending_verdict, joint_verdict, part_has, report_has, verdict_of};
 
 use crate::outcome_report::{Report, ReportPart};
 use dpkg_scenarios::Ending;
@@ -37,17 +37,24 @@ fn report_has(report: &Report, verdict: u8) -> bool
         .any(|part| part_has(part, verdict))
 }
 
-/// The verdict of a report: 1 where some outcome is failed, else 2 where some is incomplete or bound, else 0.
-pub fn verdict(report: &Report) -> u8
-    ensures { result ≡ verdict_of report.now }
+/// The verdict on outcomes together: 1 where some failed, else 2 where some are incomplete or bound, else 0.
+pub fn joint_verdict(failed: bool, unfinished: bool) -> u8
+    ensures { result ≡ joint_verdict failed unfinished }
 {
-    if report_has(report, 1) {
+    if failed {
         1
-    } else if report_has(report, 2) {
+    } else if unfinished {
         2
     } else {
         0
     }
+}
+
+/// The verdict of a report.
+pub fn verdict(report: &Report) -> u8
+    ensures { result ≡ verdict_of report.now }
+{
+    joint_verdict(report_has(report, 1), report_has(report, 2))
 }
 
 /// The status of a run: 0 where it is done, 1 where it failed, 2 where it is incomplete or bound.

@@ -83,8 +83,8 @@ fn package_of(
     Ok(scenario_runs::Package { version, scripts })
 }
 
-// Whether a package has neither a configuration file nor a postrm.
-fn is_plain(written: &Package) -> bool
+/// Whether a package has neither a configuration file nor a postrm.
+pub fn is_plain(written: &Package) -> bool
     ensures { result ≡ is_plain written.now }
 {
     !has_conffile(written.entries.as_slice()) && written.scripts.postrm.is_none()

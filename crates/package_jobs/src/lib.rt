@@ -8,5 +8,5 @@ mod needs;
 mod sides;
 pub mod theorems;
 
-pub use job::job_of;
+pub use job::{is_plain, job_of};
 pub use needs::needs_of;

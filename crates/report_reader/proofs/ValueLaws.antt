@@ -19,7 +19,7 @@ use Rattle.tree_clauses.specs.ClauseText.{literal_content, literal_text}
 use Rattle.outcome_report.specs.declared.outcome_report.Report.{Report}
 use Rattle.outcome_report.specs.declared.outcome_report.ReportEntry.{ReportEntry}
 use Rattle.outcome_report.specs.declared.outcome_report.ReportPart.{ReportPart}
-use Rattle.outcome_report.specs.OutcomeReport.{verdict_of, report_has}
+use Rattle.outcome_report.specs.OutcomeReport.{joint_verdict, verdict_of, report_has}
 use Rattle.outcome_report.specs.ReportNames.{scenario_name}
 use Rattle.outcome_report.specs.ReportText.{result_text, call_content, call_line}
 use Rattle.outcome_report.specs.Whole.{IsRepresentableEntry, AllRepresentable, AllPartsRepresentable, IsWholeEntry, AllWhole, AllPartsWhole}
@@ -191,7 +191,7 @@ parts_same (p ∷ ps) h = λ i. option_and_then (λ d. option_map (item d) (part
 verdict_small : (report : Report) → verdict_of report < 2 ^ 64
 verdict_small report = step (report_has 1 report) (report_has 2 report)
   where
-    step : (a b : Bool) → (if a then 1 else (if b then 2 else 0)) < 2 ^ 64
+    step : (a b : Bool) → joint_verdict a b < 2 ^ 64
     step true b = omega arith
     step false true = omega arith
     step false false = omega arith
