@@ -94,7 +94,11 @@ fn a_run_leaves_no_folder_without_foreign_entries(rt: HostRuntime) -> Result<(),
     ];
     let line = "run p --base b --scenario purge --tree t";
     let text = answer(rt.alloc(), Scenario::Purge, line, CONFIGURED, files)?;
-    let wanted = "result done Not-Installed\ntrace 2:0:67 4:0:68 4:1:68\nafter\nd /etc\n";
+    let wanted = "result done Not-Installed
+trace 2:0:67 4:0:68 4:1:68
+after
+d /etc
+";
     assert!(rt; text.as_slice() == wanted.as_bytes());
     Ok(())
 }

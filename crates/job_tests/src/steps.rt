@@ -36,19 +36,25 @@ const STEPS: &[(Scenario, &[File], &str, &str)] = &[
         Scenario::Install,
         &[("p/preinst", FAILS)],
         "failed Not-Installed",
-        "call new preinst install failed\ncall new postrm abort-install ok\n",
+        "call new preinst install failed
+call new postrm abort-install ok
+",
     ),
     (
         Scenario::Install,
         &[("p/preinst", FAILS), ("p/postrm", FAILS)],
         "failed Half-Installed",
-        "call new preinst install failed\ncall new postrm abort-install failed\n",
+        "call new preinst install failed
+call new postrm abort-install failed
+",
     ),
     (
         Scenario::Install,
         &[("p/postinst", FAILS)],
         "failed Half-Configured",
-        "call new preinst install ok\ncall new postinst configure \\e failed\n",
+        "call new preinst install ok
+call new postinst configure \\e failed
+",
     ),
     (
         Scenario::Install,
@@ -66,25 +72,33 @@ const STEPS: &[(Scenario, &[File], &str, &str)] = &[
         Scenario::Install,
         &[("p/postinst", b"#!/bin/sh\nwhile true; do :; done\n")],
         "bound 3:10",
-        "call new preinst install ok\ncall new postinst configure \\e ended\n",
+        "call new preinst install ok
+call new postinst configure \\e ended
+",
     ),
     (
         Scenario::InstallAgain,
         &[("p/preinst", FAILS)],
         "failed Config-Files",
-        "call new preinst install 1 2 failed\ncall new postrm abort-install 1 2 ok\n",
+        "call new preinst install 1 2 failed
+call new postrm abort-install 1 2 ok
+",
     ),
     (
         Scenario::InstallAgain,
         &[("p/preinst", FAILS), ("p/postrm", FAILS)],
         "failed Half-Installed",
-        "call new preinst install 1 2 failed\ncall new postrm abort-install 1 2 failed\n",
+        "call new preinst install 1 2 failed
+call new postrm abort-install 1 2 failed
+",
     ),
     (
         Scenario::InstallAgain,
         &[("p/postinst", FAILS)],
         "failed Half-Configured",
-        "call new preinst install 1 2 ok\ncall new postinst configure 1 failed\n",
+        "call new preinst install 1 2 ok
+call new postinst configure 1 failed
+",
     ),
     (
         Scenario::InstallAgain,
@@ -96,13 +110,21 @@ const STEPS: &[(Scenario, &[File], &str, &str)] = &[
         Scenario::Upgrade,
         &[("o/prerm", FAILS)],
         "done Installed",
-        "call old prerm upgrade 2 failed\ncall new prerm failed-upgrade 1 2 ok\ncall new preinst upgrade 1 2 ok\ncall old postrm upgrade 2 ok\ncall new postinst configure 1 ok\n",
+        "call old prerm upgrade 2 failed
+call new prerm failed-upgrade 1 2 ok
+call new preinst upgrade 1 2 ok
+call old postrm upgrade 2 ok
+call new postinst configure 1 ok
+",
     ),
     (
         Scenario::Upgrade,
         &[("o/prerm", FAILS), ("p/prerm", FAILS)],
         "failed Installed",
-        "call old prerm upgrade 2 failed\ncall new prerm failed-upgrade 1 2 failed\ncall old postinst abort-upgrade 2 ok\n",
+        "call old prerm upgrade 2 failed
+call new prerm failed-upgrade 1 2 failed
+call old postinst abort-upgrade 2 ok
+",
     ),
     (
         Scenario::Upgrade,
@@ -112,91 +134,135 @@ const STEPS: &[(Scenario, &[File], &str, &str)] = &[
             ("o/postinst", FAILS),
         ],
         "failed Half-Configured",
-        "call old prerm upgrade 2 failed\ncall new prerm failed-upgrade 1 2 failed\ncall old postinst abort-upgrade 2 failed\n",
+        "call old prerm upgrade 2 failed
+call new prerm failed-upgrade 1 2 failed
+call old postinst abort-upgrade 2 failed
+",
     ),
     (
         Scenario::Upgrade,
         &[("p/preinst", FAILS)],
         "failed Installed",
-        "call old prerm upgrade 2 ok\ncall new preinst upgrade 1 2 failed\ncall new postrm abort-upgrade 1 2 ok\ncall old postinst abort-upgrade 2 ok\n",
+        "call old prerm upgrade 2 ok
+call new preinst upgrade 1 2 failed
+call new postrm abort-upgrade 1 2 ok
+call old postinst abort-upgrade 2 ok
+",
     ),
     (
         Scenario::Upgrade,
         &[("p/preinst", FAILS), ("o/postinst", FAILS)],
         "failed Unpacked",
-        "call old prerm upgrade 2 ok\ncall new preinst upgrade 1 2 failed\ncall new postrm abort-upgrade 1 2 ok\ncall old postinst abort-upgrade 2 failed\n",
+        "call old prerm upgrade 2 ok
+call new preinst upgrade 1 2 failed
+call new postrm abort-upgrade 1 2 ok
+call old postinst abort-upgrade 2 failed
+",
     ),
     (
         Scenario::Upgrade,
         &[("p/preinst", FAILS), ("p/postrm", FAILS)],
         "failed Half-Installed",
-        "call old prerm upgrade 2 ok\ncall new preinst upgrade 1 2 failed\ncall new postrm abort-upgrade 1 2 failed\n",
+        "call old prerm upgrade 2 ok
+call new preinst upgrade 1 2 failed
+call new postrm abort-upgrade 1 2 failed
+",
     ),
     (
         Scenario::Upgrade,
         &[("t", b"")],
         "incomplete restore 4:0",
-        "call old prerm upgrade 2 ok\ncall new preinst upgrade 1 2 ok\n",
+        "call old prerm upgrade 2 ok
+call new preinst upgrade 1 2 ok
+",
     ),
     (
         Scenario::Upgrade,
         &[("o/postrm", FAILS)],
         "done Installed",
-        "call old prerm upgrade 2 ok\ncall new preinst upgrade 1 2 ok\ncall old postrm upgrade 2 failed\ncall new postrm failed-upgrade 1 2 ok\ncall new postinst configure 1 ok\n",
+        "call old prerm upgrade 2 ok
+call new preinst upgrade 1 2 ok
+call old postrm upgrade 2 failed
+call new postrm failed-upgrade 1 2 ok
+call new postinst configure 1 ok
+",
     ),
     (
         Scenario::Upgrade,
         &[("o/postrm", FAILS), ("p/postrm", FAILS)],
         "incomplete restore 6:0",
-        "call old prerm upgrade 2 ok\ncall new preinst upgrade 1 2 ok\ncall old postrm upgrade 2 failed\ncall new postrm failed-upgrade 1 2 failed\n",
+        "call old prerm upgrade 2 ok
+call new preinst upgrade 1 2 ok
+call old postrm upgrade 2 failed
+call new postrm failed-upgrade 1 2 failed
+",
     ),
     (
         Scenario::Upgrade,
         &[("p/postinst", FAILS)],
         "failed Half-Configured",
-        "call old prerm upgrade 2 ok\ncall new preinst upgrade 1 2 ok\ncall old postrm upgrade 2 ok\ncall new postinst configure 1 failed\n",
+        "call old prerm upgrade 2 ok
+call new preinst upgrade 1 2 ok
+call old postrm upgrade 2 ok
+call new postinst configure 1 failed
+",
     ),
     (
         Scenario::Remove,
         &[("p/prerm", FAILS)],
         "failed Installed",
-        "call new prerm remove failed\ncall new postinst abort-remove ok\n",
+        "call new prerm remove failed
+call new postinst abort-remove ok
+",
     ),
     (
         Scenario::Remove,
         &[("p/prerm", FAILS), ("p/postinst", FAILS)],
         "failed Half-Configured",
-        "call new prerm remove failed\ncall new postinst abort-remove failed\n",
+        "call new prerm remove failed
+call new postinst abort-remove failed
+",
     ),
     (
         Scenario::Remove,
         &[("p/postrm", FAILS)],
         "failed Half-Installed",
-        "call new prerm remove ok\ncall new postrm remove failed\n",
+        "call new prerm remove ok
+call new postrm remove failed
+",
     ),
     (
         Scenario::Purge,
         &[("p/prerm", FAILS)],
         "failed Installed",
-        "call new prerm remove failed\ncall new postinst abort-remove ok\n",
+        "call new prerm remove failed
+call new postinst abort-remove ok
+",
     ),
     (
         Scenario::Purge,
         &[("p/prerm", FAILS), ("p/postinst", FAILS)],
         "failed Half-Configured",
-        "call new prerm remove failed\ncall new postinst abort-remove failed\n",
+        "call new prerm remove failed
+call new postinst abort-remove failed
+",
     ),
     (
         Scenario::Purge,
         &[("p/postrm", FAILS)],
         "failed Half-Installed",
-        "call new prerm remove ok\ncall new postrm remove failed\n",
+        "call new prerm remove ok
+call new postrm remove failed
+",
     ),
     (
         Scenario::Purge,
         &[("p/postrm", KEEPS)],
         "failed Config-Files",
-        "call new prerm remove ok\ncall new postrm remove ok\ncall new postrm purge failed\n",
+        "call new prerm remove ok
+call new postrm remove ok
+call new postrm purge failed
+",
     ),
     (
         Scenario::PurgeLater,

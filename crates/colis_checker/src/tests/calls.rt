@@ -13,14 +13,48 @@ const QUESTION: &[File<'static>] = &[
 ];
 
 // Its report: a link is not followed, nothing and a file are no directory, and a directory is one.
-const REPORT: &[u8] = b"colis report 1\nscenario install outcomes 3\n\
-    outcome 1 incomplete link 3:17\ntrace 3:17:65\nconfirmed yes\ncall new postinst configure \\e ended\n\
-    clause start v0 now v0\nkind v0 dir\nentry v0 a v1\nkind v1 link\nshown\nl /a x\nafter\nl /a x\n\
-    outcome 2 failed Half-Configured\ntrace 3:17:66\nconfirmed yes\ncall new postinst configure \\e failed\n\
-    clause start v0 now v0\nkind v0 dir\nentry v0 a v1\nkind v1 absent,reg,other\nshown\nf /a\nafter\nf /a\n\
-    outcome 3 done Installed\ntrace 3:17:67\nconfirmed yes\ncall new postinst configure \\e ok\n\
-    clause start v0 now v0\nkind v0 dir\nentry v0 a v1\nkind v1 dir\nshown\nd /a\nafter\nd /a\n\
-    place incomplete 3:17 1\nplace failed 3:17 1\nverdict 1\n";
+const REPORT: &[u8] = b"colis report 1
+scenario install outcomes 3
+outcome 1 incomplete link 3:17
+trace 3:17:65
+confirmed yes
+call new postinst configure \\e ended
+clause start v0 now v0
+kind v0 dir
+entry v0 a v1
+kind v1 link
+shown
+l /a x
+after
+l /a x
+outcome 2 failed Half-Configured
+trace 3:17:66
+confirmed yes
+call new postinst configure \\e failed
+clause start v0 now v0
+kind v0 dir
+entry v0 a v1
+kind v1 absent,reg,other
+shown
+f /a
+after
+f /a
+outcome 3 done Installed
+trace 3:17:67
+confirmed yes
+call new postinst configure \\e ok
+clause start v0 now v0
+kind v0 dir
+entry v0 a v1
+kind v1 dir
+shown
+d /a
+after
+d /a
+place incomplete 3:17 1
+place failed 3:17 1
+verdict 1
+";
 
 // The same as JSON.
 const REPORT_AS_JSON: &[u8] = b"{\"colis\":1,\"scenarios\":[{\"name\":\"install\",\"outcomes\":[\
@@ -45,12 +79,27 @@ const CALLS: &[(&[&str], &[File<'static>], Wanted<'static>)] = &[
         &[("p/list", b"/.\n")],
         (
             0,
-            b"colis brief 1\nscenario install outcomes 1\noutcome 1 done Installed\ntrace\n\
-            scenario install-again outcomes 1\noutcome 1 done Installed\ntrace\n\
-            scenario upgrade outcomes 1\noutcome 1 done Installed\ntrace\n\
-            scenario remove outcomes 1\noutcome 1 done Not-Installed\ntrace\n\
-            scenario purge outcomes 1\noutcome 1 done Not-Installed\ntrace\n\
-            scenario purge-later outcomes 1\noutcome 1 done Not-Installed\ntrace\nverdict 0\n",
+            b"colis brief 1
+scenario install outcomes 1
+outcome 1 done Installed
+trace
+scenario install-again outcomes 1
+outcome 1 done Installed
+trace
+scenario upgrade outcomes 1
+outcome 1 done Installed
+trace
+scenario remove outcomes 1
+outcome 1 done Not-Installed
+trace
+scenario purge outcomes 1
+outcome 1 done Not-Installed
+trace
+scenario purge-later outcomes 1
+outcome 1 done Not-Installed
+trace
+verdict 0
+",
             b"",
         ),
     ),
@@ -86,8 +135,15 @@ const CALLS: &[(&[&str], &[File<'static>], Wanted<'static>)] = &[
         ],
         (
             0,
-            b"result done Installed\ntrace 3:54:67 3:54:67 3:54:67\ncall new postinst configure \\e ok\nafter\nd /srv\n\
-            f /srv/a\nf /srv/a\\x20b\nf /srv/b\n",
+            b"result done Installed
+trace 3:54:67 3:54:67 3:54:67
+call new postinst configure \\e ok
+after
+d /srv
+f /srv/a
+f /srv/a\\x20b
+f /srv/b
+",
             b"",
         ),
     ),
@@ -111,8 +167,16 @@ const CALLS: &[(&[&str], &[File<'static>], Wanted<'static>)] = &[
         ],
         (
             2,
-            b"colis brief 1\nscenario install outcomes 3\noutcome 1 incomplete link 3:16\ntrace 3:16:65\n\
-            outcome 2 done Installed\ntrace 3:16:66\noutcome 3 bound 3:10\ntrace 3:16:67 3:16:67\nverdict 2\n",
+            b"colis brief 1
+scenario install outcomes 3
+outcome 1 incomplete link 3:16
+trace 3:16:65
+outcome 2 done Installed
+trace 3:16:66
+outcome 3 bound 3:10
+trace 3:16:67 3:16:67
+verdict 2
+",
             b"",
         ),
     ),
@@ -139,8 +203,12 @@ const CALLS: &[(&[&str], &[File<'static>], Wanted<'static>)] = &[
         ],
         (
             0,
-            b"result done Installed\ntrace\ncall old prerm upgrade 2 failed\ncall new prerm failed-upgrade 1 2 ok\n\
-            after\n",
+            b"result done Installed
+trace
+call old prerm upgrade 2 failed
+call new prerm failed-upgrade 1 2 ok
+after
+",
             b"",
         ),
     ),
@@ -168,8 +236,13 @@ const CALLS: &[(&[&str], &[File<'static>], Wanted<'static>)] = &[
         ],
         (
             1,
-            b"result failed Half-Configured\ntrace\ncall old prerm upgrade 2 failed\n\
-            call new prerm failed-upgrade 1 2 failed\ncall old postinst abort-upgrade 2 failed\nafter\n",
+            b"result failed Half-Configured
+trace
+call old prerm upgrade 2 failed
+call new prerm failed-upgrade 1 2 failed
+call old postinst abort-upgrade 2 failed
+after
+",
             b"",
         ),
     ),
@@ -182,9 +255,16 @@ const CALLS: &[(&[&str], &[File<'static>], Wanted<'static>)] = &[
         ],
         (
             0,
-            b"colis brief 1\nscenario purge outcomes 3\noutcome 1 done Not-Installed\ntrace 2:0:67 4:0:68 4:1:67\n\
-            outcome 2 done Not-Installed\ntrace 2:0:67 4:0:68 4:1:68\noutcome 3 done Not-Installed\n\
-            trace 2:0:68 4:0:66 4:1:66\nverdict 0\n",
+            b"colis brief 1
+scenario purge outcomes 3
+outcome 1 done Not-Installed
+trace 2:0:67 4:0:68 4:1:67
+outcome 2 done Not-Installed
+trace 2:0:67 4:0:68 4:1:68
+outcome 3 done Not-Installed
+trace 2:0:68 4:0:66 4:1:66
+verdict 0
+",
             b"",
         ),
     ),
@@ -197,7 +277,12 @@ const CALLS: &[(&[&str], &[File<'static>], Wanted<'static>)] = &[
         ],
         (
             0,
-            b"colis brief 1\nscenario install outcomes 1\noutcome 1 done Installed\ntrace 2:0:68 2:1:68 2:2:68\nverdict 0\n",
+            b"colis brief 1
+scenario install outcomes 1
+outcome 1 done Installed
+trace 2:0:68 2:1:68 2:2:68
+verdict 0
+",
             b"",
         ),
     ),
@@ -219,10 +304,20 @@ const CALLS: &[(&[&str], &[File<'static>], Wanted<'static>)] = &[
         ],
         (
             2,
-            b"colis brief 1\nscenario install outcomes 5\noutcome 1 incomplete link 2:1\ntrace 2:0:68 2:1:65\n\
-            outcome 2 incomplete restore 2:1\ntrace 2:0:68 2:1:67\noutcome 3 incomplete restore 2:2\n\
-            trace 2:0:68 2:1:68 2:2:67\noutcome 4 done Installed\ntrace 2:0:68 2:1:68 2:2:68\n\
-            outcome 5 incomplete conffile 2:2\ntrace 2:0:68 2:1:68 2:2:69\nverdict 2\n",
+            b"colis brief 1
+scenario install outcomes 5
+outcome 1 incomplete link 2:1
+trace 2:0:68 2:1:65
+outcome 2 incomplete restore 2:1
+trace 2:0:68 2:1:67
+outcome 3 incomplete restore 2:2
+trace 2:0:68 2:1:68 2:2:67
+outcome 4 done Installed
+trace 2:0:68 2:1:68 2:2:68
+outcome 5 incomplete conffile 2:2
+trace 2:0:68 2:1:68 2:2:69
+verdict 2
+",
             b"",
         ),
     ),
@@ -239,7 +334,13 @@ const CALLS: &[(&[&str], &[File<'static>], Wanted<'static>)] = &[
         ],
         (
             0,
-            b"result done Installed\ntrace 3:23:67 3:49:67\ncall new postinst configure \\e ok\nafter\nd /srv\nf /srv/a\n",
+            b"result done Installed
+trace 3:23:67 3:49:67
+call new postinst configure \\e ok
+after
+d /srv
+f /srv/a
+",
             b"",
         ),
     ),
@@ -253,7 +354,13 @@ const CALLS: &[(&[&str], &[File<'static>], Wanted<'static>)] = &[
         ],
         (
             0,
-            b"result done Installed\ntrace 3:27:67\ncall new postinst configure \\e ok\nafter\nd /srv\nf /srv/b\n",
+            b"result done Installed
+trace 3:27:67
+call new postinst configure \\e ok
+after
+d /srv
+f /srv/b
+",
             b"",
         ),
     ),
@@ -330,27 +437,55 @@ const STATED: &[(&[&str], u8, &[u8])] = &[
     (
         &["check", "p", "--scenario", "purge"],
         0,
-        b"colis report 1\nscenario purge outcomes 3\n\
-        outcome 1 done Not-Installed\ntrace 2:0:67 4:0:68 4:1:67\nconfirmed yes\n\
-        outcome 2 done Not-Installed\ntrace 2:0:67 4:0:68 4:1:68\nconfirmed yes\n\
-        outcome 3 done Not-Installed\ntrace 2:0:68 4:0:66 4:1:66\nconfirmed yes\nverdict 0\n",
+        b"colis report 1
+scenario purge outcomes 3
+outcome 1 done Not-Installed
+trace 2:0:67 4:0:68 4:1:67
+confirmed yes
+outcome 2 done Not-Installed
+trace 2:0:67 4:0:68 4:1:68
+confirmed yes
+outcome 3 done Not-Installed
+trace 2:0:68 4:0:66 4:1:66
+confirmed yes
+verdict 0
+",
     ),
     (
         &["check", "p", "--scenario", "install"],
         0,
-        b"colis report 1\nscenario install outcomes 1\noutcome 1 done Installed\ntrace 2:0:68 2:1:68 2:2:68\n\
-        confirmed yes\nverdict 0\n",
+        b"colis report 1
+scenario install outcomes 1
+outcome 1 done Installed
+trace 2:0:68 2:1:68 2:2:68
+confirmed yes
+verdict 0
+",
     ),
     (
         &["check", "p", "--scenario", "install", "--base", "b"],
         2,
-        b"colis report 1\nscenario install outcomes 5\n\
-        outcome 1 incomplete link 2:1\ntrace 2:0:68 2:1:65\nconfirmed yes\n\
-        outcome 2 incomplete restore 2:1\ntrace 2:0:68 2:1:67\nconfirmed yes\n\
-        outcome 3 incomplete restore 2:2\ntrace 2:0:68 2:1:68 2:2:67\nconfirmed yes\n\
-        outcome 4 done Installed\ntrace 2:0:68 2:1:68 2:2:68\nconfirmed yes\n\
-        outcome 5 incomplete conffile 2:2\ntrace 2:0:68 2:1:68 2:2:69\nconfirmed yes\n\
-        place incomplete 2:1 2\nplace incomplete 2:2 2\nverdict 2\n",
+        b"colis report 1
+scenario install outcomes 5
+outcome 1 incomplete link 2:1
+trace 2:0:68 2:1:65
+confirmed yes
+outcome 2 incomplete restore 2:1
+trace 2:0:68 2:1:67
+confirmed yes
+outcome 3 incomplete restore 2:2
+trace 2:0:68 2:1:68 2:2:67
+confirmed yes
+outcome 4 done Installed
+trace 2:0:68 2:1:68 2:2:68
+confirmed yes
+outcome 5 incomplete conffile 2:2
+trace 2:0:68 2:1:68 2:2:69
+confirmed yes
+place incomplete 2:1 2
+place incomplete 2:2 2
+verdict 2
+",
     ),
 ];
 

@@ -7,7 +7,12 @@ use std::test::Fail;
 
 // Nothing is done, with success.
 const DONE: &[u8] =
-    b"colis brief 1\nscenario install outcomes 1\noutcome 1 done Installed\ntrace\nverdict 0\n";
+    b"colis brief 1
+scenario install outcomes 1
+outcome 1 done Installed
+trace
+verdict 0
+";
 
 // Adds a word so often.
 fn add_times(text: &mut Bytes, word: &[u8], times: u32) -> Result<(), Memory> {
@@ -62,7 +67,12 @@ const SCRIPTS: &[(&[&[u8]; 4], u32, u8, &[u8], &[u8])] = &[
         &[b"x=a\n", b"x=\"$x$x\"\n", b"", b""],
         17,
         2,
-        b"colis brief 1\nscenario install outcomes 1\noutcome 1 incomplete long 3:158\ntrace\nverdict 2\n",
+        b"colis brief 1
+scenario install outcomes 1
+outcome 1 incomplete long 3:158
+trace
+verdict 2
+",
         b"",
     ),
     // The names of a path: 64. With 64 there are outcomes for each of them, below.
@@ -70,7 +80,12 @@ const SCRIPTS: &[(&[&[u8]; 4], u32, u8, &[u8], &[u8])] = &[
         &[b"test -e ", b"/a", b"", b""],
         65,
         2,
-        b"colis brief 1\nscenario install outcomes 1\noutcome 1 incomplete long 3:10\ntrace\nverdict 2\n",
+        b"colis brief 1
+scenario install outcomes 1
+outcome 1 incomplete long 3:10
+trace
+verdict 2
+",
         b"",
     ),
 ];
@@ -98,7 +113,9 @@ fn as_many_outcomes_as_names(rt: HostRuntime) -> Result<(), Fail> {
         (
             "66",
             1,
-            b"colis brief 1\nscenario install outcomes 66\n",
+            b"colis brief 1
+scenario install outcomes 66
+",
             b"",
         ),
     ];
@@ -155,7 +172,12 @@ fn ten_thousand_turns(rt: HostRuntime) -> Result<(), Fail> {
     ];
     let ended = call(&rt, &words, &files, QUIET)?;
     let out =
-        b"colis brief 1\nscenario install outcomes 1\noutcome 1 bound 3:10\ntrace\nverdict 2\n";
+        b"colis brief 1
+scenario install outcomes 1
+outcome 1 bound 3:10
+trace
+verdict 2
+";
     see(&rt, &ended, (2, out, b""))
 }
 

@@ -238,12 +238,25 @@ fn long_names(rt: HostRuntime) -> Result<(), Fail> {
     let rows: [(u32, &[u8]); 2] = [
         (
             256,
-            b"colis brief 1\nscenario install outcomes 1\noutcome 1 incomplete long 3:10\ntrace\nverdict 2\n",
+            b"colis brief 1
+scenario install outcomes 1
+outcome 1 incomplete long 3:10
+trace
+verdict 2
+",
         ),
         (
             255,
-            b"colis brief 1\nscenario install outcomes 3\noutcome 1 incomplete link 3:10\ntrace 3:10:65\n\
-            outcome 2 done Installed\ntrace 3:10:67\noutcome 3 done Installed\ntrace 3:10:68\nverdict 2\n",
+            b"colis brief 1
+scenario install outcomes 3
+outcome 1 incomplete link 3:10
+trace 3:10:65
+outcome 2 done Installed
+trace 3:10:67
+outcome 3 done Installed
+trace 3:10:68
+verdict 2
+",
         ),
     ];
     for row in rows {
