@@ -20,7 +20,7 @@ use Rattle.act_decisions.specs.Decisions.{Decision, Asks, play, mark_at}
 use Rattle.case_paths.specs.declared.state.PathState.{PathState}
 use Rattle.case_paths.specs.Traces.{Before, AllBegin, AllAfter, Rising}
 use Rattle.case_paths.specs.Paths.{traces, AllAlive}
-use Rattle.case_paths.specs.Stages.{Holds, Parts, marked, Forked, none, dead, live, AreForks, IsLed, HasRow, IsRowAt, IsStageOf, AllStages}
+use Rattle.case_paths.specs.Stages.{Holds, Parts, marked, Forked, none, left_out, taken, AreForks, IsLed, HasRow, IsRowAt, IsStageOf, AllStages}
 use Rattle.case_paths.proofs.Orders.{begins_refl, nil_right, before_other}
 use Rattle.case_paths.proofs.Plays.{now_is_tree}
 
@@ -70,39 +70,39 @@ HavePair (y ∷ ys) trace t v = (HasPair y.store t v × (y.trace ≡ trace)) ⊎
 module _ (site : Site) (x : PathState) where
   forks_above : (n : ℕ) (cases : List Case) (ys : List PathState) → Forked site x cases ys → AllAbove n cases → AllAfter (marked x.trace site n) (traces ys)
   forks_above n cases ys none h = tt
-  forks_above n cases ys (dead nowhere f) h = forks_above n _ ys f h.1
-  forks_above n cases ys (live {y = y} adds e f) h =
+  forks_above n cases ys (left_out nowhere f) h = forks_above n _ ys f h.1
+  forks_above n cases ys (taken {y = y} adds e f) h =
       (subst (Before (marked x.trace site n)) (sym e) (before_marks x.trace site n _ h.0), forks_above n _ _ f h.1)
 
   forks_rise : (cases : List Case) (ys : List PathState) → Forked site x cases ys → RisingRows (map case_row cases) → Rising (traces ys)
   forks_rise cases ys none h = tt
-  forks_rise cases ys (dead {made = made} {cases = rest} nowhere f) h = forks_rise rest ys f (rising_later made rest h)
-  forks_rise cases ys (live {made = made} {cases = rest} {y = y} {ys = zs} adds e f) h =
+  forks_rise cases ys (left_out {made = made} {cases = rest} nowhere f) h = forks_rise rest ys f (rising_later made rest h)
+  forks_rise cases ys (taken {made = made} {cases = rest} {y = y} {ys = zs} adds e f) h =
       (subst (λ a. AllAfter a (traces zs)) (sym e) (forks_above made.row rest zs f (rising_above made rest h)), forks_rise rest zs f (rising_later made rest h))
 
   forks_under : (cases : List Case) (ys : List PathState) → Forked site x cases ys → AllBegin x.trace (traces ys)
   forks_under cases ys none = tt
-  forks_under cases ys (dead nowhere f) = forks_under _ ys f
-  forks_under cases ys (live {made = made} {cases = rest} {y = y} {ys = zs} adds e f) = (record { more = record { site = site; row = made.row } ∷ []; is = e }, forks_under rest zs f)
+  forks_under cases ys (left_out nowhere f) = forks_under _ ys f
+  forks_under cases ys (taken {made = made} {cases = rest} {y = y} {ys = zs} adds e f) = (record { more = record { site = site; row = made.row } ∷ []; is = e }, forks_under rest zs f)
 
   forks_alive : (cases : List Case) (ys : List PathState) → Forked site x cases ys → AllAlive ys
   forks_alive cases ys none = tt
-  forks_alive cases ys (dead nowhere f) = forks_alive _ ys f
-  forks_alive cases ys (live {made = made} {cases = rest} {y = y} {ys = zs} adds e f) = (adds.alive, forks_alive rest zs f)
+  forks_alive cases ys (left_out nowhere f) = forks_alive _ ys f
+  forks_alive cases ys (taken {made = made} {cases = rest} {y = y} {ys = zs} adds e f) = (adds.alive, forks_alive rest zs f)
 
   -- no fork has another start tree
   forks_none_else : (cases : List Case) (ys : List PathState) → Forked site x cases ys → (t : Value) → Holds ys t → (v : Value) × HasPair x.store t v
   forks_none_else cases ys none t h = absurd h
-  forks_none_else cases ys (dead nowhere f) t h = forks_none_else _ ys f t h
-  forks_none_else cases ys (live {made = made} {cases = rest} {y = y} {ys = zs} adds e f) t (inl p) = (let s = (adds.pairs t p.0).0 p.1 in (s.0, s.1))
-  forks_none_else cases ys (live {made = made} {cases = rest} {y = y} {ys = zs} adds e f) t (inr h) = forks_none_else rest zs f t h
+  forks_none_else cases ys (left_out nowhere f) t h = forks_none_else _ ys f t h
+  forks_none_else cases ys (taken {made = made} {cases = rest} {y = y} {ys = zs} adds e f) t (inl p) = (let s = (adds.pairs t p.0).0 p.1 in (s.0, s.1))
+  forks_none_else cases ys (taken {made = made} {cases = rest} {y = y} {ys = zs} adds e f) t (inr h) = forks_none_else rest zs f t h
 
   forks_have : (cases : List Case) (ys : List PathState) → Forked site x cases ys → (made : Case) (k : ℕ) → k < length cases → ((d : Case) → get_or cases k d ≡ made) → (t u v : Value) → HasPair x.store t u → Leads made u v → HavePair ys (marked x.trace site made.row) t v
   forks_have cases ys none made k lt at t u v p l = absurd (omega (arith, lt))
-  forks_have cases ys (dead {made = other} {cases = rest} nowhere f) made zero lt at t u v p l = absurd (nowhere t v (u, p, subst (λ c. Leads c u v) (sym (at other)) l))
-  forks_have cases ys (dead {made = other} {cases = rest} nowhere f) made (suc k) lt at t u v p l = forks_have rest ys f made k (omega (arith, lt)) at t u v p l
-  forks_have cases ys (live {made = other} {cases = rest} {y = y} {ys = zs} adds e f) made zero lt at t u v p l = inl ((adds.pairs t v).1 (u, p, subst (λ c. Leads c u v) (sym (at other)) l), e ∙ ap (λ (c : Case). marked x.trace site c.row) (at other))
-  forks_have cases ys (live {made = other} {cases = rest} {y = y} {ys = zs} adds e f) made (suc k) lt at t u v p l = inr (forks_have rest zs f made k (omega (arith, lt)) at t u v p l)
+  forks_have cases ys (left_out {made = other} {cases = rest} nowhere f) made zero lt at t u v p l = absurd (nowhere t v (u, p, subst (λ c. Leads c u v) (sym (at other)) l))
+  forks_have cases ys (left_out {made = other} {cases = rest} nowhere f) made (suc k) lt at t u v p l = forks_have rest ys f made k (omega (arith, lt)) at t u v p l
+  forks_have cases ys (taken {made = other} {cases = rest} {y = y} {ys = zs} adds e f) made zero lt at t u v p l = inl ((adds.pairs t v).1 (u, p, subst (λ c. Leads c u v) (sym (at other)) l), e ∙ ap (λ (c : Case). marked x.trace site c.row) (at other))
+  forks_have cases ys (taken {made = other} {cases = rest} {y = y} {ys = zs} adds e f) made (suc k) lt at t u v p l = inr (forks_have rest zs f made k (omega (arith, lt)) at t u v p l)
 
 -- ---- what is played from a fork
 
@@ -119,16 +119,16 @@ fork_is_stage {A} d first trace site act next acts x y made s exact answers adds
         let step = (adds.pairs t w).0 p in
         let u = step.0 in
         let is_tree = now_is_tree x.store t u step.1 in
-        let taken = (exact u w is_tree).0 step.2 in
-        let answer : made.done ≡ (row act u).answer = answers u is_tree taken.0 in
-        let mark : y.trace ≡ x.trace ++ mark_at site act u ∷ [] = e ∙ ap (λ n. marked x.trace site n) (sym taken.0) in
-        (λ i. play (next (answer i)) (taken.1 i) (mark i) (acts ++ act ∷ [])) ∙ s.plays t u step.1
+        let led = (exact u w is_tree).0 step.2 in
+        let answer : made.done ≡ (row act u).answer = answers u is_tree led.0 in
+        let mark : y.trace ≡ x.trace ++ mark_at site act u ∷ [] = e ∙ ap (λ n. marked x.trace site n) (sym led.0) in
+        (λ i. play (next (answer i)) (led.1 i) (mark i) (acts ++ act ∷ [])) ∙ s.plays t u step.1
 
 module _ {A : Type 0} (d : Decision A) (first : Value → Value) (trace : List Mark) (site : Site) (act : Act) (next : Done → Decision A) (acts : List Act) (x : PathState) (s : IsStageOf d first trace x (Asks site act next) acts) where
   forks_are_stages : (cases : List Case) (ys : List PathState) → Forked site x cases ys → All (IsExact act) cases → All (AnswersAs act) cases → AllStages d first trace ys
   forks_are_stages cases ys none exact answers = tt
-  forks_are_stages cases ys (dead {made = made} {cases = rest} nowhere f) exact answers = forks_are_stages rest ys f (all_later (IsExact act) made rest exact) (all_later (AnswersAs act) made rest answers)
-  forks_are_stages cases ys (live {made = made} {cases = rest} {y = y} {ys = zs} adds e f) exact answers = (
+  forks_are_stages cases ys (left_out {made = made} {cases = rest} nowhere f) exact answers = forks_are_stages rest ys f (all_later (IsExact act) made rest exact) (all_later (AnswersAs act) made rest answers)
+  forks_are_stages cases ys (taken {made = made} {cases = rest} {y = y} {ys = zs} adds e f) exact answers = (
     (next made.done, acts ++ act ∷ [], fork_is_stage d first trace site act next acts x y made s (all_first (IsExact act) made rest exact) (all_first (AnswersAs act) made rest answers) adds e),
     forks_are_stages rest zs f (all_later (IsExact act) made rest exact) (all_later (AnswersAs act) made rest answers),
   )
@@ -184,13 +184,13 @@ drop_one [] i x lt e = absurd (omega (arith, lt))
 drop_one (y ∷ xs) zero x lt e = ap (λ z. z ∷ xs) (sym e)
 drop_one (y ∷ xs) (suc i) x lt e = drop_one xs i x (omega (arith, lt)) e ∙ ap (λ n. x ∷ drop n (y ∷ xs)) (let h : suc (i + 1) ≡ suc i + 1 = omega arith in h)
 
-pub live_next : (site : Site) (x y : PathState) (cases : List Case) (i : ℕ) (made : Case) (forks more : List PathState) → i < length cases → made ≡ get_or cases i made → AddsCase x.store made y.store → y.trace ≡ marked x.trace site made.row → more ≡ forks ++ y ∷ [] → AreSoFar site x cases i forks → AreSoFar site x cases (i + 1) more
-live_next site x y cases i made forks more lt at adds e is h ys f =
+pub taken_next : (site : Site) (x y : PathState) (cases : List Case) (i : ℕ) (made : Case) (forks more : List PathState) → i < length cases → made ≡ get_or cases i made → AddsCase x.store made y.store → y.trace ≡ marked x.trace site made.row → more ≡ forks ++ y ∷ [] → AreSoFar site x cases i forks → AreSoFar site x cases (i + 1) more
+taken_next site x y cases i made forks more lt at adds e is h ys f =
     subst (Forked site x cases) (sym (ap (λ l. l ++ ys) is ∙ append_assoc forks (y ∷ []) ys))
-    (h (y ∷ ys) (subst (λ l. Forked site x l (y ∷ ys)) (sym (drop_one cases i made lt at)) (live adds e f)))
+    (h (y ∷ ys) (subst (λ l. Forked site x l (y ∷ ys)) (sym (drop_one cases i made lt at)) (taken adds e f)))
 
-pub dead_next : (site : Site) (x : PathState) (cases : List Case) (i : ℕ) (made : Case) (forks : List PathState) → i < length cases → made ≡ get_or cases i made → LeadsNowhere x.store made → AreSoFar site x cases i forks → AreSoFar site x cases (i + 1) forks
-dead_next site x cases i made forks lt at nowhere h ys f = h ys (subst (λ l. Forked site x l ys) (sym (drop_one cases i made lt at)) (dead nowhere f))
+pub left_out_next : (site : Site) (x : PathState) (cases : List Case) (i : ℕ) (made : Case) (forks : List PathState) → i < length cases → made ≡ get_or cases i made → LeadsNowhere x.store made → AreSoFar site x cases i forks → AreSoFar site x cases (i + 1) forks
+left_out_next site x cases i made forks lt at nowhere h ys f = h ys (subst (λ l. Forked site x l ys) (sym (drop_one cases i made lt at)) (left_out nowhere f))
 
 pub all_forks : (site : Site) (x : PathState) (cases : List Case) (i : ℕ) (forks : List PathState) → length cases ≤ i → AreSoFar site x cases i forks → Forked site x cases forks
 all_forks site x cases i forks le h = subst (Forked site x cases) (nil_right forks) (h [] (subst (λ l. Forked site x l []) (sym (drop_none cases i le)) none))
@@ -199,12 +199,12 @@ all_forks site x cases i forks le h = subst (Forked site x cases) (nil_right for
 
 forked_append : (site : Site) (x : PathState) (cases more : List Case) (ys zs : List PathState) → Forked site x cases ys → Forked site x more zs → Forked site x (cases ++ more) (ys ++ zs)
 forked_append site x cases more ys zs none g = g
-forked_append site x cases more ys zs (dead {made = made} {cases = rest} nowhere f) g = dead nowhere (forked_append site x rest more ys zs f g)
-forked_append site x cases more ys zs (live {made = made} {cases = rest} {y = y} {ys = us} adds e f) g = live adds e (forked_append site x rest more us zs f g)
+forked_append site x cases more ys zs (left_out {made = made} {cases = rest} nowhere f) g = left_out nowhere (forked_append site x rest more ys zs f g)
+forked_append site x cases more ys zs (taken {made = made} {cases = rest} {y = y} {ys = us} adds e f) g = taken adds e (forked_append site x rest more us zs f g)
 
 pub forks_joined : (mark : Mark) (x : PathState) (cases : List Case) (i : ℕ) (made : Case) (lower higher : List PathState) (y : PathState) → i < length cases → made ≡ get_or cases i made → made.row ≡ mark.row → Forked mark.site x (take i cases) lower → Forked mark.site x (drop (i + 1) cases) higher → AddsCase x.store made y.store → y.trace ≡ x.trace ++ mark ∷ [] → AreForks mark x cases (record { lower = lower; followed = y; higher = higher })
 forks_joined mark x cases i made lower higher y lt at same low high adds e = record {
-  forked = subst (λ l. Forked mark.site x l (lower ++ y ∷ higher)) whole (forked_append mark.site x (take i cases) (made ∷ drop (i + 1) cases) lower (y ∷ higher) low (live adds trace_is high));
+  forked = subst (λ l. Forked mark.site x l (lower ++ y ∷ higher)) whole (forked_append mark.site x (take i cases) (made ∷ drop (i + 1) cases) lower (y ∷ higher) low (taken adds trace_is high));
   followed = e;
 }
   where

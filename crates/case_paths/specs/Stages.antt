@@ -36,12 +36,13 @@ pub record Parts (x : PathState) (ys : List PathState) : Type 0 where
 abbrev pub marked : List Mark → Site → ℕ → List Mark
 marked trace site n = trace ++ record { site = site; row = n } ∷ []
 
--- an act at a site forks a state into one for each case that leads on from some pair, with the mark of its row
+-- an act at a site forks a state into one for each case that leads on from some pair, with the mark of its row; a case
+-- that leads on from no pair is left out
 pub data Forked (site : Site) (x : PathState) : List Case → List PathState → Type 0 where
   none : Forked site x [] []
-  dead : {made : Case} {cases : List Case} {ys : List PathState} → LeadsNowhere x.store made → Forked site x cases ys
-      → Forked site x (made ∷ cases) ys
-  live : {made : Case} {cases : List Case} {y : PathState} {ys : List PathState} → AddsCase x.store made y.store
+  left_out : {made : Case} {cases : List Case} {ys : List PathState} → LeadsNowhere x.store made
+      → Forked site x cases ys → Forked site x (made ∷ cases) ys
+  taken : {made : Case} {cases : List Case} {y : PathState} {ys : List PathState} → AddsCase x.store made y.store
       → y.trace ≡ marked x.trace site made.row → Forked site x cases ys → Forked site x (made ∷ cases) (y ∷ ys)
 
 -- there is a case of this row

@@ -31,7 +31,8 @@ fn put_stages<V: Drop>(
     }
 }
 
-/// What comes of a stage behind the items, in its order.
+/// Puts what came of a stage behind the items, by rising traces: stages with lower traces, the path that has ended,
+/// and stages with higher traces.
 pub fn put_found<V: Drop>(items: &mut Queue<Item<V>>, found: Pursued<V>) -> Result<(), Memory>
     ensures { OnOk result (items.new ≡ items.old ++ found_items found) }
 {

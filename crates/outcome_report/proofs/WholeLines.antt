@@ -23,7 +23,7 @@ use Rattle.tree_clauses.specs.declared.clause.Clause.{Clause}
 use Rattle.tree_clauses.specs.declared.clause.Var.{Var}
 use Rattle.tree_clauses.specs.declared.clause.Literal.{Literal}
 use Rattle.tree_clauses.specs.declared.clause.Literal.TheVariants.{Entry, Kind, Fence, NotEmpty, Similar, Target}
-use Rattle.tree_clauses.specs.ClauseRead.{is_var, is_held_name, is_literal}
+use Rattle.tree_clauses.specs.ClauseRead.{is_var, is_representable_name, is_literal}
 use Rattle.tree_clauses.specs.ClauseText.{after_comma, joined, var_text, kinds_text, names_text, literal_content}
 use Rattle.tree_clauses.proofs.ClauseLaw.{is_graphic, kinds_word}
 use Rattle.dpkg_scenarios.specs.declared.scenario.Ending.{Ending}
@@ -118,22 +118,22 @@ head_lacks clause s n =
     (plus (codes "clause start " ++ var_text clause.start) (codes " now ") (plus (codes "clause start ") (var_text clause.start) refl (var_lacks clause.start s)) refl)
     (var_lacks clause.now n)
 
-name_lacks : (f : List ℕ) → is_held_name f ≡ true → lacks 10 (show f) ≡ true
+name_lacks : (f : List ℕ) → is_representable_name f ≡ true → lacks 10 (show f) ≡ true
 name_lacks f h = no_newline (show f) (show_shown f (and_parts (is_name f) (are_bytes f) h).1)
 
-others_lack : (names : List (List ℕ)) → list_all is_held_name names ≡ true → lacks 10 (flat_map after_comma (map show names)) ≡ true
+others_lack : (names : List (List ℕ)) → list_all is_representable_name names ≡ true → lacks 10 (flat_map after_comma (map show names)) ≡ true
 others_lack [] h = refl
 others_lack (f ∷ names) h =
-    let k = and_parts (is_held_name f) (list_all is_held_name names) h in
+    let k = and_parts (is_representable_name f) (list_all is_representable_name names) h in
     plus (after_comma (show f)) (flat_map after_comma (map show names)) (plus (codes ",") (show f) refl (name_lacks f k.0)) (others_lack names k.1)
 
-joined_lacks : (names : List (List ℕ)) → list_all is_held_name names ≡ true → lacks 10 (joined (map show names)) ≡ true
+joined_lacks : (names : List (List ℕ)) → list_all is_representable_name names ≡ true → lacks 10 (joined (map show names)) ≡ true
 joined_lacks [] h = refl
 joined_lacks (f ∷ names) h =
-    let k = and_parts (is_held_name f) (list_all is_held_name names) h in
+    let k = and_parts (is_representable_name f) (list_all is_representable_name names) h in
     plus (show f) (flat_map after_comma (map show names)) (name_lacks f k.0) (others_lack names k.1)
 
-names_lack : (names : List (List ℕ)) → list_all is_held_name names ≡ true → lacks 10 (names_text names) ≡ true
+names_lack : (names : List (List ℕ)) → list_all is_representable_name names ≡ true → lacks 10 (names_text names) ≡ true
 names_lack names h = plus (codes "{" ++ joined (map show names)) (codes "}") (plus (codes "{") (joined (map show names)) refl (joined_lacks names h)) refl
 
 graphic_no_newline : (b : ℕ) → is_graphic b ≡ true → not (b == 10) ≡ true
@@ -152,19 +152,19 @@ is_no_h b = not (b == 104)
 
 literal_lacks : (l : Literal) → is_literal l ≡ true → lacks 10 (literal_content l) ≡ true
 literal_lacks (Entry x f y) h =
-    let k = and_parts (is_var x) (is_held_name f && is_var y) h in
-    let r = and_parts (is_held_name f) (is_var y) k.1 in
+    let k = and_parts (is_var x) (is_representable_name f && is_var y) h in
+    let r = and_parts (is_representable_name f) (is_var y) k.1 in
     plus ((((codes "entry " ++ var_text x) ++ codes " ") ++ show f) ++ codes " ") (var_text y)
     (plus (((codes "entry " ++ var_text x) ++ codes " ") ++ show f) (codes " ") (words_two (codes "entry ") (var_text x) (show f) refl (var_lacks x k.0) (name_lacks f r.0)) refl)
     (var_lacks y r.1)
 literal_lacks (Kind x kinds) h = words_two (codes "kind ") (var_text x) (kinds_text kinds) refl (var_lacks x h) (kinds_lack kinds)
 literal_lacks (Fence x names) h =
-    let k = and_parts (is_var x) (list_all is_held_name names) h in
+    let k = and_parts (is_var x) (list_all is_representable_name names) h in
     words_two (codes "fence ") (var_text x) (names_text names) refl (var_lacks x k.0) (names_lack names k.1)
 literal_lacks (NotEmpty x) h = plus (codes "notempty ") (var_text x) refl (var_lacks x h)
 literal_lacks (Similar y names x) h =
-    let k = and_parts (is_var y) (list_all is_held_name names && is_var x) h in
-    let r = and_parts (list_all is_held_name names) (is_var x) k.1 in
+    let k = and_parts (is_var y) (list_all is_representable_name names && is_var x) h in
+    let r = and_parts (list_all is_representable_name names) (is_var x) k.1 in
     plus ((((codes "similar " ++ var_text y) ++ codes " ") ++ names_text names) ++ codes " ") (var_text x)
     (plus (((codes "similar " ++ var_text y) ++ codes " ") ++ names_text names) (codes " ")
     (words_two (codes "similar ") (var_text y) (names_text names) refl (var_lacks y k.0) (names_lack names r.0)) refl)

@@ -10,7 +10,7 @@ use Rattle.outcome_report.specs.ReportText.{result_text, call_content}
 abbrev pub IsReadBack : {X : Type 0} → (X → Bool) → (X → List ℕ) → (List ℕ → Option X) → Type 0
 IsReadBack {X} is_value text_of value_of = (x : X) → IsTrue (is_value x) → value_of (text_of x) ≡ Some x
 
--- so it is with the names of scenarios, endings, traces and calls
+-- the texts of scenarios, endings, traces and calls are read as their values
 pub record PiecesReadBack : Type 0 where
   pub scenarios : IsReadBack (λ scenario. true) scenario_name scenario_of
   pub endings : IsReadBack is_ending result_text result_of

@@ -26,7 +26,7 @@ abbrev pub failed_behind : Option Mark → EndPlace
 failed_behind None = unsited Failed
 failed_behind (Some mark) = sited Failed mark.site
 
--- the same, behind these acts
+-- the place of a failure behind these acts
 abbrev pub failed_at : List Mark → EndPlace
 failed_at trace = failed_behind (slice_get trace (length trace - 1))
 

@@ -84,7 +84,7 @@ abbrev pub heading : Scenario → ℕ → List ℕ
 heading scenario outcomes =
     line (codes "scenario " ++ scenario_name scenario ++ codes " outcomes " ++ decimal outcomes)
 
--- those of a part
+-- the line of a part: the name of its scenario, and how many outcomes it has
 unfoldable pub scenario_line : ReportPart → List ℕ
 scenario_line part = heading part.scenario (length part.entries)
 

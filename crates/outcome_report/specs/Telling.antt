@@ -22,7 +22,8 @@ use Rattle.outcome_report.specs.Whole.{IsRepresentableEntry}
 abbrev pub PathReplays : (Value → Option Replayed) → ℕ → Path → Type 0
 PathReplays run place path = (outcome : Outcome) → IsOutcomeOf place path outcome → Replays run outcome
 
--- so it is with these paths, of which the first stands at this place
+-- whatever outcome each of these paths is told as, the run from the tree that it shows ends as it says; the first path
+-- stands at this place
 abbrev pub PathsReplay : (Value → Option Replayed) → ℕ → List Path → Type 0
 PathsReplay run place [] = Unit {0}
 PathsReplay run place (path ∷ paths) = PathReplays run place path × PathsReplay run (suc place) paths
@@ -48,7 +49,7 @@ pub record AddsPath (run : Value → Option Replayed) (place : ℕ) (path : Path
 
 -- ---- all outcomes
 
--- this is told of a part on the scenario whose entries are those of the paths
+-- what is told of a part on the scenario whose entries are those of the paths
 pub record TellsPaths (run : Value → Option Replayed) (scenario : Scenario) (paths : List Path) (told : ToldPart)
     : Type 0 where
   pub entries : List ReportEntry

@@ -35,7 +35,7 @@ pub record IsRepresentableEntry (entry : ReportEntry) : Type 0 where
   pub shown : IsRepresentableTree entry.outcome.shown
   pub after : IsRepresentableTree entry.replayed.after
 
--- so it is with each of these
+-- the program's types represent each of the entries
 abbrev pub AllRepresentable : List ReportEntry → Type 0
 AllRepresentable [] = Unit {0}
 AllRepresentable (entry ∷ entries) = IsRepresentableEntry entry × AllRepresentable entries

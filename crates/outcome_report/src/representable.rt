@@ -20,7 +20,7 @@ pub(crate) fn is_entry(entry: &ReportEntry)
     is_representable_tree(&entry.replayed.after);
 }
 
-// So are entries.
+// The program's types represent entries.
 fn are_entries(entries: &[ReportEntry])
     ensures { AllRepresentable entries.now }
 {
@@ -31,7 +31,7 @@ fn are_entries(entries: &[ReportEntry])
     }
 }
 
-// So are those of parts.
+// The program's types represent the entries of parts.
 fn are_parts(parts: &[ReportPart])
     ensures { AllPartsRepresentable parts.now }
 {

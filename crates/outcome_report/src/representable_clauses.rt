@@ -2,7 +2,7 @@
 // change nothing.
 ghost use Rattle.std.specs.Prelude.{IsTrue};
 ghost use Rattle.std.specs.List.{list_all};
-ghost use Rattle.tree_clauses.specs.ClauseRead.{is_var, is_held_name, is_literal, is_clause};
+ghost use Rattle.tree_clauses.specs.ClauseRead.{is_var, is_representable_name, is_literal, is_clause};
 
 use crate::representable_pieces::are_bytes;
 use script_names::Name;
@@ -15,16 +15,16 @@ fn is_var(x: &Var)
     let _number = x.0;
 }
 
-// A name is one, of bytes.
+// A name is one that the program's types represent.
 fn is_byte_name(name: &Name)
-    ensures { IsTrue (is_held_name name.now) }
+    ensures { IsTrue (is_representable_name name.now) }
 {
     are_bytes(name.as_slice());
 }
 
-// So are names.
+// Names are such as the program's types represent.
 fn are_byte_names(names: &[Name])
-    ensures { IsTrue (list_all is_held_name names.now) }
+    ensures { IsTrue (list_all is_representable_name names.now) }
 {
     let mut left = names;
     while let [name, rest @ ..] = left {
@@ -61,7 +61,7 @@ fn is_literal(literal: &Literal)
     }
 }
 
-// So it is with literals.
+// In literals the numbers of variables fit, and names are names of bytes.
 fn are_literals(literals: &[Literal])
     ensures { IsTrue (list_all is_literal literals.now) }
 {

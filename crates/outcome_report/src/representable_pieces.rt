@@ -25,7 +25,7 @@ fn is_site(site: &Site)
     let _at = site.at;
 }
 
-// So do those of a mark.
+// The numbers of a mark fit.
 fn is_mark(mark: &Mark)
     ensures { IsTrue (is_mark mark.now) }
 {

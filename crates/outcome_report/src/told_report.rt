@@ -40,7 +40,7 @@ fn parts_verdict(told: &[ToldPart]) -> u8
     joint_verdict(some_failed(told), some_unfinished(told))
 }
 
-/// The verdict of each report of whose parts this is told.
+/// The verdict of a report, from what is told of its parts.
 pub fn told_verdict(told: &List<ToldPart>) -> u8
     ensures { (report : Report) → AreTold report.parts told.now → result ≡ verdict_of report }
 {
@@ -73,7 +73,7 @@ fn join_lines(alloc: Global, told: List<ToldPart>) -> Result<Bytes, Memory>
     Ok(text)
 }
 
-/// The text of each report of whose parts this is told.
+/// The text of a report, from what is told of its parts.
 pub fn join_told(alloc: Global, told: List<ToldPart>) -> Result<Bytes, Memory>
     requires { AllBeginReports told }
     ensures { IfOk result (λ text. (report : Report) → AreTold report.parts told → text ≡ report_text report) }

@@ -25,7 +25,7 @@ use Rattle.feature_trees.proofs.TreeAdds.{adds}
 use Rattle.tree_clauses.specs.declared.clause.Literal.{Literal}
 use Rattle.tree_clauses.specs.declared.clause.Literal.TheVariants.{Entry as EntryIs, Kind, Fence, NotEmpty, Similar, Target}
 use Rattle.tree_clauses.specs.declared.clause.Var.{Var}
-use Rattle.tree_clauses.specs.ClauseRead.{is_var, is_held_name, is_literal}
+use Rattle.tree_clauses.specs.ClauseRead.{is_var, is_representable_name, is_literal}
 use Rattle.tree_clauses.specs.ClauseText.{after_comma, joined, var_text, kinds_text, names_text, literal_content}
 use Rattle.tree_clauses.proofs.ClauseLaw.{is_graphic, kinds_word}
 use Rattle.dpkg_scenarios.specs.declared.scenario.Ending.{Ending}
@@ -86,22 +86,22 @@ calls_low (call ∷ calls) h =
 var_low : (x : Var) → is_var x ≡ true → low (var_text x) ≡ true
 var_low x h = plus (codes "v") (decimal x.0) refl (shown_low (decimal x.0) (number_shown x.0 (omega (arith, leb-true x.0 (2 ^ 32 - 1) h))))
 
-name_low : (f : List ℕ) → is_held_name f ≡ true → low (show f) ≡ true
+name_low : (f : List ℕ) → is_representable_name f ≡ true → low (show f) ≡ true
 name_low f h = show_low f (and_parts (is_name f) (are_bytes f) h).1
 
-others_low : (names : List (List ℕ)) → list_all is_held_name names ≡ true → low (flat_map after_comma (map show names)) ≡ true
+others_low : (names : List (List ℕ)) → list_all is_representable_name names ≡ true → low (flat_map after_comma (map show names)) ≡ true
 others_low [] h = refl
 others_low (f ∷ names) h =
-    let k = and_parts (is_held_name f) (list_all is_held_name names) h in
+    let k = and_parts (is_representable_name f) (list_all is_representable_name names) h in
     plus (after_comma (show f)) (flat_map after_comma (map show names)) (plus (codes ",") (show f) refl (name_low f k.0)) (others_low names k.1)
 
-joined_low : (names : List (List ℕ)) → list_all is_held_name names ≡ true → low (joined (map show names)) ≡ true
+joined_low : (names : List (List ℕ)) → list_all is_representable_name names ≡ true → low (joined (map show names)) ≡ true
 joined_low [] h = refl
 joined_low (f ∷ names) h =
-    let k = and_parts (is_held_name f) (list_all is_held_name names) h in
+    let k = and_parts (is_representable_name f) (list_all is_representable_name names) h in
     plus (show f) (flat_map after_comma (map show names)) (name_low f k.0) (others_low names k.1)
 
-names_low : (names : List (List ℕ)) → list_all is_held_name names ≡ true → low (names_text names) ≡ true
+names_low : (names : List (List ℕ)) → list_all is_representable_name names ≡ true → low (names_text names) ≡ true
 names_low names h = plus (codes "{" ++ joined (map show names)) (codes "}") (plus (codes "{") (joined (map show names)) refl (joined_low names h)) refl
 
 graphic_low : (b : ℕ) → is_graphic b ≡ true → is_low b ≡ true
@@ -120,17 +120,17 @@ four word a b c h g f e = plus ((((word ++ a) ++ codes " ") ++ b) ++ codes " ") 
 
 literal_low : (l : Literal) → is_literal l ≡ true → low (literal_content l) ≡ true
 literal_low (EntryIs x f y) h =
-    let k = and_parts (is_var x) (is_held_name f && is_var y) h in
-    let r = and_parts (is_held_name f) (is_var y) k.1 in
+    let k = and_parts (is_var x) (is_representable_name f && is_var y) h in
+    let r = and_parts (is_representable_name f) (is_var y) k.1 in
     four (codes "entry ") (var_text x) (show f) (var_text y) refl (var_low x k.0) (name_low f r.0) (var_low y r.1)
 literal_low (Kind x kinds) h = three (codes "kind ") (var_text x) (kinds_text kinds) refl (var_low x h) (kinds_low kinds)
 literal_low (Fence x names) h =
-    let k = and_parts (is_var x) (list_all is_held_name names) h in
+    let k = and_parts (is_var x) (list_all is_representable_name names) h in
     three (codes "fence ") (var_text x) (names_text names) refl (var_low x k.0) (names_low names k.1)
 literal_low (NotEmpty x) h = plus (codes "notempty ") (var_text x) refl (var_low x h)
 literal_low (Similar y names x) h =
-    let k = and_parts (is_var y) (list_all is_held_name names && is_var x) h in
-    let r = and_parts (list_all is_held_name names) (is_var x) k.1 in
+    let k = and_parts (is_var y) (list_all is_representable_name names && is_var x) h in
+    let r = and_parts (list_all is_representable_name names) (is_var x) k.1 in
     four (codes "similar ") (var_text y) (names_text names) (var_text x) refl (var_low y k.0) (names_low names r.0) (var_low x r.1)
 literal_low (Target x target) h =
     let k = and_parts (is_var x) (are_bytes target) h in

@@ -21,7 +21,7 @@ pub record HasShortPaths (entry : ReportEntry) : Type 0 where
   pub shown : depth entry.outcome.shown ≤ MOST_NAMES
   pub after : depth entry.replayed.after ≤ MOST_NAMES
 
--- so it is with each of these
+-- no path of the trees of these entries has more names than a line of a tree may have
 abbrev pub AllShort : List ReportEntry → Type 0
 AllShort [] = Unit {0}
 AllShort (entry ∷ entries) = HasShortPaths entry × AllShort entries

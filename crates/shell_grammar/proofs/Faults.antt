@@ -104,7 +104,7 @@ module _ (deep : ℕ → Bool) (d end : ℕ) where
 pub pass_whole : (d end : ℕ) (ts : Tokens) (body : Command) (r : Tokens) → d ≤ 64 → IsRule deep_64 d end Script ts (Whole body r) → Pass d end ts
 pass_whole d end ts body r h x =
     let a = (told_rule x h).1 in
-    subst (Pass d end) (sym (append-nil a.front) ∙ ap (λ r. a.front ++ r) (sym (script_ends deep_64 d end x)) ∙ sym a.split) (pass_front d end ts a.front a.fine)
+    subst (Pass d end) (sym (append-nil a.front) ∙ ap (λ r. a.front ++ r) (sym (script_ends deep_64 d end x)) ∙ sym a.split) (pass_front d end ts a.front a.passes)
 
 -- ---- what passes is not at fault
 

@@ -27,7 +27,7 @@ use Rattle.shell_grammar.specs.Reading.{Out, Whole, Judged, Faultless, Faulty, a
 use Rattle.shell_grammar.specs.Spelling.{no_limit, Spells}
 use Rattle.shell_grammar.specs.Trees.{pipe_of, redirected, link, case_arm, simple, named}
 use Rattle.shell_grammar.specs.PlainGrammar.{Stands, AreNewlines, no_newline, newline, IsSeparator, semicolon, line_end, AreRedirects, no_redirect, one_redirect, IsScript, no_script, a_script, IsList, a_list, AreMembers, no_member, last_separator, one_member, IsAndOr, an_and_or, AreLinks, no_link, and_link, or_link, IsPipeline, plain_pipeline, not_pipeline, IsSequence, a_sequence, ArePiped, no_pipe, one_pipe, IsCommand, simple_command, compound_command, definition, IsBlock, a_block, IsCompound, brace_group, subshell, if_command, for_loop, while_loop, case_command, IsClause, a_clause, IsElse, no_else, elif_part, else_part, IsName, a_name, AreForWords, in_words, for_semicolon, no_in, AreWords, no_words, one_word, AreArms, no_arm, last_arm, one_arm, IsArm, open_arm, arm_without_paren, IsArmRest, arm_rest, ArePatterns, no_pattern, one_pattern, IsArmList, no_arm_list, arm_list, IsBraces, braces, IsSimple, begins_with_assignment, begins_with_redirect, begins_with_word, AreItems, no_item, assignment_item, redirect_item, word_item, IsWord, the_word, PartsAre, no_part, a_part, a_substitution}
-use Rattle.shell_grammar.proofs.Unique.{clash, not_both, wholes, fines, somes, none_some}
+use Rattle.shell_grammar.proofs.Unique.{clash, not_both, wholes, same_faultless, somes, none_some}
 use Rattle.shell_grammar.proofs.Begun.{whole_from}
 use Rattle.shell_grammar.proofs.Faults.{ended, behind_end}
 
@@ -279,7 +279,7 @@ step end Redirects l ts vs r k x = step_redirects end (redirection l) ts vs r x
 -- ---- all readings
 
 faultless_from : (p : Part) (q : Judged) (ps : List Part) → after p q ≡ Faultless ps → (ps2 : List Part) × (q ≡ Faultless ps2) × (ps ≡ p ∷ ps2)
-faultless_from p (Faultless ps2) ps e = (ps2, refl, sym (fines e))
+faultless_from p (Faultless ps2) ps e = (ps2, refl, sym (same_faultless e))
 faultless_from p (Faulty f) ps e = absurd (cc e)
 
 mutual
@@ -310,7 +310,7 @@ mutual
   plain_sign (inside x) v r h = plain_rule x v r h
 
   plain_parts : {d : ℕ} {raws : List RawPart} {q : Judged} → IsParts no_limit d raws q → (ps : List Part) → q ≡ Faultless ps → PartsAre raws ps
-  plain_parts (no_parts e) ps h = no_part (fines (sym h ∙ e))
+  plain_parts (no_parts e) ps h = no_part (same_faultless (sym h ∙ e))
   plain_parts (plain_part x q1 a y e) ps h = let m = faultless_from x q1 ps (sym e ∙ h) in a_part x m.0 a (plain_parts y m.0 m.1) m.2
   plain_parts (run_part at ts b body rest q1 a g z y e) ps h =
       let m = faultless_from (part.Run at body b) q1 ps (sym e ∙ h) in

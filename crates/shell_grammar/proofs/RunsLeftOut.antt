@@ -79,11 +79,11 @@ plain_without_runs o.All p e = (part.All, ap plainly e)
 plain_without_runs (o.Run at ts b) p e = (part.Quoted [], ap plainly seen_quoted)
 
 -- the parts of a without_runs word are faultless
-pub fine_without_runs : (d : ℕ) (ps : List RawPart) → (xs : List Part) × IsParts no_limit d (parts_without_runs ps) (Faultless xs)
-fine_without_runs d [] = ([], no_parts refl)
-fine_without_runs d (p ∷ ps) =
+pub faultless_without_runs : (d : ℕ) (ps : List RawPart) → (xs : List Part) × IsParts no_limit d (parts_without_runs ps) (Faultless xs)
+faultless_without_runs d [] = ([], no_parts refl)
+faultless_without_runs d (p ∷ ps) =
     let x = plain_without_runs (out-RawPart p) p refl in
-    let m = fine_without_runs d ps in
+    let m = faultless_without_runs d ps in
     (x.0 ∷ m.0, plain_part x.0 (Faultless m.0) x.1 m.1 refl)
 
 pub append_without_runs : (u r : Tokens) → without_runs (u ++ r) ≡ without_runs u ++ without_runs r

@@ -9,7 +9,7 @@ use Rattle.shell_grammar.specs.Reading.{Out, Whole, IsRule, rule, IsAll, no_more
 use Rattle.shell_grammar.specs.Spelling.{no_limit, Spells}
 use Rattle.shell_grammar.specs.Trees.{word_at}
 use Rattle.shell_grammar.proofs.Unique.{not_both, wholes}
-use Rattle.shell_grammar.proofs.RunsLeftOut.{look_without_runs, behind_without_runs, word_without_runs, option_without_runs, fine_without_runs}
+use Rattle.shell_grammar.proofs.RunsLeftOut.{look_without_runs, behind_without_runs, word_without_runs, option_without_runs, faultless_without_runs}
 use Rattle.shell_grammar.proofs.Begun.{whole_from}
 use Rattle.shell_grammar.proofs.Faults.{script_ends}
 use Rattle.shell_grammar.proofs.Prefixes.{whole_rule}
@@ -42,7 +42,7 @@ mutual
   sign_without_runs (opens_not k e) v r h = absurd (not_both (sym (sym e ∙ h)))
   sign_without_runs (too_deep k g e) v r h = absurd (not_both (sym (sym e ∙ h)))
   sign_without_runs {d} {end} {ts = ts} (a_word raws ps w x e) v r h =
-      let m = fine_without_runs d raws in
+      let m = faultless_without_runs d raws in
       (word_at (place end (without_runs ts)) m.0, a_word (parts_without_runs raws) m.0 (word_without_runs ts ∙ ap option_without_runs w) m.1 (ap (Whole (word_at (place end (without_runs ts)) m.0)) (left_without_runs ts r (wholes (sym e ∙ h)).1)))
   sign_without_runs (a_word_stops raws f w x e) v r h = absurd (not_both (sym (sym e ∙ h)))
   sign_without_runs (no_word w e) v r h = absurd (not_both (sym (sym e ∙ h)))

@@ -25,7 +25,7 @@ use Rattle.shell_grammar.proofs.Limits.{free_rule, is_deep_fault}
 use Rattle.shell_grammar.proofs.Levels.{level_rule}
 use Rattle.shell_grammar.proofs.Fronts.{tails, too_long, same_front, in_either}
 use Rattle.shell_grammar.proofs.Begun.{again_sign, late_rule}
-use Rattle.shell_grammar.proofs.RunsLeftOut.{look_without_runs, place_without_runs, behind_without_runs, word_without_runs, option_without_runs, fine_without_runs, append_without_runs}
+use Rattle.shell_grammar.proofs.RunsLeftOut.{look_without_runs, place_without_runs, behind_without_runs, word_without_runs, option_without_runs, faultless_without_runs, append_without_runs}
 use Rattle.shell_grammar.proofs.Fits.{Fits, fits, is_mark}
 
 -- ---- tokens that are no common word hold no substitution
@@ -67,20 +67,22 @@ mark_holds d t l k m raws e = mark_holds_kind d (out-TokenKind t.kind) raws l k 
 -- ---- tokens that are reached with so many levels open, and pass
 
 module _ (R : Tokens → ℕ → Type 0) where
-  pub record Fine (u : Tokens) (t : Token) : Type 0 where
+  -- the token behind these is reached with so many levels open, at most 64, and its substitutions are scripts there
+  pub record PassesAt (u : Tokens) (t : Token) : Type 0 where
     pub level : ℕ
     pub reaches : R (u ++ t ∷ []) level
     pub within : level ≤ 64
     pub holds : (raws : List RawPart) → word (t ∷ []) ≡ Some raws → HoldScripts level raws
 
-  abbrev pub AllFine : Tokens → Type 0
-  AllFine f = (u : Tokens) (t : Token) (w : Tokens) → f ≡ u ++ t ∷ w → Fine u t
+  -- each token of the list passes where it stands
+  abbrev pub AllPass : Tokens → Type 0
+  AllPass f = (u : Tokens) (t : Token) (w : Tokens) → f ≡ u ++ t ∷ w → PassesAt u t
 
   -- all up to a place
   pub record Read (ts rest : Tokens) : Type 0 where
     pub front : Tokens
     pub split : ts ≡ front ++ rest
-    pub fine : AllFine front
+    pub passes : AllPass front
 
 -- why a token does not pass, though it is reached
 pub data Why (level : ℕ) (t : Token) : ParseFault → Type 0 where
@@ -93,7 +95,7 @@ pub record Faulted (R : Tokens → ℕ → Type 0) (ts : Tokens) (f : ParseFault
   pub token : Token
   pub rest : Tokens
   pub split : ts ≡ front ++ token ∷ rest
-  pub fine : AllFine R front
+  pub passes : AllPass R front
   pub level : ℕ
   pub reaches : R (front ++ token ∷ []) level
   pub why : Why level token f
@@ -103,40 +105,40 @@ within_all : (ts f r u : Tokens) (t : Token) (w : Tokens) → ts ≡ f ++ r → 
 within_all ts f r u t w e h = e ∙ ap (λ x. x ++ r) h ∙ append_assoc u (t ∷ w) r
 
 module _ (R R2 : Tokens → ℕ → Type 0) (ts : Tokens) (to : (u : Tokens) (t : Token) (w : Tokens) (l : ℕ) → ts ≡ u ++ t ∷ w → R (u ++ t ∷ []) l → R2 (u ++ t ∷ []) l) where
-  fine_map : (f r : Tokens) → ts ≡ f ++ r → AllFine R f → AllFine R2 f
-  fine_map f r e a = λ u t w h. let x = a u t w h in record { level = x.level; reaches = to u t (w ++ r) x.level (within_all ts f r u t w e h) x.reaches; within = x.within; holds = x.holds }
+  passes_map : (f r : Tokens) → ts ≡ f ++ r → AllPass R f → AllPass R2 f
+  passes_map f r e a = λ u t w h. let x = a u t w h in record { level = x.level; reaches = to u t (w ++ r) x.level (within_all ts f r u t w e h) x.reaches; within = x.within; holds = x.holds }
 
   read_map : (r : Tokens) → Read R ts r → Read R2 ts r
-  read_map r x = record { front = x.front; split = x.split; fine = fine_map x.front r x.split x.fine }
+  read_map r x = record { front = x.front; split = x.split; passes = passes_map x.front r x.split x.passes }
 
   faulted_map : (f : ParseFault) → Faulted R ts f → Faulted R2 ts f
-  faulted_map f x = record { front = x.front; token = x.token; rest = x.rest; split = x.split; fine = fine_map x.front (x.token ∷ x.rest) x.split x.fine; level = x.level; reaches = to x.front x.token x.rest x.level x.split x.reaches; why = x.why }
+  faulted_map f x = record { front = x.front; token = x.token; rest = x.rest; split = x.split; passes = passes_map x.front (x.token ∷ x.rest) x.split x.passes; level = x.level; reaches = to x.front x.token x.rest x.level x.split x.reaches; why = x.why }
 
 no_token : (u : Tokens) (t : Token) (w : Tokens) → [] ≡ u ++ t ∷ w → ⊥
 no_token [] t w e = cc e
 no_token (a ∷ u) t w e = cc e
 
-none_fine : (R : Tokens → ℕ → Type 0) → AllFine R []
-none_fine R = λ u t w e. absurd (no_token u t w e)
+none_pass : (R : Tokens → ℕ → Type 0) → AllPass R []
+none_pass R = λ u t w e. absurd (no_token u t w e)
 
 read_none : (R : Tokens → ℕ → Type 0) (ts : Tokens) → Read R ts ts
-read_none R ts = record { front = []; split = refl; fine = none_fine R }
+read_none R ts = record { front = []; split = refl; passes = none_pass R }
 
 alone : (a : Token) (u : Tokens) (t : Token) (w : Tokens) → a ∷ [] ≡ u ++ t ∷ w → (u ≡ []) × (a ≡ t)
 alone a [] t w e = (refl, (tails e).0)
 alone a (b ∷ u) t w e = absurd (no_token u t w (tails e).1)
 
-one_fine : (R : Tokens → ℕ → Type 0) (a : Token) → Fine R [] a → AllFine R (a ∷ [])
-one_fine R a x = λ u t w e. let h = alone a u t w e in subst (λ u. Fine R u t) (sym h.0) (subst (Fine R []) h.1 x)
+one_passes : (R : Tokens → ℕ → Type 0) (a : Token) → PassesAt R [] a → AllPass R (a ∷ [])
+one_passes R a x = λ u t w e. let h = alone a u t w e in subst (λ u. PassesAt R u t) (sym h.0) (subst (PassesAt R []) h.1 x)
 
-read_one : (R : Tokens → ℕ → Type 0) (ts : Tokens) → ((t : Token) (r : Tokens) → ts ≡ t ∷ r → Fine R [] t) → Read R ts (behind ts)
+read_one : (R : Tokens → ℕ → Type 0) (ts : Tokens) → ((t : Token) (r : Tokens) → ts ≡ t ∷ r → PassesAt R [] t) → Read R ts (behind ts)
 read_one R [] make = read_none R []
-read_one R (t ∷ r) make = record { front = t ∷ []; split = refl; fine = one_fine R t (make t r refl) }
+read_one R (t ∷ r) make = record { front = t ∷ []; split = refl; passes = one_passes R t (make t r refl) }
 
 -- of two lists one behind the other
-fine_both : (R1 R2 R : Tokens → ℕ → Type 0) (f f1 : Tokens) → AllFine R1 f → AllFine R2 f1 → ((x : Tokens) (l : ℕ) → R1 x l → R x l) → ((u : Tokens) (t : Token) (w : Tokens) (l : ℕ) → f1 ≡ u ++ t ∷ w → R2 (u ++ t ∷ []) l → R (f ++ (u ++ t ∷ [])) l) → AllFine R (f ++ f1)
-fine_both R1 R2 R f f1 a b first later = λ u t w e.
-    elim (in_either f f1 u t w e) as (λ _. Fine R u t) [
+passes_both : (R1 R2 R : Tokens → ℕ → Type 0) (f f1 : Tokens) → AllPass R1 f → AllPass R2 f1 → ((x : Tokens) (l : ℕ) → R1 x l → R x l) → ((u : Tokens) (t : Token) (w : Tokens) (l : ℕ) → f1 ≡ u ++ t ∷ w → R2 (u ++ t ∷ []) l → R (f ++ (u ++ t ∷ [])) l) → AllPass R (f ++ f1)
+passes_both R1 R2 R f f1 a b first later = λ u t w e.
+    elim (in_either f f1 u t w e) as (λ _. PassesAt R u t) [
       | inl k ↦ (let x = a u t k.0 k.1 in record { level = x.level; reaches = first (u ++ t ∷ []) x.level x.reaches; within = x.within; holds = x.holds })
       | inr k ↦ (let x = b k.0 t w k.2 in record { level = x.level; reaches = subst (λ y. R y x.level) (sym (append_assoc f k.0 (t ∷ [])) ∙ ap (λ u. u ++ t ∷ []) (sym k.1)) (later k.0 t w x.level k.2 x.reaches); within = x.within; holds = x.holds })
     ]
@@ -191,7 +193,7 @@ module _ (d end : ℕ) (s : Sign) (ss : List Sign) (ts : Tokens) where
     read_both r2 m = record {
       front = a.front ++ m.front;
       split = a.split ∙ ap (λ r. a.front ++ r) m.split ∙ sym (append_assoc a.front m.front r2);
-      fine = fine_both (ReachSign d end s) (ReachAll d end ss) (ReachAll d end (s ∷ ss)) a.front m.front a.fine m.fine (λ x l b. begins_first b)
+      passes = passes_both (ReachSign d end s) (ReachAll d end ss) (ReachAll d end (s ∷ ss)) a.front m.front a.passes m.passes (λ x l b. begins_first b)
           (λ u t w l e b. reach_later d end s ss ts r a.front v2 a.split x u t (w ++ r2) l (within_all r m.front r2 u t w m.split e) b);
     }
 
@@ -201,7 +203,7 @@ module _ (d end : ℕ) (s : Sign) (ss : List Sign) (ts : Tokens) where
       token = m.token;
       rest = m.rest;
       split = a.split ∙ ap (λ r. a.front ++ r) m.split ∙ sym (append_assoc a.front m.front (m.token ∷ m.rest));
-      fine = fine_both (ReachSign d end s) (ReachAll d end ss) (ReachAll d end (s ∷ ss)) a.front m.front a.fine m.fine (λ x l b. begins_first b)
+      passes = passes_both (ReachSign d end s) (ReachAll d end ss) (ReachAll d end (s ∷ ss)) a.front m.front a.passes m.passes (λ x l b. begins_first b)
           (λ u t w l e b. reach_later d end s ss ts r a.front v2 a.split x u t (w ++ m.token ∷ m.rest) l (within_all r m.front (m.token ∷ m.rest) u t w m.split e) b);
       level = m.level;
       reaches = subst (λ y. ReachAll d end (s ∷ ss) y m.level) (sym (append_assoc a.front m.front (m.token ∷ [])))
@@ -257,7 +259,7 @@ deep_told d end l (t ∷ ts) h m k = inr (record {
   token = t;
   rest = ts;
   split = refl;
-  fine = none_fine (ReachSign d end (Opens l));
+  passes = none_pass (ReachSign d end (Opens l));
   level = suc d;
   reaches = begins_opens (token_without_runs t) refl (look_without_runs (t ∷ []) ∙ k) refl;
   why = opens_too_many (omega (arith, h)) refl;
@@ -265,7 +267,7 @@ deep_told d end l (t ∷ ts) h m k = inr (record {
 
 word_told : (d end : ℕ) (ts : Tokens) (raws : List RawPart) (ps : List Part) → d ≤ 64 → word ts ≡ Some raws → IsParts deep_64 d raws (Faultless ps) → SignTold d end AWord ts (Whole (word_at (place end ts) ps) (behind ts))
 word_told d end ts raws ps h w x =
-    let m = fine_without_runs d raws in (
+    let m = faultless_without_runs d raws in (
       (word_at (place end (without_runs ts)) m.0, a_word (parts_without_runs raws) m.0 (word_without_runs ts ∙ ap option_without_runs w) m.1 (ap (Whole (word_at (place end (without_runs ts)) m.0)) (sym (behind_without_runs ts)))),
       read_one (ReachSign d end AWord) ts (λ t r g. record { level = d; reaches = begins_word (token_without_runs t) (parts_without_runs raws) refl (word_without_runs (t ∷ []) ∙ ap option_without_runs (ap word (sym g) ∙ w)) refl; within = h; holds = λ raws2 w2. record { parts = ps; reads = subst (λ raws. IsParts deep_64 d raws (Faultless ps)) (somes (sym w ∙ ap word g ∙ w2)) x } }),
     )
@@ -277,7 +279,7 @@ word_fault_told d end (t ∷ ts) raws f h w x = inr (record {
   token = t;
   rest = ts;
   split = refl;
-  fine = none_fine (ReachSign d end AWord);
+  passes = none_pass (ReachSign d end AWord);
   level = d;
   reaches = begins_word (token_without_runs t) (parts_without_runs raws) refl (word_without_runs (t ∷ []) ∙ ap option_without_runs w) refl;
   why = holds_fault raws h w x;
@@ -293,7 +295,7 @@ not_further d end ts u t r f e x l b =
     let tail = late_rule b (without_runs r) (Stop f (without_runs (t ∷ r))) y in
     too_long (token_without_runs t) (without_runs r) tail.front tail.split
 
-pub pass_front : (d end : ℕ) (ts f : Tokens) → AllFine (ReachAll d end (production Script (look ts)).signs) f → Pass d end f
+pub pass_front : (d end : ℕ) (ts f : Tokens) → AllPass (ReachAll d end (production Script (look ts)).signs) f → Pass d end f
 pass_front d end ts f a = λ u t w e. let x = a u t w e in record { level = x.level; begins = begins_rule x.reaches; within = x.within; holds = x.holds }
 
 why_at : (d end : ℕ) (u : Tokens) (t : Token) (l : ℕ) (f : ParseFault) → Begins d end (u ++ t ∷ []) l → Why l t f → FaultAt d end u t f
@@ -302,14 +304,14 @@ why_at d end u t l f b (holds_fault raws h w x) = in_word l raws b h w x
 
 fault_stands : (d end : ℕ) (ts : Tokens) (f : ParseFault) (r : Tokens) → IsRule deep_64 d end Script ts (Stop f r) → IsRule no_limit d end Script (without_runs ts) (Stop f (without_runs r)) → f ≡ Syntax (place end r) → Read (ReachAll d end (production Script (look ts)).signs) ts r → FirstFault d end ts f
 fault_stands d end ts f [] x y e a = at_end
-    (subst (Pass d end) (sym (append-nil a.front) ∙ sym a.split) (pass_front d end ts a.front a.fine))
+    (subst (Pass d end) (sym (append-nil a.front) ∙ sym a.split) (pass_front d end ts a.front a.passes))
     (λ body s. not_both (same_rule no_limit s.reads (level_rule (free_rule deep_64 x (ap is_deep_fault e)) 0)))
     e
-fault_stands d end ts f (t ∷ r) x y e a = at_token a.front t r a.split (pass_front d end ts a.front a.fine) (cannot_follow (not_further d end ts a.front t r f a.split y) e)
+fault_stands d end ts f (t ∷ r) x y e a = at_token a.front t r a.split (pass_front d end ts a.front a.passes) (cannot_follow (not_further d end ts a.front t r f a.split y) e)
 
 pub fault_of : (d end : ℕ) (ts : Tokens) (f : ParseFault) (r : Tokens) → IsRule deep_64 d end Script ts (Stop f r) → RuleTold d end Script ts (Stop f r) → FirstFault d end ts f
 fault_of d end ts f r x (inl y) = fault_stands d end ts f r x y.0 y.1 y.2
-fault_of d end ts f r x (inr w) = at_token w.front w.token w.rest w.split (pass_front d end ts w.front w.fine) (why_at d end w.front w.token w.level f (begins_rule w.reaches) w.why)
+fault_of d end ts f r x (inr w) = at_token w.front w.token w.rest w.split (pass_front d end ts w.front w.passes) (why_at d end w.front w.token w.level f (begins_rule w.reaches) w.why)
 
 -- ---- all readings
 

@@ -30,8 +30,8 @@ stops h = (cc, cc)
 pub somes : {A : Type 0} {a b : A} → Some a ≡ Some b → a ≡ b
 somes h = cc
 
-pub fines : {ps ps' : List Part} → Faultless ps ≡ Faultless ps' → ps ≡ ps'
-fines h = cc
+pub same_faultless : {ps ps' : List Part} → Faultless ps ≡ Faultless ps' → ps ≡ ps'
+same_faultless h = cc
 
 pub faulties : {f f' : ParseFault} → Faulty f ≡ Faulty f' → f ≡ f'
 faulties h = cc
@@ -83,7 +83,7 @@ module _ (deep : ℕ → Bool) where
     same_sign (too_deep l d e) (opens_not m f) = absurd (m l)
     same_sign (too_deep l d e) (too_deep m g f) = e ∙ sym f
     same_sign {d = d} {end = end} {ts = ts} (a_word raws ps w x e) (a_word raws2 ps2 w2 x2 f) =
-        let h = fines (same_parts x (subst (λ r. IsParts deep d r (Faultless ps2)) (somes (sym w2 ∙ w)) x2)) in
+        let h = same_faultless (same_parts x (subst (λ r. IsParts deep d r (Faultless ps2)) (somes (sym w2 ∙ w)) x2)) in
         e ∙ ap (λ ps. Whole (word_at (place end ts) ps) (behind ts)) h ∙ sym f
     same_sign {d = d} (a_word raws ps w x e) (a_word_stops raws2 fault w2 x2 f) = absurd (cc (same_parts x (subst (λ r. IsParts deep d r (Faulty fault)) (somes (sym w2 ∙ w)) x2)))
     same_sign (a_word raws ps w x e) (no_word w2 f) = absurd (none_some w2 w)

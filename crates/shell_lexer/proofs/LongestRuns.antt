@@ -52,35 +52,35 @@ quoted_then : (run : Bytes) (p : RawPart) (xs : List RawPart) → IsNoRun p → 
 quoted_then [] p xs h g b ps = h b (xs ++ ps) ∙ g ps
 quoted_then (c ∷ run) p xs h g b ps = h false (xs ++ ps) ∙ g ps
 
--- what stands in double quotes; where it is read from its begin, it has a part
-abbrev InnerFine : Bool → Out Read → Type 0
-InnerFine fresh (Whole v rest) = HasNoRun v.0 × (fresh ≡ true → EndsRun v.0)
-InnerFine fresh (Stop fault) = Unit {0}
+-- what stands in double quotes has no plain run; where it is read from its beginning, it has a part
+abbrev InnerHasNoRun : Bool → Out Read → Type 0
+InnerHasNoRun fresh (Whole v rest) = HasNoRun v.0 × (fresh ≡ true → EndsRun v.0)
+InnerHasNoRun fresh (Stop fault) = Unit {0}
 
-inner_more : (fresh : Bool) (run : Bytes) (p : RawPart) (ms : List ByteNote) (q : Out Read) → IsNoRun p → InnerFine false q → InnerFine fresh (grown (quoted_run run ++ p ∷ []) ms q)
+inner_more : (fresh : Bool) (run : Bytes) (p : RawPart) (ms : List ByteNote) (q : Out Read) → IsNoRun p → InnerHasNoRun false q → InnerHasNoRun fresh (grown (quoted_run run ++ p ∷ []) ms q)
 inner_more fresh run p ms (Whole v rest) h f = let ends = quoted_then run p v.0 h f.0 in (λ ps. ends false ps, λ _. ends)
 inner_more fresh run p ms (Stop fault) h f = tt
 
-inner_same : (fresh : Bool) (ms : List ByteNote) (q : Out Read) → InnerFine fresh q → InnerFine fresh (grown [] ms q)
+inner_same : (fresh : Bool) (ms : List ByteNote) (q : Out Read) → InnerHasNoRun fresh q → InnerHasNoRun fresh (grown [] ms q)
 inner_same fresh ms (Whole v rest) f = f
 inner_same fresh ms (Stop fault) f = tt
 
-inner_fine : {deep : ℕ → Bool} {len depth from : ℕ} {fresh : Bool} {run text : Bytes} {q : Out Read} → IsInner deep len depth from fresh run text q → InnerFine fresh q
-inner_fine {deep} {len} {depth} {from} {fresh} {run} {text} {q} (inner_open h e) = subst (InnerFine fresh) (sym e) tt
-inner_fine {deep} {len} {depth} {from} {fresh} {run} {text} {q} (inner_ends t h e) =
-    subst (InnerFine fresh) (sym e) (last_no_run fresh run, λ is. subst (λ f. EndsRun (last_run f run)) (sym is) (last_ends_run run))
-inner_fine {deep} {len} {depth} {from} {fresh} {run} {text} {q} (inner_byte b t q1 h x e) = subst (InnerFine fresh) (sym e) (inner_same fresh (note.Gap ∷ []) q1 (inner_fine x))
-inner_fine {deep} {len} {depth} {from} {fresh} {run} {text} {q} (inner_piece p t q1 h x e) =
-    subst (InnerFine fresh) (sym e) (inner_more fresh run p (note.Gap ∷ []) q1 (piece_no_run true p text t (inner_seen len text (Piece p t) h)) (inner_fine x))
-inner_fine {deep} {len} {depth} {from} {fresh} {run} {text} {q} (inner_all t q1 h x e) = subst (InnerFine fresh) (sym e) (inner_more fresh run part.All (note.All (offset len text) true ∷ []) q1 all_no_run (inner_fine x))
-inner_fine {deep} {len} {depth} {from} {fresh} {run} {text} {q} (inner_run g ts t q1 h i x e) =
-    subst (InnerFine fresh) (sym e) (inner_more fresh run (part.Run (offset len text) ts true) (note.Gap ∷ []) q1 (run_no_run (offset len text) ts true) (inner_fine x))
-inner_fine {deep} {len} {depth} {from} {fresh} {run} {text} {q} (inner_wrong f h e) = subst (InnerFine fresh) (sym e) tt
-inner_fine {deep} {len} {depth} {from} {fresh} {run} {text} {q} (inner_bad_run g f h i e) = subst (InnerFine fresh) (sym e) tt
+inner_has_no_run : {deep : ℕ → Bool} {len depth from : ℕ} {fresh : Bool} {run text : Bytes} {q : Out Read} → IsInner deep len depth from fresh run text q → InnerHasNoRun fresh q
+inner_has_no_run {deep} {len} {depth} {from} {fresh} {run} {text} {q} (inner_open h e) = subst (InnerHasNoRun fresh) (sym e) tt
+inner_has_no_run {deep} {len} {depth} {from} {fresh} {run} {text} {q} (inner_ends t h e) =
+    subst (InnerHasNoRun fresh) (sym e) (last_no_run fresh run, λ is. subst (λ f. EndsRun (last_run f run)) (sym is) (last_ends_run run))
+inner_has_no_run {deep} {len} {depth} {from} {fresh} {run} {text} {q} (inner_byte b t q1 h x e) = subst (InnerHasNoRun fresh) (sym e) (inner_same fresh (note.Gap ∷ []) q1 (inner_has_no_run x))
+inner_has_no_run {deep} {len} {depth} {from} {fresh} {run} {text} {q} (inner_piece p t q1 h x e) =
+    subst (InnerHasNoRun fresh) (sym e) (inner_more fresh run p (note.Gap ∷ []) q1 (piece_no_run true p text t (inner_seen len text (Piece p t) h)) (inner_has_no_run x))
+inner_has_no_run {deep} {len} {depth} {from} {fresh} {run} {text} {q} (inner_all t q1 h x e) = subst (InnerHasNoRun fresh) (sym e) (inner_more fresh run part.All (note.All (offset len text) true ∷ []) q1 all_no_run (inner_has_no_run x))
+inner_has_no_run {deep} {len} {depth} {from} {fresh} {run} {text} {q} (inner_run g ts t q1 h i x e) =
+    subst (InnerHasNoRun fresh) (sym e) (inner_more fresh run (part.Run (offset len text) ts true) (note.Gap ∷ []) q1 (run_no_run (offset len text) ts true) (inner_has_no_run x))
+inner_has_no_run {deep} {len} {depth} {from} {fresh} {run} {text} {q} (inner_wrong f h e) = subst (InnerHasNoRun fresh) (sym e) tt
+inner_has_no_run {deep} {len} {depth} {from} {fresh} {run} {text} {q} (inner_bad_run g f h i e) = subst (InnerHasNoRun fresh) (sym e) tt
 
-abbrev PlainFine : Out Read → Type 0
-PlainFine (Whole v rest) = plain_runs_are_longest false v.0 ≡ true
-PlainFine (Stop fault) = Unit {0}
+abbrev PlainRunsAreLongest : Out Read → Type 0
+PlainRunsAreLongest (Whole v rest) = plain_runs_are_longest false v.0 ≡ true
+PlainRunsAreLongest (Stop fault) = Unit {0}
 
 plain_last : (run : Bytes) → plain_runs_are_longest false (plain_run run) ≡ true
 plain_last [] = refl
@@ -90,28 +90,28 @@ plain_then : (run : Bytes) (xs ps : List RawPart) → EndsRun xs → plain_runs_
 plain_then [] xs ps h e = h false ps ∙ e
 plain_then (b ∷ run) xs ps h e = h true ps ∙ e
 
-plain_more : (run : Bytes) (xs : List RawPart) (ms : List ByteNote) (q : Out Read) → EndsRun xs → PlainFine q → PlainFine (grown (plain_run run ++ xs) ms q)
+plain_more : (run : Bytes) (xs : List RawPart) (ms : List ByteNote) (q : Out Read) → EndsRun xs → PlainRunsAreLongest q → PlainRunsAreLongest (grown (plain_run run ++ xs) ms q)
 plain_more run xs ms (Whole v rest) h f = plain_then run xs v.0 h f
 plain_more run xs ms (Stop fault) h f = tt
 
-plain_same : (ms : List ByteNote) (q : Out Read) → PlainFine q → PlainFine (grown [] ms q)
+plain_same : (ms : List ByteNote) (q : Out Read) → PlainRunsAreLongest q → PlainRunsAreLongest (grown [] ms q)
 plain_same ms (Whole v rest) f = f
 plain_same ms (Stop fault) f = tt
 
-word_fine : {deep : ℕ → Bool} {len depth : ℕ} {run text : Bytes} {q : Out Read} → IsWord deep len depth run text q → PlainFine q
-word_fine {deep} {len} {depth} {run} {text} {q} (word_ends h e) = subst PlainFine (sym e) (plain_last run)
-word_fine {deep} {len} {depth} {run} {text} {q} (word_byte b t q1 h x e) = subst PlainFine (sym e) (plain_same (note.Plain b (offset len text) ∷ []) q1 (word_fine x))
-word_fine {deep} {len} {depth} {run} {text} {q} (word_piece p t q1 h x e) = subst PlainFine (sym e) (plain_more run (p ∷ []) (note.Gap ∷ []) q1 (piece_no_run false p text t (look_seen len text (Piece p t) h)) (word_fine x))
-word_fine {deep} {len} {depth} {run} {text} {q} (word_all t q1 h x e) = subst PlainFine (sym e) (plain_more run (part.All ∷ []) (note.All (offset len text) false ∷ []) q1 all_no_run (word_fine x))
-word_fine {deep} {len} {depth} {run} {text} {q} (word_double g v t q1 h i x e) = subst PlainFine (sym e) (plain_more run v.0 (v.1 ++ note.Gap ∷ []) q1 ((inner_fine i).1 refl) (word_fine x))
-word_fine {deep} {len} {depth} {run} {text} {q} (word_run g ts t q1 h i x e) =
-    subst PlainFine (sym e) (plain_more run (part.Run (offset len text) ts false ∷ []) (note.Gap ∷ []) q1 (run_no_run (offset len text) ts false) (word_fine x))
-word_fine {deep} {len} {depth} {run} {text} {q} (word_wrong f h e) = subst PlainFine (sym e) tt
-word_fine {deep} {len} {depth} {run} {text} {q} (word_bad_double g f h i e) = subst PlainFine (sym e) tt
-word_fine {deep} {len} {depth} {run} {text} {q} (word_bad_run g f h i e) = subst PlainFine (sym e) tt
+word_plain_runs : {deep : ℕ → Bool} {len depth : ℕ} {run text : Bytes} {q : Out Read} → IsWord deep len depth run text q → PlainRunsAreLongest q
+word_plain_runs {deep} {len} {depth} {run} {text} {q} (word_ends h e) = subst PlainRunsAreLongest (sym e) (plain_last run)
+word_plain_runs {deep} {len} {depth} {run} {text} {q} (word_byte b t q1 h x e) = subst PlainRunsAreLongest (sym e) (plain_same (note.Plain b (offset len text) ∷ []) q1 (word_plain_runs x))
+word_plain_runs {deep} {len} {depth} {run} {text} {q} (word_piece p t q1 h x e) = subst PlainRunsAreLongest (sym e) (plain_more run (p ∷ []) (note.Gap ∷ []) q1 (piece_no_run false p text t (look_seen len text (Piece p t) h)) (word_plain_runs x))
+word_plain_runs {deep} {len} {depth} {run} {text} {q} (word_all t q1 h x e) = subst PlainRunsAreLongest (sym e) (plain_more run (part.All ∷ []) (note.All (offset len text) false ∷ []) q1 all_no_run (word_plain_runs x))
+word_plain_runs {deep} {len} {depth} {run} {text} {q} (word_double g v t q1 h i x e) = subst PlainRunsAreLongest (sym e) (plain_more run v.0 (v.1 ++ note.Gap ∷ []) q1 ((inner_has_no_run i).1 refl) (word_plain_runs x))
+word_plain_runs {deep} {len} {depth} {run} {text} {q} (word_run g ts t q1 h i x e) =
+    subst PlainRunsAreLongest (sym e) (plain_more run (part.Run (offset len text) ts false ∷ []) (note.Gap ∷ []) q1 (run_no_run (offset len text) ts false) (word_plain_runs x))
+word_plain_runs {deep} {len} {depth} {run} {text} {q} (word_wrong f h e) = subst PlainRunsAreLongest (sym e) tt
+word_plain_runs {deep} {len} {depth} {run} {text} {q} (word_bad_double g f h i e) = subst PlainRunsAreLongest (sym e) tt
+word_plain_runs {deep} {len} {depth} {run} {text} {q} (word_bad_run g f h i e) = subst PlainRunsAreLongest (sym e) tt
 
 pub plain_longest : (deep : ℕ → Bool) (len depth : ℕ) (text rest : Bytes) (v : Read) → IsWord deep len depth [] text (Whole v rest) → plain_runs_are_longest false v.0 ≡ true
-plain_longest deep len depth text rest v w = word_fine w
+plain_longest deep len depth text rest v w = word_plain_runs w
 
 -- ---- runs in double quotes
 
@@ -129,44 +129,44 @@ all_apart b ps = refl
 run_apart : (at : ℕ) (ts : List Token) (quoted : Bool) → IsApart (part.Run at ts quoted)
 run_apart at ts quoted b ps = refl
 
-abbrev QuotedFine : Bool → Out Read → Type 0
-QuotedFine fresh (Whole v rest) = ((fresh ≡ true) × (v.0 ≡ part.Quoted [] ∷ [])) ⊎ (quoted_runs_are_longest false v.0 ≡ true)
-QuotedFine fresh (Stop fault) = Unit {0}
+abbrev EmptyOrLongest : Bool → Out Read → Type 0
+EmptyOrLongest fresh (Whole v rest) = ((fresh ≡ true) × (v.0 ≡ part.Quoted [] ∷ [])) ⊎ (quoted_runs_are_longest false v.0 ≡ true)
+EmptyOrLongest fresh (Stop fault) = Unit {0}
 
-last_fine : (fresh : Bool) (run : Bytes) → ((fresh ≡ true) × (last_run fresh run ≡ part.Quoted [] ∷ [])) ⊎ (quoted_runs_are_longest false (last_run fresh run) ≡ true)
-last_fine true [] = inl (refl, refl)
-last_fine true (b ∷ run) = inr refl
-last_fine false [] = inr refl
-last_fine false (b ∷ run) = inr refl
+last_empty_or_longest : (fresh : Bool) (run : Bytes) → ((fresh ≡ true) × (last_run fresh run ≡ part.Quoted [] ∷ [])) ⊎ (quoted_runs_are_longest false (last_run fresh run) ≡ true)
+last_empty_or_longest true [] = inl (refl, refl)
+last_empty_or_longest true (b ∷ run) = inr refl
+last_empty_or_longest false [] = inr refl
+last_empty_or_longest false (b ∷ run) = inr refl
 
 apart_then : (run : Bytes) (p : RawPart) (ps : List RawPart) → IsApart p → quoted_runs_are_longest false ps ≡ true → quoted_runs_are_longest false ((quoted_run run ++ p ∷ []) ++ ps) ≡ true
 apart_then [] p ps h e = h false ps ∙ e
 apart_then (b ∷ run) p ps h e = h true ps ∙ e
 
-quoted_more : (fresh : Bool) (run : Bytes) (p : RawPart) (ms : List ByteNote) (q : Out Read) → IsApart p → QuotedFine false q → QuotedFine fresh (grown (quoted_run run ++ p ∷ []) ms q)
+quoted_more : (fresh : Bool) (run : Bytes) (p : RawPart) (ms : List ByteNote) (q : Out Read) → IsApart p → EmptyOrLongest false q → EmptyOrLongest fresh (grown (quoted_run run ++ p ∷ []) ms q)
 quoted_more fresh run p ms (Whole v rest) h (inl f) = absurd (true_false (sym f.0))
 quoted_more fresh run p ms (Whole v rest) h (inr e) = inr (apart_then run p v.0 h e)
 quoted_more fresh run p ms (Stop fault) h f = tt
 
-quoted_same : (fresh : Bool) (ms : List ByteNote) (q : Out Read) → QuotedFine fresh q → QuotedFine fresh (grown [] ms q)
+quoted_same : (fresh : Bool) (ms : List ByteNote) (q : Out Read) → EmptyOrLongest fresh q → EmptyOrLongest fresh (grown [] ms q)
 quoted_same fresh ms (Whole v rest) f = f
 quoted_same fresh ms (Stop fault) f = tt
 
-quoted_fine : {deep : ℕ → Bool} {len depth from : ℕ} {fresh : Bool} {run text : Bytes} {q : Out Read} → IsInner deep len depth from fresh run text q → QuotedFine fresh q
-quoted_fine {deep} {len} {depth} {from} {fresh} {run} {text} {q} (inner_open h e) = subst (QuotedFine fresh) (sym e) tt
-quoted_fine {deep} {len} {depth} {from} {fresh} {run} {text} {q} (inner_ends t h e) = subst (QuotedFine fresh) (sym e) (last_fine fresh run)
-quoted_fine {deep} {len} {depth} {from} {fresh} {run} {text} {q} (inner_byte b t q1 h x e) = subst (QuotedFine fresh) (sym e) (quoted_same fresh (note.Gap ∷ []) q1 (quoted_fine x))
-quoted_fine {deep} {len} {depth} {from} {fresh} {run} {text} {q} (inner_piece p t q1 h x e) =
-    subst (QuotedFine fresh) (sym e) (quoted_more fresh run p (note.Gap ∷ []) q1 (piece_apart p text t (inner_seen len text (Piece p t) h)) (quoted_fine x))
-quoted_fine {deep} {len} {depth} {from} {fresh} {run} {text} {q} (inner_all t q1 h x e) = subst (QuotedFine fresh) (sym e) (quoted_more fresh run part.All (note.All (offset len text) true ∷ []) q1 all_apart (quoted_fine x))
-quoted_fine {deep} {len} {depth} {from} {fresh} {run} {text} {q} (inner_run g ts t q1 h i x e) =
-    subst (QuotedFine fresh) (sym e) (quoted_more fresh run (part.Run (offset len text) ts true) (note.Gap ∷ []) q1 (run_apart (offset len text) ts true) (quoted_fine x))
-quoted_fine {deep} {len} {depth} {from} {fresh} {run} {text} {q} (inner_wrong f h e) = subst (QuotedFine fresh) (sym e) tt
-quoted_fine {deep} {len} {depth} {from} {fresh} {run} {text} {q} (inner_bad_run g f h i e) = subst (QuotedFine fresh) (sym e) tt
+quoted_empty_or_longest : {deep : ℕ → Bool} {len depth from : ℕ} {fresh : Bool} {run text : Bytes} {q : Out Read} → IsInner deep len depth from fresh run text q → EmptyOrLongest fresh q
+quoted_empty_or_longest {deep} {len} {depth} {from} {fresh} {run} {text} {q} (inner_open h e) = subst (EmptyOrLongest fresh) (sym e) tt
+quoted_empty_or_longest {deep} {len} {depth} {from} {fresh} {run} {text} {q} (inner_ends t h e) = subst (EmptyOrLongest fresh) (sym e) (last_empty_or_longest fresh run)
+quoted_empty_or_longest {deep} {len} {depth} {from} {fresh} {run} {text} {q} (inner_byte b t q1 h x e) = subst (EmptyOrLongest fresh) (sym e) (quoted_same fresh (note.Gap ∷ []) q1 (quoted_empty_or_longest x))
+quoted_empty_or_longest {deep} {len} {depth} {from} {fresh} {run} {text} {q} (inner_piece p t q1 h x e) =
+    subst (EmptyOrLongest fresh) (sym e) (quoted_more fresh run p (note.Gap ∷ []) q1 (piece_apart p text t (inner_seen len text (Piece p t) h)) (quoted_empty_or_longest x))
+quoted_empty_or_longest {deep} {len} {depth} {from} {fresh} {run} {text} {q} (inner_all t q1 h x e) = subst (EmptyOrLongest fresh) (sym e) (quoted_more fresh run part.All (note.All (offset len text) true ∷ []) q1 all_apart (quoted_empty_or_longest x))
+quoted_empty_or_longest {deep} {len} {depth} {from} {fresh} {run} {text} {q} (inner_run g ts t q1 h i x e) =
+    subst (EmptyOrLongest fresh) (sym e) (quoted_more fresh run (part.Run (offset len text) ts true) (note.Gap ∷ []) q1 (run_apart (offset len text) ts true) (quoted_empty_or_longest x))
+quoted_empty_or_longest {deep} {len} {depth} {from} {fresh} {run} {text} {q} (inner_wrong f h e) = subst (EmptyOrLongest fresh) (sym e) tt
+quoted_empty_or_longest {deep} {len} {depth} {from} {fresh} {run} {text} {q} (inner_bad_run g f h i e) = subst (EmptyOrLongest fresh) (sym e) tt
 
-empty_or_longest : (v : Read) (rest : Bytes) → QuotedFine true (Whole v rest) → (v.0 ≡ part.Quoted [] ∷ []) ⊎ (quoted_runs_are_longest false v.0 ≡ true)
+empty_or_longest : (v : Read) (rest : Bytes) → EmptyOrLongest true (Whole v rest) → (v.0 ≡ part.Quoted [] ∷ []) ⊎ (quoted_runs_are_longest false v.0 ≡ true)
 empty_or_longest v rest (inl f) = inl f.1
 empty_or_longest v rest (inr e) = inr e
 
 pub quoted_longest : (deep : ℕ → Bool) (len depth «from» : ℕ) (text rest : Bytes) (v : Read) → IsInner deep len depth «from» true [] text (Whole v rest) → (v.0 ≡ part.Quoted [] ∷ []) ⊎ (quoted_runs_are_longest false v.0 ≡ true)
-quoted_longest deep len depth «from» text rest v i = empty_or_longest v rest (quoted_fine i)
+quoted_longest deep len depth «from» text rest v i = empty_or_longest v rest (quoted_empty_or_longest i)

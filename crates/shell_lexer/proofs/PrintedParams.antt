@@ -32,10 +32,10 @@ data IsExpansion : Key → Option Bytes → Type 0 where
 expansion_of : {key : Key} {default : Option Bytes} {text rest : Bytes} → IsParam key default text rest → IsExpansion key default
 expansion_of (by_name is h ends) = variable is
 expansion_of (name_braced is h) = variable is
-expansion_of (name_default is fine h) = variable_or is fine
+expansion_of (name_default is default_is h) = variable_or is default_is
 expansion_of (by_number is h) = positional is.least is.most
 expansion_of (number_braced is h) = positional is.least is.most
-expansion_of (number_default is fine h) = positional_or is.least is.most fine
+expansion_of (number_default is default_is h) = positional_or is.least is.most default_is
 expansion_of (by_count h) = how_many
 expansion_of (count_braced h) = how_many
 
@@ -78,18 +78,18 @@ braced : (key : Key) (default : Option Bytes) (rest : Bytes) → IsExpansion key
     → IsParam key default (spelled (key_text key) (default_text default) ++ rest) rest
 braced key default rest (variable {name = n} is) =
     name_braced is (stands_here (spelled n []) rest (all_append is_no_back n (codes "}") (variable_no_back n is) refl))
-braced key default rest (variable_or {name = n} {default = d} is fine) =
-    name_default is fine
+braced key default rest (variable_or {name = n} {default = d} is default_is) =
+    name_default is default_is
     (stands_here (spelled n (codes ":-" ++ d)) rest
-    (all_append is_no_back n (codes ":-" ++ (d ++ codes "}")) (variable_no_back n is) (all_append is_no_back d (codes "}") (default_no_back d fine) refl)))
+    (all_append is_no_back n (codes ":-" ++ (d ++ codes "}")) (variable_no_back n is) (all_append is_no_back d (codes "}") (default_no_back d default_is) refl)))
 braced key default rest (positional {number = n} lo hi) =
     subst (λ k. IsParam (Arg n) None (spelled k [] ++ rest) rest) (sym (digit_is n hi))
     (number_braced (digit_of n lo hi) (stands_here (spelled ((48 + n) ∷ []) []) rest (and_both (is_no_back (48 + n)) true (digit_no_back n hi) refl)))
-braced key default rest (positional_or {number = n} {default = d} lo hi fine) =
+braced key default rest (positional_or {number = n} {default = d} lo hi default_is) =
     subst (λ k. IsParam (Arg n) (Some d) (spelled k (codes ":-" ++ d) ++ rest) rest) (sym (digit_is n hi))
-    (number_default (digit_of n lo hi) fine
+    (number_default (digit_of n lo hi) default_is
     (stands_here (spelled ((48 + n) ∷ []) (codes ":-" ++ d)) rest
-    (and_both (is_no_back (48 + n)) (list_all is_no_back (d ++ codes "}")) (digit_no_back n hi) (all_append is_no_back d (codes "}") (default_no_back d fine) refl))))
+    (and_both (is_no_back (48 + n)) (list_all is_no_back (d ++ codes "}")) (digit_no_back n hi) (all_append is_no_back d (codes "}") (default_no_back d default_is) refl))))
 braced key default rest how_many = count_braced (stands_here (spelled (codes "#") []) rest refl)
 
 -- ---- the parts

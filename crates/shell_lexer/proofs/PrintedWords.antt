@@ -430,10 +430,10 @@ never b text more ps e f g t = absurd (true_false (sym g ∙ ap after_dollar f �
 param_follows : (ps : List RawPart) {key : Key} {default : Option Bytes} {text rest : Bytes} → IsParam key default text rest → Follows text ps
 param_follows ps {text = text} (by_name is h ends) = never 36 text h.0 ps refl h.1
 param_follows ps {text = text} (name_braced is h) = never 36 text h.0 ps refl h.1
-param_follows ps {text = text} (name_default is fine h) = never 36 text h.0 ps refl h.1
+param_follows ps {text = text} (name_default is default_is h) = never 36 text h.0 ps refl h.1
 param_follows ps {text = text} (by_number is h) = never 36 text h.0 ps refl h.1
 param_follows ps {text = text} (number_braced is h) = never 36 text h.0 ps refl h.1
-param_follows ps {text = text} (number_default is fine h) = never 36 text h.0 ps refl h.1
+param_follows ps {text = text} (number_default is default_is h) = never 36 text h.0 ps refl h.1
 param_follows ps {text = text} (by_count h) = never 36 text h.0 ps refl h.1
 param_follows ps {text = text} (count_braced h) = never 36 text h.0 ps refl h.1
 
@@ -453,19 +453,21 @@ abbrev some_part : List RawPart → Bool
 some_part [] = false
 some_part (p ∷ ps) = true
 
-abbrev InnerFine : Bool → Out Read → Type 0
-InnerFine fresh (Whole v rest) = (holds_no_run v.0 ≡ true → AllOne v.0) × (fresh ≡ true → some_part v.0 ≡ true)
-InnerFine fresh (Stop fault) = Unit {0}
+-- where no substitution stands among the parts in double quotes, each of them is one part as it is printed; and
+-- where they are read from their beginning, there is a part
+abbrev InnerHasParts : Bool → Out Read → Type 0
+InnerHasParts fresh (Whole v rest) = (holds_no_run v.0 ≡ true → AllOne v.0) × (fresh ≡ true → some_part v.0 ≡ true)
+InnerHasParts fresh (Stop fault) = Unit {0}
 
-last_fine : (fresh : Bool) (run rest : Bytes) → InnerFine fresh (Whole (last_run fresh run, []) rest)
-last_fine true [] rest = (λ n. one_more (quoted_one []) one_none, λ e. refl)
-last_fine true (b ∷ run) rest = (λ n. one_more (quoted_one (b ∷ run)) one_none, λ e. refl)
-last_fine false [] rest = (λ n. one_none, λ e. absurd (true_false (sym e)))
-last_fine false (b ∷ run) rest = (λ n. one_more (quoted_one (b ∷ run)) one_none, λ e. refl)
+last_has_parts : (fresh : Bool) (run rest : Bytes) → InnerHasParts fresh (Whole (last_run fresh run, []) rest)
+last_has_parts true [] rest = (λ n. one_more (quoted_one []) one_none, λ e. refl)
+last_has_parts true (b ∷ run) rest = (λ n. one_more (quoted_one (b ∷ run)) one_none, λ e. refl)
+last_has_parts false [] rest = (λ n. one_none, λ e. absurd (true_false (sym e)))
+last_has_parts false (b ∷ run) rest = (λ n. one_more (quoted_one (b ∷ run)) one_none, λ e. refl)
 
-same_fine : (fresh : Bool) (ns : List ByteNote) (q : Out Read) → InnerFine fresh q → InnerFine fresh (grown [] ns q)
-same_fine fresh ns (Whole v rest) f = f
-same_fine fresh ns (Stop fault) f = tt
+same_has_parts : (fresh : Bool) (ns : List ByteNote) (q : Out Read) → InnerHasParts fresh q → InnerHasParts fresh (grown [] ns q)
+same_has_parts fresh ns (Whole v rest) f = f
+same_has_parts fresh ns (Stop fault) f = tt
 
 behind_run : (run : Bytes) (p : RawPart) (ps : List RawPart) → One p → AllOne ps → AllOne ((quoted_run run ++ p ∷ []) ++ ps)
 behind_run [] p ps h a = one_more h a
@@ -475,17 +477,17 @@ some_behind : (run : Bytes) (p : RawPart) (ps : List RawPart) → some_part ((qu
 some_behind [] p ps = refl
 some_behind (b ∷ run) p ps = refl
 
-more_fine : (fresh : Bool) (run : Bytes) (p : RawPart) (ns : List ByteNote) (q : Out Read) → One p → InnerFine false q → InnerFine fresh (grown (quoted_run run ++ p ∷ []) ns q)
-more_fine fresh run p ns (Whole v rest) h f = (λ n. behind_run run p v.0 h (f.0 (no_run_right (quoted_run run ++ p ∷ []) v.0 n)), λ e. some_behind run p v.0)
-more_fine fresh run p ns (Stop fault) h f = tt
+more_has_parts : (fresh : Bool) (run : Bytes) (p : RawPart) (ns : List ByteNote) (q : Out Read) → One p → InnerHasParts false q → InnerHasParts fresh (grown (quoted_run run ++ p ∷ []) ns q)
+more_has_parts fresh run p ns (Whole v rest) h f = (λ n. behind_run run p v.0 h (f.0 (no_run_right (quoted_run run ++ p ∷ []) v.0 n)), λ e. some_behind run p v.0)
+more_has_parts fresh run p ns (Stop fault) h f = tt
 
 no_runs : (run : Bytes) (at : ℕ) (ts : List Token) (quoted : Bool) (ps : List RawPart) → holds_no_run ((quoted_run run ++ part.Run at ts quoted ∷ []) ++ ps) ≡ true → ⊥
 no_runs [] at ts quoted ps e = true_false (sym e)
 no_runs (b ∷ run) at ts quoted ps e = true_false (sym e)
 
-run_fine : (fresh : Bool) (run : Bytes) (at : ℕ) (ts : List Token) (quoted : Bool) (ns : List ByteNote) (q : Out Read) → InnerFine fresh (grown (quoted_run run ++ part.Run at ts quoted ∷ []) ns q)
-run_fine fresh run at ts quoted ns (Whole v rest) = (λ n. absurd (no_runs run at ts quoted v.0 n), λ e. some_behind run (part.Run at ts quoted) v.0)
-run_fine fresh run at ts quoted ns (Stop fault) = tt
+run_has_parts : (fresh : Bool) (run : Bytes) (at : ℕ) (ts : List Token) (quoted : Bool) (ns : List ByteNote) (q : Out Read) → InnerHasParts fresh (grown (quoted_run run ++ part.Run at ts quoted ∷ []) ns q)
+run_has_parts fresh run at ts quoted ns (Whole v rest) = (λ n. absurd (no_runs run at ts quoted v.0 n), λ e. some_behind run (part.Run at ts quoted) v.0)
+run_has_parts fresh run at ts quoted ns (Stop fault) = tt
 
 module _ (outside : PartsAreSpelled look false) (inside : PartsAreSpelled inner true) (args : AllArgsAreSpelled look) (quotes : DoubleQuotesAreSpelled look) (param : ParamIsOnePart) (whole : AllIsOnePart) where
   piece_one : (in_quotes : Bool) (p : RawPart) (text rest : Bytes) → IsPiece in_quotes p text rest → One p
@@ -496,18 +498,18 @@ module _ (outside : PartsAreSpelled look false) (inside : PartsAreSpelled inner 
   whole_one : One part.All
   whole_one = record { one = whole; begin = all_head }
 
-  inner_fine : {deep : ℕ → Bool} {len depth «from» : ℕ} {fresh : Bool} {run text : Bytes} {q : Out Read} → IsInner deep len depth «from» fresh run text q → InnerFine fresh q
-  inner_fine {deep} {len} {depth} {«from»} {fresh} {run} {text} {q} (inner_open h e) = subst (InnerFine fresh) (sym e) tt
-  inner_fine {deep} {len} {depth} {«from»} {fresh} {run} {text} {q} (inner_ends t h e) = subst (InnerFine fresh) (sym e) (last_fine fresh run t)
-  inner_fine {deep} {len} {depth} {«from»} {fresh} {run} {text} {q} (inner_byte b t q1 h x e) = subst (InnerFine fresh) (sym e) (same_fine fresh (note.Gap ∷ []) q1 (inner_fine x))
-  inner_fine {deep} {len} {depth} {«from»} {fresh} {run} {text} {q} (inner_piece p t q1 h x e) =
-      subst (InnerFine fresh) (sym e) (more_fine fresh run p (note.Gap ∷ []) q1 (piece_one true p text t ((inside len text t p).0 h)) (inner_fine x))
-  inner_fine {deep} {len} {depth} {«from»} {fresh} {run} {text} {q} (inner_all t q1 h x e) =
-      subst (InnerFine fresh) (sym e) (more_fine fresh run part.All (note.All (offset len text) true ∷ []) q1 whole_one (inner_fine x))
-  inner_fine {deep} {len} {depth} {«from»} {fresh} {run} {text} {q} (inner_run g ts t q1 h i x e) =
-      subst (InnerFine fresh) (sym e) (run_fine fresh run (offset len text) ts true (note.Gap ∷ []) q1)
-  inner_fine {deep} {len} {depth} {«from»} {fresh} {run} {text} {q} (inner_wrong f h e) = subst (InnerFine fresh) (sym e) tt
-  inner_fine {deep} {len} {depth} {«from»} {fresh} {run} {text} {q} (inner_bad_run g f h i e) = subst (InnerFine fresh) (sym e) tt
+  inner_has_parts : {deep : ℕ → Bool} {len depth «from» : ℕ} {fresh : Bool} {run text : Bytes} {q : Out Read} → IsInner deep len depth «from» fresh run text q → InnerHasParts fresh q
+  inner_has_parts {deep} {len} {depth} {«from»} {fresh} {run} {text} {q} (inner_open h e) = subst (InnerHasParts fresh) (sym e) tt
+  inner_has_parts {deep} {len} {depth} {«from»} {fresh} {run} {text} {q} (inner_ends t h e) = subst (InnerHasParts fresh) (sym e) (last_has_parts fresh run t)
+  inner_has_parts {deep} {len} {depth} {«from»} {fresh} {run} {text} {q} (inner_byte b t q1 h x e) = subst (InnerHasParts fresh) (sym e) (same_has_parts fresh (note.Gap ∷ []) q1 (inner_has_parts x))
+  inner_has_parts {deep} {len} {depth} {«from»} {fresh} {run} {text} {q} (inner_piece p t q1 h x e) =
+      subst (InnerHasParts fresh) (sym e) (more_has_parts fresh run p (note.Gap ∷ []) q1 (piece_one true p text t ((inside len text t p).0 h)) (inner_has_parts x))
+  inner_has_parts {deep} {len} {depth} {«from»} {fresh} {run} {text} {q} (inner_all t q1 h x e) =
+      subst (InnerHasParts fresh) (sym e) (more_has_parts fresh run part.All (note.All (offset len text) true ∷ []) q1 whole_one (inner_has_parts x))
+  inner_has_parts {deep} {len} {depth} {«from»} {fresh} {run} {text} {q} (inner_run g ts t q1 h i x e) =
+      subst (InnerHasParts fresh) (sym e) (run_has_parts fresh run (offset len text) ts true (note.Gap ∷ []) q1)
+  inner_has_parts {deep} {len} {depth} {«from»} {fresh} {run} {text} {q} (inner_wrong f h e) = subst (InnerHasParts fresh) (sym e) tt
+  inner_has_parts {deep} {len} {depth} {«from»} {fresh} {run} {text} {q} (inner_bad_run g f h i e) = subst (InnerHasParts fresh) (sym e) tt
 
   -- ---- words
 
@@ -615,9 +617,9 @@ module _ (outside : PartsAreSpelled look false) (inside : PartsAreSpelled inner 
         (parts_claim len run text t part.All [] (note.All (offset len text) false ∷ []) q1 (λ n. one_more whole_one one_none) (never 36 text g.0 (part.All ∷ []) refl g.1) (not_end len text (AllArgs t) h (λ f. cc f)) (word_claim x))
     word_claim {len} {run} {text} {q} (word_double begin v t q1 h i x e) =
         let g = (quotes len text begin).0 h in
-        let fine = inner_fine i in
+        let has_parts = inner_has_parts i in
         subst (Claim len run text) (sym e)
-        (double_claim len run text t v.0 (v.1 ++ note.Gap ∷ []) q1 (fine.1 refl) fine.0 (never 34 text g.0 v.0 refl g.1) (not_end len text (DoubleQuote begin) h (λ f. cc f)) (word_claim x))
+        (double_claim len run text t v.0 (v.1 ++ note.Gap ∷ []) q1 (has_parts.1 refl) has_parts.0 (never 34 text g.0 v.0 refl g.1) (not_end len text (DoubleQuote begin) h (λ f. cc f)) (word_claim x))
     word_claim {len} {run} {text} {q} (word_run begin ts t q1 h i x e) = subst (Claim len run text) (sym e) (no_run_claim len run text (offset len text) ts (note.Gap ∷ []) q1)
     word_claim {len} {run} {text} {q} (word_wrong f h e) = subst (Claim len run text) (sym e) tt
     word_claim {len} {run} {text} {q} (word_bad_double begin f h i e) = subst (Claim len run text) (sym e) tt

@@ -117,15 +117,15 @@ param_dollar quoted key default text rest (by_name {name = n} is h ends) = recor
 param_dollar quoted key default text rest (name_braced {name = n} is h) =
     let p = stands_parts n (codes "}") h.2.0 rest h.2.2 in
     record { behind = h.0; is = h.1; gives = λ at. ap (dollar quoted at h.0) h.2.1 ∙ name_key quoted at n h.2.0 p.0 is p.1 (ap (begins is_name_byte) p.2.1) ∙ key_closed quoted at (Named n) p.0 rest p.2 }
-param_dollar quoted key default text rest (name_default {name = n} {default = d} is fine h) =
+param_dollar quoted key default text rest (name_default {name = n} {default = d} is default_is h) =
     let p = stands_parts n (codes ":-" ++ (d ++ codes "}")) h.2.0 rest h.2.2 in
-    record { behind = h.0; is = h.1; gives = λ at. ap (dollar quoted at h.0) h.2.1 ∙ name_key quoted at n h.2.0 p.0 is p.1 (ap (begins is_name_byte) p.2.1) ∙ key_default quoted at (Named n) d p.0 rest fine p.2 }
+    record { behind = h.0; is = h.1; gives = λ at. ap (dollar quoted at h.0) h.2.1 ∙ name_key quoted at n h.2.0 p.0 is p.1 (ap (begins is_name_byte) p.2.1) ∙ key_default quoted at (Named n) d p.0 rest default_is p.2 }
 param_dollar quoted key default text rest (by_number {number = n} {digit = d} is h) =
     record { behind = h.0; is = h.1; gives = λ at. digit_part quoted at n d h.0 h.2.0 is h.2.1 ∙ ap (Piece (part.Param (Arg n) None quoted)) h.2.2 }
 param_dollar quoted key default text rest (number_braced {number = n} {digit = d} is h) =
     record { behind = h.0; is = h.1; gives = λ at. ap (dollar quoted at h.0) h.2.1 ∙ digit_key quoted at n d h.2.0 h.2.2.0 is h.2.2.1 ∙ key_closed quoted at (Arg n) h.2.2.0 rest h.2.2.2 }
-param_dollar quoted key default text rest (number_default {number = n} {digit = d} {default = b} is fine h) =
-    record { behind = h.0; is = h.1; gives = λ at. ap (dollar quoted at h.0) h.2.1 ∙ digit_key quoted at n d h.2.0 h.2.2.0 is h.2.2.1 ∙ key_default quoted at (Arg n) b h.2.2.0 rest fine h.2.2.2 }
+param_dollar quoted key default text rest (number_default {number = n} {digit = d} {default = b} is default_is h) =
+    record { behind = h.0; is = h.1; gives = λ at. ap (dollar quoted at h.0) h.2.1 ∙ digit_key quoted at n d h.2.0 h.2.2.0 is h.2.2.1 ∙ key_default quoted at (Arg n) b h.2.2.0 rest default_is h.2.2.2 }
 param_dollar quoted key default text rest (count h) =
     record { behind = h.0; is = h.1; gives = λ at. ap (dollar quoted at h.0) h.2.1 ∙ ap (Piece (part.Param Count None quoted)) h.2.2 }
 param_dollar quoted key default text rest (count_braced h) =
@@ -231,7 +231,7 @@ key_seen : (quoted : Bool) (at : ℕ) (key : Key) (text middle t : Bytes) → sk
 key_seen quoted at key text middle [] e make make_default = tt
 key_seen quoted at key text middle (b ∷ u) e make make_default =
     if_case (λ l. IsSeen quoted l text) (nat_eq b 58) (behind_colon quoted at key (skip u)) (closed quoted at key None (b ∷ u))
-    (λ is. colon_seen quoted at key text u (skip u) refl (λ default rest fine h. make_default default rest fine (u, e ∙ ap (λ b. b ∷ u) (eq_of b 58 is), h)))
+    (λ is. colon_seen quoted at key text u (skip u) refl (λ default rest default_is h. make_default default rest default_is (u, e ∙ ap (λ b. b ∷ u) (eq_of b 58 is), h)))
     (λ _. closed_seen quoted at key None text middle (b ∷ u) e make)
 
 -- the run of a name that begins with a letter
@@ -264,13 +264,13 @@ braced_by_seen quoted at b text from more k.Name o e is =
     let middle = behind Names (b ∷ more) in
     key_seen quoted at (Named found) text middle (skip middle) refl
     (λ rest h. name_braced n.0 (opened_stands text from (found ++ codes "}") rest o (stands_then found (codes "}") from middle rest n.1 h)))
-    (λ default rest fine h. name_default n.0 fine
+    (λ default rest default_is h. name_default n.0 default_is
     (opened_stands text from (found ++ (codes ":-" ++ (default ++ codes "}"))) rest o (stands_then found (codes ":-" ++ (default ++ codes "}")) from middle rest n.1 h)))
 braced_by_seen quoted at b text from more k.Digit o e is =
     if_case (λ l. IsSeen quoted l text) (nat_eq b 48) (bad_param at) (behind_key quoted at (Arg (b - 48)) (skip more)) (λ _. tt)
     (λ other. key_seen quoted at (Arg (b - 48)) text more (skip more) refl
     (λ rest h. number_braced (digit_of b is other) (opened_stands text from (b ∷ codes "}") rest o (more, e, h)))
-    (λ default rest fine h. number_default (digit_of b is other) fine (opened_stands text from (b ∷ (codes ":-" ++ (default ++ codes "}"))) rest o (more, e, h))))
+    (λ default rest default_is h. number_default (digit_of b is other) default_is (opened_stands text from (b ∷ (codes ":-" ++ (default ++ codes "}"))) rest o (more, e, h))))
 braced_by_seen quoted at b text from more k.Hash o e is =
     closed_seen quoted at Count None text more (skip more) refl (λ rest h. count_braced (opened_stands text from (codes "#}") rest o (more, e ∙ ap (λ b. b ∷ more) is, h)))
 braced_by_seen quoted at b text from more _ o e is = tt

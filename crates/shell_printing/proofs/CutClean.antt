@@ -98,7 +98,7 @@ clean_param : {key : Key} {default : Option Bytes} {text rest : Bytes} → IsPar
 clean_param {text = text} {rest = rest} (by_name {name = name} is h ends) e = let k = clean_stands (codes "$" ++ name) text rest h e in (later 36 name k.0, refl, k.1)
 clean_param {text = text} {rest = rest} (name_braced {name = name} is h) e =
     let k = clean_stands (codes "${" ++ (name ++ codes "}")) text rest h e in (clean_left name (codes "}") (clean_right (codes "${") (name ++ codes "}") k.0), refl, k.1)
-clean_param {text = text} {rest = rest} (name_default {name = name} {default = default} is fine h) e =
+clean_param {text = text} {rest = rest} (name_default {name = name} {default = default} is default_is h) e =
     let k = clean_stands (codes "${" ++ (name ++ (codes ":-" ++ (default ++ codes "}")))) text rest h e in
     let n = clean_right (codes "${") (name ++ (codes ":-" ++ (default ++ codes "}"))) k.0 in
     let d = clean_right name (codes ":-" ++ (default ++ codes "}")) n in
@@ -106,7 +106,7 @@ clean_param {text = text} {rest = rest} (name_default {name = name} {default = d
 clean_param {text = text} {rest = rest} (by_number {number = number} {digit = digit} is h) e = let k = clean_stands (codes "$" ++ (digit ∷ [])) text rest h e in (digit_clean number is.most, refl, k.1)
 clean_param {text = text} {rest = rest} (number_braced {number = number} {digit = digit} is h) e =
     let k = clean_stands (codes "${" ++ (digit ∷ codes "}")) text rest h e in (digit_clean number is.most, refl, k.1)
-clean_param {text = text} {rest = rest} (number_default {number = number} {digit = digit} {default = default} is fine h) e =
+clean_param {text = text} {rest = rest} (number_default {number = number} {digit = digit} {default = default} is default_is h) e =
     let k = clean_stands (codes "${" ++ (digit ∷ (codes ":-" ++ (default ++ codes "}")))) text rest h e in
     let d = later digit (codes ":-" ++ (default ++ codes "}")) (clean_right (codes "${") (digit ∷ (codes ":-" ++ (default ++ codes "}"))) k.0) in
     (digit_clean number is.most, clean_append (codes ":-") default refl (clean_left default (codes "}") (clean_right (codes ":-") (default ++ codes "}") d)), k.1)

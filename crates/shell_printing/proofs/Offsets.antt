@@ -22,7 +22,7 @@ use Rattle.shell_grammar.specs.Look.{Tokens, look, place}
 use Rattle.shell_grammar.specs.Reading.{Out, Whole, Judged, Faultless, after, IsRule, rule, IsAll, no_more, one_more, one_stops, IsSign, is, is_not, opens, opens_not, too_deep, a_word as reads_word, a_word_stops, no_word, here, never, of, inside, IsParts, no_parts, plain_part, run_part, run_stops, run_deep}
 use Rattle.shell_grammar.specs.Spelling.{deep_64}
 use Rattle.shell_grammar.specs.Trees.{seq_of, pipe_of, chain_of, redirected, link, if_arm, case_arm, word_text, simple, named, joined, a_word, assigned, Tail, Defines, Continues, word_at}
-use Rattle.shell_grammar.proofs.Unique.{not_both, wholes, fines}
+use Rattle.shell_grammar.proofs.Unique.{not_both, wholes, same_faultless}
 use Rattle.shell_grammar.proofs.Begun.{whole_from}
 use Rattle.shell_printing.specs.Zeroed.{zeroed, zeroed_part, zeroed_assign, zeroed_case_arm, zeroed_if_arm, zeroed_link, zeroed_word, zeroed_raw, zeroed_tokens}
 use Rattle.shell_printing.specs.Laws.{OffsetsDoNotMatter}
@@ -255,7 +255,7 @@ record PartsAgain (deep : ℕ → Bool) (d : ℕ) (ps : List Part) (raws : List 
   pub same : map zeroed_part ps ≡ map zeroed_part parts
 
 faultless_from : (p : Part) (q : Judged) (ps : List Part) → after p q ≡ Faultless ps → (more : List Part) × (q ≡ Faultless more) × (ps ≡ p ∷ more)
-faultless_from p (Faultless more) ps e = (more, refl, sym (fines e))
+faultless_from p (Faultless more) ps e = (more, refl, sym (same_faultless e))
 faultless_from p _ ps e = absurd (cc e)
 
 abbrev zeroed_raws : List RawPart → List RawPart
@@ -368,7 +368,7 @@ module _ (deep : ℕ → Bool) where
     sign_again (never e) v r h other us z = absurd (not_both (sym (sym e ∙ h)))
 
     parts_again : {d : ℕ} {raws : List RawPart} {q : Judged} → IsParts deep d raws q → (ps : List Part) → q ≡ Faultless ps → (others : List RawPart) → zeroed_raws raws ≡ zeroed_raws others → PartsAgain deep d ps others
-    parts_again (no_parts e) ps h [] z = record { parts = []; reads = no_parts refl; same = ap (λ ps. map zeroed_part ps) (fines (sym h ∙ e)) }
+    parts_again (no_parts e) ps h [] z = record { parts = []; reads = no_parts refl; same = ap (λ ps. map zeroed_part ps) (same_faultless (sym h ∙ e)) }
     parts_again (no_parts e) ps h (q ∷ others) z = absurd (cc z)
     parts_again (plain_part x q1 a y e) ps h [] z = absurd (cc z)
     parts_again (plain_part {p = p} x q1 a y e) ps h (o ∷ others) z =

@@ -34,7 +34,7 @@ use Rattle.shell_grammar.specs.Look.{Tokens, look, place, word_look}
 use Rattle.shell_grammar.specs.Reading.{Out, Whole, Judged, Faultless, Faulty, after, plainly, IsRule, rule, IsAll, no_more, one_more, one_stops, IsSign, is, is_not, opens, opens_not, too_deep, a_word as reads_word, a_word_stops, no_word, here, never, of, inside, IsParts, no_parts, plain_part, run_part, run_stops, run_deep}
 use Rattle.shell_grammar.specs.Spelling.{deep_64}
 use Rattle.shell_grammar.specs.Trees.{seq_of, pipe_of, chain_of, redirected, case_arm, named, word_at, word_text, assigned, Tail, Defines, Continues}
-use Rattle.shell_grammar.proofs.Unique.{clash, not_both, wholes, fines, runs, no_run}
+use Rattle.shell_grammar.proofs.Unique.{clash, not_both, wholes, same_faultless, runs, no_run}
 use Rattle.shell_grammar.proofs.Begun.{whole_from}
 use Rattle.shell_printing.specs.Zeroed.{zeroed, zeroed_part}
 use Rattle.shell_printing.specs.PrintedTokens.{phrase, raw_of, word_raws, assign_raws, script_tokens}
@@ -106,7 +106,7 @@ higher : (n a b : ℕ) → nat_le a b ≡ true → nat_le n a ≡ true → nat_l
 higher n a b e f = let g = leb-true a b e in let h = leb-true n a f in le-leb n b (omega arith)
 
 faultless_from : (p : Part) (q : Judged) (ps : List Part) → after p q ≡ Faultless ps → (more : List Part) × (q ≡ Faultless more) × (ps ≡ p ∷ more)
-faultless_from p (Faultless more) ps e = (more, refl, sym (fines e))
+faultless_from p (Faultless more) ps e = (more, refl, sym (same_faultless e))
 faultless_from p (Faulty f) ps e = absurd (cc e)
 
 module _ (deep : ℕ → Bool) (lower : (d : ℕ) → deep (suc d) ≡ false → deep d ≡ false) where
@@ -486,7 +486,7 @@ module _ (deep : ℕ → Bool) (lower : (d : ℕ) → deep (suc d) ≡ false →
     sign_said (never e) v r h long = absurd (not_both (sym (sym e ∙ h)))
 
     parts_said : {d : ℕ} {raws : List RawPart} {q : Judged} → IsParts deep d raws q → (ps : List Part) → q ≡ Faultless ps → PartsAreLongest raws → PartsSaid d raws ps
-    parts_said {d} (no_parts e) ps h long = subst (PartsSaid d []) (fines (sym e ∙ h)) (record { reads = no_parts refl; alike = alike_none; first = λ w p more f g. absurd (cc f) })
+    parts_said {d} (no_parts e) ps h long = subst (PartsSaid d []) (same_faultless (sym e ∙ h)) (record { reads = no_parts refl; alike = alike_none; first = λ w p more f g. absurd (cc f) })
     parts_said {d} (plain_part {p = p} {ps = raws} x q1 a y e) ps h long =
         let m = faultless_from x q1 ps (sym e ∙ h) in
         subst (PartsSaid d (p ∷ raws)) (sym m.2) (parts_plain p raws x m.0 a (parts_said y m.0 m.1 (plain_long long)))

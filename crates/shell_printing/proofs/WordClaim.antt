@@ -98,10 +98,10 @@ single_never f = cc (f 0 [] [])
 param_follows : (us : List RawPart) {key : _} {default : _} {text rest : Bytes} → IsParam key default text rest → Follows text us
 param_follows us {text = text} (by_name is h ends) = never 36 text h.0 us dollar_never h.1
 param_follows us {text = text} (name_braced is h) = never 36 text h.0 us dollar_never h.1
-param_follows us {text = text} (name_default is fine h) = never 36 text h.0 us dollar_never h.1
+param_follows us {text = text} (name_default is default_is h) = never 36 text h.0 us dollar_never h.1
 param_follows us {text = text} (by_number is h) = never 36 text h.0 us dollar_never h.1
 param_follows us {text = text} (number_braced is h) = never 36 text h.0 us dollar_never h.1
-param_follows us {text = text} (number_default is fine h) = never 36 text h.0 us dollar_never h.1
+param_follows us {text = text} (number_default is default_is h) = never 36 text h.0 us dollar_never h.1
 param_follows us {text = text} (by_count h) = never 36 text h.0 us dollar_never h.1
 param_follows us {text = text} (count_braced h) = never 36 text h.0 us dollar_never h.1
 

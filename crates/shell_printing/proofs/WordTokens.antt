@@ -76,12 +76,12 @@ module _ (deep : ℕ → Bool) where
           let reads : IsWord deep all d [] text (Whole b.read rest) = subst (λ t. IsWord deep all d [] t (Whole b.read rest)) same b.reads in
           let begins : sight all text ≡ Word = ap (sight all) (sym same) ∙ b.begins seen in
           let here = offset all text in
-          let fine : late d here b.read.1 ≡ None =
+          let none_late : late d here b.read.1 ≡ None =
           late_same outside inside v.0 b.read.0 v b.read d at here (says outside inside v w) (says outside inside b.read reads) (tilde_shape b.shape true) (brace_shape b.shape) (plainly_shape b.shape (codes "case")) (no_all_shape b.shape ∙ none) nothing
           in (
             token_at here (token.Word b.read.0) ∷ [],
             same_words here b.read.0 qs b.same,
             subst (λ t. IsItems deep all d start parens t (preceded (token_at here (token.Word b.read.0) ∷ []) q)) (sym (word_text qs rest))
-                (items_pass text (ap (λ u. sight_at all (place all u) u) (skip_first 32 text refl)) (items_word b.read rest q begins reads fine x refl)),
+                (items_pass text (ap (λ u. sight_at all (place all u) u) (skip_first 32 text refl)) (items_word b.read rest q begins reads none_late x refl)),
           );
     }

@@ -50,47 +50,47 @@ defs_pass_end earlier (x ∷ xs) d e h =
     and_from (def_passes earlier x) (defs_pass (earlier ++ x ∷ []) (xs ++ d ∷ [])) t.0
     (defs_pass_end (earlier ++ x ∷ []) xs d t.1 (subst (λ ds. def_passes ds d ≡ true) (sym (append_assoc earlier (x ∷ []) xs)) h))
 
--- the body of a definition may stand behind those
-abbrev Fine : Option (Text × Command) → List Def → Type 0
-Fine None defs = Unit {0}
-Fine (Some d) defs = stmt_passes (translated d.1 defs) (def_scope defs) ≡ true
+-- the body of a definition, if there is one, may stand behind these definitions
+abbrev BodyPasses : Option (Text × Command) → List Def → Type 0
+BodyPasses None defs = Unit {0}
+BodyPasses (Some d) defs = stmt_passes (translated d.1 defs) (def_scope defs) ≡ true
 
-def_if : (b : Bool) (d : Text × Command) (defs : List Def) → is_def d.0 defs ≡ b → Fine (Some d) defs → defs_pass [] defs ≡ true
+def_if : (b : Bool) (d : Text × Command) (defs : List Def) → is_def d.0 defs ≡ b → BodyPasses (Some d) defs → defs_pass [] defs ≡ true
     → defs_pass [] (defs ++ (if b then [] else record { name = d.0; body = translated d.1 defs } ∷ [])) ≡ true
 def_if true d defs is h e = subst (λ ds. defs_pass [] ds ≡ true) (sym (append-nil defs)) e
 def_if false d defs is h e = defs_pass_end [] defs (record { name = d.0; body = translated d.1 defs }) e (and_from _ _ (ap not is) h)
 
-one_def : (what : Option (Text × Command)) (defs : List Def) → Fine what defs → defs_pass [] defs ≡ true → defs_pass [] (defs ++ def_to what defs) ≡ true
+one_def : (what : Option (Text × Command)) (defs : List Def) → BodyPasses what defs → defs_pass [] defs ≡ true → defs_pass [] (defs ++ def_to what defs) ≡ true
 one_def None defs h e = subst (λ ds. defs_pass [] ds ≡ true) (sym (append-nil defs)) e
 one_def (Some d) defs h e = def_if (is_def d.0 defs) d defs refl h e
 
 -- ---- members
 
 module _ (first : Text → Option ℕ) where
-  layer_fine : (x : o.Command-F Command Part Assign CaseArm IfArm Link Word) (p : Place) (defs : List Def) → forms_of first (roll-Command x) p ≡ [] → Fine (layer_defines x) defs
-  layer_fine (o.Define at name body) p defs e =
+  layer_body_passes : (x : o.Command-F Command Part Assign CaseArm IfArm Link Word) (p : Place) (defs : List Def) → forms_of first (roll-Command x) p ≡ [] → BodyPasses (layer_defines x) defs
+  layer_body_passes (o.Define at name body) p defs e =
       let f = sym (ap (λ (f : Forms). f p) (fold-roll-Command Forms (PartSays Forms) (AssignSays Forms) (List (WordSays Forms) × Forms) (Forms × Forms) Forms (WordSays Forms) (form.command_layer first) (form.part_layer first) (form.assign_layer first) (form.case_arm_layer first) (form.if_arm_layer first) (form.link_layer first) (form.word_layer first) (o.Define at name body))) ∙ e in
       command_passes first body (function_body at) defs defs (λ x h. h) (no_back (form.define_forms first at name p) (forms_of first body (function_body at)) f)
-  layer_fine (o.Seq parts) p defs e = tt
-  layer_fine (o.Simple at assigns words) p defs e = tt
-  layer_fine (o.Redirected at body redirects) p defs e = tt
-  layer_fine (o.Pipe at parts) p defs e = tt
-  layer_fine (o.Not at body) p defs e = tt
-  layer_fine (o.Chain head rest) p defs e = tt
-  layer_fine (o.If at arms otherwise) p defs e = tt
-  layer_fine (o.For at name words body) p defs e = tt
-  layer_fine (o.While at until cond body) p defs e = tt
-  layer_fine (o.Case at subject arms) p defs e = tt
-  layer_fine (o.Sub at body) p defs e = tt
+  layer_body_passes (o.Seq parts) p defs e = tt
+  layer_body_passes (o.Simple at assigns words) p defs e = tt
+  layer_body_passes (o.Redirected at body redirects) p defs e = tt
+  layer_body_passes (o.Pipe at parts) p defs e = tt
+  layer_body_passes (o.Not at body) p defs e = tt
+  layer_body_passes (o.Chain head rest) p defs e = tt
+  layer_body_passes (o.If at arms otherwise) p defs e = tt
+  layer_body_passes (o.For at name words body) p defs e = tt
+  layer_body_passes (o.While at until cond body) p defs e = tt
+  layer_body_passes (o.Case at subject arms) p defs e = tt
+  layer_body_passes (o.Sub at body) p defs e = tt
 
-  fine : (x : Command) (p : Place) (defs : List Def) → forms_of first x p ≡ [] → Fine (defined_by x) defs
-  fine x p defs e = layer_fine (out-Command x) p defs (ap (λ x. forms_of first x p) (roll-out-Command x) ∙ e)
+  defined_body_passes : (x : Command) (p : Place) (defs : List Def) → forms_of first x p ≡ [] → BodyPasses (defined_by x) defs
+  defined_body_passes x p defs e = layer_body_passes (out-Command x) p defs (ap (λ x. forms_of first x p) (roll-out-Command x) ∙ e)
 
   all_defs_pass : (cs : List Command) (p : Place) (defs : List Def) → all_of (map (forms_of first) cs) p ≡ [] → defs_pass [] defs ≡ true → defs_pass [] (defs_to cs defs) ≡ true
   all_defs_pass [] p defs e h = h
   all_defs_pass (x ∷ cs) p defs e h =
       let a = forms_of first x p in let b = all_of (map (forms_of first) cs) p in
-      all_defs_pass cs p (defs_behind x defs) (no_back a b e) (one_def (defined_by x) defs (fine x p defs (no_front a b e)) h)
+      all_defs_pass cs p (defs_behind x defs) (no_back a b e) (one_def (defined_by x) defs (defined_body_passes x p defs (no_front a b e)) h)
 
   statements_pass : (cs : List Command) (p : Place) (defs all : List Def) → Known (defs_to cs defs) all → all_of (map (forms_of first) cs) p ≡ [] → all_stmts (scope p all) (body_statements cs defs) ≡ true
   statements_pass [] p defs all known e = refl

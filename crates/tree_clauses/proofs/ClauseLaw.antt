@@ -16,7 +16,7 @@ use Rattle.tree_clauses.specs.declared.clause.Literal.TheVariants.{Entry, Kind, 
 use Rattle.tree_clauses.specs.declared.clause.Clause.{Clause}
 use Rattle.tree_clauses.specs.ClauseText.{after_comma, var_text, kinds_text, names_text, literal_text, clause_text}
 use Rattle.tree_clauses.specs.Cuts.{pieces, ends_line, ends_word, ends_member}
-use Rattle.tree_clauses.specs.ClauseRead.{var_of, names_of, kinds_of, literal_of, literals_onto, headed, lines_clause, clause_of, is_var, is_held_name, is_literal, is_clause, ClausesReadBack}
+use Rattle.tree_clauses.specs.ClauseRead.{var_of, names_of, kinds_of, literal_of, literals_onto, headed, lines_clause, clause_of, is_var, is_representable_name, is_literal, is_clause, ClausesReadBack}
 use Rattle.tree_clauses.specs.declared.read.ClauseFault.TheVariants.{Bad, Memory}
 use Rattle.shown_texts.proofs.Lists.{all_weaker, all_both}
 use Rattle.shown_texts.proofs.Numerals.{decimal_digits, number_read}
@@ -107,7 +107,7 @@ var_read x h = ap (option_map (λ n. record { 0 = n })) (number_read (2 ^ 32 - 1
 pub show_word : (bs : List ℕ) → list_all is_byte bs ≡ true → is_word (show bs) ≡ true
 show_word bs h = and_from (is_filled (show bs)) _ (show_filled bs) (all_weaker is_shown is_graphic shown_graphic (show bs) (show_shown bs h))
 
-pub name_graphic : (n : List ℕ) → is_held_name n ≡ true → list_all is_graphic (show n) ≡ true
+pub name_graphic : (n : List ℕ) → is_representable_name n ≡ true → list_all is_graphic (show n) ≡ true
 name_graphic n h = let k = and_parts (is_name n) (list_all is_byte n) h in all_weaker is_shown is_graphic shown_graphic (show n) (show_shown n k.1)
 
 shown_member : (b : ℕ) → is_shown b ≡ true → not (ends_member b) ≡ true
@@ -166,50 +166,50 @@ kinds_word set = (kinds_all set.absent set.reg set.link set.other set.dir).1
 abbrev others : List (List ℕ) → List ℕ
 others names = flat_map after_comma (map show names)
 
-first_pieces : (n : List ℕ) (names : List (List ℕ)) → is_held_name n ≡ true → list_all is_held_name names ≡ true
+first_pieces : (n : List ℕ) (names : List (List ℕ)) → is_representable_name n ≡ true → list_all is_representable_name names ≡ true
     → pieces ends_member (show n ++ (others names ++ 125 ∷ [])) ≡ show n ∷ map show names
 first_pieces n [] h g = let k = and_parts (is_name n) (list_all is_byte n) h in pieces_next ends_member (show n) 125 [] (show_filled n) (show_member n k.1) refl
 first_pieces n (m ∷ names) h g =
     let k = and_parts (is_name n) (list_all is_byte n) h in
-    let r = and_parts (is_held_name m) (list_all is_held_name names) g in
+    let r = and_parts (is_representable_name m) (list_all is_representable_name names) g in
     pieces_next ends_member (show n) 44 ((show m ++ others names) ++ 125 ∷ []) (show_filled n) (show_member n k.1) refl
     ∙ ap (λ t. show n ∷ pieces ends_member t) (append_assoc (show m) (others names) (125 ∷ []))
     ∙ ap (λ more. show n ∷ more) (first_pieces m names r.0 r.1)
 
-names_pieces : (names : List (List ℕ)) → list_all is_held_name names ≡ true → pieces ends_member (names_text names) ≡ map show names
+names_pieces : (names : List (List ℕ)) → list_all is_representable_name names ≡ true → pieces ends_member (names_text names) ≡ map show names
 names_pieces [] g = refl
 names_pieces (n ∷ names) g =
-    let r = and_parts (is_held_name n) (list_all is_held_name names) g in
+    let r = and_parts (is_representable_name n) (list_all is_representable_name names) g in
     pieces_end ends_member 123 ((show n ++ others names) ++ 125 ∷ []) refl
     ∙ ap (pieces ends_member) (append_assoc (show n) (others names) (125 ∷ []))
     ∙ first_pieces n names r.0 r.1
 
-pub name_read : (n : List ℕ) → is_held_name n ≡ true → name_of (show n) ≡ Some n
+pub name_read : (n : List ℕ) → is_representable_name n ≡ true → name_of (show n) ≡ Some n
 name_read n h =
     let k = and_parts (is_name n) (list_all is_byte n) h in
     ap (option_and_then if_name) (show_read n k.1) ∙ ap (λ t. if t then Some n else None) k.0
 
-names_back : (done names : List (List ℕ)) → list_all is_held_name names ≡ true → names_onto done (map show names) ≡ Some (done ++ names)
+names_back : (done names : List (List ℕ)) → list_all is_representable_name names ≡ true → names_onto done (map show names) ≡ Some (done ++ names)
 names_back done [] g = ap Some (sym (append-nil done))
 names_back done (n ∷ names) g =
-    let r = and_parts (is_held_name n) (list_all is_held_name names) g in
+    let r = and_parts (is_representable_name n) (list_all is_representable_name names) g in
     ap (option_and_then (λ name. names_onto (done ++ name ∷ []) (map show names))) (name_read n r.0)
     ∙ names_back (done ++ n ∷ []) names r.1 ∙ ap Some (append_assoc done (n ∷ []) names)
 
-pub names_read : (names : List (List ℕ)) → list_all is_held_name names ≡ true → names_of (names_text names) ≡ Some names
+pub names_read : (names : List (List ℕ)) → list_all is_representable_name names ≡ true → names_of (names_text names) ≡ Some names
 names_read names g = ap (names_onto []) (names_pieces names g) ∙ names_back [] names g
 
-others_graphic : (names : List (List ℕ)) → list_all is_held_name names ≡ true → list_all is_graphic (others names ++ 125 ∷ []) ≡ true
+others_graphic : (names : List (List ℕ)) → list_all is_representable_name names ≡ true → list_all is_graphic (others names ++ 125 ∷ []) ≡ true
 others_graphic [] g = refl
 others_graphic (n ∷ names) g =
-    let r = and_parts (is_held_name n) (list_all is_held_name names) g in
+    let r = and_parts (is_representable_name n) (list_all is_representable_name names) g in
     ap (list_all is_graphic) (append_assoc (show n) (others names) (125 ∷ []))
     ∙ all_both is_graphic (show n) (others names ++ 125 ∷ []) (name_graphic n r.0) (others_graphic names r.1)
 
-names_word : (names : List (List ℕ)) → list_all is_held_name names ≡ true → is_word (names_text names) ≡ true
+names_word : (names : List (List ℕ)) → list_all is_representable_name names ≡ true → is_word (names_text names) ≡ true
 names_word [] g = refl
 names_word (n ∷ names) g =
-    let r = and_parts (is_held_name n) (list_all is_held_name names) g in
+    let r = and_parts (is_representable_name n) (list_all is_representable_name names) g in
     ap (list_all is_graphic) (append_assoc (show n) (others names) (125 ∷ []))
     ∙ all_both is_graphic (show n) (others names ++ 125 ∷ []) (name_graphic n r.0) (others_graphic names r.1)
 
@@ -270,18 +270,18 @@ first_is_word (Target x target) = refl
 
 later_are_words : (l : Literal) → is_literal l ≡ true → list_all is_word (later_words l) ≡ true
 later_are_words (Entry x f y) h =
-    let k = and_parts (is_var x) (is_held_name f && is_var y) h in
-    let r = and_parts (is_held_name f) (is_var y) k.1 in
+    let k = and_parts (is_var x) (is_representable_name f && is_var y) h in
+    let r = and_parts (is_representable_name f) (is_var y) k.1 in
     let s = and_parts (is_name f) (list_all is_byte f) r.0 in
     three_words (var_text x) (show f) (var_text y) (var_word x k.0) (show_word f s.1) (var_word y r.1)
 later_are_words (Kind x set) h = two_words (var_text x) (kinds_text set) (var_word x h) (kinds_word set)
 later_are_words (Fence x names) h =
-    let k = and_parts (is_var x) (list_all is_held_name names) h in
+    let k = and_parts (is_var x) (list_all is_representable_name names) h in
     two_words (var_text x) (names_text names) (var_word x k.0) (names_word names k.1)
 later_are_words (NotEmpty x) h = one_word (var_text x) (var_word x h)
 later_are_words (Similar y names x) h =
-    let k = and_parts (is_var y) (list_all is_held_name names && is_var x) h in
-    let r = and_parts (list_all is_held_name names) (is_var x) k.1 in
+    let k = and_parts (is_var y) (list_all is_representable_name names && is_var x) h in
+    let r = and_parts (list_all is_representable_name names) (is_var x) k.1 in
     three_words (var_text y) (names_text names) (var_text x) (var_word y k.0) (names_word names r.0) (var_word x r.1)
 later_are_words (Target x target) h =
     let k = and_parts (is_var x) (list_all is_byte target) h in
@@ -289,17 +289,17 @@ later_are_words (Target x target) h =
 
 literal_read : (l : Literal) → is_literal l ≡ true → literal_of (first_word l ∷ later_words l) ≡ Some l
 literal_read (Entry x f y) h =
-    let k = and_parts (is_var x) (is_held_name f && is_var y) h in
-    let r = and_parts (is_held_name f) (is_var y) k.1 in
+    let k = and_parts (is_var x) (is_representable_name f && is_var y) h in
+    let r = and_parts (is_representable_name f) (is_var y) k.1 in
     λ i. option_and_then (λ x. option_and_then (λ f. option_map (λ y. Entry x f y) (var_read y r.1 i)) (name_read f r.0 i)) (var_read x k.0 i)
 literal_read (Kind x set) h = λ i. option_map (λ x. Kind x (kinds_read set i)) (var_read x h i)
 literal_read (Fence x names) h =
-    let k = and_parts (is_var x) (list_all is_held_name names) h in
+    let k = and_parts (is_var x) (list_all is_representable_name names) h in
     λ i. option_and_then (λ x. option_map (λ names. Fence x names) (names_read names k.1 i)) (var_read x k.0 i)
 literal_read (NotEmpty x) h = ap (option_map (λ x. NotEmpty x)) (var_read x h)
 literal_read (Similar y names x) h =
-    let k = and_parts (is_var y) (list_all is_held_name names && is_var x) h in
-    let r = and_parts (list_all is_held_name names) (is_var x) k.1 in
+    let k = and_parts (is_var y) (list_all is_representable_name names && is_var x) h in
+    let r = and_parts (list_all is_representable_name names) (is_var x) k.1 in
     λ i. option_and_then (λ y. option_and_then (λ names. option_map (λ x. Similar y names x) (var_read x r.1 i)) (names_read names r.0 i)) (var_read y k.0 i)
 literal_read (Target x target) h =
     let k = and_parts (is_var x) (list_all is_byte target) h in
@@ -358,6 +358,6 @@ one_clause : (o : Option Clause) (a b : Clause) → o ≡ Some a → o ≡ Some 
 one_clause o a b e f = cc
 
 pub read_back : ClausesReadBack
-read_back clause h (Ok found) held e = one_clause (clause_of (clause_text clause)) found clause (ap clause_of (sym e) ∙ clause_read found held) (clause_read clause h)
-read_back clause h (Err Bad) held reads = reads clause h refl
-read_back clause h (Err Memory) held reads = tt
+read_back clause h (Ok found) representable e = one_clause (clause_of (clause_text clause)) found clause (ap clause_of (sym e) ∙ clause_read found representable) (clause_read clause h)
+read_back clause h (Err Bad) representable reads = reads clause h refl
+read_back clause h (Err Memory) representable reads = tt

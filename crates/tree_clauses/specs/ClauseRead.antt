@@ -101,20 +101,20 @@ clause_of text = lines_clause (pieces ends_line text)
 abbrev pub is_var : Var → Bool
 is_var x = nat_le x.0 (2 ^ 32 - 1)
 
--- a name of bytes
-abbrev pub is_held_name : List ℕ → Bool
-is_held_name f = is_name f && are_bytes f
+-- a name that the program's types represent: a name, and of bytes
+abbrev pub is_representable_name : List ℕ → Bool
+is_representable_name f = is_name f && are_bytes f
 
 -- the variables of a literal fit, and its names are names
 abbrev pub is_literal : Literal → Bool
-is_literal (Entry x f y) = is_var x && (is_held_name f && is_var y)
+is_literal (Entry x f y) = is_var x && (is_representable_name f && is_var y)
 is_literal (Kind x kinds) = is_var x
-is_literal (Fence x names) = is_var x && list_all is_held_name names
+is_literal (Fence x names) = is_var x && list_all is_representable_name names
 is_literal (NotEmpty x) = is_var x
-is_literal (Similar y names x) = is_var y && (list_all is_held_name names && is_var x)
+is_literal (Similar y names x) = is_var y && (list_all is_representable_name names && is_var x)
 is_literal (Target x target) = is_var x && are_bytes target
 
--- a clause as the program can hold it
+-- a clause that the program's types represent
 abbrev pub is_clause : Clause → Bool
 is_clause clause = is_var clause.start && (is_var clause.now && list_all is_literal clause.literals)
 
@@ -124,10 +124,10 @@ ReadsClause text (Ok clause) = clause_text clause ≡ text
 ReadsClause text (Err Bad) = (clause : Clause) → IsTrue (is_clause clause) → ¬ (clause_text clause ≡ text)
 ReadsClause text (Err Memory) = Unit {0}
 
--- a clause in an answer is one that the program can hold
-abbrev pub IsHeld : Result Clause ClauseFault → Type 0
-IsHeld (Ok clause) = IsTrue (is_clause clause)
-IsHeld (Err e) = Unit {0}
+-- a clause in an answer is one that the program's types represent
+abbrev pub IsRepresentableClause : Result Clause ClauseFault → Type 0
+IsRepresentableClause (Ok clause) = IsTrue (is_clause clause)
+IsRepresentableClause (Err e) = Unit {0}
 
 -- the answer is the clause, or want of memory
 abbrev pub IsReadAs : Clause → Result Clause ClauseFault → Type 0
@@ -138,5 +138,5 @@ IsReadAs clause (Err Memory) = Unit {0}
 -- the text of a clause determines it, and is no text that reading refuses
 abbrev pub ClausesReadBack : Type 0
 ClausesReadBack =
-    (clause : Clause) → IsTrue (is_clause clause) → (answer : Result Clause ClauseFault) → IsHeld answer
+    (clause : Clause) → IsTrue (is_clause clause) → (answer : Result Clause ClauseFault) → IsRepresentableClause answer
     → ReadsClause (clause_text clause) answer → IsReadAs clause answer

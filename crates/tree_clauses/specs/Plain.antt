@@ -35,7 +35,7 @@ pub data PlainOrder : List Literal → List ℕ → List Literal → List ℕ �
       → Contains known x.0 → ¬ (Contains known y.0)
       → PlainOrder (Entry x f y ∷ before) (y.0 ∷ known) literals after
       → PlainOrder before known (Entry x f y ∷ literals) after
-  -- so do nothing, a file, a link, and the directory without entries
+  -- that it is nothing, a file, a link or the directory without entries makes a variable known
   absent : {before : List Literal} {known after : List ℕ} {literals : List Literal} (y : Var) → ¬ (Contains known y.0)
       → PlainOrder (Kind y (of kind.Absent) ∷ before) (y.0 ∷ known) literals after
       → PlainOrder before known (Kind y (of kind.Absent) ∷ literals) after

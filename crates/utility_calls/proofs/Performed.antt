@@ -27,31 +27,31 @@ use Rattle.utility_calls.specs.Calls.{unless, some_reason, each_behind, act_call
 use Rattle.utility_calls.specs.Performed.{HasPerformedActs}
 use Rattle.std.specs.List.{list_any}
 
--- the fact as a record, of which the plan can be told
-record Fine (p : Planned) : Type 0 where
+-- each act of the plan meets its condition; a record, of which the plan can be told
+record IsPerformedPlan (p : Planned) : Type 0 where
   fact : HasPerformedActs p
 
-either : {p q : Planned} (b : Bool) → Fine p → Fine q → Fine (if b then p else q)
+either : {p q : Planned} (b : Bool) → IsPerformedPlan p → IsPerformedPlan q → IsPerformedPlan (if b then p else q)
 either true hp hq = hp
 either false hp hq = hq
 
-unspecified : (why : Reason) → Fine (Unspecified why)
+unspecified : (why : Reason) → IsPerformedPlan (Unspecified why)
 unspecified why = record { fact = tt }
 
-known : (status : Bool) → Fine (Known status)
+known : (status : Bool) → IsPerformedPlan (Known status)
 known status = record { fact = tt }
 
-printing : (text : List ℕ) → Fine (Print text)
+printing : (text : List ℕ) → IsPerformedPlan (Print text)
 printing text = record { fact = tt }
 
 -- ---- questions
 
-negated_fine : (p : Planned) → Fine p → Fine (negated p)
-negated_fine (Known status) h = record { fact = tt }
-negated_fine (Ask act negate) h = record { fact = h.fact }
-negated_fine (Print text) h = record { fact = tt }
-negated_fine (Change acts) h = record { fact = h.fact }
-negated_fine (Unspecified why) h = record { fact = tt }
+negated_is_performed : (p : Planned) → IsPerformedPlan p → IsPerformedPlan (negated p)
+negated_is_performed (Known status) h = record { fact = tt }
+negated_is_performed (Ask act negate) h = record { fact = h.fact }
+negated_is_performed (Print text) h = record { fact = tt }
+negated_is_performed (Change acts) h = record { fact = h.fact }
+negated_is_performed (Unspecified why) h = record { fact = tt }
 
 asking_performed : (q : Question) (path : PathParts) → IsPerformed (asking q path)
 asking_performed question.Exists path = ((λ e. absurd (cc)), tt)
@@ -60,46 +60,46 @@ asking_performed question.IsDir path = ((λ e. absurd (cc)), tt)
 asking_performed question.IsLink path = ((λ e. absurd (cc)), tt)
 asking_performed question.CanRun path = ((λ e. absurd (cc)), tt)
 
-ask_path_fine : (q : Question) (fault : Option PathFault) (path : PathParts) → Fine (ask_path q fault path)
-ask_path_fine q (Some fault) path = record { fact = tt }
-ask_path_fine q None path = record { fact = asking_performed q path }
+ask_path_is_performed : (q : Question) (fault : Option PathFault) (path : PathParts) → IsPerformedPlan (ask_path q fault path)
+ask_path_is_performed q (Some fault) path = record { fact = tt }
+ask_path_is_performed q None path = record { fact = asking_performed q path }
 
-ask_fine : (q : Option Question) (word : List ℕ) → Fine (ask q word)
-ask_fine None word = record { fact = tt }
-ask_fine (Some q) word = either (is_filled word) (ask_path_fine q (path_fault word) (spelled word)) (known false)
+ask_is_performed : (q : Option Question) (word : List ℕ) → IsPerformedPlan (ask q word)
+ask_is_performed None word = record { fact = tt }
+ask_is_performed (Some q) word = either (is_filled word) (ask_path_is_performed q (path_fault word) (spelled word)) (known false)
 
-two_fine : (a b : List ℕ) → Fine (test_two a b)
-two_fine a b =
+two_is_performed : (a b : List ℕ) → IsPerformedPlan (test_two a b)
+two_is_performed a b =
     either (is_not a) (known (not (is_filled b)))
     (either (bytes_eq a (codes "-n")) (known (is_filled b))
-    (either (bytes_eq a (codes "-z")) (known (not (is_filled b))) (ask_fine (question_of a) b)))
+    (either (bytes_eq a (codes "-z")) (known (not (is_filled b))) (ask_is_performed (question_of a) b)))
 
-three_fine : (a b c : List ℕ) → Fine (test_three a b c)
-three_fine a b c =
+three_is_performed : (a b c : List ℕ) → IsPerformedPlan (test_three a b c)
+three_is_performed a b c =
     either (bytes_eq b (codes "=")) (known (bytes_eq a c))
     (either (bytes_eq b (codes "!=")) (known (not (bytes_eq a c)))
     (either (is_other_operator b) (unspecified reason.Call)
-    (either (is_not a) (negated_fine (test_two b c) (two_fine b c)) (unspecified reason.Call))))
+    (either (is_not a) (negated_is_performed (test_two b c) (two_is_performed b c)) (unspecified reason.Call))))
 
-four_fine : (a b c d : List ℕ) → Fine (test_four a b c d)
-four_fine a b c d = either (is_not a) (negated_fine (test_three b c d) (three_fine b c d)) (unspecified reason.Call)
+four_is_performed : (a b c d : List ℕ) → IsPerformedPlan (test_four a b c d)
+four_is_performed a b c d = either (is_not a) (negated_is_performed (test_three b c d) (three_is_performed b c d)) (unspecified reason.Call)
 
-test_fine : (words : List (List ℕ)) → Fine (test_call words)
-test_fine [] = record { fact = tt }
-test_fine (a ∷ []) = record { fact = tt }
-test_fine (a ∷ b ∷ []) = two_fine a b
-test_fine (a ∷ b ∷ c ∷ []) = three_fine a b c
-test_fine (a ∷ b ∷ c ∷ d ∷ []) = four_fine a b c d
-test_fine (a ∷ b ∷ c ∷ d ∷ e ∷ more) = record { fact = tt }
+test_is_performed : (words : List (List ℕ)) → IsPerformedPlan (test_call words)
+test_is_performed [] = record { fact = tt }
+test_is_performed (a ∷ []) = record { fact = tt }
+test_is_performed (a ∷ b ∷ []) = two_is_performed a b
+test_is_performed (a ∷ b ∷ c ∷ []) = three_is_performed a b c
+test_is_performed (a ∷ b ∷ c ∷ d ∷ []) = four_is_performed a b c d
+test_is_performed (a ∷ b ∷ c ∷ d ∷ e ∷ more) = record { fact = tt }
 
-bracket_fine : (words : List (List ℕ)) → Fine (bracket_call words)
-bracket_fine words = either _ (test_fine (take (length words - 1) words)) (unspecified reason.Call)
+bracket_is_performed : (words : List (List ℕ)) → IsPerformedPlan (bracket_call words)
+bracket_is_performed words = either _ (test_is_performed (take (length words - 1) words)) (unspecified reason.Call)
 
 -- ---- operands
 
-unless_fine : (why : Option Reason) (p : Planned) → (why ≡ None → Fine p) → Fine (unless why p)
-unless_fine (Some why) p h = record { fact = tt }
-unless_fine None p h = h refl
+unless_is_performed : (why : Option Reason) (p : Planned) → (why ≡ None → IsPerformedPlan p) → IsPerformedPlan (unless why p)
+unless_is_performed (Some why) p h = record { fact = tt }
+unless_is_performed None p h = h refl
 
 first_none : (a b : Option Reason) → first_of a b ≡ None → (a ≡ None) × (b ≡ None)
 first_none (Some why) b e = absurd (cc)
@@ -151,14 +151,14 @@ all_performed e ended (word ∷ words) n =
     let h = first_none (each_reason e ended word) (first_reason e ended words) n in
     All-cons (λ acts. All IsPerformed acts) (each_acts e (spelled word)) (all_acts e words) (each_performed e ended word h.0) (all_performed e ended words h.1)
 
-each_fine : (e : Each) (words : List (List ℕ)) → Fine (each_behind e words)
-each_fine e words =
-    unless_fine _ (Change (all_acts e (unended words))) (λ n.
+each_is_performed : (e : Each) (words : List (List ℕ)) → IsPerformedPlan (each_behind e words)
+each_is_performed e words =
+    unless_is_performed _ (Change (all_acts e (unended words))) (λ n.
     record { fact = all_performed e (is_ended words) (unended words) (first_none (some_reason (unended words)) (first_reason e (is_ended words) (unended words)) n).1 })
 
-act_fine : (why : Option Reason) (act : Act) → (why ≡ None → IsPerformed act) → Fine (act_call why act)
-act_fine why act h =
-    unless_fine why (Change ((act ∷ []) ∷ [])) (λ n.
+act_is_performed : (why : Option Reason) (act : Act) → (why ≡ None → IsPerformed act) → IsPerformedPlan (act_call why act)
+act_is_performed why act h =
+    unless_is_performed why (Change ((act ∷ []) ∷ [])) (λ n.
     record { fact = All-cons (λ acts. All IsPerformed acts) (act ∷ []) [] (alone act (h n)) (All-nil (λ acts. All IsPerformed acts)) })
 
 -- ---- `ln` and `mv`
@@ -200,28 +200,28 @@ mv_performed ended (a ∷ b ∷ more) n =
 
 -- ---- all calls
 
-echo_fine : (words : List (List ℕ)) → Fine (echo_call words)
-echo_fine words =
+echo_is_performed : (words : List (List ℕ)) → IsPerformedPlan (echo_call words)
+echo_is_performed words =
     either (begins_with_dash words || list_any has_backslash words) (unspecified reason.Echo) (printing (echo_text words))
 
-utility_fine : (u : Option Utility) (words : List (List ℕ)) → Fine (utility_call u words)
-utility_fine None words = unspecified reason.Call
-utility_fine (Some utility.True) words = known true
-utility_fine (Some utility.False) words = known false
-utility_fine (Some utility.Echo) words = echo_fine words
-utility_fine (Some utility.MakeDir) words = either _ (each_fine (mkdir_each (has_option 112 words)) (behind words)) (unspecified reason.Call)
-utility_fine (Some utility.RemoveDir) words = either _ (each_fine each.RemoveDir (behind words)) (unspecified reason.Call)
-utility_fine (Some utility.Remove) words = either _ (each_fine (each.Remove (has_option 102 words) (is_deep (options words))) (behind words)) (unspecified reason.Call)
-utility_fine (Some utility.Touch) words = either _ (each_fine each.Touch (behind words)) (unspecified reason.Call)
-utility_fine (Some utility.Link) words =
+utility_is_performed : (u : Option Utility) (words : List (List ℕ)) → IsPerformedPlan (utility_call u words)
+utility_is_performed None words = unspecified reason.Call
+utility_is_performed (Some utility.True) words = known true
+utility_is_performed (Some utility.False) words = known false
+utility_is_performed (Some utility.Echo) words = echo_is_performed words
+utility_is_performed (Some utility.MakeDir) words = either _ (each_is_performed (mkdir_each (has_option 112 words)) (behind words)) (unspecified reason.Call)
+utility_is_performed (Some utility.RemoveDir) words = either _ (each_is_performed each.RemoveDir (behind words)) (unspecified reason.Call)
+utility_is_performed (Some utility.Remove) words = either _ (each_is_performed (each.Remove (has_option 102 words) (is_deep (options words))) (behind words)) (unspecified reason.Call)
+utility_is_performed (Some utility.Touch) words = either _ (each_is_performed each.Touch (behind words)) (unspecified reason.Call)
+utility_is_performed (Some utility.Link) words =
     let operands = unended (behind words) in
-    either _ (act_fine _ (ln_act (has_option 102 words) operands) (ln_performed (has_option 115 words) (has_option 102 words) (is_ended (behind words)) operands)) (unspecified reason.Call)
-utility_fine (Some utility.Move) words =
+    either _ (act_is_performed _ (ln_act (has_option 102 words) operands) (ln_performed (has_option 115 words) (has_option 102 words) (is_ended (behind words)) operands)) (unspecified reason.Call)
+utility_is_performed (Some utility.Move) words =
     let operands = unended (behind words) in
-    either _ (act_fine _ (mv_act operands) (mv_performed (is_ended (behind words)) operands)) (unspecified reason.Call)
-utility_fine (Some utility.Test) words = test_fine words
-utility_fine (Some utility.Bracket) words = bracket_fine words
+    either _ (act_is_performed _ (mv_act operands) (mv_performed (is_ended (behind words)) operands)) (unspecified reason.Call)
+utility_is_performed (Some utility.Test) words = test_is_performed words
+utility_is_performed (Some utility.Bracket) words = bracket_is_performed words
 
 pub performed : (words : List (List ℕ)) → HasPerformedActs (call words)
 performed [] = tt
-performed (name ∷ words) = (utility_fine (utility_named name) words).fact
+performed (name ∷ words) = (utility_is_performed (utility_named name) words).fact
