@@ -34,10 +34,10 @@ assign_of name value = roll-Assign (record { name = name; value = value })
 -- ---- parts of a word
 
 pub parts_begin : (d : ℕ) (begun now : List Part) (raws : List RawPart) → now ≡ begun → PartsFrom d begun raws now raws
-parts_begin d begun now raws e = record { fine = λ ps x. record { parts = ps; reads = x; joins = ap (λ l. l ++ ps) e }; faulty = λ f x. x }
+parts_begin d begun now raws e = record { faultless = λ ps x. record { parts = ps; reads = x; joins = ap (λ l. l ++ ps) e }; faulty = λ f x. x }
 
 pub parts_go : (d : ℕ) (begun now now2 : List Part) (all raws rest : List RawPart) (p : RawPart) (x : Part) → raws ≡ p ∷ rest → PartsFrom d begun all now raws → ((raws : List RawPart) (q : Judged) → IsParts deep_64 d raws q → IsParts deep_64 d (p ∷ raws) (after x q)) → now2 ≡ now ++ x ∷ [] → PartsFrom d begun all now2 rest
-parts_go d begun now now2 all raws rest p x e inv h f = record { fine = λ ps y. subst (PartsGiven d begun all) (sym (append_assoc now (x ∷ []) ps) ∙ ap (λ l. l ++ ps) (sym f)) (inv.fine (x ∷ ps) (subst (λ raws. IsParts deep_64 d raws (Faultless (x ∷ ps))) (sym e) (h rest (Faultless ps) y))); faulty = λ k y. inv.faulty k (subst (λ raws. IsParts deep_64 d raws (Faulty k)) (sym e) (h rest (Faulty k) y)) }
+parts_go d begun now now2 all raws rest p x e inv h f = record { faultless = λ ps y. subst (PartsGiven d begun all) (sym (append_assoc now (x ∷ []) ps) ∙ ap (λ l. l ++ ps) (sym f)) (inv.faultless (x ∷ ps) (subst (λ raws. IsParts deep_64 d raws (Faultless (x ∷ ps))) (sym e) (h rest (Faultless ps) y))); faulty = λ k y. inv.faulty k (subst (λ raws. IsParts deep_64 d raws (Faulty k)) (sym e) (h rest (Faulty k) y)) }
 
 pub parts_bad : (d : ℕ) (begun now : List Part) (all raws rest : List RawPart) (p : RawPart) → raws ≡ p ∷ rest → PartsFrom d begun all now raws → (fault : ParseFault) → Caused (λ f. (raws : List RawPart) → IsParts deep_64 d (p ∷ raws) (Faulty f)) fault → Caused (λ f. IsParts deep_64 d all (Faulty f)) fault
 parts_bad d begun now all raws rest p e inv (Syntax at) h = inv.faulty _ (subst (λ raws. IsParts deep_64 d raws (Faulty (Syntax at))) (sym e) (h rest))
@@ -45,7 +45,7 @@ parts_bad d begun now all raws rest p e inv (Deep at) h = inv.faulty _ (subst (�
 parts_bad d begun now all raws rest p e inv Memory h = tt
 
 pub parts_end : (d : ℕ) (begun now : List Part) (all raws : List RawPart) → raws ≡ [] → PartsFrom d begun all now raws → PartsGiven d begun all now
-parts_end d begun now all raws e inv = subst (PartsGiven d begun all) (append-nil now) (inv.fine [] (subst (λ raws. IsParts deep_64 d raws (Faultless [])) (sym e) (no_parts refl)))
+parts_end d begun now all raws e inv = subst (PartsGiven d begun all) (append-nil now) (inv.faultless [] (subst (λ raws. IsParts deep_64 d raws (Faultless [])) (sym e) (no_parts refl)))
 
 seen_plain : (w : List ℕ) → out-RawPart (rawv.Plain w) ≡ raw.Plain w
 seen_plain w = ap out-RawPart (sym (rawv.rolls-Plain w)) ∙ out-roll-RawPart (raw.Plain w)
@@ -118,9 +118,9 @@ word_raws : (ts : Tokens) (raws : List RawPart) → word ts ≡ Some raws → lo
 word_raws [] raws e = absurd (cc e)
 word_raws (t ∷ ts) raws e = kind_raws (out-TokenKind t.kind) raws e
 
-assign_fine : (d : ℕ) (raws : List RawPart) (ps : List Part) → word_look raws ≡ Assignment → IsParts deep_64 d (tree.rest_of raws) (Faultless ps) → IsParts deep_64 d raws (Faultless (part.Plain (raw_text raws) ∷ ps))
-assign_fine d [] ps e x = absurd (cc e)
-assign_fine d (p ∷ rest) ps e x = plain_part (part.Plain (raw_plain (out-RawPart p))) (Faultless ps) (ap plainly (seen_assigns (out-RawPart p) (none_left rest) e)) x refl
+assign_faultless : (d : ℕ) (raws : List RawPart) (ps : List Part) → word_look raws ≡ Assignment → IsParts deep_64 d (tree.rest_of raws) (Faultless ps) → IsParts deep_64 d raws (Faultless (part.Plain (raw_text raws) ∷ ps))
+assign_faultless d [] ps e x = absurd (cc e)
+assign_faultless d (p ∷ rest) ps e x = plain_part (part.Plain (raw_plain (out-RawPart p))) (Faultless ps) (ap plainly (seen_assigns (out-RawPart p) (none_left rest) e)) x refl
 
 assign_faulty : (d : ℕ) (raws : List RawPart) (f : ParseFault) → word_look raws ≡ Assignment → IsParts deep_64 d (tree.rest_of raws) (Faulty f) → IsParts deep_64 d raws (Faulty f)
 assign_faulty d [] f e x = absurd (cc e)
@@ -143,6 +143,6 @@ pub assign_ok : (d end : ℕ) (ts : Tokens) (at : ℕ) (raws rest : List RawPart
     → PartsGiven d begun rest all → n ≡ place end (drop at ts) → Assigns d end (drop at ts) (assign_of name (tree.word_at n all)) (drop (at + 1) ts)
 assign_ok d end ts at raws rest text name value begun all n l e r t u v b x f = record {
   word = tree.word_at n (part.Plain (raw_text raws) ∷ x.parts);
-  reads = a_word raws (part.Plain (raw_text raws) ∷ x.parts) e (assign_fine d raws x.parts (sym (word_raws (drop at ts) raws e) ∙ l) (subst (λ rest. IsParts deep_64 d rest (Faultless x.parts)) r x.reads)) (ap (λ n. Whole (tree.word_at n (part.Plain (raw_text raws) ∷ x.parts)) (drop (at + 1) ts)) f ∙ ap (Whole (tree.word_at (place end (drop at ts)) (part.Plain (raw_text raws) ∷ x.parts))) (sym (step_on ts at)));
+  reads = a_word raws (part.Plain (raw_text raws) ∷ x.parts) e (assign_faultless d raws x.parts (sym (word_raws (drop at ts) raws e) ∙ l) (subst (λ rest. IsParts deep_64 d rest (Faultless x.parts)) r x.reads)) (ap (λ n. Whole (tree.word_at n (part.Plain (raw_text raws) ∷ x.parts)) (drop (at + 1) ts)) f ∙ ap (Whole (tree.word_at (place end (drop at ts)) (part.Plain (raw_text raws) ∷ x.parts))) (sym (step_on ts at)));
   assigns = ap (λ l. assign_of name (tree.word_at n l)) (x.joins ∙ ap (λ l. l ++ x.parts) (b ∙ ap tree.plain_part_of (v ∙ ap tree.behind_equals t))) ∙ ap (λ m. assign_of m (tree.word_at n (tree.plain_part_of (tree.behind_equals (raw_text raws)) ++ x.parts))) (u ∙ ap tree.up_to_equals t) ∙ sym (assigned_at n (raw_text raws) x.parts);
 }

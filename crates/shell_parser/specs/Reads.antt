@@ -100,7 +100,8 @@ PartsRead d begun raws (Err fault) = Caused (λ fault. IsParts deep_64 d raws (F
 -- how the parts so far go on as those of what is left
 pub record PartsFrom (d : ℕ) (begun : List Part) (all : List RawPart) (now : List Part) (rest : List RawPart)
     : Type 0 where
-  pub fine : (parts : List Part) → IsParts deep_64 d rest (Faultless parts) → PartsGiven d begun all (now ++ parts)
+  pub faultless : (parts : List Part) → IsParts deep_64 d rest (Faultless parts)
+      → PartsGiven d begun all (now ++ parts)
   pub faulty : (fault : ParseFault) → IsParts deep_64 d rest (Faulty fault) → IsParts deep_64 d all (Faulty fault)
 
 -- a part, whatever others are behind it; or the fault in it
@@ -133,7 +134,7 @@ abbrev pub raw_plain : raw.RawPart-F RawPart TokenKind Token → Text
 raw_plain (raw.Plain text) = text
 raw_plain _ = []
 
--- those of the first part
+-- the bytes of the first part, if it is plain, else none
 abbrev pub raw_text : List RawPart → Text
 raw_text [] = []
 raw_text (p ∷ ps) = raw_plain (out-RawPart p)

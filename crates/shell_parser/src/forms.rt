@@ -11,7 +11,7 @@ ghost use Rattle.shell_grammar.specs.Forms.{ends_arm as ends_arm_of, is_token};
 use shell_grammar::{CommandForm, CompoundForm, Item, Look, Reserved};
 use shell_syntax::Redirect;
 
-/// What a command that begins so is.
+/// What a command is whose first token looks so; None where no command begins with such a token.
 pub fn command_form(what: Look) -> Option<CommandForm>
     ensures { result ≡ command_form_of what }
 {
@@ -31,7 +31,7 @@ pub fn command_form(what: Look) -> Option<CommandForm>
     }
 }
 
-/// What a compound command that begins so is.
+/// What a compound command is whose first token looks so.
 pub fn compound_form(what: Look) -> CompoundForm
     ensures { result ≡ compound_form_of what }
 {
@@ -46,7 +46,8 @@ pub fn compound_form(what: Look) -> CompoundForm
     }
 }
 
-/// What the token is to a simple command, behind its first word or before it.
+/// What a token that looks so is to a simple command, behind its first word or before it; None where it is no part of
+/// one.
 pub fn item(behind_word: bool, what: Look) -> Option<Item>
     ensures { result ≡ item_of behind_word what }
 {
@@ -65,7 +66,7 @@ pub fn item(behind_word: bool, what: Look) -> Option<Item>
     }
 }
 
-/// Whether the command has a word once it has this, too.
+/// Whether a simple command has a word with this item, where `behind_word` says whether it had one before.
 pub fn has_word(behind_word: bool, item: Item) -> bool
     ensures { result ≡ has_word_of behind_word item }
 {
@@ -76,7 +77,7 @@ pub fn has_word(behind_word: bool, item: Item) -> bool
     }
 }
 
-/// Whether a pipeline may begin so.
+/// Whether a pipeline may begin with a token that looks so.
 pub fn starts(what: Look) -> bool
     ensures { result ≡ starts_of what }
 {
@@ -86,7 +87,7 @@ pub fn starts(what: Look) -> bool
     }
 }
 
-/// The reserved word `while`, or `until`.
+/// How the first token of a loop looks: the reserved word `until`, or `while`.
 pub fn loop_word(until: bool) -> Look
     ensures looks { result ≡ loop_word_of until }
     ensures token { IsTrue (is_token result) }
@@ -97,7 +98,7 @@ pub fn loop_word(until: bool) -> Look
     Look::Keyword(Reserved::While)
 }
 
-/// Whether it may be the name of a `for`.
+/// Whether a token that looks so may be the name of a `for`.
 pub fn is_name_word(what: Look) -> bool
     ensures { result ≡ is_name_word_of what }
 {
@@ -111,7 +112,7 @@ pub fn is_name_word(what: Look) -> bool
     }
 }
 
-/// Whether it is a word, reserved or not.
+/// Whether a token that looks so is a word, reserved or not.
 pub fn is_word(what: Look) -> bool
     ensures { result ≡ is_word_of what }
 {
@@ -124,7 +125,7 @@ pub fn is_word(what: Look) -> bool
     }
 }
 
-/// Whether it separates commands.
+/// Whether a token that looks so separates commands.
 pub fn is_separator(what: Look) -> bool
     ensures { result ≡ is_separator_of what }
 {
@@ -135,7 +136,7 @@ pub fn is_separator(what: Look) -> bool
     }
 }
 
-/// True for `&&`, false for `||`.
+/// True for `&&`, false for `||`, None for any other token.
 pub fn link_and(what: Look) -> Option<bool>
     ensures { result ≡ link_and_of what }
 {
@@ -146,7 +147,7 @@ pub fn link_and(what: Look) -> Option<bool>
     }
 }
 
-/// The redirection that it is.
+/// The redirection that a token is which looks so, if it is one.
 pub fn redirection(what: Look) -> Option<Redirect>
     ensures { result ≡ redirection_of what }
 {
@@ -156,7 +157,7 @@ pub fn redirection(what: Look) -> Option<Redirect>
     }
 }
 
-/// Whether an arm of `case` before it has no command.
+/// Whether an arm of `case` has no command where a token that looks so stands in its place: `;;`, `esac` or the end.
 pub fn ends_arm(what: Look) -> bool
     ensures { result ≡ ends_arm_of what }
 {

@@ -13,7 +13,7 @@ ghost use Rattle.shell_lexer.specs.declared.token.RawPart.{out-RawPart};
 use shell_grammar::{Look, Reserved};
 use shell_lexer::{RawPart, Token, TokenKind};
 
-/// What stands there.
+/// How the token at a place looks, or that the tokens have ended there.
 pub fn look(ts: &[Token], at: usize) -> Look
     requires { at ≤ length ts.now }
     ensures { result ≡ look_of (drop at ts.now) }

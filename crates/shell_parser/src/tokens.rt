@@ -14,7 +14,7 @@ use crate::looks::look;
 use shell_grammar::{Look, ParseFault, Reserved};
 use shell_lexer::{RawPart, Token, TokenKind};
 
-/// Where a token begins; where the tokens end, that is `end`.
+/// The byte offset at which the token at a place begins; behind the last token that is `end`.
 pub fn place(ts: &[Token], at: usize, end: u32) -> u32
     requires { at ≤ length ts.now }
     ensures { result ≡ place_of end (drop at ts.now) }
@@ -25,7 +25,7 @@ pub fn place(ts: &[Token], at: usize, end: u32) -> u32
     }
 }
 
-/// Takes the token that looks so.
+/// The place behind the token at a place, which has to look so; else the fault there.
 pub fn take(
     level: usize,
     end: u32,
@@ -46,7 +46,8 @@ pub fn take(
     }
 }
 
-/// Takes the token that looks so, which opens a level.
+/// The place behind the token at a place, which has to look so and opens a level; else the fault there, also where
+/// that level is one too many.
 pub fn opens(
     level: usize,
     end: u32,
@@ -74,7 +75,7 @@ pub fn opens(
     }
 }
 
-/// Whether the token there looks so.
+/// Whether the token at a place looks so.
 pub fn stands(ts: &[Token], at: usize, want: Look) -> bool
     requires within { at ≤ length ts.now }
     requires token { IsTrue (is_token want) }
@@ -84,7 +85,7 @@ pub fn stands(ts: &[Token], at: usize, want: Look) -> bool
     at < ts.len() && same_look(look(ts, at), want)
 }
 
-/// The parts of the word that stands there.
+/// The parts of the word at a place; None where no word stands there.
 pub fn word_parts(ts: &[Token], at: usize) -> Option<&[RawPart]>
     requires { at ≤ length ts.now }
     ensures within { OnSome result (at < length ts.now) }
@@ -100,7 +101,7 @@ pub fn word_parts(ts: &[Token], at: usize) -> Option<&[RawPart]>
     }
 }
 
-/// Passes newlines over.
+/// The place behind the newlines that stand from a place on.
 pub fn newlines(level: usize, end: u32, ts: &[Token], at: usize) -> usize
     requires { at ≤ length ts.now }
     ensures { Reads level end Newlines ts.now at (Done (tt, result)) }

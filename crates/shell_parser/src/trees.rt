@@ -196,6 +196,7 @@ pub fn first_item(alloc: Global, room: usize, word: Word) -> Result<Items, Memor
     Ok(with_word(none, word)?)
 }
 
+/// The items of a simple command, and an assignment behind them.
 pub fn with_assign(items: Items, assign: Assign) -> Result<Items, Memory>
     ensures { IfOk result (λ all. all ≡ joined items (an_assign assign)) }
 {
@@ -213,6 +214,7 @@ pub fn with_assign(items: Items, assign: Assign) -> Result<Items, Memory>
     })
 }
 
+/// The items of a simple command, and a word behind them.
 pub fn with_word(items: Items, word: Word) -> Result<Items, Memory>
     ensures { IfOk result (λ all. all ≡ joined items (a_word word)) }
 {
@@ -230,6 +232,7 @@ pub fn with_word(items: Items, word: Word) -> Result<Items, Memory>
     })
 }
 
+/// The items of a simple command, and a redirection behind them.
 pub fn with_redirect(items: Items, redirect: Redirect) -> Result<Items, Memory>
     ensures { IfOk result (λ all. all ≡ joined items (a_redirect redirect)) }
 {
@@ -265,7 +268,7 @@ pub fn param_of(
     })
 }
 
-/// The text of a word's first part, where that is plain.
+/// The text of a word's first part, where that is plain; else no bytes.
 pub fn word_text(word: &Word) -> &[u8]
     ensures { result.now ≡ word_text_of word.now }
 {
@@ -275,7 +278,7 @@ pub fn word_text(word: &Word) -> &[u8]
     }
 }
 
-/// The same, copied.
+/// A copy of the text of a word's first part, where that is plain; else no bytes.
 pub fn name_of(alloc: Global, word: &Word) -> Result<Bytes, Memory>
     ensures { IfOk result (λ name. name ≡ word_text_of word.now) }
 {
