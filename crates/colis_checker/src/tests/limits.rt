@@ -6,8 +6,7 @@ use std::alloc::Global;
 use std::test::Fail;
 
 // Nothing is done, with success.
-const DONE: &[u8] =
-    b"colis brief 1
+const DONE: &[u8] = b"colis brief 1
 scenario install outcomes 1
 outcome 1 done Installed
 trace
@@ -171,8 +170,7 @@ fn ten_thousand_turns(rt: HostRuntime) -> Result<(), Fail> {
         ("p/postinst", b"#!/bin/sh\nwhile :; do :; done\n"),
     ];
     let ended = call(&rt, &words, &files, QUIET)?;
-    let out =
-        b"colis brief 1
+    let out = b"colis brief 1
 scenario install outcomes 1
 outcome 1 bound 3:10
 trace
