@@ -91,7 +91,7 @@ pub record AreCases (act : Act) (cases : List Case) : Type 0 where
 
 -- ---- the cases as they are made
 
--- those of links on the way: so many, from the one at the first n names on
+-- the cases of links on the way: so many, from the one at the first n names on
 abbrev pub link_cases : List (List ℕ) → ℕ → ℕ → List Case
 link_cases names n zero = []
 link_cases names n (suc more) = case_of (link_plan n) (take n names) [] ∷ link_cases names (n + 1) more
@@ -107,7 +107,7 @@ rule_case act r =
     case_of (plan_of (path_of act).slash r) (names_at (is_inner r.place) (path_of act).names (inner_name act))
     (target_of act)
 
--- those of an act on one path
+-- the cases of an act on one path
 abbrev pub cases_of : Act → List Case
 cases_of act =
     link_cases (path_of act).names 1 (length (path_of act).names - 1)

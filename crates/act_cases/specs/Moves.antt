@@ -50,7 +50,8 @@ placed p q = root_of q (length p) (outward p q)
 
 -- ---- the literals
 
--- those of a move: nothing is put at the first path, and in the tree that comes of it what stood there at the second
+-- the literals of a move: nothing is put at the first path, and in the tree that comes of it what stood there is put at
+-- the second
 abbrev pub moved_literals : List (List ℕ) → List (List ℕ) → List Literal
 moved_literals p q =
     Kind (var (spare p q)) (of Absent)
@@ -58,7 +59,7 @@ moved_literals p q =
     ++ (look_literals (through all) (freed p q) (onward p q) q
     ++ put_literals (freed p q) (onward p q) q (length p) (outward p q)))
 
--- those of an effect, by whether it moves something
+-- the literals of an effect, by whether it moves something
 abbrev pub moves_by : Bool → List (List ℕ) → List (List ℕ) → List Literal
 moves_by false p q = []
 moves_by true p q = moved_literals p q

@@ -14,7 +14,7 @@ LinesCome refusal (Ok value) result = result ≡ Ok value
 LinesCome refusal (Err (line_fault.Line line why)) result = result ≡ Err (refusal line why)
 LinesCome refusal (Err line_fault.Memory) result = ⊥
 
--- the same of the lines of a tree
+-- what a text of the lines of a tree comes to
 abbrev pub TreeComes : (ℕ → ℕ → InputRefusal) → Result Value TreeFault → Result Value InputRefusal → Type 0
 TreeComes refusal (Ok tree) result = result ≡ Ok tree
 TreeComes refusal (Err (tree_fault.Line line why)) result = result ≡ Err (refusal line why)

@@ -16,7 +16,7 @@ use Rattle.clause_solver.specs.Variables.{AllFit, OnlyDir, defined}
 abbrev pub Places : Type 0
 Places = ℕ → Option ℕ
 
--- those of a draft
+-- the store's variable that each variable of a case stands for, as the draft keeps it
 abbrev pub place_in : Draft → Places
 place_in draft x = get nat_cmp draft.places x
 
@@ -67,7 +67,7 @@ pub record Adds (old new : Draft) (v : ℕ) (d : Definition) : Type 0 where
   pub is : (g : Valuation) → length g ≡ length new.lists.vars → IsSound g → AllFit new.lists.vars g
       → value_of_variable g place ≡ defined g d
 
--- the same by a definition from the case's variables
+-- the case's variable v has a place, with the value that a definition gives from the case's variables
 pub record Makes (old new : Draft) (v : ℕ) (d : Definition) : Type 0 where
   pub place : ℕ
   pub here : place_in new v ≡ Some place
@@ -103,7 +103,7 @@ pub record Goes (old : List Variable) (now : ℕ) (literals : List Literal) (aft
   pub leaves : Leaves old now before (place_in draft) draft.lists.vars
   pub steady : IsSteady draft
 
--- these literals can be the rest
+-- these literals can be what is left of a case, of which the draft has the others
 abbrev pub CanGo : Draft → List Literal → Type 0
 CanGo draft rest =
     (old : List Variable) × (now : ℕ) × (literals : List Literal) × (after : List ℕ)

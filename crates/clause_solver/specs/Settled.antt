@@ -37,7 +37,7 @@ pub record AreSettled (vars : List Variable) (p : ℕ) (old new : List Kind) (fi
   pub greatest : (i : ℕ) → i < length vars → IsGreatest vars old i ⊎ (IsChildOf vars p i × IsShut vars old i)
       → IsGreatest vars new i
 
--- the same of one entry
+-- the entry m, if it is shut, has become absent, and what stands below it has its greatest kind again, where it had it
 pub record IsSettledAt (vars : List Variable) (m : ℕ) (old new : List Kind) (fits : Bool) : Type 0 where
   pub falls : Falls vars m old new fits
   pub greatest : (i : ℕ) → i < length vars → IsGreatest vars old i ⊎ ((i ≡ m) × IsShut vars old i)

@@ -16,6 +16,7 @@ pub(crate) struct Growing<'a> {
     pub(crate) children: Vec<NamedChild<'a>>,
 }
 
+// The value of an entry of the place, and its name.
 #[derive(Drop)]
 pub(crate) struct NamedChild<'a> {
     pub(crate) name: &'a Name,

@@ -216,7 +216,7 @@ impl Store {
         Ok(Var(z))
     }
 
-    /// The variable of the directory without entries. For want of memory the store is as before.
+    /// A variable whose value is the directory without entries. For want of memory the store is as before.
     pub fn made_dir(&mut self) -> Result<Var, Memory>
         ensures extends { Extends self.old self.new }
         ensures empty { IfOk result (λ y. HasValue self.new y.0 (value.Dir [])) }
@@ -226,7 +226,7 @@ impl Store {
         self.made(MadeValue::Dir)
     }
 
-    /// The variable of nothing. For want of memory the store is as before.
+    /// A variable whose value is absent. For want of memory the store is as before.
     pub fn made_absent(&mut self) -> Result<Var, Memory>
         ensures extends { Extends self.old self.new }
         ensures absent { IfOk result (λ y. HasValue self.new y.0 value.Absent) }
@@ -236,7 +236,7 @@ impl Store {
         self.made(MadeValue::Absent)
     }
 
-    /// The variable of a file. For want of memory the store is as before.
+    /// A variable whose value is a regular file. For want of memory the store is as before.
     pub fn made_reg(&mut self) -> Result<Var, Memory>
         ensures extends { Extends self.old self.new }
         ensures reg { IfOk result (λ y. HasValue self.new y.0 value.Reg) }
@@ -246,7 +246,7 @@ impl Store {
         self.made(MadeValue::Reg)
     }
 
-    /// The variable of a link to a target. For want of memory the store is as before.
+    /// A variable whose value is a symbolic link to the target. For want of memory the store is as before.
     pub fn made_link(&mut self, target: &Bytes) -> Result<Var, Memory>
         ensures extends { Extends self.old self.new }
         ensures link { IfOk result (λ y. HasValue self.new y.0 (value.Link target.now)) }

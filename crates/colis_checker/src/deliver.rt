@@ -16,7 +16,8 @@ const WRITE_FAILED: u8 = 5;
 /// The status of a call for which memory was missing.
 pub const OUT_OF_MEMORY: u8 = 6;
 
-/// What a call has to say.
+/// What a call of the program comes to: a text for standard output with its status, a line for standard error, or want
+/// of memory.
 #[derive(Drop)]
 pub enum Reply {
     Text { text: Bytes, status: u8 },
@@ -44,7 +45,7 @@ fn write_no_memory<E: Sink>(err: &mut E) -> u8
     OUT_OF_MEMORY
 }
 
-/// Writes the reply, and answers the status.
+/// Writes the reply to standard output or standard error, and answers the exit status.
 pub fn deliver<O: Sink, E: Sink>(reply: &Reply, out: &mut O, err: &mut E) -> u8
     ensures { Delivers reply.now (O.state out.old) (O.state out.new) (E.state err.old) (E.state err.new) result }
 {

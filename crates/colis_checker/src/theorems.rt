@@ -9,7 +9,7 @@ use package_jobs::theorems::more_turns_change_no_written_run;
 
 /// Of a scenario that is reported with outcomes that are all done, the run from each start tree is done: it fails from
 /// none, and from none does it end where nothing is specified or no turn is left. With more turns of loops than it was
-/// reported with it is the same run. So it is with each chosen scenario where the report's status is 0.
+/// reported with it is the same run. Where the report's status is 0, this holds of each chosen scenario.
 pub fn a_quiet_scenario_fails_nowhere()
     ensures scenario { QuietScenario }
     ensures report { QuietReport }

@@ -44,8 +44,8 @@ fn end_answer(ran: Result<(), Halt>, status: bool) -> Result<End, Memory>
 
 /// Runs a program in a step of a scenario, from a state of the shell, a tree and a trace: the end, the acts, the state,
 /// the tree and the trace are those of the program's meaning. The strict flag is that of the state. After want of
-/// memory the tree is some directory, and the trace is as it was; so it is a front of the meaning's trace, since a run
-/// only adds to it.
+/// memory the tree is some directory, and the trace is as it was; the trace of the meaning begins with it, since a run
+/// only adds to a trace.
 pub fn run(
     alloc: Global,
     p: &Program,

@@ -122,7 +122,7 @@ string_headed head rs =
 abbrev pub string_from : List ℕ → List Read → Str
 string_from word rs = if length word == 0 then string_headed (member rs 0).word (behind rs) else literal_in word
 
--- a piece of a word, in the same way
+-- a piece of a word, from its word and its members
 unfoldable pub piece_headed : List ℕ → List Read → StrPiece
 piece_headed head rs =
     if bytes_eq head (codes "p") then pv.Plain (member rs 0).string
@@ -164,7 +164,7 @@ sited_headed head at rs =
     then v.Case at (member rs 0).string (map (λ r. r.pat_arm) (behind rs))
     else simple_headed head at rs)))
 
--- the same, from its word and what stands behind it
+-- a statement with an offset, from its word and what stands behind it, the offset first
 abbrev pub sited_from : List ℕ → List Read → Stmt
 sited_from head rs = sited_headed head (number_in (member rs 0).word) (behind rs)
 

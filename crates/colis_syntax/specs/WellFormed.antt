@@ -141,7 +141,7 @@ stmt_passes =
     fold-Stmt Test Test Test Test Test Test Test Test
     fields_layer stmt_layer str_layer piece_layer part_layer pat_arm_layer set_layer arm_layer
 
--- the same of a string
+-- whether a string may stand in a scope
 abbrev pub str_passes : Str → Scope → Bool
 str_passes =
     fold-Str Test Test Test Test Test Test Test Test

@@ -93,7 +93,7 @@ pub fn option_named(name: &str) -> Option<Field>
     None
 }
 
-/// Whether a line of the command may say it.
+/// Whether a line of the command may have a text for the field.
 pub fn takes(command: Command, field: Field) -> bool
     ensures { result ≡ takes command field }
 {

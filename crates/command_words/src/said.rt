@@ -31,7 +31,7 @@ fn given(said: &[Setting], field: Field) -> Option<&str>
     }
 }
 
-/// Whether something was said of the field.
+/// Whether one of the settings is of the field.
 pub fn is_given(said: &[Setting], field: Field) -> bool
     ensures { result ≡ is_given field said.now }
 {
@@ -99,7 +99,7 @@ fn folders_said(alloc: Global, said: &[Setting], dir: Text) -> Result<Folders, M
     Ok(Folders { dir, old, base })
 }
 
-/// The request of the command that they make; None where something is missing.
+/// The request that the settings of a command make; None where a field that the command needs has none.
 pub fn request_of(
     alloc: Global,
     command: Command,

@@ -7,8 +7,8 @@ pub fn forms_are_lines()
     ensures { FormIsLine }
 {}
 
-/// Where they spell none, the number that is named is the least one such that no valid line begins with the first so
-/// many words; and where all words begin one, their count and one more.
+/// Where the words spell no request, the number that is named is the least one such that no valid line begins with the
+/// first so many words; and where all words begin a valid line, it is their count and one more.
 pub fn forms_are_least()
     ensures { FormIsLeast }
 {}

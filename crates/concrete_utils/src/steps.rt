@@ -304,7 +304,7 @@ fn move_to(alloc: Global, a: &Act, tree: &mut Value) -> Result<(), Memory>
     Ok(())
 }
 
-// The same, below the place under the act's inner name.
+// Moves what stands at the act's path to below its place, under the act's inner name.
 fn move_inside(alloc: Global, a: &Act, tree: &mut Value) -> Result<(), Memory>
     requires path { (path_of a.now).names ≢ [] }
     requires place { place_of a.now ≢ [] }

@@ -93,7 +93,7 @@ removed plain at = Stop (ending.Done (if plain then NotInstalled else ConfigFile
 abbrev pub restore : ℕ → Follows
 restore n plain at = Stop (ending.Incomplete Restore (record { step = n; at = at }))
 
--- the same where a call failed
+-- the files of the package before would be put back, where a call of this step failed
 abbrev pub restore_call : ℕ → Follows
 restore_call n plain at = Stop (ending.Incomplete Restore (record { step = n; at = 0 }))
 

@@ -41,7 +41,7 @@ pub(crate) fn endings_verdict(scenarios: &[ScenarioEndings]) -> u8
     joint_verdict(some_ends_so(scenarios, 1), some_ends_so(scenarios, 2))
 }
 
-/// The verdict of each report that has these endings.
+/// The verdict of a report, from the endings of its outcomes.
 pub fn load_verdict(scenarios: &List<ScenarioEndings>) -> u8
     ensures { (report : Report) → HasEndings report scenarios.now → result ≡ verdict_of report }
 {

@@ -53,7 +53,7 @@ IsKeptConf File k = Unit {0}
 IsKeptConf Conf k = k ≢ Dir
 IsKeptConf (LinkTo target) k = Unit {0}
 
--- so it is at the path of an entry
+-- the relation holds of the kind of an entry and the kind of what stands at its path
 abbrev pub Stands : (EntryKind → Kind → Type 0) → Value → EntryParts → Type 0
 Stands Holds tree entry = Holds entry.kind (kind_of (at tree entry.names))
 
@@ -153,12 +153,12 @@ IsOwned scenario entries tree folder =
     MayStand scenario (kind_of (at tree folder.names))
     × IsFenced (at tree folder.names) (names_below entries (path_text folder.names))
 
--- so it is with an entry, if `own` speaks of it
+-- the entry, if `own` speaks of it, is a folder that holds no foreign entry
 abbrev pub Owns : Scenario → Paths → Paths → Entries → Value → EntryParts → Type 0
 Owns scenario based listed entries tree entry =
     IsTrue (is_to_own scenario based listed entry) → IsOwned scenario entries tree entry
 
--- so it is with all entries of the package that it speaks of
+-- each entry of the package of which `own` speaks is a folder that holds no foreign entry
 abbrev pub AreOwned : Scenario → List BaseLine → Entries → Entries → Value → Type 0
 AreOwned scenario lines new old tree =
     let entries = owner scenario new old in

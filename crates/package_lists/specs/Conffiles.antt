@@ -35,7 +35,7 @@ abbrev pub why_if : Option PathParts → Paths → Paths → List ℕ → Option
 why_if None files named line = Some (form_why line)
 why_if (Some path) files named line = path_why files named line
 
--- the same from the line alone
+-- why a line is at fault, if it is, from the line alone
 abbrev pub line_why : Paths → Paths → List ℕ → Option ℕ
 line_why files named line = why_if (path_of line) files named line
 

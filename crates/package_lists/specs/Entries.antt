@@ -21,7 +21,7 @@ abbrev pub entry_if : EntryKind → Option (List (List ℕ)) → Option EntryPar
 entry_if kind None = None
 entry_if kind (Some names) = Some (record { names = names; kind = kind })
 
--- the same from the text of the path
+-- the entry at a path, where there is one, from the text of the path
 abbrev pub entry_at : List ℕ → EntryKind → Option EntryParts
 entry_at path kind = entry_if kind (path_names path)
 

@@ -14,7 +14,7 @@ IsAnswer wanted (Ok value) = wanted ≡ Ok value
 IsAnswer wanted (Err (Line n why)) = wanted ≡ Err (Line n why)
 IsAnswer {A} wanted (Err Memory) = Unit {0}
 
--- the same where the value is left in place
+-- what was wanted is answered, with the value left in place, but for want of memory
 abbrev pub IsLeft : {A : Type 0} → Result A LineFault → A → Result (Unit {0}) LineFault → Type 0
 IsLeft wanted value (Ok done) = wanted ≡ Ok value
 IsLeft wanted value (Err (Line n why)) = wanted ≡ Err (Line n why)

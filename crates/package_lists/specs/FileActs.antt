@@ -53,7 +53,7 @@ removing Conf names base = []
 abbrev pub removed : Paths → EntryParts → List Act
 removed base entry = removing entry.kind entry.names (base (path_text entry.names))
 
--- the same, where the new package does not list the path
+-- the act that takes an entry of the old package away, where the new package does not list its path
 abbrev pub removed_old : Paths → Paths → EntryParts → List Act
 removed_old listed base entry = if listed (path_text entry.names) then [] else removed base entry
 

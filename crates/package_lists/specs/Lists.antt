@@ -57,7 +57,7 @@ abbrev pub line_of : Option Halves → List ℕ → Said
 line_of None line = plain_line line
 line_of (Some halves) line = link_line halves.0 halves.1
 
--- the same from the line alone
+-- what a line says, from the line alone
 abbrev pub line_says : List ℕ → Said
 line_says line = line_of (cut_at_arrow line) line
 

@@ -56,7 +56,7 @@ impl Entry {
         &self.kind
     }
 
-    // The same path with another kind.
+    /// The entry at the same path with another kind.
     pub fn with_kind(&self, alloc: Global, kind: EntryKind) -> Result<Entry, Memory>
         ensures { IfOk result (λ entry. entry ≡ record { names = self.now.names; kind = kind }) }
     {

@@ -18,7 +18,7 @@ pub struct FolderNames {
 }
 
 impl FolderNames {
-    // Of no entries.
+    // The names of no entries.
     fn new(alloc: Global) -> FolderNames
         ensures { (path : ListOf ℕ) → names_at result path ≡ [] }
     {
@@ -28,7 +28,7 @@ impl FolderNames {
         }
     }
 
-    /// Of these entries.
+    /// The last names of these entries, by their folders.
     pub fn of(alloc: Global, entries: &[Entry]) -> Result<FolderNames, Memory>
         ensures { IfOk result (λ all. (path : ListOf ℕ) → names_at all path ≡ names_below entries.now path) }
     {

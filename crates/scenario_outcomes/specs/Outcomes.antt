@@ -104,7 +104,7 @@ pub record AreTooMany (run : Value → Option Replayed) (start : Value → Type 
   pub differ : Differ traces
   pub count : limit < length traces
 
--- they have no more than that
+-- the runs from the start trees have at most as many different traces as the limit
 abbrev pub AreFew : (Value → Option Replayed) → (Value → Type 0) → ℕ → Type 0
 AreFew run start limit = (traces : List (List Mark)) → AreTraces run start traces → Differ traces
     → length traces ≤ limit

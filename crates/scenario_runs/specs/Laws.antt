@@ -58,7 +58,7 @@ IsSameWithMore meaning =
     → IsTrue (is_bound_end (meaning.ends step conc tree trace).end)
     ⊎ (meaning.ends step (conc_with_more n conc) tree trace ≡ ended_with_more n (meaning.ends step conc tree trace))
 
--- so it is of each script of a plan
+-- a run of any script of the plan that is not bound is the same run with more turns, but for the turns that are left
 abbrev pub AreSameWithMore : Plan → Type 0
 AreSameWithMore plan =
     (old : Bool) (script : ScriptKind) (meaning : Meaning) → plan.scripts old script ≡ Some meaning

@@ -36,7 +36,7 @@ course_at calls turns tree trace acts = record { tree = tree; trace = trace; act
 abbrev pub came : {A R : Type 0} → (A → Course → R) → Came A → Value → List Mark → List Act → R
 came make v tree trace acts = make v.value (course_at v.calls v.turns tree trace acts)
 
--- the same of what was played
+-- the value and the course of what was played, put together
 abbrev pub made : {A R : Type 0} → (A → Course → R) → Played (Came A) → R
 made make p = came make p.value p.tree p.trace p.acts
 

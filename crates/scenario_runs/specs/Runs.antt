@@ -163,7 +163,7 @@ next_behind plain step Succeeded = follows step true plain 0
 next_behind plain step (Failed at) = follows step false plain at
 next_behind plain step (Over ending) = Stop ending
 
--- the same, with how far the run has come
+-- what follows the step, with how far the run has come
 abbrev pub followed : Bool → Step → Worked → Reached
 followed plain step w = record { next = next_behind plain step w.end; course = w.course }
 
@@ -194,7 +194,7 @@ replayed_at (Go n) c = None
 replayed_at (Stop ending) c =
     Some (record { ending = ending; trace = c.trace; after = c.tree; calls = c.calls; acts = c.acts })
 
--- the same of where it is
+-- what a run comes to that has ended, from where it is
 abbrev pub replayed : Reached → Option Replayed
 replayed r = replayed_at r.next r.course
 

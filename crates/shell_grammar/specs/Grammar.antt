@@ -111,7 +111,7 @@ pub data Sign : Type 0 where
   Never : Sign
   -- what a rule gives
   Of : Rule → Sign
-  -- the same, one level further in
+  -- what a rule gives, one level further in
   Inside : Rule → Sign
 
 -- what a rule gives

@@ -45,10 +45,10 @@ mutual
     -- no script's tokens begin with those up to it
     cannot_follow : {d end : ℕ} {front : Tokens} {t : Token} {fault : ParseFault}
         → ((level : ℕ) → Begins d end (front ++ t ∷ []) level → ⊥) → fault ≡ Syntax t.at → FaultAt d end front t fault
-    -- it opens the 65th level
+    -- the token opens the 65th level
     too_far_in : {d end : ℕ} {front : Tokens} {t : Token} {fault : ParseFault} (level : ℕ)
         → Begins d end (front ++ t ∷ []) level → 64 < level → fault ≡ Deep t.at → FaultAt d end front t fault
-    -- it is a word that may stand there, and a substitution in it is at fault
+    -- the token is a word that may stand there, and a substitution in it is at fault
     in_word : {d end : ℕ} {front : Tokens} {t : Token} {fault : ParseFault} (level : ℕ) (raws : List RawPart)
         → Begins d end (front ++ t ∷ []) level → level ≤ 64 → word (t ∷ []) ≡ Some raws → FaultIn level raws fault
         → FaultAt d end front t fault
@@ -64,7 +64,7 @@ mutual
     in_substitution : {level : ℕ} {p : RawPart} {ps : List RawPart} {fault : ParseFault} (at : ℕ) (ts : Tokens)
         (quoted : Bool) → out-RawPart p ≡ raw.Run at ts quoted → level < 64 → FirstFault (suc level) at ts fault
         → FaultIn level (p ∷ ps) fault
-    -- it holds no fault, and the others do
+    -- the first part holds no fault, and the others do
     behind_part : {level : ℕ} {p : RawPart} {ps : List RawPart} {fault : ParseFault}
         → HoldScripts level (p ∷ []) → FaultIn level ps fault → FaultIn level (p ∷ ps) fault
 

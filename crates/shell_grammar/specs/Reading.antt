@@ -36,7 +36,7 @@ abbrev pub after : Part → Judged → Judged
 after p (Faultless ps) = Faultless (p ∷ ps)
 after p (Faulty fault) = Faulty fault
 
--- the same behind first parts
+-- some first parts before the others
 abbrev pub afters : List Part → Judged → Judged
 afters first (Faultless ps) = Faultless (first ++ ps)
 afters first (Faulty fault) = Faulty fault

@@ -104,7 +104,7 @@ abbrev pub up_to_equals : Text → Text
 up_to_equals [] = []
 up_to_equals (b ∷ bs) = if eqb b 61 then [] else b ∷ up_to_equals bs
 
--- those behind it
+-- the bytes behind the first `=`
 abbrev pub behind_equals : Text → Text
 behind_equals [] = []
 behind_equals (b ∷ bs) = if eqb b 61 then bs else behind_equals bs

@@ -53,12 +53,12 @@ option_of rest =
     if list_all is_blank rest then Some false
     else (if begins_blank rest then strict_end (after (codes "-e") (after_blanks rest)) else None)
 
--- the same behind an interpreter, where there is one
+-- whether `-e` is asked for, from what follows the interpreter, where there is one
 abbrev pub option_behind : Option Bytes → Option Bool
 option_behind None = None
 option_behind (Some rest) = option_of rest
 
--- the same behind `#!`, where it is there
+-- whether `-e` is asked for, from what follows `#!`, where the line begins so
 abbrev pub interpreter_behind : Option Bytes → Option Bool
 interpreter_behind None = None
 interpreter_behind (Some rest) = option_behind (after_interpreter (after_blanks rest))

@@ -35,7 +35,7 @@ use Rattle.shell_lexer.specs.Spelling.{IsOperator, IsRedirected, Stands}
 abbrev pub OneCut : Type 0
 OneCut = (text : Bytes) (l other : Lexed) → Cut text l → Cut text other → l ≡ other
 
--- the same without a limit of substitutions
+-- a text is cut into tokens in one way, without a limit of substitutions too
 abbrev pub OneCutAtAnyDepth : Type 0
 OneCutAtAnyDepth = (text : Bytes) (l other : Lexed) → CutAtAnyDepth text l → CutAtAnyDepth text other → l ≡ other
 

@@ -11,7 +11,8 @@ plain_runs_are_longest behind (Plain [] ∷ ps) = false
 plain_runs_are_longest behind (Plain (b ∷ bytes) ∷ ps) = not behind && plain_runs_are_longest true ps
 plain_runs_are_longest behind (_ ∷ ps) = plain_runs_are_longest false ps
 
--- the same of quoted runs
+-- no quoted run of these parts is empty, and none stands directly behind another; `behind` says that one stands
+-- directly before the parts
 abbrev pub quoted_runs_are_longest : Bool → List RawPart → Bool
 quoted_runs_are_longest behind [] = true
 quoted_runs_are_longest behind (Quoted [] ∷ ps) = false

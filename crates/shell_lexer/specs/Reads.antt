@@ -36,7 +36,7 @@ ItemsRead text depth from at (Ok v) =
     (at ≤ v.1) × (v.1 ≤ length text) × ItemsFrom text depth from at (Whole v.0 (drop v.1 text))
 ItemsRead text depth from at (Err e) = Caused (λ fault. ItemsFrom text depth from at (Stop fault)) e
 
--- those of a substitution
+-- the tokens of a substitution, from its first one on, and the place behind it
 abbrev pub SubRead : Bytes → ℕ → ℕ → ℕ → Result (List Token × ℕ) LexFault → Type 0
 SubRead text depth from at (Ok v) =
     (at ≤ v.1) × (v.1 ≤ length text) × SubFrom text depth from at (Whole v.0 (drop v.1 text))

@@ -28,7 +28,7 @@ Further at len (Passed i) = (at < i) × (i ≤ len)
 Further at len (Operator s i) = (at < i) × (i ≤ len)
 Further at len _ = Unit {0}
 
--- the same of what it saw in a word
+-- what the code saw in a word, as the table has it
 abbrev pub seen_look : Bytes → Look → parts.Look
 seen_look text Ends = parts.Ends
 seen_look text (Byte b i) = parts.Byte b (drop i text)

@@ -210,7 +210,7 @@ pub(crate) fn sight(alloc: Global, text: &[u8], at: usize) -> Result<Sight, Memo
     }
 }
 
-// The same by the kind of that byte, which is no digit.
+// What stands where a token may begin, by the kind of the byte there, which is no digit.
 fn sight_by(text: &[u8], at: usize, kind: ByteKind) -> Sight
     requires small { length text.now < 2 ^ 32 }
     requires within { at < length text.now }

@@ -22,7 +22,7 @@ mutual
         → plain_runs_are_longest false parts ≡ true → PartsAreLongest parts → RunsAreLongest ts
         → RunsAreLongest (t ∷ ts)
 
-  -- the same of the substitutions among the parts of a word
+  -- in the tokens of each substitution among the parts of a word the runs are longest
   pub data PartsAreLongest : List RawPart → Type 0 where
     -- no part
     no_part : PartsAreLongest []

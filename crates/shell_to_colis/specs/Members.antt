@@ -27,7 +27,7 @@ layer_defines (o.While at until cond body) = None
 layer_defines (o.Case at subject arms) = None
 layer_defines (o.Sub at body) = None
 
--- the same of a command
+-- the name and the body of the function that a command defines, if it is a definition
 abbrev pub defined_by : Command → Option (Text × Command)
 defined_by command = layer_defines (out-Command command)
 

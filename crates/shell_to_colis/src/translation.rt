@@ -79,7 +79,7 @@ fn parts(alloc: Global, body: &Command) -> Result<(List<Def>, List<Stmt>), Memor
     }
 }
 
-// Those of a script of one member.
+// The definitions and statements of a script of one member.
 fn one(alloc: Global, member: &Command) -> Result<(List<Def>, List<Stmt>), Memory>
     ensures { let members = member.now ∷ [] in
         IfOk result (λ parts. parts ≡ (defs_to members [], body_statements members [])) }

@@ -20,7 +20,7 @@ IsWanted (Names names) v = IsFenced v names
 abbrev pub MeetsNeed : Value → Need → Type 0
 MeetsNeed tree need = IsWanted need.wanted (at tree need.path.names)
 
--- so it is with each
+-- at the path of each need stands what is wanted
 abbrev pub MeetsNeeds : Value → List Need → Type 0
 MeetsNeeds tree [] = Unit {0}
 MeetsNeeds tree (need ∷ needs) = MeetsNeed tree need × MeetsNeeds tree needs

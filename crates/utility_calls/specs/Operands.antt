@@ -30,7 +30,7 @@ fault_reason LongName = reason.Long
 fault_reason Many = reason.Long
 fault_reason Memory = reason.Call
 
--- the same as a fault
+-- the fault of a word that spells no path
 abbrev pub call_fault : PathFault → CallFault
 call_fault Empty = fault.Because reason.Empty
 call_fault Nul = fault.Because reason.Call
