@@ -33,7 +33,7 @@ item_states [] = []
 item_states (Waiting x ∷ items) = x ∷ item_states items
 item_states (Ended path ∷ items) = path.state ∷ item_states items
 
--- those that wait are stages, and the others have ended
+-- the items that wait are stages, and the others are paths that have ended
 abbrev pub AllItems : {A : Type 0} → Decision A → (Value → Value) → List Mark → List (Item A) → Type 0
 AllItems d first trace [] = Unit {0}
 AllItems d first trace (Waiting x ∷ items) = IsStage d first trace x × AllItems d first trace items

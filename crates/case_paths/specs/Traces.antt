@@ -7,7 +7,7 @@ pub record Begins (a b : List Mark) : Type 0 where
   pub more : List Mark
   pub is : b ≡ a ++ more
 
--- they part at one act, where a took the lower row; so neither begins the other, and a comes before b
+-- the traces a and b part at one act, where a took the lower row; so neither begins the other, and a comes before b
 pub record Before (a b : List Mark) : Type 0 where
   pub front : List Mark
   pub low : Mark
@@ -27,7 +27,7 @@ abbrev pub AllAfter : List Mark → List (List Mark) → Type 0
 AllAfter t [] = Unit {0}
 AllAfter t (u ∷ us) = Before t u × AllAfter t us
 
--- they rise, so that no two are equal, and none begins another
+-- the traces rise, so that no two are equal, and none begins another
 abbrev pub Rising : List (List Mark) → Type 0
 Rising [] = Unit {0}
 Rising (t ∷ ts) = AllAfter t ts × Rising ts

@@ -11,13 +11,13 @@ use Rattle.colis_checker.specs.Reports.{IsPartOf, AreParts, IsFault, IsFirstFaul
 
 -- Packages are checked, with so many turns of loops in a run, and so many different traces at most in a scenario.
 module _ (packages : Packages) (turns limit : ℕ) where
-  -- this is told of some part of a report on the scenario
+  -- what is told is told of some part of a report on the scenario
   pub record IsToldOf (scenario : Scenario) (told : ToldPart) : Type 0 where
     pub part : ReportPart
     pub is : IsPartOf packages turns limit scenario part
     pub tells : Tells part told
 
-  -- this is told of some report on the scenarios
+  -- what is told is told of the parts of some report on the scenarios
   pub record AreToldOf (scenarios : List Scenario) (told : List ToldPart) : Type 0 where
     pub report : Report
     pub parts : AreParts packages turns limit scenarios report.parts

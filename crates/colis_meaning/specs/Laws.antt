@@ -15,13 +15,13 @@ RunsOnlyAdd =
     (program : ProgramParts) (step : ℕ) (conc : Conc) (tree : Value) (trace : List Mark)
     → Extends trace (co_program program step conc tree trace).trace
 
--- it has no more turns left than it began with
+-- a run has no more turns left than it began with
 abbrev pub TurnsNeverRise : Type 0
 TurnsNeverRise =
     (program : ProgramParts) (step : ℕ) (conc : Conc) (tree : Value) (trace : List Mark)
     → (co_program program step conc tree trace).conc.turns ≤ conc.turns
 
--- one that is not bound is, with more turns, the same run, but for the turns that are left, which are more by as many
+-- a run that is not bound is, with more turns, the same run, but for the turns that are left, which are more by as many
 abbrev pub MoreTurnsSameRun : Type 0
 MoreTurnsSameRun =
     (n : ℕ) (program : ProgramParts) (step : ℕ) (conc : Conc) (tree : Value) (trace : List Mark)
@@ -29,6 +29,6 @@ MoreTurnsSameRun =
     ⊎ (co_program program step (conc_with_more n conc) tree trace
     ≡ ended_with_more n (co_program program step conc tree trace))
 
--- the same of each statement where functions are defined, from every state and at every place
+-- the runs of each statement, where functions are defined, keep these three laws, from every state and at every place
 abbrev pub StatementsAreLawful : Type 0
 StatementsAreLawful = (defs : List Def) (stmt : Stmt) → IsLawful (co_stmt stmt (funs_of defs []))

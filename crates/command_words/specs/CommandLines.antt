@@ -131,7 +131,7 @@ pub record NamesFolders (said : Field → Texts) (folders : Folders) : Type 0 wh
   pub old : said field.Old ≡ listed folders.old
   pub base : said field.Base ≡ listed folders.base
 
--- they ask for a check of these folders
+-- the texts for each field ask for a check of these folders
 pub record AsksCheck (said : Field → Texts) (folders : Folders) (chosen : Option Scenario) (turns limit : ℕ)
     (layout : Layout) : Type 0 where
   pub of_folders : NamesFolders said folders
@@ -141,7 +141,7 @@ pub record AsksCheck (said : Field → Texts) (folders : Folders) (chosen : Opti
   pub of_layout : said field.Layout ≡ layout_words layout
   pub of_tree : said field.Tree ≡ []
 
--- they ask for a run
+-- the texts for each field ask for a run
 pub record AsksRun (said : Field → Texts) (folders : Folders) (tree : List ℕ) (chosen : Scenario) (turns : ℕ)
     : Type 0 where
   pub of_folders : NamesFolders said folders
@@ -151,18 +151,18 @@ pub record AsksRun (said : Field → Texts) (folders : Folders) (tree : List ℕ
   pub of_limit : said field.Limit ≡ []
   pub of_layout : said field.Layout ≡ []
 
--- they ask for a translation
+-- the texts for each field ask for a translation
 pub record AsksTranslate (said : Field → Texts) (file : List ℕ) : Type 0 where
   pub of_file : said field.Named ≡ file ∷ []
   pub of_others : (f : Field) → f ≢ field.Named → said f ≡ []
 
--- they ask for a load
+-- the texts for each field ask for a load
 pub record AsksLoad (said : Field → Texts) (number limit : ℕ) : Type 0 where
   pub of_number : IsNumber 500 (said field.Named) number
   pub of_limit : IsNumberOr 100000 10000 (said field.Limit) limit
   pub of_others : (f : Field) → f ≢ field.Named → f ≢ field.Limit → said f ≡ []
 
--- they ask for this request
+-- the texts for each field ask for this request
 abbrev pub Asks : (Field → Texts) → Request → Type 0
 Asks said (Check folders scenario turns limit layout) = AsksCheck said folders scenario turns limit layout
 Asks said (Run folders tree scenario turns) = AsksRun said folders tree scenario turns

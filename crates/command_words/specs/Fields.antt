@@ -56,7 +56,7 @@ rank field.Turns = 5
 rank field.Limit = 6
 rank field.Layout = 7
 
--- the two are the same
+-- two fields are the same
 abbrev pub is_field : Field → Field → Bool
 is_field one other = rank one == rank other
 

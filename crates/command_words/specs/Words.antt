@@ -31,7 +31,7 @@ is_ready command.Load said = true
 abbrev pub at : List Setting → Place → Option Begun
 at said place = Some (record { said = said; place = place })
 
--- it says one thing more, where it may
+-- a line that says one thing more, where it may say that
 abbrev pub say : Command → List Setting → Setting → Place → Option Begun
 say command said s place =
     if may command said s.field

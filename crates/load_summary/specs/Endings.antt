@@ -20,14 +20,14 @@ endings_of part = record { scenario = part.scenario; endings = map ending_of par
 abbrev pub HasEndings : Report → List ScenarioEndings → Type 0
 HasEndings report scenarios = map endings_of report.parts ≡ scenarios
 
--- some ending of the scenario makes this of the verdict
+-- some ending of the scenario has this verdict
 abbrev pub ends_so : ℕ → ScenarioEndings → Bool
 ends_so verdict scenario = list_any (λ ending. ending_verdict ending == verdict) scenario.endings
 
--- some ending of the scenarios does
+-- some ending of the scenarios has this verdict
 abbrev pub some_ends_so : ℕ → List ScenarioEndings → Bool
 some_ends_so verdict scenarios = list_any (ends_so verdict) scenarios
 
--- what the endings make of the verdict
+-- the verdict on the endings together
 abbrev pub endings_verdict : List ScenarioEndings → ℕ
 endings_verdict scenarios = joint_verdict (some_ends_so 1 scenarios) (some_ends_so 2 scenarios)

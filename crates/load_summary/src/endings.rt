@@ -16,7 +16,7 @@ pub struct ScenarioEndings {
     pub endings: List<Ending>,
 }
 
-// Whether an ending of the scenario makes this of the verdict.
+// Whether an ending of the scenario has this verdict.
 fn ends_so(scenario: &ScenarioEndings, verdict: u8) -> bool
     ensures { result ≡ ends_so verdict scenario.now }
 {
@@ -27,14 +27,14 @@ fn ends_so(scenario: &ScenarioEndings, verdict: u8) -> bool
         .any(|ending| ending_verdict(*ending) == verdict)
 }
 
-// Whether an ending of some scenario does.
+// Whether an ending of some scenario has this verdict.
 fn some_ends_so(scenarios: &[ScenarioEndings], verdict: u8) -> bool
     ensures { result ≡ some_ends_so verdict scenarios.now }
 {
     scenarios.iter().any(|scenario| ends_so(scenario, verdict))
 }
 
-/// What the endings make of the verdict.
+/// The verdict on the endings together.
 pub(crate) fn endings_verdict(scenarios: &[ScenarioEndings]) -> u8
     ensures { result ≡ endings_verdict scenarios.now }
 {

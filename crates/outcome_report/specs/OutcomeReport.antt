@@ -55,18 +55,18 @@ PartAnswers run start limit (Err fault) = Answers run start limit (Err fault)
 
 -- ---- the verdict
 
--- what an ending alone makes of the verdict: 1 where the scenario failed, 2 where it ended without a state, else 0
+-- the verdict on an ending alone: 1 where the scenario failed, 2 where it ended without a state, else 0
 abbrev pub ending_verdict : Ending → ℕ
 ending_verdict (Done state) = 0
 ending_verdict (Failed state) = 1
 ending_verdict (Incomplete reason site) = 2
 ending_verdict (Bound site) = 2
 
--- some outcome of the part makes this of the verdict
+-- some outcome of the part has this verdict
 abbrev pub part_has : ℕ → ReportPart → Bool
 part_has verdict part = list_any (λ entry. ending_verdict entry.outcome.ending == verdict) part.entries
 
--- some outcome of the report does
+-- some outcome of the report has this verdict
 abbrev pub report_has : ℕ → Report → Bool
 report_has verdict report = list_any (part_has verdict) report.parts
 

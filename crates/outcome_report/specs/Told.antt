@@ -27,7 +27,7 @@ pub record Tells (part : ReportPart) (told : ToldPart) : Type 0 where
   pub failed : told.failed ≡ part_has 1 part
   pub unfinished : told.unfinished ≡ part_has 2 part
 
--- this is told of some part that is the answer
+-- what is told is told of some part that is the answer
 pub record IsTold (run : Value → Option Replayed) (start : Value → Type 0) (limit : ℕ) (scenario : Scenario)
     (told : ToldPart) : Type 0 where
   pub part : ReportPart

@@ -5,7 +5,7 @@ use crate::outcome_report::{Report, ReportPart};
 use dpkg_scenarios::Ending;
 use scenario_runs::Replayed;
 
-/// What an ending alone makes of the verdict.
+/// The verdict on an ending alone: 1 where the scenario failed, 2 where it ended without a state, else 0.
 pub fn ending_verdict(ending: Ending) -> u8
     ensures { result ≡ ending_verdict ending }
 {
@@ -16,7 +16,7 @@ pub fn ending_verdict(ending: Ending) -> u8
     }
 }
 
-// Whether an outcome of the part makes this of the verdict.
+// Whether an outcome of the part has this verdict.
 fn part_has(part: &ReportPart, verdict: u8) -> bool
     ensures { result ≡ part_has verdict part.now }
 {
@@ -26,7 +26,7 @@ fn part_has(part: &ReportPart, verdict: u8) -> bool
         .any(|entry| ending_verdict(entry.outcome.ending) == verdict)
 }
 
-// Whether an outcome of the report does.
+// Whether an outcome of the report has this verdict.
 fn report_has(report: &Report, verdict: u8) -> bool
     ensures { result ≡ report_has verdict report.now }
 {

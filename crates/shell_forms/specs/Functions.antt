@@ -22,7 +22,7 @@ Definitions = List (Text × ℕ)
 abbrev pub of_all : List Definitions → Definitions
 of_all parts = flat_map (λ part. part) parts
 
--- those of what may be left out
+-- the definitions in a part that may be left out
 abbrev pub of_some : {A : Type 0} → (A → Definitions) → Option A → Definitions
 of_some f None = []
 of_some f (Some x) = f x

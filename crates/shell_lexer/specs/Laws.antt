@@ -171,12 +171,12 @@ PartsAreSpelled sees inside =
 abbrev pub AllArgsAreSpelled : (ℕ → Bytes → Look) → Type 0
 AllArgsAreSpelled sees = (len : ℕ) (text rest : Bytes) → (sees len text ≡ AllArgs rest) ↔ Stands (codes "$@") text rest
 
--- it is the beginning of a substitution exactly where one is spelled
+-- what the table sees is the beginning of a substitution exactly where one is spelled
 abbrev pub SubstitutionsAreSpelled : (ℕ → Bytes → Look) → Type 0
 SubstitutionsAreSpelled sees =
     (len : ℕ) (text rest : Bytes) → (sees len text ≡ Substitution rest) ↔ IsSubstitution text rest
 
--- it is a double quote exactly where one stands
+-- what the table sees is a double quote exactly where one stands
 abbrev pub DoubleQuotesAreSpelled : (ℕ → Bytes → Look) → Type 0
 DoubleQuotesAreSpelled sees =
     (len : ℕ) (text rest : Bytes) → (sees len text ≡ DoubleQuote rest) ↔ Stands (codes "\"") text rest

@@ -213,7 +213,7 @@ module _ (deep : ℕ → Bool) (len : ℕ) where
 
     -- the tokens of a substitution that began at `from`, inside depth others
     pub data IsSub : ℕ → ℕ → Bytes → Out (List Token) → Type 0 where
-      -- it is too deep
+      -- the substitution is too deep
       sub_deep : {depth from : ℕ} {text : Bytes} {q : Out (List Token)}
           → deep depth ≡ true → q ≡ Stop (Deep from) → IsSub depth from text q
       -- its tokens are those up to the parenthesis that closes it
