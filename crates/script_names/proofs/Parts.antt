@@ -1,5 +1,5 @@
 -- The components of a word that spells a path: those that name an entry are names.
-use Rattle.std.specs.Prelude.{nat_lt, if◌then◌else◌, not, ◌||◌, filter}
+use Rattle.std.specs.Prelude.{nat_lt, if◌then◌else◌, not, filter}
 use Rattle.std.proofs.Common.{◌≡◌, ℕ, zero, suc, ◌+◌, ◌<◌, ◌≤◌, List, [], ◌∷◌, ◌++◌, length, get_or, take, Option, Some, None, map, Bool, true, false, refl, ap, ◌∙◌, arith}
 use Rattle.script_names.specs.Laws.{HasNoSlash, SpellsNames}
 use Rattle.std.specs.List.{All, list_all, list_any, last_or, onto_first}
@@ -8,7 +8,7 @@ use Rattle.std.specs.Iterator.{Drains}
 use Rattle.std.proofs.lemmas.Iterator.{YieldsList, items_from_drains}
 use Rattle.std.proofs.lemmas.List.{take_more, map-append}
 use denote.Ref.{Bor}
-use Rattle.std.proofs.lemmas.Bool.{ltb-false, le-leb, lt-ltb, and_parts, and_from}
+use Rattle.std.proofs.lemmas.Bool.{ltb-false, le-leb, lt-ltb, and_parts, and_from, or_parts, not-true}
 use Rattle.script_names.specs.Names.{is_name, is_plain_byte, is_dots}
 use Rattle.script_names.specs.Paths.{is_nul, is_slash, is_filled, is_dot, is_dot_dot, is_long, names_entry, ends_in_dot, components, spelled_names, path_fault, stated}
 use Rattle.script_names.specs.declared.path.PathFault.{PathFault}
@@ -41,16 +41,11 @@ split_plain : (slash : Bool) (b : ℕ) (parts : List (List ℕ)) → is_slash b 
 split_plain true b parts is nul e = e
 split_plain false b parts is nul e = onto_plain b parts (plain b nul is) e
 
--- where the first of two tests or the second holds
-or_none : (x y : Bool) → (x || y) ≡ false → (x ≡ false) × (y ≡ false)
-or_none true y e = cc
-or_none false y e = (refl, e)
-
 -- the bytes of all components are plain
 pub parts_plain : (word : List ℕ) → list_any is_nul word ≡ false → list_all (list_all is_plain_byte) (components word) ≡ true
 parts_plain [] e = refl
 parts_plain (b ∷ bs) e =
-    let nul : (is_nul b ≡ false) × (list_any is_nul bs ≡ false) = or_none (is_nul b) (list_any is_nul bs) e in
+    let nul : (is_nul b ≡ false) × (list_any is_nul bs ≡ false) = or_parts (is_nul b) (list_any is_nul bs) e in
     split_plain (is_slash b) b (components bs) refl nul.0 (parts_plain bs nul.1)
 
 -- what names an entry and isn't `..` names no directory by dots
@@ -65,15 +60,11 @@ filled : (part : List ℕ) → is_filled part ≡ true → nat_lt 0 (length part
 filled [] e = cc
 filled (b ∷ bs) e = lt-ltb 0 (length (b ∷ bs)) (omega arith)
 
-not_false : (b : Bool) → not b ≡ true → b ≡ false
-not_false true e = cc
-not_false false e = refl
-
 -- a component that names an entry is a name
 named : (part : List ℕ) → list_all is_plain_byte part ≡ true → is_dot_dot part ≡ false → is_long part ≡ false → names_entry part ≡ true → is_name part ≡ true
 named part bytes up long on =
     let parts : (is_filled part ≡ true) × (not (is_dot part) ≡ true) = and_parts (is_filled part) (not (is_dot part)) on in
-    rw (filled part parts.0, le-leb (length part) 255 (ltb-false 255 (length part) long), bytes, no_dots part (not_false (is_dot part) parts.1) up) refl
+    rw (filled part parts.0, le-leb (length part) 255 (ltb-false 255 (length part) long), bytes, no_dots part (not-true (is_dot part) parts.1) up) refl
 
 -- one component more
 kept : (on : Bool) (part : List ℕ) (names : List (List ℕ)) → names_entry part ≡ on → (names_entry part ≡ true → is_name part ≡ true) → list_all is_name names ≡ true
@@ -87,8 +78,8 @@ parts_named [] bytes up long = refl
 parts_named (part ∷ parts) bytes up long =
     let b : (list_all is_plain_byte part ≡ true) × (list_all (list_all is_plain_byte) parts ≡ true) =
     and_parts (list_all is_plain_byte part) (list_all (list_all is_plain_byte) parts) bytes in
-    let u : (is_dot_dot part ≡ false) × (list_any is_dot_dot parts ≡ false) = or_none (is_dot_dot part) (list_any is_dot_dot parts) up in
-    let l : (is_long part ≡ false) × (list_any is_long parts ≡ false) = or_none (is_long part) (list_any is_long parts) long in
+    let u : (is_dot_dot part ≡ false) × (list_any is_dot_dot parts ≡ false) = or_parts (is_dot_dot part) (list_any is_dot_dot parts) up in
+    let l : (is_long part ≡ false) × (list_any is_long parts ≡ false) = or_parts (is_long part) (list_any is_long parts) long in
     kept (names_entry part) part (filter names_entry parts) refl (named part b.0 u.0 l.0) (parts_named parts b.1 u.1 l.1)
 
 -- the first fault of six tests
@@ -191,7 +182,7 @@ all_of p (x ∷ xs) e (suc k) d lt = all_of p xs (and_parts (p x) (list_all p xs
 
 pub has_no_slash : HasNoSlash
 has_no_slash word k d lt i b lt' =
-    not_false (is_slash (get_or (get_or (components word) k d) i b))
+    not-true (is_slash (get_or (get_or (components word) k d) i b))
     (all_of (λ b. not (is_slash b)) (get_or (components word) k d) (all_of (list_all (λ b. not (is_slash b))) (components word) (no_slashes word) k d lt) i b lt')
 
 pub names_spelled : SpellsNames

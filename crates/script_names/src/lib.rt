@@ -15,7 +15,6 @@ mod name;
 mod path;
 mod reason;
 mod slot;
-mod split;
 mod text;
 pub mod theorems;
 
@@ -30,5 +29,4 @@ pub use name::{NAME_MAX, Name, NameFault};
 pub use path::{MAX_NAMES, Path, PathFault};
 pub use reason::{Done, Reason};
 pub use slot::Slot;
-pub use split::first_part;
 pub use text::Text;
