@@ -11,7 +11,7 @@ use Rattle.checker_input.specs.declared.faults.InputFile.{InputFile}
 use Rattle.checker_input.specs.declared.faults.InputRefusal.{InputRefusal}
 use Rattle.checker_input.specs.declared.faults.InputRefusal.TheVariants.{Missing, TooLong, Lex, Parse, Form, Control}
 use Rattle.checker_input.specs.declared.faults.InputRefusal.TheVariants.{List as BadList, Conf, Base, Tree}
-use Rattle.outcome_report.specs.ReportNames.{scenario_name}
+use Rattle.dpkg_scenarios.specs.Names.{scenario_name}
 use Rattle.colis_checker.specs.declared.faults.Refusal.{Refusal}
 use Rattle.colis_checker.specs.declared.faults.Refusal.TheVariants.{Usage, Input, NoStart, Limit}
 use Rattle.shown_texts.specs.Lines.{line}

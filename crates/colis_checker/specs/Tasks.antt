@@ -1,6 +1,7 @@
 -- What a request comes to, once its files are read: a text with a status, or a refusal.
 use Rattle.std.specs.Prelude.{◌≡◌, ℕ, ◌≤◌, List, Some, IsTrue, Result, Ok, Err}
 use Rattle.dpkg_scenarios.specs.declared.scenario.Scenario.{Scenario}
+use Rattle.command_words.specs.declared.limits.TheConstants.{MOST_LOAD}
 use Rattle.command_words.specs.declared.request.Request.{Request}
 use Rattle.command_words.specs.declared.request.Request.TheVariants as words
 use Rattle.checker_input.specs.declared.package.Packages.{Packages}
@@ -47,12 +48,12 @@ pub record IsProgramOf (script : Script) (text : List ℕ) (status : ℕ) : Type
 
 -- ---- the task of a request
 
--- the number of a load is from 1 to 500
+-- the number of a load is from 1 to MOST_LOAD
 abbrev pub IsInRange : Request → Type 0
 IsInRange (words.Check folders scenario turns limit layout) = Unit {0}
 IsInRange (words.Run folders file scenario turns) = Unit {0}
 IsInRange (words.Translate file) = Unit {0}
-IsInRange (words.Load number limit) = (1 ≤ number) × (number ≤ 500)
+IsInRange (words.Load number limit) = (1 ≤ number) × (number ≤ MOST_LOAD)
 
 -- a task that the files of a request can come to: packages to check, packages and a tree to run from, or a script; a
 -- load reads no file
@@ -72,7 +73,7 @@ Fits (words.Translate file) read.Load = ⊥
 Fits (words.Load number limit) (read.Check packages) = ⊥
 Fits (words.Load number limit) (read.Run packages tree) = ⊥
 Fits (words.Load number limit) (read.Translate script) = ⊥
-Fits (words.Load number limit) read.Load = (1 ≤ number) × (number ≤ 500)
+Fits (words.Load number limit) read.Load = (1 ≤ number) × (number ≤ MOST_LOAD)
 
 -- the text of a task, and the status that goes with it
 abbrev pub IsTextOf : Request → Task → List ℕ → ℕ → Type 0

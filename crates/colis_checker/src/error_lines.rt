@@ -9,8 +9,7 @@ ghost use Rattle.checker_input.specs.Input.{file_name};
 use crate::faults::Refusal;
 use checker_input::{InputFile, InputRefusal, make_name};
 use command_words::Request;
-use dpkg_scenarios::Scenario;
-use outcome_report::scenario_name;
+use dpkg_scenarios::{Scenario, scenario_name};
 use script_names::{Bytes, Memory};
 use shell_grammar::ParseFault;
 use shell_lexer::LexFault;
@@ -194,7 +193,7 @@ fn no_start_line(alloc: Global, scenario: Scenario) -> Result<Bytes, Memory>
 {
     let mut text = Bytes::new(alloc);
     text.extend(b"colis: no start tree for ")?;
-    text.extend(scenario_name(scenario))?;
+    text.extend(scenario_name(scenario).as_bytes())?;
     text.extend(b"\n")?;
     Ok(text)
 }
@@ -207,7 +206,7 @@ fn limit_line(alloc: Global, scenario: Scenario, limit: u32) -> Result<Bytes, Me
     text.extend(b"colis: more than ")?;
     push_number(&mut text, u64::from(limit))?;
     text.extend(b" outcomes in ")?;
-    text.extend(scenario_name(scenario))?;
+    text.extend(scenario_name(scenario).as_bytes())?;
     text.extend(b"\n")?;
     Ok(text)
 }

@@ -2,6 +2,7 @@
 
 ghost use Rattle.std.specs.Prelude.{◌≤◌, IfOk};
 ghost use Rattle.std.specs.List.{AllZip};
+ghost use Rattle.command_words.specs.declared.limits.TheConstants.{MOST_LOAD};
 ghost use Rattle.colis_checker.specs.Loads.{AreLoaded, LoadGives};
 ghost use Rattle.colis_checker.specs.LoadEndings.{EndingsGive, AllEndingsGive};
 
@@ -10,6 +11,7 @@ use crate::reports::{chosen_scenarios, settle};
 use crate::written::Written;
 use case_pool::{Gate, map_jobs};
 use checker_input::Packages;
+use command_words::USUAL_TURNS;
 use dpkg_scenarios::Scenario;
 use load_maker::load;
 use load_summary::{ScenarioEndings, load_verdict, render_load};
@@ -21,11 +23,11 @@ use std::alloc::Global;
 use std::thread::Threads;
 
 /// How many turns of loops a run of a made package has.
-pub const TURNS: u32 = 100;
+pub const TURNS: u32 = USUAL_TURNS;
 
 // The packages of a load: the made package of this number, which is its own old one, on the usual base.
 fn load_packages(alloc: Global, number: u32) -> Result<Packages, Memory>
-    requires { 1 ≤ number × number ≤ 500 }
+    requires { 1 ≤ number × number ≤ MOST_LOAD }
     ensures { IfOk result (AreLoaded number) }
 {
     let new_package = load(alloc, number as u16)?;
@@ -119,7 +121,7 @@ pub fn write_load<R: Threads + Sync, G: Gate>(
     number: u32,
     limit: u32,
 ) -> Result<Written, TaskFault>
-    requires { 1 ≤ number × number ≤ 500 }
+    requires { 1 ≤ number × number ≤ MOST_LOAD }
     ensures { LoadGives number limit result }
 {
     let packages = load_packages(alloc, number)?;

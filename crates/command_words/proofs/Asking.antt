@@ -16,6 +16,8 @@ use Rattle.command_words.specs.declared.request.Layout.{Layout}
 use Rattle.command_words.specs.declared.request.Layout.TheVariants.{Plain, Brief, Json}
 use Rattle.command_words.specs.declared.request.Request.{Request}
 use Rattle.command_words.specs.declared.request.Request.TheVariants.{Check, Run, Translate, Load}
+use Rattle.command_words.specs.declared.limits.TheConstants.{MOST_LOAD, MOST_TURNS, MOST_LIMIT}
+use Rattle.command_words.specs.declared.limits.TheConstants.{USUAL_TURNS, USUAL_LIMIT}
 use Rattle.command_words.specs.Fields.{takes, texts, first, given, is_field, command_name}
 use Rattle.dpkg_scenarios.specs.Names.{scenario_name, scenario_named}
 use Rattle.command_words.specs.Values.{number_in, is_value}
@@ -99,7 +101,7 @@ number_first most usual (t ∷ []) n h = ap (λ o. unwrap_or o usual) h
 number_first most usual (t ∷ u ∷ more) n h = absurd h
 
 -- the number that is named
-number_named : (said : List Setting) (ts : Texts) (n : ℕ) → IsNumber 500 ts n → request_by command.Load said (first ts) ≡ load_by said (Some n)
+number_named : (said : List Setting) (ts : Texts) (n : ℕ) → IsNumber MOST_LOAD ts n → request_by command.Load said (first ts) ≡ load_by said (Some n)
 number_named said [] n h = absurd h
 number_named said (t ∷ []) n h = ap (load_by said) h
 number_named said (t ∷ u ∷ more) n h = absurd h
@@ -138,8 +140,8 @@ asks_check dir said fit named =
     record {
       of_folders = names_folders command.Check dir said fit named;
       of_scenario = scenario_listed command.Check (texts field.Scenario said) (fit field.Scenario);
-      of_turns = number_listed (λ t. takes command.Check field.Turns ≡ true) 10000 100 (texts field.Turns said) (fit field.Turns);
-      of_limit = number_listed (λ t. takes command.Check field.Limit ≡ true) 100000 10000 (texts field.Limit said) (fit field.Limit);
+      of_turns = number_listed (λ t. takes command.Check field.Turns ≡ true) MOST_TURNS USUAL_TURNS (texts field.Turns said) (fit field.Turns);
+      of_limit = number_listed (λ t. takes command.Check field.Limit ≡ true) MOST_LIMIT USUAL_LIMIT (texts field.Limit said) (fit field.Limit);
       of_layout = layout_listed command.Check (texts field.Layout said) (fit field.Layout);
       of_tree = not_taken command.Check said field.Tree refl fit;
     }
@@ -160,12 +162,12 @@ asks_translate file said fit named =
     }
 
 asks_load : (name : List ℕ) (number : ℕ) (said : List Setting) → AllFit command.Load said → texts field.Named said ≡ name ∷ []
-    → number_in 500 name ≡ Some number
-    → AsksLoad (λ f. texts f said) number (number_or 100000 10000 (given field.Limit said))
+    → number_in MOST_LOAD name ≡ Some number
+    → AsksLoad (λ f. texts f said) number (number_or MOST_LIMIT USUAL_LIMIT (given field.Limit said))
 asks_load name number said fit named is =
     record {
-      of_number = subst (λ ts. IsNumber 500 ts number) (sym named) is;
-      of_limit = number_listed (λ t. takes command.Load field.Limit ≡ true) 100000 10000 (texts field.Limit said) (fit field.Limit);
+      of_number = subst (λ ts. IsNumber MOST_LOAD ts number) (sym named) is;
+      of_limit = number_listed (λ t. takes command.Load field.Limit ≡ true) MOST_LIMIT USUAL_LIMIT (texts field.Limit said) (fit field.Limit);
       of_others = λ f unnamed unlimited.
           not_taken command.Load said f
           (ap (λ b. b || is_field field.Limit f) (is_other field.Named f unnamed) ∙ is_other field.Limit f unlimited) fit;
@@ -189,14 +191,14 @@ asked_run dir said request (Some s) (Some tree) fit named scenarios trees e =
         of_folders = names_folders command.Run dir said fit named;
         of_tree = trees;
         of_scenario = scenarios;
-        of_turns = number_listed (λ t. takes command.Run field.Turns ≡ true) 10000 100 (texts field.Turns said) (fit field.Turns);
+        of_turns = number_listed (λ t. takes command.Run field.Turns ≡ true) MOST_TURNS USUAL_TURNS (texts field.Turns said) (fit field.Turns);
         of_limit = not_taken command.Run said field.Limit refl fit;
         of_layout = not_taken command.Run said field.Layout refl fit;
       };
     })
 
 asked_load : (name : List ℕ) (said : List Setting) (request : Request) (o : Option ℕ) → AllFit command.Load said
-    → texts field.Named said ≡ name ∷ [] → number_in 500 name ≡ o → load_by said o ≡ Some request
+    → texts field.Named said ≡ name ∷ [] → number_in MOST_LOAD name ≡ o → load_by said o ≡ Some request
     → IsAsked command.Load said request
 asked_load name said request None fit named is e = absurd (is_no e)
 asked_load name said request (Some number) fit named is e =
@@ -214,7 +216,7 @@ asked_by command.Run said request (Some dir) fit named e =
 asked_by command.Translate said request (Some file) fit named e =
     subst (IsAsked command.Translate said) (in_some e) (record { is = refl; asks = asks_translate file said fit named })
 asked_by command.Load said request (Some name) fit named e =
-    asked_load name said request (number_in 500 name) fit named refl e
+    asked_load name said request (number_in MOST_LOAD name) fit named refl e
 
 pub asked : (c : Command) (said : List Setting) (request : Request) → AllFit c said → request_of c said ≡ Some request
     → IsAsked c said request
@@ -240,8 +242,8 @@ module _ (said : List Setting) where
       let named = ap first asks.of_folders.dir in
       let dirs = folders_made folders asks.of_folders in
       let scenarios = ap (λ ts. option_and_then scenario_named (first ts)) asks.of_scenario ∙ scenario_first chosen in
-      let turn = number_first 10000 100 (texts field.Turns said) turns asks.of_turns in
-      let most = number_first 100000 10000 (texts field.Limit said) limit asks.of_limit in
+      let turn = number_first MOST_TURNS USUAL_TURNS (texts field.Turns said) turns asks.of_turns in
+      let most = number_first MOST_LIMIT USUAL_LIMIT (texts field.Limit said) limit asks.of_limit in
       let layouts = ap (λ ts. layout_by (first ts)) asks.of_layout ∙ layout_first layout in
       ap (request_by command.Check said) named
       ∙ (λ i. Some (Check (dirs i) (scenarios i) (turn i) (most i) (layouts i)))
@@ -254,7 +256,7 @@ module _ (said : List Setting) where
       let dirs = folders_made folders asks.of_folders in
       let scenarios = ap (λ ts. option_and_then scenario_named (first ts)) asks.of_scenario ∙ named_scenario chosen in
       let trees = ap first asks.of_tree in
-      let turn = number_first 10000 100 (texts field.Turns said) turns asks.of_turns in
+      let turn = number_first MOST_TURNS USUAL_TURNS (texts field.Turns said) turns asks.of_turns in
       ap (request_by command.Run said) named
       ∙ ap (λ s. run_from folders.dir said s (given field.Tree said)) scenarios
       ∙ ap (λ t. run_from folders.dir said (Some chosen) t) trees
@@ -263,7 +265,7 @@ module _ (said : List Setting) where
   made_load : (number limit : ℕ) → AsksLoad (λ f. texts f said) number limit
       → request_of command.Load said ≡ Some (Load number limit)
   made_load number limit asks =
-      let most = number_first 100000 10000 (texts field.Limit said) limit asks.of_limit in
+      let most = number_first MOST_LIMIT USUAL_LIMIT (texts field.Limit said) limit asks.of_limit in
       number_named said (texts field.Named said) number asks.of_number ∙ (λ i. Some (Load number (most i)))
 
   pub made : (request : Request) → Asks (λ f. texts f said) request → request_of (command_at request) said ≡ Some request
@@ -292,7 +294,7 @@ fits_number X most usual [] n x h = tt
 fits_number X most usual (t ∷ []) n x h = (x t, ap is_some h)
 fits_number X most usual (t ∷ u ∷ more) n x h = absurd h
 
-fits_named : (ts : Texts) (n : ℕ) → IsNumber 500 ts n → OneOf (Suits command.Load field.Named) ts
+fits_named : (ts : Texts) (n : ℕ) → IsNumber MOST_LOAD ts n → OneOf (Suits command.Load field.Named) ts
 fits_named [] n h = absurd h
 fits_named (t ∷ []) n h = (refl, ap is_some h)
 fits_named (t ∷ u ∷ more) n h = absurd h
@@ -322,9 +324,9 @@ module _ (said : List Setting) where
   check_fits folders chosen turns limit layout asks field.Tree =
       fits_none command.Check field.Tree (texts field.Tree said) asks.of_tree
   check_fits folders chosen turns limit layout asks field.Turns =
-      fits_number (λ t. takes command.Check field.Turns ≡ true) 10000 100 (texts field.Turns said) turns (λ t. refl) asks.of_turns
+      fits_number (λ t. takes command.Check field.Turns ≡ true) MOST_TURNS USUAL_TURNS (texts field.Turns said) turns (λ t. refl) asks.of_turns
   check_fits folders chosen turns limit layout asks field.Limit =
-      fits_number (λ t. takes command.Check field.Limit ≡ true) 100000 10000 (texts field.Limit said) limit (λ t. refl) asks.of_limit
+      fits_number (λ t. takes command.Check field.Limit ≡ true) MOST_LIMIT USUAL_LIMIT (texts field.Limit said) limit (λ t. refl) asks.of_limit
   check_fits folders chosen turns limit layout asks field.Layout =
       fits_layout (texts field.Layout said) layout asks.of_layout
 
@@ -341,7 +343,7 @@ module _ (said : List Setting) where
   run_fits folders tree chosen turns asks field.Tree =
       fits_one command.Run field.Tree (texts field.Tree said) tree asks.of_tree refl refl
   run_fits folders tree chosen turns asks field.Turns =
-      fits_number (λ t. takes command.Run field.Turns ≡ true) 10000 100 (texts field.Turns said) turns (λ t. refl) asks.of_turns
+      fits_number (λ t. takes command.Run field.Turns ≡ true) MOST_TURNS USUAL_TURNS (texts field.Turns said) turns (λ t. refl) asks.of_turns
   run_fits folders tree chosen turns asks field.Limit =
       fits_none command.Run field.Limit (texts field.Limit said) asks.of_limit
   run_fits folders tree chosen turns asks field.Layout =
@@ -374,7 +376,7 @@ module _ (said : List Setting) where
   load_fits number limit asks field.Turns =
       fits_none command.Load field.Turns (texts field.Turns said) (asks.of_others field.Turns (λ e. cc) (λ e. cc))
   load_fits number limit asks field.Limit =
-      fits_number (λ t. takes command.Load field.Limit ≡ true) 100000 10000 (texts field.Limit said) limit (λ t. refl) asks.of_limit
+      fits_number (λ t. takes command.Load field.Limit ≡ true) MOST_LIMIT USUAL_LIMIT (texts field.Limit said) limit (λ t. refl) asks.of_limit
   load_fits number limit asks field.Layout =
       fits_none command.Load field.Layout (texts field.Layout said) (asks.of_others field.Layout (λ e. cc) (λ e. cc))
 

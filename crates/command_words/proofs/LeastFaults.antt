@@ -14,6 +14,7 @@ use Rattle.command_words.specs.declared.read.Begun.{Begun}
 use Rattle.command_words.specs.declared.read.Place.{Place}
 use Rattle.command_words.specs.declared.read.Place.TheVariants.{Options, Value, Ended}
 use Rattle.command_words.specs.declared.request.Request.{Request}
+use Rattle.command_words.specs.declared.limits.TheConstants.{MOST_LOAD}
 use Rattle.command_words.specs.Fields.{takes, may, is_given, given, texts, first}
 use Rattle.dpkg_scenarios.specs.Names.{scenario_named}
 use Rattle.command_words.specs.Values.{is_name, number_in, may_name, is_value}
@@ -211,7 +212,7 @@ makes command.Translate said fits has ready =
 makes command.Load said fits has ready =
     let name = some_text (given field.Named said) has in
     let suits = one_of (Suits command.Load field.Named) (texts field.Named said) name.0 name.1 (fits field.Named) in
-    let number = some_number (number_in 500 name.0) suits.1 in
+    let number = some_number (number_in MOST_LOAD name.0) suits.1 in
     record { request = _; is = ap (request_by command.Load said) name.1 ∙ ap (load_by said) number.1 }
 
 -- ---- each line that is begun can be completed

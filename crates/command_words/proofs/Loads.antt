@@ -1,14 +1,14 @@
 -- The numbers of loads.
-use Rattle.std.proofs.Common.{◌≡◌, ℕ, ◌≤◌, Bool, true, false, List, [], ◌∷◌, Some, None, Ok, refl, subst}
+use Rattle.std.proofs.Common.{◌≡◌, ℕ, ◌≤◌, Bool, true, false, List, [], ◌∷◌, Some, None, refl, subst}
 use Rattle.std.specs.Prelude.{◌&&◌, nat_le, length, if◌then◌else◌}
 use Rattle.std.specs.List.{list_all}
 use Rattle.std.specs.Str.Parse.{digits_value}
 use Rattle.std.proofs.lemmas.Bool.{leb-true, and_parts}
 use Rattle.command_words.specs.declared.field.Field.TheVariants as field
 use Rattle.command_words.specs.declared.request.Request.TheVariants.{Load}
+use Rattle.command_words.specs.declared.limits.TheConstants.{MOST_LOAD}
 use Rattle.command_words.specs.Fields.{texts}
 use Rattle.command_words.specs.Values.{is_digit, is_within, is_number, number_in}
-use Rattle.command_words.specs.Words.{form}
 use Rattle.command_words.specs.CommandLines.{Texts, IsNumber, line_settings, AsksLoad}
 use Rattle.command_words.specs.Laws.{LoadsAreSmall}
 use Rattle.command_words.proofs.SpelledLines.{spells_line}
@@ -42,4 +42,4 @@ pub loads_are_small : LoadsAreSmall
 loads_are_small words number limit e =
     let is = spells_line words (Load number limit) e in
     let asks : AsksLoad (λ f. texts f (line_settings is.line)) number limit = is.asks in
-    named_within 500 (texts field.Named (line_settings is.line)) number asks.of_number
+    named_within MOST_LOAD (texts field.Named (line_settings is.line)) number asks.of_number

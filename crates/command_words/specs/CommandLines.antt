@@ -11,6 +11,8 @@ use Rattle.command_words.specs.declared.request.Layout.{Layout}
 use Rattle.command_words.specs.declared.request.Layout.TheVariants.{Plain, Brief, Json}
 use Rattle.command_words.specs.declared.request.Request.{Request}
 use Rattle.command_words.specs.declared.request.Request.TheVariants.{Check, Run, Translate, Load}
+use Rattle.command_words.specs.declared.limits.TheConstants.{MOST_LOAD, MOST_TURNS, MOST_LIMIT}
+use Rattle.command_words.specs.declared.limits.TheConstants.{USUAL_TURNS, USUAL_LIMIT}
 use Rattle.command_words.specs.Fields.{option_name, texts}
 use Rattle.dpkg_scenarios.specs.Names.{scenario_name}
 use Rattle.command_words.specs.Values.{is_name, number_in}
@@ -136,8 +138,8 @@ pub record AsksCheck (said : Field → Texts) (folders : Folders) (chosen : Opti
     (layout : Layout) : Type 0 where
   pub of_folders : NamesFolders said folders
   pub of_scenario : said field.Scenario ≡ listed (option_map scenario_name chosen)
-  pub of_turns : IsNumberOr 10000 100 (said field.Turns) turns
-  pub of_limit : IsNumberOr 100000 10000 (said field.Limit) limit
+  pub of_turns : IsNumberOr MOST_TURNS USUAL_TURNS (said field.Turns) turns
+  pub of_limit : IsNumberOr MOST_LIMIT USUAL_LIMIT (said field.Limit) limit
   pub of_layout : said field.Layout ≡ layout_words layout
   pub of_tree : said field.Tree ≡ []
 
@@ -147,7 +149,7 @@ pub record AsksRun (said : Field → Texts) (folders : Folders) (tree : List ℕ
   pub of_folders : NamesFolders said folders
   pub of_tree : said field.Tree ≡ tree ∷ []
   pub of_scenario : said field.Scenario ≡ scenario_name chosen ∷ []
-  pub of_turns : IsNumberOr 10000 100 (said field.Turns) turns
+  pub of_turns : IsNumberOr MOST_TURNS USUAL_TURNS (said field.Turns) turns
   pub of_limit : said field.Limit ≡ []
   pub of_layout : said field.Layout ≡ []
 
@@ -158,8 +160,8 @@ pub record AsksTranslate (said : Field → Texts) (file : List ℕ) : Type 0 whe
 
 -- the texts for each field ask for a load
 pub record AsksLoad (said : Field → Texts) (number limit : ℕ) : Type 0 where
-  pub of_number : IsNumber 500 (said field.Named) number
-  pub of_limit : IsNumberOr 100000 10000 (said field.Limit) limit
+  pub of_number : IsNumber MOST_LOAD (said field.Named) number
+  pub of_limit : IsNumberOr MOST_LIMIT USUAL_LIMIT (said field.Limit) limit
   pub of_others : (f : Field) → f ≢ field.Named → f ≢ field.Limit → said f ≡ []
 
 -- the texts for each field ask for this request

@@ -3,6 +3,7 @@
 use Rattle.std.specs.Prelude.{◌≡◌, ◌↔◌, ℕ, ◌+◌, ◌<◌, ◌≤◌, ◌⊎◌, List, ◌++◌, take, length, Ok, Err}
 use Rattle.command_words.specs.declared.request.Request.{Request}
 use Rattle.command_words.specs.declared.request.Request.TheVariants.{Load}
+use Rattle.command_words.specs.declared.limits.TheConstants.{MOST_LOAD}
 use Rattle.command_words.specs.Words.{form}
 use Rattle.command_words.specs.CommandLines.{IsLine}
 
@@ -28,7 +29,8 @@ FormIsLeast =
     (words : List (List ℕ)) (n : ℕ) → form words ≡ Err n
     → ((k : ℕ) → k < n → BeginsLine (take k words)) × LeavesLine words n
 
--- a load is of a number from 1 to 500
+-- a load is of a number from 1 to MOST_LOAD
 abbrev pub LoadsAreSmall : Type 0
 LoadsAreSmall =
-    (words : List (List ℕ)) (number limit : ℕ) → form words ≡ Ok (Load number limit) → (1 ≤ number) × (number ≤ 500)
+    (words : List (List ℕ)) (number limit : ℕ) → form words ≡ Ok (Load number limit)
+    → (1 ≤ number) × (number ≤ MOST_LOAD)

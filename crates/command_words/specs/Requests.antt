@@ -12,6 +12,8 @@ use Rattle.command_words.specs.declared.request.Layout.{Layout}
 use Rattle.command_words.specs.declared.request.Layout.TheVariants.{Plain, Brief, Json}
 use Rattle.command_words.specs.declared.request.Request.{Request}
 use Rattle.command_words.specs.declared.request.Request.TheVariants.{Check, Run, Translate, Load}
+use Rattle.command_words.specs.declared.limits.TheConstants.{MOST_LOAD, MOST_TURNS, MOST_LIMIT}
+use Rattle.command_words.specs.declared.limits.TheConstants.{USUAL_TURNS, USUAL_LIMIT}
 use Rattle.command_words.specs.Fields.{given}
 use Rattle.dpkg_scenarios.specs.Names.{scenario_named}
 use Rattle.command_words.specs.Values.{number_in}
@@ -41,15 +43,15 @@ folders_said dir said = record { dir = dir; old = given field.Old said; base = g
 -- a check of the package in a folder
 abbrev pub check_of : List ℕ → List Setting → Request
 check_of dir said =
-    Check (folders_said dir said) (scenario_said said) (number_or 10000 100 (given field.Turns said))
-    (number_or 100000 10000 (given field.Limit said)) (layout_said said)
+    Check (folders_said dir said) (scenario_said said) (number_or MOST_TURNS USUAL_TURNS (given field.Turns said))
+    (number_or MOST_LIMIT USUAL_LIMIT (given field.Limit said)) (layout_said said)
 
 -- a run of it, in a scenario, from a tree
 abbrev pub run_from : List ℕ → List Setting → Option Scenario → Option (List ℕ) → Option Request
 run_from dir said None tree = None
 run_from dir said (Some scenario) None = None
 run_from dir said (Some scenario) (Some tree) =
-    Some (Run (folders_said dir said) tree scenario (number_or 10000 100 (given field.Turns said)))
+    Some (Run (folders_said dir said) tree scenario (number_or MOST_TURNS USUAL_TURNS (given field.Turns said)))
 
 -- a run of the package in a folder; None where no scenario or no tree was said
 abbrev pub run_of : List ℕ → List Setting → Option Request
@@ -58,11 +60,11 @@ run_of dir said = run_from dir said (scenario_said said) (given field.Tree said)
 -- a load of a number; None where there is none
 abbrev pub load_by : List Setting → Option ℕ → Option Request
 load_by said None = None
-load_by said (Some number) = Some (Load number (number_or 100000 10000 (given field.Limit said)))
+load_by said (Some number) = Some (Load number (number_or MOST_LIMIT USUAL_LIMIT (given field.Limit said)))
 
 -- a load of the number that is named
 abbrev pub load_of : List ℕ → List Setting → Option Request
-load_of name said = load_by said (number_in 500 name)
+load_of name said = load_by said (number_in MOST_LOAD name)
 
 -- the request, by its command and by the folder, file or number that is named
 abbrev pub request_by : Command → List Setting → Option (List ℕ) → Option Request

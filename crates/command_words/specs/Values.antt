@@ -10,6 +10,7 @@ use Rattle.command_words.specs.declared.field.Command.{Command}
 use Rattle.command_words.specs.declared.field.Command.TheVariants as command
 use Rattle.command_words.specs.declared.field.Field.{Field}
 use Rattle.command_words.specs.declared.field.Field.TheVariants as field
+use Rattle.command_words.specs.declared.limits.TheConstants.{MOST_LOAD, MOST_TURNS, MOST_LIMIT}
 
 -- a word that does not begin with a dash, or is a dash alone
 abbrev pub is_name : List ℕ → Bool
@@ -42,7 +43,7 @@ abbrev pub may_name : Command → List ℕ → Bool
 may_name command.Check text = true
 may_name command.Run text = true
 may_name command.Translate text = true
-may_name command.Load text = is_some (number_in 500 text)
+may_name command.Load text = is_some (number_in MOST_LOAD text)
 
 -- what may stand for a field in a line of the command
 abbrev pub is_value : Command → Field → List ℕ → Bool
@@ -51,6 +52,6 @@ is_value command field.Old text = true
 is_value command field.Base text = true
 is_value command field.Scenario text = is_some (scenario_named text)
 is_value command field.Tree text = true
-is_value command field.Turns text = is_some (number_in 10000 text)
-is_value command field.Limit text = is_some (number_in 100000 text)
+is_value command field.Turns text = is_some (number_in MOST_TURNS text)
+is_value command field.Limit text = is_some (number_in MOST_LIMIT text)
 is_value command field.Layout text = is_flag text

@@ -3,6 +3,7 @@
 #![tactic(auto)]
 
 mod field;
+mod limits;
 mod look;
 mod read;
 mod request;
@@ -11,5 +12,6 @@ mod setting;
 pub mod theorems;
 mod value;
 
+pub use limits::{MOST_LIMIT, MOST_LOAD, MOST_TURNS, USUAL_LIMIT, USUAL_TURNS};
 pub use read::{WordsFault, read_words};
 pub use request::{Folders, Layout, Request};

@@ -44,7 +44,8 @@ pub enum Request {
     Translate {
         file: Text,
     },
-    /// The endings of the made package of this number, from 1 to 500; `limit` is how many outcomes a scenario may have.
+    /// The endings of the made package of this number, from 1 to `MOST_LOAD`; `limit` is how many outcomes a scenario
+    /// may have.
     Load {
         number: u32,
         limit: u32,

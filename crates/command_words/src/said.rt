@@ -7,6 +7,7 @@ ghost use Rattle.command_words.specs.Requests.{number_or, scenario_said, layout_
 ghost use Rattle.command_words.specs.Requests.{load_of};
 
 use crate::field::{Command, Field, is_field};
+use crate::limits::{MOST_LIMIT, MOST_LOAD, MOST_TURNS, USUAL_LIMIT, USUAL_TURNS};
 use crate::request::{Folders, Layout, Request};
 use crate::setting::Setting;
 use crate::value::{read_number, scenario_named};
@@ -117,8 +118,8 @@ pub fn request_of(
             Ok(Some(Request::Check {
                 folders,
                 scenario: scenario_said(said),
-                turns: number_or(said, Field::Turns, 10_000, 100),
-                limit: number_or(said, Field::Limit, 100_000, 10_000),
+                turns: number_or(said, Field::Turns, MOST_TURNS, USUAL_TURNS),
+                limit: number_or(said, Field::Limit, MOST_LIMIT, USUAL_LIMIT),
                 layout: layout_said(said),
             }))
         }
@@ -145,7 +146,7 @@ fn run_request(alloc: Global, said: &[Setting], dir: Text) -> Result<Option<Requ
         folders,
         tree,
         scenario,
-        turns: number_or(said, Field::Turns, 10_000, 100),
+        turns: number_or(said, Field::Turns, MOST_TURNS, USUAL_TURNS),
     }))
 }
 
@@ -153,11 +154,11 @@ fn run_request(alloc: Global, said: &[Setting], dir: Text) -> Result<Option<Requ
 fn load_request(said: &[Setting], name: &str) -> Option<Request>
     ensures { result ≡ load_of name.now said.now }
 {
-    match read_number(name, 500) {
+    match read_number(name, MOST_LOAD) {
         None => None,
         Some(number) => Some(Request::Load {
             number,
-            limit: number_or(said, Field::Limit, 100_000, 10_000),
+            limit: number_or(said, Field::Limit, MOST_LIMIT, USUAL_LIMIT),
         }),
     }
 }

@@ -13,7 +13,7 @@ pub fn forms_are_least()
     ensures { FormIsLeast }
 {}
 
-/// Where the words ask for a load, it is of a number from 1 to 500.
+/// Where the words ask for a load, it is of a number from 1 to `MOST_LOAD`.
 pub fn loads_are_small()
     ensures { LoadsAreSmall }
 {}

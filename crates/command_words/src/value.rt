@@ -5,6 +5,7 @@ ghost use Rattle.dpkg_scenarios.specs.Names.{scenario_named};
 ghost use Rattle.command_words.specs.Values.{is_name, is_digit, number_in, is_flag, may_name, is_value};
 
 use crate::field::{Command, Field};
+use crate::limits::{MOST_LIMIT, MOST_LOAD, MOST_TURNS};
 use dpkg_scenarios::Scenario;
 
 /// Whether the word does not begin with a dash, or is a dash alone.
@@ -92,7 +93,7 @@ fn may_name(command: Command, text: &str) -> bool
 {
     match command {
         Command::Check | Command::Run | Command::Translate => true,
-        Command::Load => read_number(text, 500).is_some(),
+        Command::Load => read_number(text, MOST_LOAD).is_some(),
     }
 }
 
@@ -104,8 +105,8 @@ pub fn is_value(command: Command, field: Field, text: &str) -> bool
         Field::Named => may_name(command, text),
         Field::Old | Field::Base | Field::Tree => true,
         Field::Scenario => scenario_named(text).is_some(),
-        Field::Turns => read_number(text, 10_000).is_some(),
-        Field::Limit => read_number(text, 100_000).is_some(),
+        Field::Turns => read_number(text, MOST_TURNS).is_some(),
+        Field::Limit => read_number(text, MOST_LIMIT).is_some(),
         Field::Layout => is_flag(text),
     }
 }

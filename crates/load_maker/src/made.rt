@@ -1,4 +1,5 @@
 ghost use Rattle.std.specs.Prelude.{◌≤◌, IfOk};
+ghost use Rattle.command_words.specs.declared.limits.TheConstants.{MOST_LOAD};
 ghost use Rattle.load_maker.specs.Loaded.{IsLoaded};
 
 use crate::reading::accepted;
@@ -7,10 +8,10 @@ use checker_input::{Package, Scripts};
 use script_names::{Bytes, List, Memory, Slot};
 use std::alloc::Global;
 
-/// The package of this number, from 1 to 500. Its version is `0`, it lists nothing, and its only script is a postinst,
-/// which makes one directory after another: `/srv/k001`, `/srv/k002` and so on, that many.
+/// The package of this number, from 1 to `MOST_LOAD`. Its version is `0`, it lists nothing, and its only script is a
+/// postinst, which makes one directory after another: `/srv/k001`, `/srv/k002` and so on, that many.
 pub fn load(alloc: Global, n: u16) -> Result<Package, Memory>
-    requires { 1 ≤ n × n ≤ 500 }
+    requires { 1 ≤ n × n ≤ MOST_LOAD }
     ensures { IfOk result (IsLoaded n) }
 {
     let version = Bytes::from_slice(alloc, b"0")?;

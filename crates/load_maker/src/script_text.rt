@@ -1,5 +1,6 @@
 // The text of the script of a made package.
 ghost use Rattle.std.specs.Prelude.{◌≡◌, ◌+◌, ◌<◌, ◌≤◌, ◌++◌, IfOk, OnOk};
+ghost use Rattle.command_words.specs.declared.limits.TheConstants.{MOST_LOAD};
 ghost use Rattle.load_maker.specs.LoadText.{three_digits, numbered_line, load_text};
 
 use script_names::{Bytes, Memory};
@@ -36,7 +37,7 @@ fn push_line(text: &mut Bytes, words: &[u8], number: u16) -> Result<(), Memory>
 
 /// The text of the script of this number.
 pub fn load_text(alloc: Global, n: u16) -> Result<Bytes, Memory>
-    requires { n ≤ 500 }
+    requires { n ≤ MOST_LOAD }
     ensures { IfOk result (λ text. text ≡ load_text n) }
 {
     let mut text = Bytes::from_slice(alloc, b"#!/bin/sh\nset -e\n")?;

@@ -6,7 +6,7 @@ use Rattle.shown_texts.specs.Lines.{line}
 use Rattle.dpkg_scenarios.specs.declared.scenario.Ending.{Ending}
 use Rattle.outcome_report.specs.declared.outcome_report.Report.{Report}
 use Rattle.outcome_report.specs.OutcomeReport.{verdict_of}
-use Rattle.outcome_report.specs.ReportNames.{scenario_name}
+use Rattle.dpkg_scenarios.specs.Names.{scenario_name}
 use Rattle.load_summary.specs.declared.counts.EndWay.{EndWay}
 use Rattle.load_summary.specs.declared.counts.EndWay.TheVariants.{Done, Failed, Incomplete, Bound}
 use Rattle.load_summary.specs.declared.endings.ScenarioEndings.{ScenarioEndings}

@@ -9,8 +9,7 @@ ghost use Rattle.load_summary.specs.Summary.{count_text, counts_text, scenario_l
 
 use crate::counts::{EndWay, count};
 use crate::endings::{ScenarioEndings, endings_verdict};
-use dpkg_scenarios::Ending;
-use outcome_report::scenario_name;
+use dpkg_scenarios::{Ending, scenario_name};
 use script_names::{Bytes, List, Memory};
 use shown_texts::push_number;
 use std::alloc::Global;
@@ -54,7 +53,7 @@ fn put_counts(text: &mut Bytes, endings: &[Ending]) -> Result<(), Memory>
 fn put_scenario(text: &mut Bytes, scenario: &ScenarioEndings) -> Result<(), Memory>
     ensures { OnOk result (text.new ≡ text.old ++ scenario_line scenario.now) }
 {
-    text.extend(scenario_name(scenario.scenario))?;
+    text.extend(scenario_name(scenario.scenario).as_bytes())?;
     text.extend(b" outcomes ")?;
     push_number(text, scenario.endings.len() as u64)?;
     put_counts(text, scenario.endings.as_slice())?;

@@ -12,7 +12,7 @@ use Rattle.outcome_report.specs.declared.outcome_report.ReportEntry.{ReportEntry
 use Rattle.outcome_report.specs.declared.outcome_report.ReportPart.{ReportPart}
 use Rattle.outcome_report.specs.declared.outcome_report.Report.{Report}
 use Rattle.outcome_report.specs.OutcomeReport.{ending_verdict, joint_verdict, part_has, report_has, verdict_of}
-use Rattle.outcome_report.specs.ReportNames.{scenario_name}
+use Rattle.dpkg_scenarios.specs.Names.{scenario_name}
 use Rattle.outcome_report.specs.ReportText.{result_text, outcome_line, trace_line, scenario_line, verdict_line}
 use Rattle.outcome_report.specs.BriefText.{brief_entry, brief_part, brief_text}
 use Rattle.outcome_report.specs.Numbered.{AreNumbered, AllNumbered}

@@ -29,7 +29,7 @@ use Rattle.outcome_report.specs.declared.places.EndPlace.{EndPlace}
 use Rattle.outcome_report.specs.Numbered.{AreNumbered, AllNumbered}
 use Rattle.outcome_report.specs.PieceRead.{scenario_of, result_of, trace_of, call_of, is_ending, is_call}
 use Rattle.outcome_report.specs.PlaceText.{place_line, places_text}
-use Rattle.outcome_report.specs.ReportNames.{scenario_name}
+use Rattle.dpkg_scenarios.specs.Names.{scenario_name}
 use Rattle.outcome_report.specs.ReportText.{result_text, outcome_line, trace_mark, trace_line, confirmed_line, call_content, call_line, trees_text, entry_text}
 use Rattle.outcome_report.specs.ReportText.{scenario_line, part_text, verdict_line, report_text}
 use Rattle.outcome_report.specs.TextLaws.{TextsTellReports}

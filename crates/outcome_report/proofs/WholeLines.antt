@@ -29,7 +29,8 @@ use Rattle.tree_clauses.proofs.ClauseLaw.{is_graphic, kinds_word}
 use Rattle.dpkg_scenarios.specs.declared.scenario.Ending.{Ending}
 use Rattle.dpkg_scenarios.specs.declared.scenario.Ending.TheVariants.{Done, Failed, Incomplete, Bound}
 use Rattle.scenario_runs.specs.declared.call.ScriptCall.{ScriptCall}
-use Rattle.outcome_report.specs.ReportNames.{state_name, script_name, side_name, call_end_name, confirmed_name}
+use Rattle.dpkg_scenarios.specs.Names.{script_name}
+use Rattle.outcome_report.specs.ReportNames.{state_name, side_name, call_end_name, confirmed_name}
 use Rattle.outcome_report.specs.ReportText.{result_text, trace_mark, call_word, call_content}
 use Rattle.outcome_report.specs.PieceRead.{is_ending, is_call}
 use Rattle.outcome_report.proofs.Blocks.{second, is_marked}

@@ -3,7 +3,7 @@ use Rattle.std.specs.Prelude.{◌≡◌, ℕ, Bool, true, IsTrue, List, map, Opt
 use Rattle.std.specs.List.{list_all, join_with_byte}
 use Rattle.shown_texts.specs.Marks.{mark_text, is_mark}
 use Rattle.outcome_report.specs.PieceRead.{scenario_of, result_of, trace_of, call_of, is_ending, is_call}
-use Rattle.outcome_report.specs.ReportNames.{scenario_name}
+use Rattle.dpkg_scenarios.specs.Names.{scenario_name}
 use Rattle.outcome_report.specs.ReportText.{result_text, call_content}
 
 -- each value's text is read as the value

@@ -19,8 +19,8 @@ use Rattle.outcome_report.specs.declared.outcome_report.ReportPart.{ReportPart}
 use Rattle.outcome_report.specs.declared.outcome_report.Report.{Report}
 use Rattle.outcome_report.specs.OutcomeReport.{verdict_of}
 use Rattle.outcome_report.specs.PlaceText.{places_text}
-use Rattle.outcome_report.specs.ReportNames.{scenario_name, state_name, script_name, confirmed_name, side_name}
-use Rattle.outcome_report.specs.ReportNames.{call_end_name}
+use Rattle.dpkg_scenarios.specs.Names.{scenario_name, script_name}
+use Rattle.outcome_report.specs.ReportNames.{state_name, confirmed_name, side_name, call_end_name}
 
 -- a reason and the site where it came
 abbrev pub stop_text : Reason → Site → List ℕ

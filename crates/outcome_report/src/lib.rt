@@ -25,7 +25,6 @@ pub use brief_text::render_brief;
 pub use outcome_report::{Report, ReportEntry, ReportPart, make_entry, make_part};
 pub use places::{EndKind, EndPlace};
 pub use replay::{Replay, keep_replay};
-pub use report_names::scenario_name;
 pub use report_text::{put_calls, put_result, render_text};
 pub use representable_clauses::is_representable_clause;
 pub use run_text::render_run;

@@ -1,24 +1,9 @@
-// The names of scenarios, states, scripts and answers, as a report has them.
+// The names of states and answers, as a report has them.
 ghost use Rattle.std.specs.Prelude.{◌≡◌};
-ghost use Rattle.outcome_report.specs.ReportNames.{scenario_name, state_name, script_name, side_name, call_end_name};
-ghost use Rattle.outcome_report.specs.ReportNames.{confirmed_name};
+ghost use Rattle.outcome_report.specs.ReportNames.{state_name, side_name, call_end_name, confirmed_name};
 
-use dpkg_scenarios::{Scenario, ScriptKind, State};
+use dpkg_scenarios::State;
 use scenario_runs::CallEnd;
-
-/// The name of a scenario.
-pub fn scenario_name(scenario: Scenario) -> &'static [u8]
-    ensures { result.now ≡ scenario_name scenario }
-{
-    match scenario {
-        Scenario::Install => b"install",
-        Scenario::InstallAgain => b"install-again",
-        Scenario::Upgrade => b"upgrade",
-        Scenario::Remove => b"remove",
-        Scenario::Purge => b"purge",
-        Scenario::PurgeLater => b"purge-later",
-    }
-}
 
 // The name of a package's state, as dpkg spells it.
 pub(crate) fn state_name(state: State) -> &'static [u8]
@@ -31,18 +16,6 @@ pub(crate) fn state_name(state: State) -> &'static [u8]
         State::HalfInstalled => b"Half-Installed",
         State::ConfigFiles => b"Config-Files",
         State::NotInstalled => b"Not-Installed",
-    }
-}
-
-// The name of a maintainer script.
-pub(crate) fn script_name(script: ScriptKind) -> &'static [u8]
-    ensures { result.now ≡ script_name script }
-{
-    match script {
-        ScriptKind::Preinst => b"preinst",
-        ScriptKind::Postinst => b"postinst",
-        ScriptKind::Prerm => b"prerm",
-        ScriptKind::Postrm => b"postrm",
     }
 }
 

@@ -7,11 +7,9 @@ ghost use Rattle.outcome_report.specs.ReportText.{report_text};
 
 use crate::outcome_report::{Report, ReportEntry, ReportPart};
 use crate::place_text::put_places;
-use crate::report_names::{
-    call_end_name, confirmed_name, scenario_name, script_name, side_name, state_name,
-};
+use crate::report_names::{call_end_name, confirmed_name, side_name, state_name};
 use crate::verdicts::verdict;
-use dpkg_scenarios::{Ending, Scenario};
+use dpkg_scenarios::{Ending, Scenario, scenario_name, script_name};
 use feature_trees::put_tree;
 use scenario_runs::ScriptCall;
 use script_names::{Bytes, Mark, Memory, Reason, Site};
@@ -103,7 +101,7 @@ fn put_call(text: &mut Bytes, call: &ScriptCall) -> Result<(), Memory>
     text.extend(b"call ")?;
     text.extend(side_name(call.old))?;
     text.extend(b" ")?;
-    text.extend(script_name(call.script))?;
+    text.extend(script_name(call.script).as_bytes())?;
     put_words(text, call.words.as_slice())?;
     text.extend(b" ")?;
     push_line(text, call_end_name(call.how))
@@ -196,7 +194,7 @@ pub(crate) fn put_heading(
     ensures { OnOk result (text.new ≡ text.old ++ heading scenario outcomes) }
 {
     text.extend(b"scenario ")?;
-    text.extend(scenario_name(scenario))?;
+    text.extend(scenario_name(scenario).as_bytes())?;
     text.extend(b" outcomes ")?;
     push_number(text, outcomes as u64)?;
     text.extend(b"\n")

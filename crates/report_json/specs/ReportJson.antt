@@ -15,7 +15,7 @@ use Rattle.outcome_report.specs.declared.outcome_report.ReportEntry.{ReportEntry
 use Rattle.outcome_report.specs.declared.outcome_report.ReportPart.{ReportPart}
 use Rattle.outcome_report.specs.declared.outcome_report.Report.{Report}
 use Rattle.outcome_report.specs.OutcomeReport.{verdict_of}
-use Rattle.outcome_report.specs.ReportNames.{scenario_name}
+use Rattle.dpkg_scenarios.specs.Names.{scenario_name}
 use Rattle.outcome_report.specs.ReportText.{result_text, call_line}
 
 -- the lines of a text: what stands before each of its newlines

@@ -9,11 +9,9 @@ ghost use Rattle.outcome_report.specs.ReportText.{result_text, call_line};
 ghost use Rattle.report_json.specs.ReportJson.{lines_json, clause_json, entry_json, part_json, json_of};
 
 use crate::lines::{later_lines_value, lines_value, text_value, trace_value};
-use dpkg_scenarios::Ending;
+use dpkg_scenarios::{Ending, scenario_name};
 use feature_trees::{Value as Tree, print_tree};
-use outcome_report::{
-    Report, ReportEntry, ReportPart, put_calls, put_result, scenario_name, verdict,
-};
+use outcome_report::{Report, ReportEntry, ReportPart, put_calls, put_result, verdict};
 use scenario_runs::ScriptCall;
 use script_names::{Bytes, Memory};
 use serde_json::{Map, Value, put};
@@ -114,7 +112,7 @@ fn entries_value(alloc: Global, entries: &[ReportEntry]) -> Result<Value, Memory
 fn part_value(alloc: Global, part: &ReportPart) -> Result<Value, Memory>
     ensures { IfOk result (λ value. view value ≡ part_json part.now) }
 {
-    let name = text_value(alloc, scenario_name(part.scenario))?;
+    let name = text_value(alloc, scenario_name(part.scenario).as_bytes())?;
     let outcomes = entries_value(alloc, part.entries.as_slice())?;
     let mut map = Map::new(alloc);
     put(&mut map, alloc, "name", name)?;

@@ -32,7 +32,8 @@ use Rattle.dpkg_scenarios.specs.declared.scenario.Ending.{Ending}
 use Rattle.dpkg_scenarios.specs.declared.scenario.Ending.TheVariants.{Done, Failed, Incomplete, Bound}
 use Rattle.scenario_runs.specs.declared.call.ScriptCall.{ScriptCall}
 use Rattle.outcome_report.specs.PieceRead.{is_ending, is_call}
-use Rattle.outcome_report.specs.ReportNames.{state_name, script_name, side_name, call_end_name}
+use Rattle.dpkg_scenarios.specs.Names.{script_name}
+use Rattle.outcome_report.specs.ReportNames.{state_name, side_name, call_end_name}
 use Rattle.outcome_report.specs.ReportText.{result_text, call_word, call_content}
 use Rattle.outcome_report.specs.Whole.{IsRepresentableTree}
 use Rattle.outcome_report.proofs.PieceReading.{state_shown, script_shown, side_shown, call_end_shown}

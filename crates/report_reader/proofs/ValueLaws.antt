@@ -20,7 +20,7 @@ use Rattle.outcome_report.specs.declared.outcome_report.Report.{Report}
 use Rattle.outcome_report.specs.declared.outcome_report.ReportEntry.{ReportEntry}
 use Rattle.outcome_report.specs.declared.outcome_report.ReportPart.{ReportPart}
 use Rattle.outcome_report.specs.OutcomeReport.{joint_verdict, verdict_of, report_has}
-use Rattle.outcome_report.specs.ReportNames.{scenario_name}
+use Rattle.dpkg_scenarios.specs.Names.{scenario_name}
 use Rattle.outcome_report.specs.ReportText.{result_text, call_content, call_line}
 use Rattle.outcome_report.specs.Whole.{IsRepresentableEntry, AllRepresentable, AllPartsRepresentable, IsWholeEntry, AllWhole, AllPartsWhole}
 use Rattle.outcome_report.proofs.PieceReading.{scenario_shown}
