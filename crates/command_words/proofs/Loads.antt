@@ -1,5 +1,5 @@
 -- The numbers of loads.
-use Rattle.std.proofs.Common.{◌≡◌, ℕ, ◌≤◌, Bool, true, false, List, [], ◌∷◌, Some, None, Ok, refl, subst}
+use Rattle.std.proofs.Common.{◌≡◌, ℕ, ◌≤◌, Bool, true, false, List, [], ◌∷◌, Some, None, refl, subst}
 use Rattle.std.specs.Prelude.{◌&&◌, nat_le, length, if◌then◌else◌}
 use Rattle.std.specs.List.{list_all}
 use Rattle.std.specs.Str.Parse.{digits_value}
@@ -8,7 +8,6 @@ use Rattle.command_words.specs.declared.field.Field.TheVariants as field
 use Rattle.command_words.specs.declared.request.Request.TheVariants.{Load}
 use Rattle.command_words.specs.Fields.{texts}
 use Rattle.command_words.specs.Values.{is_digit, is_within, is_number, number_in}
-use Rattle.command_words.specs.Words.{form}
 use Rattle.command_words.specs.CommandLines.{Texts, IsNumber, line_settings, AsksLoad}
 use Rattle.command_words.specs.Laws.{LoadsAreSmall}
 use Rattle.command_words.proofs.SpelledLines.{spells_line}
