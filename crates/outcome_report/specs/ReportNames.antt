@@ -1,24 +1,11 @@
 -- The names of scenarios, states, scripts and answers, as a report has them.
 use Rattle.std.specs.Prelude.{ℕ, List, Bool, true, false, codes}
-use Rattle.dpkg_scenarios.specs.declared.scenario.Scenario.{Scenario}
-use Rattle.dpkg_scenarios.specs.declared.scenario.Scenario.TheVariants.{Install, InstallAgain, Upgrade, Remove}
-use Rattle.dpkg_scenarios.specs.declared.scenario.Scenario.TheVariants.{Purge, PurgeLater}
+pub use Rattle.dpkg_scenarios.specs.Names.{scenario_name, script_name}
 use Rattle.dpkg_scenarios.specs.declared.scenario.State.{State}
 use Rattle.dpkg_scenarios.specs.declared.scenario.State.TheVariants.{Installed, Unpacked, HalfConfigured}
 use Rattle.dpkg_scenarios.specs.declared.scenario.State.TheVariants.{HalfInstalled, ConfigFiles, NotInstalled}
-use Rattle.dpkg_scenarios.specs.declared.scenario.ScriptKind.{ScriptKind}
-use Rattle.dpkg_scenarios.specs.declared.scenario.ScriptKind.TheVariants.{Preinst, Postinst, Prerm, Postrm}
 use Rattle.scenario_runs.specs.declared.call.CallEnd.{CallEnd}
 use Rattle.scenario_runs.specs.declared.call.CallEnd.TheVariants as how
-
--- the name of a scenario
-abbrev pub scenario_name : Scenario → List ℕ
-scenario_name Install = codes "install"
-scenario_name InstallAgain = codes "install-again"
-scenario_name Upgrade = codes "upgrade"
-scenario_name Remove = codes "remove"
-scenario_name Purge = codes "purge"
-scenario_name PurgeLater = codes "purge-later"
 
 -- the name of a package's state, as dpkg spells it
 abbrev pub state_name : State → List ℕ
@@ -28,13 +15,6 @@ state_name HalfConfigured = codes "Half-Configured"
 state_name HalfInstalled = codes "Half-Installed"
 state_name ConfigFiles = codes "Config-Files"
 state_name NotInstalled = codes "Not-Installed"
-
--- the name of a maintainer script
-abbrev pub script_name : ScriptKind → List ℕ
-script_name Preinst = codes "preinst"
-script_name Postinst = codes "postinst"
-script_name Prerm = codes "prerm"
-script_name Postrm = codes "postrm"
 
 -- whether the replay agrees, in a word
 abbrev pub confirmed_name : Bool → List ℕ

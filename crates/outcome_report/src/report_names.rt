@@ -10,14 +10,7 @@ use scenario_runs::CallEnd;
 pub fn scenario_name(scenario: Scenario) -> &'static [u8]
     ensures { result.now ≡ scenario_name scenario }
 {
-    match scenario {
-        Scenario::Install => b"install",
-        Scenario::InstallAgain => b"install-again",
-        Scenario::Upgrade => b"upgrade",
-        Scenario::Remove => b"remove",
-        Scenario::Purge => b"purge",
-        Scenario::PurgeLater => b"purge-later",
-    }
+    dpkg_scenarios::scenario_name(scenario).as_bytes()
 }
 
 // The name of a package's state, as dpkg spells it.
@@ -38,12 +31,7 @@ pub(crate) fn state_name(state: State) -> &'static [u8]
 pub(crate) fn script_name(script: ScriptKind) -> &'static [u8]
     ensures { result.now ≡ script_name script }
 {
-    match script {
-        ScriptKind::Preinst => b"preinst",
-        ScriptKind::Postinst => b"postinst",
-        ScriptKind::Prerm => b"prerm",
-        ScriptKind::Postrm => b"postrm",
-    }
+    dpkg_scenarios::script_name(script).as_bytes()
 }
 
 // Which package's script was called.
