@@ -4,6 +4,7 @@ use Rattle.checker_io.specs.Reading.{Asking, done, Comes, file_of, and_then}
 use Rattle.command_words.specs.declared.request.Folders.{Folders}
 use Rattle.command_words.specs.declared.request.Request.{Request}
 use Rattle.command_words.specs.declared.request.Request.TheVariants as request
+use Rattle.dpkg_scenarios.specs.Names.{script_name}
 use Rattle.dpkg_scenarios.specs.declared.scenario.ScriptKind.{ScriptKind}
 use Rattle.dpkg_scenarios.specs.declared.scenario.ScriptKind.TheVariants.{Preinst, Postinst, Prerm, Postrm}
 use Rattle.feature_trees.specs.declared.value.Value.{Value}
@@ -34,13 +35,6 @@ use Rattle.checker_input.specs.Lines.{LinesCome, TreeComes}
 use Rattle.checker_input.specs.Script.{TextComes}
 
 -- ---- the names of files
-
--- the name of a script
-abbrev pub script_name : ScriptKind → List ℕ
-script_name Preinst = codes "preinst"
-script_name Postinst = codes "postinst"
-script_name Prerm = codes "prerm"
-script_name Postrm = codes "postrm"
 
 -- the name of a file in a package's folder
 abbrev pub own_name : PackageFile → List ℕ

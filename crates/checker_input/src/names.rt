@@ -1,23 +1,11 @@
 ghost use Rattle.std.specs.Prelude.{◌≡◌, ◌++◌, codes, IfOk};
-ghost use Rattle.checker_input.specs.Input.{script_name, own_name, folders_name, file_name, package_file, named_or};
+ghost use Rattle.checker_input.specs.Input.{own_name, folders_name, file_name, package_file, named_or};
 
 use crate::faults::{InputFile, PackageFile, Whose};
 use command_words::{Folders, Request};
-use dpkg_scenarios::ScriptKind;
+use dpkg_scenarios::script_name;
 use script_names::{Memory, Text};
 use std::alloc::Global;
-
-// The name of a script.
-fn script_name(kind: ScriptKind) -> &'static str
-    ensures { result.now ≡ script_name kind }
-{
-    match kind {
-        ScriptKind::Preinst => "preinst",
-        ScriptKind::Postinst => "postinst",
-        ScriptKind::Prerm => "prerm",
-        ScriptKind::Postrm => "postrm",
-    }
-}
 
 // The name of a file in a package's folder.
 fn own_name(file: PackageFile) -> &'static str
