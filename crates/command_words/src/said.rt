@@ -10,8 +10,8 @@ use crate::field::{Command, Field, is_field};
 use crate::limits::{MOST_LIMIT, MOST_LOAD, MOST_TURNS, USUAL_LIMIT, USUAL_TURNS};
 use crate::request::{Folders, Layout, Request};
 use crate::setting::Setting;
-use crate::value::{read_number, scenario_named};
-use dpkg_scenarios::Scenario;
+use crate::value::read_number;
+use dpkg_scenarios::{Scenario, scenario_named};
 use script_names::{Memory, Text};
 use std::alloc::Global;
 
@@ -58,7 +58,7 @@ fn scenario_said(said: &[Setting]) -> Option<Scenario>
 {
     match given(said, Field::Scenario) {
         None => None,
-        Some(name) => scenario_named(name),
+        Some(name) => scenario_named(name.as_bytes()),
     }
 }
 

@@ -1,12 +1,11 @@
 // The values of options.
 ghost use Rattle.std.specs.Prelude.{◌≡◌};
 ghost use Rattle.std.specs.List.{list_all};
-ghost use Rattle.dpkg_scenarios.specs.Names.{scenario_named};
 ghost use Rattle.command_words.specs.Values.{is_name, is_digit, number_in, is_flag, may_name, is_value};
 
 use crate::field::{Command, Field};
 use crate::limits::{MOST_LIMIT, MOST_LOAD, MOST_TURNS};
-use dpkg_scenarios::Scenario;
+use dpkg_scenarios::scenario_named;
 
 /// Whether the word does not begin with a dash, or is a dash alone.
 pub fn is_name(word: &str) -> bool
@@ -55,31 +54,6 @@ fn is_digit(byte: u8) -> bool
     byte >= b'0' && byte <= b'9'
 }
 
-/// The scenario of this name.
-pub fn scenario_named(name: &str) -> Option<Scenario>
-    ensures { result ≡ scenario_named name.now }
-{
-    if name == "install" {
-        return Some(Scenario::Install);
-    }
-    if name == "install-again" {
-        return Some(Scenario::InstallAgain);
-    }
-    if name == "upgrade" {
-        return Some(Scenario::Upgrade);
-    }
-    if name == "remove" {
-        return Some(Scenario::Remove);
-    }
-    if name == "purge" {
-        return Some(Scenario::Purge);
-    }
-    if name == "purge-later" {
-        return Some(Scenario::PurgeLater);
-    }
-    None
-}
-
 /// Whether the word says how a report is written.
 pub fn is_flag(word: &str) -> bool
     ensures { result ≡ is_flag word.now }
@@ -104,7 +78,7 @@ pub fn is_value(command: Command, field: Field, text: &str) -> bool
     match field {
         Field::Named => may_name(command, text),
         Field::Old | Field::Base | Field::Tree => true,
-        Field::Scenario => scenario_named(text).is_some(),
+        Field::Scenario => scenario_named(text.as_bytes()).is_some(),
         Field::Turns => read_number(text, MOST_TURNS).is_some(),
         Field::Limit => read_number(text, MOST_LIMIT).is_some(),
         Field::Layout => is_flag(text),

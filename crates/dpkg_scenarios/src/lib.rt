@@ -12,6 +12,6 @@ mod tables;
 pub mod theorems;
 
 pub use call::call_words;
-pub use names::{scenario_name, script_name};
+pub use names::{scenario_name, scenario_named, script_name};
 pub use scenario::{Ending, Scenario, ScriptKind, State, StepNext, StepWork};
 pub use steps::{next, work};

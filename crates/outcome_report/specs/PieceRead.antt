@@ -11,9 +11,6 @@ use Rattle.shown_texts.specs.Parts.{parts}
 use Rattle.shown_texts.specs.Show.{are_bytes, shown_of}
 use Rattle.dpkg_scenarios.specs.declared.scenario.Ending.{Ending}
 use Rattle.dpkg_scenarios.specs.declared.scenario.Ending.TheVariants.{Done, Failed, Incomplete, Bound}
-use Rattle.dpkg_scenarios.specs.declared.scenario.Scenario.{Scenario}
-use Rattle.dpkg_scenarios.specs.declared.scenario.Scenario.TheVariants.{Install, InstallAgain, Upgrade, Remove}
-use Rattle.dpkg_scenarios.specs.declared.scenario.Scenario.TheVariants.{Purge, PurgeLater}
 use Rattle.dpkg_scenarios.specs.declared.scenario.State.{State}
 use Rattle.dpkg_scenarios.specs.declared.scenario.State.TheVariants.{Installed, Unpacked, HalfConfigured}
 use Rattle.dpkg_scenarios.specs.declared.scenario.State.TheVariants.{HalfInstalled, ConfigFiles, NotInstalled}
@@ -24,16 +21,6 @@ use Rattle.scenario_runs.specs.declared.call.CallEnd.TheVariants as how
 use Rattle.scenario_runs.specs.declared.call.ScriptCall.{ScriptCall}
 
 -- ---- names
-
--- the scenario with this name
-abbrev pub scenario_of : List ℕ → Option Scenario
-scenario_of text =
-    if bytes_eq text (codes "install") then Some Install
-    else (if bytes_eq text (codes "install-again") then Some InstallAgain
-    else (if bytes_eq text (codes "upgrade") then Some Upgrade
-    else (if bytes_eq text (codes "remove") then Some Remove
-    else (if bytes_eq text (codes "purge") then Some Purge
-    else (if bytes_eq text (codes "purge-later") then Some PurgeLater else None)))))
 
 -- the state with this name
 abbrev pub state_of : List ℕ → Option State

@@ -23,7 +23,8 @@ use Rattle.outcome_report.specs.declared.outcome_report.ReportEntry.{ReportEntry
 use Rattle.outcome_report.specs.declared.outcome_report.ReportPart.{ReportPart}
 use Rattle.outcome_report.specs.declared.replay.Replay.{Replay}
 use Rattle.outcome_report.specs.Numbered.{AreNumbered, AllNumbered}
-use Rattle.outcome_report.specs.PieceRead.{scenario_of, result_of, trace_of, is_ending, is_call}
+use Rattle.dpkg_scenarios.specs.Names.{scenario_named}
+use Rattle.outcome_report.specs.PieceRead.{result_of, trace_of, is_ending, is_call}
 use Rattle.outcome_report.specs.Whole.{IsRepresentableEntry, AllRepresentable, AllPartsRepresentable, IsWholeEntry, AllWhole, AllPartsWhole, AreInOrder, scenario_place}
 use Rattle.report_reader.specs.ReportRead.{text_at, list_at, short, number_at, lines_at, tree_found, tree_at, calls_onto, calls_at, ending_at, trace_at, if_text, clause_from, clause_in}
 use Rattle.report_reader.specs.ReportRead.{outcome_in, replay_in, entry_in, entries_onto, part_in, from_place, parts_onto, report_in}
@@ -202,7 +203,7 @@ record IsGoodPart (p : ReportPart) : Type 0 where
 part_is : (d : Data) (p : ReportPart) → part_in d ≡ Some p → IsGoodPart p
 part_is d p e =
     got (λ (scenario : Scenario). option_map (λ (entries : List ReportEntry). let it : ReportPart = record { scenario = scenario; entries = entries } in it)
-    (option_and_then (entries_onto 1 []) (list_at (codes "outcomes") d))) (option_and_then scenario_of (text_at (codes "name") d)) p e
+    (option_and_then (entries_onto 1 []) (list_at (codes "outcomes") d))) (option_and_then scenario_named (text_at (codes "name") d)) p e
     (λ scenario m f. made (λ (entries : List ReportEntry). let it : ReportPart = record { scenario = scenario; entries = entries } in it)
     (option_and_then (entries_onto 1 []) (list_at (codes "outcomes") d)) p f
     (λ entries g same. got (entries_onto 1 []) (list_at (codes "outcomes") d) entries g

@@ -21,7 +21,8 @@ use Rattle.outcome_report.specs.declared.outcome_report.Report.{Report}
 use Rattle.outcome_report.specs.declared.outcome_report.ReportEntry.{ReportEntry}
 use Rattle.outcome_report.specs.declared.outcome_report.ReportPart.{ReportPart}
 use Rattle.outcome_report.specs.declared.replay.Replay.{Replay}
-use Rattle.outcome_report.specs.PieceRead.{scenario_of, result_of, trace_of, call_of}
+use Rattle.dpkg_scenarios.specs.Names.{scenario_named}
+use Rattle.outcome_report.specs.PieceRead.{result_of, trace_of, call_of}
 use Rattle.outcome_report.specs.Whole.{scenario_place}
 
 -- ---- members
@@ -141,7 +142,7 @@ abbrev pub part_in : Data → Option ReportPart
 part_in d =
     option_and_then (λ scenario. option_map (λ entries. record { scenario = scenario; entries = entries })
     (option_and_then (entries_onto 1 []) (list_at (codes "outcomes") d)))
-    (option_and_then scenario_of (text_at (codes "name") d))
+    (option_and_then scenario_named (text_at (codes "name") d))
 
 -- a part whose scenario has this place or a later one
 abbrev pub from_place : ℕ → ReportPart → Option ReportPart

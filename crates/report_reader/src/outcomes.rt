@@ -8,8 +8,8 @@ ghost use Rattle.report_reader.specs.ReportRead.{list_at, parts_onto, report_in}
 
 use crate::clauses::clause_at;
 use crate::members::{list_at, short, text_at};
-use crate::pieces::{calls_at, ending_at, scenario_of, trace_at, tree_at};
-use dpkg_scenarios::Scenario;
+use crate::pieces::{calls_at, ending_at, trace_at, tree_at};
+use dpkg_scenarios::{Scenario, scenario_named};
 use outcome_report::{Replay, Report, ReportEntry, ReportPart};
 use scenario_outcomes::Outcome;
 use script_names::{List, Memory};
@@ -117,7 +117,7 @@ fn part_in(alloc: Global, value: &Value) -> Result<Option<ReportPart>, Memory>
         Some(name) => name,
         None => return Ok(None),
     };
-    let scenario = match scenario_of(name) {
+    let scenario = match scenario_named(name) {
         Some(scenario) => scenario,
         None => return Ok(None),
     };

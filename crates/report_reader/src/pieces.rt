@@ -2,44 +2,19 @@
 ghost use Rattle.std.specs.Prelude.{◌≡◌, [], map, IfOk};
 ghost use Rattle.serde_json.specs.View.{view, items_view};
 ghost use Rattle.feature_trees.specs.TreeLines.{tree_of};
-ghost use Rattle.outcome_report.specs.PieceRead.{scenario_of, state_of, script_of, side_of, call_end_of};
+ghost use Rattle.outcome_report.specs.PieceRead.{state_of, script_of, side_of, call_end_of};
 ghost use Rattle.outcome_report.specs.PieceRead.{result_of_two, result_of_stop, result_of_words, result_of};
 ghost use Rattle.outcome_report.specs.PieceRead.{marks_onto, trace_of, call_with, call_from, call_of_words, call_of};
 ghost use Rattle.report_reader.specs.ReportRead.{tree_found, tree_at, calls_onto, calls_at, ending_at, trace_at};
 
 use crate::members::{lines_at, list_at, text_at, text_of};
-use dpkg_scenarios::{Ending, Scenario, ScriptKind, State};
+use dpkg_scenarios::{Ending, ScriptKind, State};
 use feature_trees::{TreeFault, Value as Tree, read_tree};
 use scenario_runs::{CallEnd, ScriptCall};
 use script_names::{List, Mark, Memory};
 use serde_json::Value;
 use shown_texts::{cut, read_mark, read_reason, read_shown, read_site};
 use std::alloc::Global;
-
-// The scenario with this name.
-pub(crate) fn scenario_of(text: &[u8]) -> Option<Scenario>
-    ensures { result ≡ scenario_of text.now }
-{
-    if text == b"install".as_slice() {
-        return Some(Scenario::Install);
-    }
-    if text == b"install-again".as_slice() {
-        return Some(Scenario::InstallAgain);
-    }
-    if text == b"upgrade".as_slice() {
-        return Some(Scenario::Upgrade);
-    }
-    if text == b"remove".as_slice() {
-        return Some(Scenario::Remove);
-    }
-    if text == b"purge".as_slice() {
-        return Some(Scenario::Purge);
-    }
-    if text == b"purge-later".as_slice() {
-        return Some(Scenario::PurgeLater);
-    }
-    None
-}
 
 // The state with this name.
 fn state_of(text: &[u8]) -> Option<State>
