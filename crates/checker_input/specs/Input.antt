@@ -4,7 +4,6 @@ use Rattle.checker_io.specs.Reading.{Asking, done, Comes, file_of, and_then}
 use Rattle.command_words.specs.declared.request.Folders.{Folders}
 use Rattle.command_words.specs.declared.request.Request.{Request}
 use Rattle.command_words.specs.declared.request.Request.TheVariants as request
-use Rattle.dpkg_scenarios.specs.Names.{script_name}
 use Rattle.dpkg_scenarios.specs.declared.scenario.ScriptKind.{ScriptKind}
 use Rattle.dpkg_scenarios.specs.declared.scenario.ScriptKind.TheVariants.{Preinst, Postinst, Prerm, Postrm}
 use Rattle.dpkg_scenarios.specs.Names.{script_name}

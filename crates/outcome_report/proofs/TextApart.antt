@@ -27,10 +27,9 @@ use Rattle.outcome_report.specs.declared.outcome_report.ReportPart.{ReportPart}
 use Rattle.outcome_report.specs.declared.outcome_report.Report.{Report}
 use Rattle.outcome_report.specs.declared.places.EndPlace.{EndPlace}
 use Rattle.outcome_report.specs.Numbered.{AreNumbered, AllNumbered}
-use Rattle.dpkg_scenarios.specs.Names.{scenario_named}
 use Rattle.outcome_report.specs.PieceRead.{result_of, trace_of, call_of, is_ending, is_call}
 use Rattle.outcome_report.specs.PlaceText.{place_line, places_text}
-use Rattle.dpkg_scenarios.specs.Names.{scenario_name}
+use Rattle.dpkg_scenarios.specs.Names.{scenario_name, scenario_named}
 use Rattle.outcome_report.specs.ReportText.{result_text, outcome_line, trace_mark, trace_line, confirmed_line, call_content, call_line, trees_text, entry_text}
 use Rattle.outcome_report.specs.ReportText.{scenario_line, part_text, verdict_line, report_text}
 use Rattle.outcome_report.specs.TextLaws.{TextsTellReports}
