@@ -13,12 +13,9 @@ use crate::place::Place;
 use crate::shell::Shell;
 use script_names::{Bytes, Copied, List, Memory, Reason};
 use shell_rules::is_shells_own;
-use shell_words::{Piece, matches, trim_newlines};
+use shell_words::{Piece, STRING_LIMIT, matches, trim_newlines};
 use shown_texts::push_number;
 use std::alloc::Global;
-
-// The most bytes that a string of a shell may have here.
-const STRING_LIMIT: usize = 65536;
 
 /// The value of a variable.
 pub(crate) fn variable(

@@ -8,7 +8,7 @@ use crate::piece::Piece;
 use script_names::{Bytes, List};
 use std::alloc::Global;
 
-// The most bytes that a string of a shell may have here.
+/// The most bytes that a string of a shell may have here.
 pub const STRING_LIMIT: usize = 65536;
 
 /// The fields of a word in a command or a `for` list (POSIX.1-2017, XCU 2.6.5 Field Splitting, with the usual IFS).

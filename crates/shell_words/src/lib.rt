@@ -15,7 +15,7 @@ mod trim;
 
 pub use env::Env;
 pub use fault::WordFault;
-pub use field::{fields, join};
+pub use field::{STRING_LIMIT, fields, join};
 pub use pattern::matches;
 pub use piece::Piece;
 pub use trim::trim_newlines;
