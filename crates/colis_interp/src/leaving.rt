@@ -7,7 +7,7 @@ use crate::halt::Halt;
 use crate::place::Place;
 use crate::shell::Shell;
 use script_names::{Bytes, Reason};
-use shell_rules::Leave;
+use shell_rules::{Leave, MAX_STATUS};
 
 /// Whether a byte is a decimal digit.
 pub(crate) fn is_digit(byte: u8) -> bool
@@ -16,7 +16,7 @@ pub(crate) fn is_digit(byte: u8) -> bool
     48 <= byte && byte <= 57
 }
 
-// The number of 1 to 3 digits, where it is at most 255.
+// The number of 1 to 3 digits, where it is a status.
 fn status_number(text: &[u8]) -> Option<u32>
     ensures { result ≡ (if is_status text.now then Some (number_behind 0 text.now) else None) }
 {
@@ -37,7 +37,7 @@ fn status_number(text: &[u8]) -> Option<u32>
             if is_digit(*a) && is_digit(*b) && is_digit(*c) {
                 let number = (u32::from(*a - 48) * 10 + u32::from(*b - 48)) * 10
                     + u32::from(*c - 48);
-                if number <= 255 {
+                if number <= MAX_STATUS {
                     return Some(number);
                 }
             }

@@ -15,6 +15,7 @@ use Rattle.utility_calls.specs.declared.planned.Planned.{Planned}
 use Rattle.utility_calls.specs.declared.planned.Planned.TheVariants.{Known, Ask, Print, Change, Unspecified}
 use Rattle.utility_calls.specs.Acts.{row, tree_after}
 use Rattle.utility_calls.specs.Calls.{call}
+use Rattle.shell_rules.specs.declared.leave.TheConstants.{MAX_STATUS}
 use Rattle.shell_rules.specs.State.{Text, State, Leave, Returned, Exited, Go, Left, then_do, closed_off}
 use Rattle.shell_rules.specs.State.{by_return, no_value, Place, at_command, site_of, stopped, Doing, Action, Funs}
 use Rattle.shell_rules.specs.State.{with_status, with_arguments}
@@ -141,10 +142,10 @@ abbrev pub number_behind : ℕ → Text → ℕ
 number_behind n [] = n
 number_behind n (b ∷ rest) = number_behind (n * 10 + (b - 48)) rest
 
--- a status: 1 to 3 digits, at most 255
+-- a status: 1 to 3 digits, at most MAX_STATUS
 abbrev pub is_status : Text → Bool
 is_status text =
-    nat_le 1 (length text) && nat_le (length text) 3 && list_all is_digit text && nat_le (number_behind 0 text) 255
+    nat_le 1 (length text) && nat_le (length text) 3 && list_all is_digit text && nat_le (number_behind 0 text) MAX_STATUS
 
 -- without an operand the status is kept, and with one that is a status it is a success for 0 and else a failure;
 -- anything else stops the run

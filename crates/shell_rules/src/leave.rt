@@ -1,5 +1,8 @@
 use script_names::{Reason, Site};
 
+/// The greatest exit status that `exit` and `return` can be given (POSIX.1-2017, XCU 2.14 exit, return).
+pub const MAX_STATUS: u32 = 255;
+
 /// How a command leaves what stands round it.
 #[derive(Clone, Copy, Debug, PartialEq, Eq)]
 pub enum Leave {

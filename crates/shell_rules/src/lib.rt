@@ -10,7 +10,7 @@ mod run;
 mod state;
 pub mod theorems;
 
-pub use leave::Leave;
+pub use leave::{Leave, MAX_STATUS};
 pub use own_names::is_shells_own;
 pub use run::End;
 pub use state::{Conc, Trace};
