@@ -1,6 +1,7 @@
 //! Where two names differ first: each byte has nine places, one for whether there is a byte, and one for each bit.
 
 ghost use Rattle.std.specs.Prelude.{◌≡◌, ◌*◌, ◌≤◌, length};
+ghost use Rattle.script_names.specs.declared.name.TheConstants.{NAME_MAX};
 ghost use Rattle.clause_solver.specs.Differences.{same_bits, difference};
 
 use script_names::Name;
@@ -16,7 +17,7 @@ pub(crate) fn difference(f: &Name, g: &Name) -> u32
 
 // The place where two lists of bytes differ first.
 fn byte_difference(f: &[u8], g: &[u8]) -> u32
-    requires { length f.now ≤ 255 }
+    requires { length f.now ≤ NAME_MAX }
     ensures is { result ≡ difference f.now g.now }
     ensures small { result ≤ 9 * length f.now }
 {

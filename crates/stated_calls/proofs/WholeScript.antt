@@ -5,6 +5,7 @@ use Rattle.std.specs.Option.{option_map}
 use Rattle.std.specs.Str.{bytes_eq}
 use Rattle.std.proofs.lemmas.Slice.Eq.{bytes_eq-Decides}
 use Rattle.std.proofs.lemmas.Bool.{and_parts}
+use Rattle.script_names.specs.declared.name.TheConstants.{NAME_MAX}
 use Rattle.shell_syntax.specs.declared.script.Script.{Script}
 use Rattle.shell_syntax.specs.declared.syntax.Command.{Command, roll-Command, out-Command, roll-out-Command, out-roll-Command}
 use Rattle.shell_syntax.specs.declared.syntax.Part.{Part}
@@ -180,7 +181,7 @@ and_last b d e = (and_parts b d e).1
 -- a name that can be stated is none that has a meaning already
 is_free : (name : Text) → can_be_stated name ≡ true → is_kept_name name ≡ false
 is_free name e =
-    let last = not (is_kept_name name) in let bytes = list_all is_name_byte name in let short = nat_le (length name) 255 in
+    let last = not (is_kept_name name) in let bytes = list_all is_name_byte name in let short = nat_le (length name) NAME_MAX in
     not_true (is_kept_name name) (and_last bytes last (and_last short (bytes && last) (and_last (nat_lt 0 (length name)) (short && (bytes && last)) e)))
 
 sound_calls : (p : StatedCall → Bool) (calls : List StatedCall) → are_stated calls ≡ true → Sound (filter p calls)

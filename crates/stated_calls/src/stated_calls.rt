@@ -4,7 +4,7 @@ ghost use Rattle.stated_calls.specs.Names.{is_name_byte, can_be_stated};
 ghost use Rattle.stated_calls.specs.Calls.{is_stated, are_stated, added_fault, AddGives};
 
 use crate::stated_call::{CallEnd, StatedCall};
-use script_names::{Bytes, Copied, List, Memory};
+use script_names::{Bytes, Copied, List, Memory, NAME_MAX};
 use shell_forms::is_kept_name;
 use std::alloc::Global;
 use std::marker::Model;
@@ -58,9 +58,9 @@ impl StatedCalls {
         }
     }
 
-    /// One stated call more, behind the others. Its name is 1 to 255 bytes without blanks and NUL, and none that has a
-    /// meaning already (else NoName); no call of that name was stated before, whatever its end (else Before). Where it
-    /// is not added the calls are as before.
+    /// One stated call more, behind the others. Its name is 1 to `NAME_MAX` bytes without blanks and NUL, and none that
+    /// has a meaning already (else NoName); no call of that name was stated before, whatever its end (else Before).
+    /// Where it is not added the calls are as before.
     pub fn add(&mut self, alloc: Global, name: &[u8], end: CallEnd) -> Result<(), StatedFault>
         ensures added { OnOk result (self.new ≡ self.old ++ record { name = name.now; end = end } ∷ []) }
         ensures kept { OnErr result (self.new ≡ self.old) }
@@ -107,11 +107,11 @@ fn is_stated(calls: &[StatedCall], name: &[u8]) -> bool
     calls.iter().any(|call| call.name.as_slice() == name)
 }
 
-/// Whether a name can be stated: it is 1 to 255 bytes without blanks and NUL, and none that has a meaning already.
+/// Whether a name can be stated: it is 1 to `NAME_MAX` bytes without blanks and NUL, and none that has a meaning already.
 pub fn can_be_stated(name: &[u8]) -> bool
     ensures { result ≡ can_be_stated name.now }
 {
-    !name.is_empty() && name.len() <= 255 && are_name_bytes(name) && !is_kept_name(name)
+    !name.is_empty() && name.len() <= NAME_MAX && are_name_bytes(name) && !is_kept_name(name)
 }
 
 // Whether no byte is a blank or NUL.
