@@ -1,4 +1,4 @@
-ghost use Rattle.std.specs.Prelude.{◌≡◌, ◌++◌, ◌||◌, ◌∷◌, [], IfOk, OnOk, OnErr, map, if◌then◌else◌};
+ghost use Rattle.std.specs.Prelude.{◌≡◌, ◌++◌, ◌||◌, ◌∷◌, [], codes, IfOk, OnOk, OnErr, map, if◌then◌else◌};
 ghost use Rattle.std.specs.List.{flat_map};
 ghost use Rattle.shown_texts.specs.Show.{show};
 ghost use Rattle.tree_clauses.specs.ClauseText.{after_comma, joined, var_text, kinds_text, names_text};
@@ -48,34 +48,37 @@ fn put_literal(text: &mut Bytes, literal: &Literal) -> Result<(), Memory>
 {
     match literal {
         Literal::Entry(x, f, y) => {
-            put_var(text, b"entry ", *x)?;
-            text.extend(b" ")?;
+            put_first(text, b"entry ", *x)?;
             push_shown(text, f.as_slice())?;
             put_var(text, b" ", *y)
         }
         Literal::Kind(x, kinds) => {
-            put_var(text, b"kind ", *x)?;
-            text.extend(b" ")?;
+            put_first(text, b"kind ", *x)?;
             put_kinds(text, *kinds)
         }
         Literal::Fence(x, names) => {
-            put_var(text, b"fence ", *x)?;
-            text.extend(b" ")?;
+            put_first(text, b"fence ", *x)?;
             put_names(text, names.as_slice())
         }
         Literal::NotEmpty(x) => put_var(text, b"notempty ", *x),
         Literal::Similar(y, names, x) => {
-            put_var(text, b"similar ", *y)?;
-            text.extend(b" ")?;
+            put_first(text, b"similar ", *y)?;
             put_names(text, names.as_slice())?;
             put_var(text, b" ", *x)
         }
         Literal::Target(x, target) => {
-            put_var(text, b"target ", *x)?;
-            text.extend(b" ")?;
+            put_first(text, b"target ", *x)?;
             push_shown(text, target.as_slice())
         }
     }
+}
+
+// Adds a variable behind a word, and a blank behind it.
+fn put_first(text: &mut Bytes, word: &[u8], x: Var) -> Result<(), Memory>
+    ensures { OnOk result (text.new ≡ text.old ++ (word.now ++ var_text x ++ codes " ")) }
+{
+    put_var(text, word, x)?;
+    text.extend(b" ")
 }
 
 // Adds a variable behind a word.
