@@ -56,7 +56,7 @@ pub(crate) fn add_look(
     y: u32,
     names: &[Name],
 ) -> Result<(), Memory>
-    requires { y + length names.now ≤ 4294967295 }
+    requires { y + length names.now ≤ u32.MAX }
     ensures { OnOk result (literals.new ≡ literals.old ++ look_literals ways.now x y names.now) }
 {
     literals.add(Literal::Kind(Var(x), kinds_from(ways, names)))?;

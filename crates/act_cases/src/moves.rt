@@ -27,7 +27,7 @@ pub struct MovePlan {
 
 // The variable of what names lead to, where x is that of the value that they go from, and y that of the first entry.
 fn end_of(x: u32, y: u32, names: &[Name]) -> u32
-    requires { y + length names.now ≤ 4294967295 }
+    requires { y + length names.now ≤ u32.MAX }
     ensures { result ≡ end_of x y names.now }
 {
     let n = names.len() as u32;
@@ -36,7 +36,7 @@ fn end_of(x: u32, y: u32, names: &[Name]) -> u32
 
 // The variable of a value with another one put at names: z is that of the other, and r the first that is made.
 fn root_of(names: &[Name], z: u32, r: u32) -> u32
-    requires { r + length names.now ≤ 4294967295 }
+    requires { r + length names.now ≤ u32.MAX }
     ensures { result ≡ root_of names.now z r }
 {
     let n = names.len() as u32;

@@ -10,7 +10,7 @@ use tree_clauses::{Literal, Var};
 // The variable of what the first `i` names lead to, where x is that of the value that they go from, and those of the
 // entries begin with y.
 fn variable_at(x: u32, y: u32, i: usize) -> u32
-    requires { y + i ≤ 4294967295 }
+    requires { y + i ≤ u32.MAX }
     ensures { result ≡ variable_at x y i }
 {
     if i == 0 { x } else { y + ((i - 1) as u32) }
@@ -47,8 +47,8 @@ pub(crate) fn add_put(
     z: u32,
     r: u32,
 ) -> Result<(), Memory>
-    requires entries { y + length names.now ≤ 4294967295 }
-    requires made { r + length names.now ≤ 4294967295 }
+    requires entries { y + length names.now ≤ u32.MAX }
+    requires made { r + length names.now ≤ u32.MAX }
     ensures { OnOk result (literals.new ≡ literals.old ++ put_literals x y names.now z r) }
 {
     let mut inner = z;

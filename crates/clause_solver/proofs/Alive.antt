@@ -2,6 +2,7 @@
 use Rattle.std.proofs.Common.{◌≡◌, ℕ, ◌<◌, ◌≤◌, ◌↔◌, Bool, IsTrue, None, Some, Option, List, length, refl}
 use Rattle.feature_trees.specs.declared.kind.Kind.{Kind}
 use Rattle.feature_trees.specs.Tree.{kind_of}
+use Rattle.clause_solver.specs.declared.variable.TheConstants.{MOST_VARIABLES}
 use Rattle.clause_solver.specs.declared.variable.Variable.{Variable}
 use Rattle.tree_clauses.specs.Literals.{Valuation, value_of_variable, IsSound}
 use Rattle.clause_solver.specs.Stands.{Stands, Alive}
@@ -45,7 +46,7 @@ pair_of vars best now open_at z new free order is tree start f =
     let same = node_is vars best open_at z new.name order is free new.child new.derived 0 order.some first in
     (g, rw same at (stands_of vars now order.some tree start g (evals_length vars (values best open_at z 0 vars) (length vars)) s fits))
 
-pub alive_iff : (vars : List Variable) (best : List Kind) (now : ℕ) → length vars ≤ 4294967295 → Ordered vars → IsBest vars best → AlwaysDir vars now → OnlyDir vars 0 → IsSatisfied vars best (unfenced vars) ↔ Alive (seen_of vars now)
+pub alive_iff : (vars : List Variable) (best : List Kind) (now : ℕ) → length vars ≤ MOST_VARIABLES → Ordered vars → IsBest vars best → AlwaysDir vars now → OnlyDir vars 0 → IsSatisfied vars best (unfenced vars) ↔ Alive (seen_of vars now)
 alive_iff vars best now small order is tree start = (
   λ f.
       let new = new_name vars small in

@@ -6,6 +6,7 @@ use Rattle.std.proofs.Math.Seq.{get_or-append_seam}
 use Rattle.feature_trees.specs.declared.kind.Kind.{Kind}
 use Rattle.feature_trees.specs.Kinds.{has}
 use Rattle.tree_clauses.specs.Literals.{value_of_variable}
+use Rattle.clause_solver.specs.declared.variable.TheConstants.{MOST_VARIABLES}
 use Rattle.clause_solver.specs.declared.variable.Variable.{Variable}
 use Rattle.clause_solver.specs.Stands.{Alive}
 use Rattle.clause_solver.specs.Variables.{var_at, no_variable, Ordered, AlwaysDir, OnlyDir, filled}
@@ -24,7 +25,7 @@ use Rattle.clause_solver.proofs.OneMore.{seen_of}
 use Rattle.clause_solver.proofs.Pairs.{fits_from}
 
 -- some valuation is left exactly where the greatest kinds are satisfied
-pub left_iff : (vars : List Variable) (best : List Kind) → length vars ≤ 4294967295 → Ordered vars → IsBest vars best → IsSatisfied vars best (unfenced vars) ↔ IsLeft vars
+pub left_iff : (vars : List Variable) (best : List Kind) → length vars ≤ MOST_VARIABLES → Ordered vars → IsBest vars best → IsSatisfied vars best (unfenced vars) ↔ IsLeft vars
 left_iff vars best small order is = (
   λ f.
       let z = new_name vars small in
@@ -59,7 +60,7 @@ module _ (vars : List Variable) (best : List Kind) (numbers : List ℕ) (listed 
   pub satisfied_entries : IsSatisfied vars best (unfenced vars) → HaveEntries vars best numbers
   satisfied_entries f k w = let e = listed.each k w in (f (number_at numbers k) e.0).filled e.1
 
-  module _ (small : length vars ≤ 4294967295) (order : Ordered vars) (is : IsBest vars best) (alive fits : Bool) (less : IsLeft vars → IsTrue alive) (sure : IsTrue alive → IsTrue fits → KindsFit vars best) (back : KindsFit vars best → IsTrue fits) where
+  module _ (small : length vars ≤ MOST_VARIABLES) (order : Ordered vars) (is : IsBest vars best) (alive fits : Bool) (less : IsLeft vars → IsTrue alive) (sure : IsTrue alive → IsTrue fits → KindsFit vars best) (back : KindsFit vars best → IsTrue fits) where
     -- a step that leaves fewer valuations, where all that have to have an entry are looked at again
     pub decides : (have : Bool) → (IsTrue have ↔ HaveEntries vars best numbers) → IsTrue ((alive && fits) && have) ↔ IsLeft vars
     decides have ih =

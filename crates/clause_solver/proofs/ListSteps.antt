@@ -6,6 +6,7 @@ use Rattle.feature_trees.specs.declared.kind.Kind.{Kind}
 use Rattle.feature_trees.specs.declared.kind.Kinds.{Kinds}
 use Rattle.feature_trees.specs.Kinds.{has}
 use Rattle.clause_solver.specs.declared.lists.Lists.{Lists}
+use Rattle.clause_solver.specs.declared.variable.TheConstants.{MOST_VARIABLES}
 use Rattle.clause_solver.specs.declared.variable.Definition.{Definition}
 use Rattle.clause_solver.specs.declared.variable.Definition.TheVariants.{Start, Child, Derived, Ensured, Made}
 use Rattle.clause_solver.specs.declared.variable.Variable.{Variable}
@@ -71,7 +72,7 @@ module _ (a b : Lists) (x : ℕ) (d : AreDecided a) (inside : x < length a.vars)
   full_long : length full ≡ length a.vars
   full_long = length-set a.vars x _
 
-  full_small : length full ≤ 4294967295
+  full_small : length full ≤ MOST_VARIABLES
   full_small = rw full_long d.small
 
   full_best : IsBest full a.best
@@ -131,7 +132,7 @@ module _ (a b : Lists) (n : ℕ) (names : List (List ℕ)) (d : AreDecided a) (i
   shut_order : Ordered shut
   shut_order = fenced_order a.vars n names inside node known d.order
 
-  shut_small : length shut ≤ 4294967295
+  shut_small : length shut ≤ MOST_VARIABLES
   shut_small = rw shut_long d.small
 
   shut_filled : AreFilled shut a.filled

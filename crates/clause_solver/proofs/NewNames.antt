@@ -5,6 +5,7 @@ use Rattle.std.proofs.lemmas.Bool.Decides.{nat_tests}
 use Rattle.std.specs.Prelude.{◌==◌, nat_le, nat_lt}
 use Rattle.std.specs.List.{list_all}
 use Rattle.script_names.specs.Names.{is_name, is_dots, is_plain_byte}
+use Rattle.clause_solver.specs.declared.variable.TheConstants.{MOST_VARIABLES}
 use Rattle.clause_solver.specs.declared.variable.Variable.{Variable}
 use Rattle.clause_solver.specs.Variables.{var_at}
 use Rattle.clause_solver.specs.NewNames.{name_used, begins, one_if, beginning, two_to, is_letter, IsNew}
@@ -130,7 +131,7 @@ new_by vars z name none = record {
   derived = λ j x y w e. not_used z vars none j w (ap name_used e);
 }
 
-pub new_name : (vars : List Variable) → length vars ≤ 4294967295 → (z : List ℕ) × IsNew vars z
+pub new_name : (vars : List Variable) → length vars ≤ MOST_VARIABLES → (z : List ℕ) × IsNew vars z
 new_name vars small =
     let most = beginning_most [] vars in
     let power : two_to 32 ≡ 4294967296 = refl in

@@ -6,6 +6,7 @@ use Rattle.feature_trees.specs.declared.kind.Kind.TheVariants.{Absent, Dir}
 use Rattle.feature_trees.specs.declared.kind.Kinds.{Kinds}
 use Rattle.feature_trees.specs.Kinds.{has}
 use Rattle.clause_solver.specs.declared.lists.Lists.{Lists}
+use Rattle.clause_solver.specs.declared.variable.TheConstants.{MOST_VARIABLES}
 use Rattle.clause_solver.specs.declared.variable.Definition.{Definition}
 use Rattle.clause_solver.specs.declared.variable.Definition.TheVariants.{Start, Child, Derived, Ensured, Made}
 use Rattle.clause_solver.specs.declared.variable.Variable.{Variable}
@@ -79,7 +80,7 @@ module _ (a b : Lists) (x : ℕ) (k : Kinds) (d : AreDecided a) (inside : x < le
   new_order : Ordered new
   new_order = limited_order a.vars x k inside d.order
 
-  new_small : length new ≤ 4294967295
+  new_small : length new ≤ MOST_VARIABLES
   new_small = rw long d.small
 
   new_filled : AreFilled new a.filled

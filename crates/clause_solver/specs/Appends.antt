@@ -4,6 +4,7 @@ use Rattle.feature_trees.specs.declared.kind.Kind.{Kind}
 use Rattle.feature_trees.specs.declared.value.Value.TheVariants as value
 use Rattle.feature_trees.specs.Kinds.{all}
 use Rattle.feature_trees.specs.Tree.{entry}
+use Rattle.clause_solver.specs.declared.variable.TheConstants.{MOST_VARIABLES}
 use Rattle.clause_solver.specs.declared.variable.Definition.{Definition}
 use Rattle.clause_solver.specs.declared.variable.Definition.TheVariants.{Start, Child, Derived, Ensured, Made}
 use Rattle.clause_solver.specs.declared.variable.Variable.{Variable}
@@ -20,7 +21,7 @@ use Rattle.clause_solver.specs.declared.kin.Kin.{Kin}
 pub record IsAppended (vars : List Variable) (best : List Kind) (kin : List Kin) (d : Definition)
     (new_vars : List Variable) (new_best : List Kind) (new_kin : List Kin) (y : ℕ) : Type 0 where
   pub at : y ≡ length vars
-  pub room : length vars < 4294967295
+  pub room : length vars < MOST_VARIABLES
   pub variable : new_vars ≡ vars ++ fresh d ∷ []
   pub kind : new_best ≡ best ++ best_by vars best all d ∷ []
   pub links : WithVariable vars kin d new_kin

@@ -4,6 +4,7 @@ use Rattle.std.specs.Prelude.{◌≡◌, ◌↔◌, ℕ, ◌<◌, ◌≤◌, Lis
 use Rattle.feature_trees.specs.declared.kind.Kind.{Kind}
 use Rattle.tree_clauses.specs.Literals.{Valuation, IsSound}
 use Rattle.clause_solver.specs.declared.lists.Lists.{Lists}
+use Rattle.clause_solver.specs.declared.variable.TheConstants.{MOST_VARIABLES}
 use Rattle.clause_solver.specs.declared.variable.Variable.{Variable}
 use Rattle.clause_solver.specs.Variables.{var_at, AllFit, Ordered}
 use Rattle.clause_solver.specs.Greatest.{IsBest, HasEntryOutside, unfenced}
@@ -36,6 +37,6 @@ pub record AreDecided (a : Lists) : Type 0 where
   pub same : length a.best ≡ length a.vars
   pub best : IsBest a.vars a.best
   pub linked : AreLinked a.vars a.kin
-  pub small : length a.vars ≤ 4294967295
+  pub small : length a.vars ≤ MOST_VARIABLES
   pub filled : AreFilled a.vars a.filled
   pub alive : IsTrue a.alive ↔ IsLeft a.vars

@@ -8,7 +8,7 @@ use crate::derivations::{add_derived, add_end, add_ensured, value_under};
 use crate::greatest::greatest_by;
 use crate::kin::Kin;
 use crate::places::definition_at;
-use crate::variable::{Definition, Variable};
+use crate::variable::{Definition, MOST_VARIABLES, Variable};
 use feature_trees::{Kind, Kinds};
 use script_names::{Common, Memory, Name};
 use shared_table::{Shared, fork_alone, push_alone};
@@ -60,9 +60,6 @@ fn found_at(vars: &Shared<Variable>, end: u32) -> Found
     }
 }
 
-// So many variables can be numbered.
-const MOST_VARIABLES: usize = 4_294_967_295;
-
 /// Adds a variable; for want of memory, or of numbers for variables, all is as before.
 pub(crate) fn append(
     alloc: Global,
@@ -74,7 +71,7 @@ pub(crate) fn append(
     requires same { length best.old ≡ length vars.old }
     requires linked { AreLinked vars.old kin.old }
     requires within { Within vars.old definition }
-    requires small { length vars.old ≤ 4294967295 }
+    requires small { length vars.old ≤ MOST_VARIABLES }
     ensures ok { IfOk result (IsAppended vars.old best.old kin.old definition vars.new best.new kin.new) }
     ensures kept { OnErr result ((vars.new ≡ vars.old) × (best.new ≡ best.old) × (kin.new ≡ kin.old)) }
 {
@@ -98,7 +95,7 @@ pub(crate) fn append_in_place(
     requires same { length best.old ≡ length vars.old }
     requires linked { AreLinked vars.old kin.old }
     requires within { Within vars.old definition }
-    requires small { length vars.old ≤ 4294967295 }
+    requires small { length vars.old ≤ MOST_VARIABLES }
     ensures ok { IfOk result (IsAppended vars.old best.old kin.old definition vars.new best.new kin.new) }
     ensures kept { OnErr result (vars.new ≡ vars.old) }
 {
@@ -129,7 +126,7 @@ fn add_kin(
 ) -> Result<(), Memory>
     requires within { Within vars.now definition.now }
     requires linked { AreLinked vars.now kin.old }
-    requires small { length vars.now ≤ 4294967295 }
+    requires small { length vars.now ≤ MOST_VARIABLES }
     ensures { OnOk result (WithVariable vars.now kin.old definition.now kin.new) }
 {
     match definition {

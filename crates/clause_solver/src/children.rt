@@ -12,7 +12,7 @@ ghost use Rattle.clause_solver.specs.Linked.{more_links, more_places, other_kin,
 use crate::difference::difference;
 use crate::kin::{Kin, Link};
 use crate::places::definition_at;
-use crate::variable::{Definition, Variable};
+use crate::variable::{Definition, MOST_VARIABLES, Variable};
 use script_names::{Common, List, Memory, Name};
 use shared_table::{Shared, push_alone, set_alone};
 use std::alloc::Global;
@@ -213,7 +213,7 @@ pub(crate) fn add_entry(
     links: List<Link>,
 ) -> Result<(), Memory>
     requires inside { p < length kin.old }
-    requires small { length kin.old ≤ 4294967295 }
+    requires small { length kin.old ≤ MOST_VARIABLES }
     ensures { OnOk result (kin.new ≡ with_entry kin.old p links) }
 {
     let y = kin.len() as u32;

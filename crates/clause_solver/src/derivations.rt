@@ -10,7 +10,7 @@ use crate::children::{
 };
 use crate::kin::{Kin, Link};
 use crate::places::definition_at;
-use crate::variable::{Definition, Variable};
+use crate::variable::{Definition, MOST_VARIABLES, Variable};
 use script_names::{List, Memory, Name};
 use shared_table::{Shared, push_alone};
 use std::alloc::Global;
@@ -78,7 +78,7 @@ pub(crate) fn add_derived(
 ) -> Result<(), Memory>
     requires inside { x < length vars.now }
     requires linked { AreLinked vars.now kin.old }
-    requires small { length vars.now ≤ 4294967295 }
+    requires small { length vars.now ≤ MOST_VARIABLES }
     ensures { let end = (kin_at kin.old x).end in OnOk result (
         (links : List Link) × AreLinksDown vars.now kin.old x f.now end (length vars.now) links
         × (kin.new ≡ kin.old ++ other_kin links (Some (length kin.old)) end ∷ [])) }
@@ -104,7 +104,7 @@ pub(crate) fn add_ensured(alloc: Global, kin: &mut Shared<Kin>, x: usize) -> Res
 
 /// Adds the links of one more variable that is no entry of a place and has its value from no other.
 pub(crate) fn add_end(alloc: Global, kin: &mut Shared<Kin>) -> Result<(), Memory>
-    requires { length kin.old ≤ 4294967295 }
+    requires { length kin.old ≤ MOST_VARIABLES }
     ensures { OnOk result (kin.new ≡ kin.old ++ other_kin [] None (length kin.old) ∷ []) }
 {
     let own = other_kin(alloc, List::new(alloc), None, kin.len() as u32)?;

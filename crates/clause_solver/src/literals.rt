@@ -4,7 +4,7 @@ ghost use Rattle.clause_solver.specs.Written.{made_literals, definition_literals
 ghost use Rattle.clause_solver.specs.Written.{fence_literals, filled_literals, literals_of, literals_from};
 
 use crate::places::var_at;
-use crate::variable::{Definition, MadeValue, Variable};
+use crate::variable::{Definition, MOST_VARIABLES, MadeValue, Variable};
 use feature_trees::{Kind, Kinds};
 use script_names::{Copied, List, Memory, Name};
 use shared_table::Shared;
@@ -140,7 +140,7 @@ pub(crate) fn write_literals(
     alloc: Global,
     vars: &Shared<Variable>,
 ) -> Result<List<Literal>, Memory>
-    requires { length vars.now ≤ 4294967295 }
+    requires { length vars.now ≤ MOST_VARIABLES }
     ensures { IfOk result (λ v. v ≡ literals_from 0 vars.now) }
 {
     let mut literals = List::new(alloc);

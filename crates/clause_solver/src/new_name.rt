@@ -2,7 +2,7 @@ ghost use Rattle.std.specs.Prelude.{◌≡◌, ◌+◌, ◌<◌, ◌≤◌, ◌*
 ghost use Rattle.clause_solver.specs.NewNames.{beginning, begins, name_used, is_letter, IsNew};
 
 use crate::places::definition_at;
-use crate::variable::{Definition, Variable};
+use crate::variable::{Definition, MOST_VARIABLES, Variable};
 use script_names::{Memory, Name, NameFault};
 use shared_table::Shared;
 use std::alloc::Global;
@@ -69,7 +69,7 @@ const ALL_NAMES: usize = 4_294_967_296;
 
 /// A name that no definition uses: 32 letters, each chosen so that fewer of the names go on with it.
 pub(crate) fn new_name(alloc: Global, vars: &Shared<Variable>) -> Result<Name, Memory>
-    requires { length vars.now ≤ 4294967295 }
+    requires { length vars.now ≤ MOST_VARIABLES }
     ensures { IfOk result (IsNew vars.now) }
 {
     let mut bytes = Vec::new(alloc);

@@ -4,6 +4,9 @@ use feature_trees::Kinds;
 use script_names::{Bytes, Common, Copied, List, Memory, Name};
 use std::alloc::Global;
 
+/// So many variables of a store can be numbered.
+pub(crate) const MOST_VARIABLES: usize = u32::MAX as usize;
+
 /// A value that a program makes.
 #[derive(Debug, Drop)]
 pub(crate) enum MadeValue {

@@ -1,5 +1,5 @@
 -- Sites, marks and reasons are read back.
-use Rattle.std.proofs.Common.{◌≡◌, ℕ, ◌-◌, ◌^◌, ◌<◌, Bool, true, false, nat_le, List, [], ◌∷◌, Option, Some, None, refl, sym, ap, ◌∙◌, arith, decimal}
+use Rattle.std.proofs.Common.{◌≡◌, ℕ, ◌^◌, ◌<◌, Bool, true, false, nat_le, List, [], ◌∷◌, Option, Some, None, refl, sym, ap, ◌∙◌, arith, decimal}
 use Rattle.std.specs.Prelude.{if◌then◌else◌}
 use Rattle.std.specs.List.{join_with_byte}
 use Rattle.std.specs.Option.{option_map, option_and_then}
@@ -12,16 +12,10 @@ use Rattle.script_names.specs.declared.mark.Site.{Site}
 use Rattle.script_names.specs.declared.reason.Reason.{Reason}
 use Rattle.script_names.specs.declared.reason.Reason.TheVariants as reason
 use Rattle.shown_texts.specs.Parts.{parts, lacks}
-use Rattle.shown_texts.specs.Numbers.{number_of}
+use Rattle.shown_texts.specs.Numbers.{u8_max, u16_max, u32_max, number_of}
 use Rattle.shown_texts.specs.Marks.{site_text, mark_text, site_from, site_of_parts, site_of, mark_from, mark_of_parts, mark_of, is_site, is_mark, reason_name, reason_among, all_reasons, reason_of}
 use Rattle.shown_texts.proofs.Cuts.{joined_cut}
 use Rattle.shown_texts.proofs.Numerals.{number_read, number_spelled, decimal_lacks}
-
-abbrev step_most : ℕ
-step_most = 2 ^ 16 - 1
-
-abbrev at_most : ℕ
-at_most = 2 ^ 32 - 1
 
 some_same : {X : Type 0} (x y : X) → Some x ≡ Some y → x ≡ y
 some_same x y e = cc
@@ -34,31 +28,31 @@ fitting_lacks most n fits h = decimal_lacks n (omega (arith, fits, leb-true n mo
 
 site_from_read : (site : Site) → is_site site ≡ true → site_from (decimal site.step) (decimal site.at) ≡ Some site
 site_from_read site h =
-    let k = and_parts (nat_le site.step step_most) (nat_le site.at at_most) h in
-    ap (option_and_then (λ (s : ℕ). option_map (λ (a : ℕ). let made : Site = record { step = s; at = a } in made) (number_of at_most (decimal site.at))))
-    (number_read step_most site.step (omega arith) k.0)
-    ∙ ap (option_map (λ (a : ℕ). let made : Site = record { step = site.step; at = a } in made)) (number_read at_most site.at (omega arith) k.1)
+    let k = and_parts (nat_le site.step u16_max) (nat_le site.at u32_max) h in
+    ap (option_and_then (λ (s : ℕ). option_map (λ (a : ℕ). let made : Site = record { step = s; at = a } in made) (number_of u32_max (decimal site.at))))
+    (number_read u16_max site.step (omega arith) k.0)
+    ∙ ap (option_map (λ (a : ℕ). let made : Site = record { step = site.step; at = a } in made)) (number_read u32_max site.at (omega arith) k.1)
 
 pub site_read : (site : Site) → is_site site ≡ true → site_of (site_text site) ≡ Some site
 site_read site h =
-    let k = and_parts (nat_le site.step step_most) (nat_le site.at at_most) h in
-    let first = fitting_lacks step_most site.step (omega arith) k.0 in
-    let second = fitting_lacks at_most site.at (omega arith) k.1 in
+    let k = and_parts (nat_le site.step u16_max) (nat_le site.at u32_max) h in
+    let first = fitting_lacks u16_max site.step (omega arith) k.0 in
+    let second = fitting_lacks u32_max site.at (omega arith) k.1 in
     ap site_of_parts (joined_cut 58 (decimal site.step) (decimal site.at ∷ []) (and_from (lacks 58 (decimal site.step)) _ first (and_from (lacks 58 (decimal site.at)) true second refl)))
     ∙ site_from_read site h
 
 site_from_spelled : (a b : List ℕ) (site : Site) → site_from a b ≡ Some site → (decimal site.step ≡ a) × (decimal site.at ≡ b)
-site_from_spelled a b site e = cases (number_of step_most a) (number_of at_most b) refl refl e
+site_from_spelled a b site e = cases (number_of u16_max a) (number_of u32_max b) refl refl e
   where
-    cases : (o p : Option ℕ) → number_of step_most a ≡ o → number_of at_most b ≡ p
+    cases : (o p : Option ℕ) → number_of u16_max a ≡ o → number_of u32_max b ≡ p
         → option_and_then (λ (s : ℕ). option_map (λ (x : ℕ). let made : Site = record { step = s; at = x } in made) p) o ≡ Some site
         → (decimal site.step ≡ a) × (decimal site.at ≡ b)
     cases None p m n e = cc
     cases (Some s) None m n e = cc
     cases (Some s) (Some x) m n e =
         let same = some_same {X = Site} (record { step = s; at = x }) site e in (
-          ap (λ (y : Site). decimal y.step) (sym same) ∙ number_spelled step_most a s (omega arith) m,
-          ap (λ (y : Site). decimal y.at) (sym same) ∙ number_spelled at_most b x (omega arith) n,
+          ap (λ (y : Site). decimal y.step) (sym same) ∙ number_spelled u16_max a s (omega arith) m,
+          ap (λ (y : Site). decimal y.at) (sym same) ∙ number_spelled u32_max b x (omega arith) n,
         )
 
 parts_site : (ps : List (List ℕ)) (site : Site) → site_of_parts ps ≡ Some site → site_text site ≡ join_with_byte 58 ps
@@ -74,18 +68,18 @@ site_spelled text site e = parts_site (parts 58 text) site e ∙ join_with_byte-
 
 mark_from_read : (mark : Mark) → is_mark mark ≡ true → mark_from (decimal mark.site.step) (decimal mark.site.at) (decimal mark.row) ≡ Some mark
 mark_from_read mark h =
-    let k = and_parts (is_site mark.site) (nat_le mark.row 255) h in
-    ap (option_and_then (λ (s : Site). option_map (λ (r : ℕ). let made : Mark = record { site = s; row = r } in made) (number_of 255 (decimal mark.row))))
+    let k = and_parts (is_site mark.site) (nat_le mark.row u8_max) h in
+    ap (option_and_then (λ (s : Site). option_map (λ (r : ℕ). let made : Mark = record { site = s; row = r } in made) (number_of u8_max (decimal mark.row))))
     (site_from_read mark.site k.0)
-    ∙ ap (option_map (λ (r : ℕ). let made : Mark = record { site = mark.site; row = r } in made)) (number_read 255 mark.row (omega arith) k.1)
+    ∙ ap (option_map (λ (r : ℕ). let made : Mark = record { site = mark.site; row = r } in made)) (number_read u8_max mark.row (omega arith) k.1)
 
 pub mark_read : (mark : Mark) → is_mark mark ≡ true → mark_of (mark_text mark) ≡ Some mark
 mark_read mark h =
-    let k = and_parts (is_site mark.site) (nat_le mark.row 255) h in
-    let m = and_parts (nat_le mark.site.step step_most) (nat_le mark.site.at at_most) k.0 in
-    let first = fitting_lacks step_most mark.site.step (omega arith) m.0 in
-    let second = fitting_lacks at_most mark.site.at (omega arith) m.1 in
-    let third = fitting_lacks 255 mark.row (omega arith) k.1 in
+    let k = and_parts (is_site mark.site) (nat_le mark.row u8_max) h in
+    let m = and_parts (nat_le mark.site.step u16_max) (nat_le mark.site.at u32_max) k.0 in
+    let first = fitting_lacks u16_max mark.site.step (omega arith) m.0 in
+    let second = fitting_lacks u32_max mark.site.at (omega arith) m.1 in
+    let third = fitting_lacks u8_max mark.row (omega arith) k.1 in
     ap mark_of_parts
     (joined_cut 58 (decimal mark.site.step) (decimal mark.site.at ∷ decimal mark.row ∷ [])
     (and_from (lacks 58 (decimal mark.site.step)) _ first
@@ -94,9 +88,9 @@ mark_read mark h =
 
 mark_from_spelled : (a b c : List ℕ) (mark : Mark) → mark_from a b c ≡ Some mark
     → (decimal mark.site.step ≡ a) × (decimal mark.site.at ≡ b) × (decimal mark.row ≡ c)
-mark_from_spelled a b c mark e = cases (site_from a b) (number_of 255 c) refl refl e
+mark_from_spelled a b c mark e = cases (site_from a b) (number_of u8_max c) refl refl e
   where
-    cases : (o : Option Site) (p : Option ℕ) → site_from a b ≡ o → number_of 255 c ≡ p
+    cases : (o : Option Site) (p : Option ℕ) → site_from a b ≡ o → number_of u8_max c ≡ p
         → option_and_then (λ (s : Site). option_map (λ (r : ℕ). let made : Mark = record { site = s; row = r } in made) p) o ≡ Some mark
         → (decimal mark.site.step ≡ a) × (decimal mark.site.at ≡ b) × (decimal mark.row ≡ c)
     cases None p m n e = cc
@@ -106,7 +100,7 @@ mark_from_spelled a b c mark e = cases (site_from a b) (number_of 255 c) refl re
         let both = site_from_spelled a b s m in (
           ap (λ (y : Mark). decimal y.site.step) (sym same) ∙ both.0,
           ap (λ (y : Mark). decimal y.site.at) (sym same) ∙ both.1,
-          ap (λ (y : Mark). decimal y.row) (sym same) ∙ number_spelled 255 c r (omega arith) n,
+          ap (λ (y : Mark). decimal y.row) (sym same) ∙ number_spelled u8_max c r (omega arith) n,
         )
 
 parts_mark : (ps : List (List ℕ)) (mark : Mark) → mark_of_parts ps ≡ Some mark → mark_text mark ≡ join_with_byte 58 ps

@@ -1,5 +1,5 @@
 -- Sites, marks and reasons in texts.
-use Rattle.std.specs.Prelude.{ℕ, ◌-◌, ◌^◌, Bool, ◌&&◌, nat_le, List, [], ◌∷◌, codes, Option, Some, None, if◌then◌else◌}
+use Rattle.std.specs.Prelude.{ℕ, Bool, ◌&&◌, nat_le, List, [], ◌∷◌, codes, Option, Some, None, if◌then◌else◌}
 use Rattle.std.specs.List.{join_with_byte}
 use Rattle.std.specs.Option.{option_map, option_and_then}
 use Rattle.std.specs.Str.{bytes_eq}
@@ -9,7 +9,7 @@ use Rattle.script_names.specs.declared.mark.Site.{Site}
 use Rattle.script_names.specs.declared.reason.Reason.{Reason}
 use Rattle.script_names.specs.declared.reason.Reason.TheVariants as reason
 use Rattle.shown_texts.specs.Parts.{parts}
-use Rattle.shown_texts.specs.Numbers.{number_of}
+use Rattle.shown_texts.specs.Numbers.{u8_max, u16_max, u32_max, number_of}
 
 -- a site: its step, a colon, and the place in the step
 abbrev pub site_text : Site → List ℕ
@@ -22,8 +22,8 @@ mark_text mark = join_with_byte 58 (decimal mark.site.step ∷ decimal mark.site
 -- the site of a step and a place that are written so
 abbrev pub site_from : List ℕ → List ℕ → Option Site
 site_from step at =
-    option_and_then (λ step. option_map (λ at. record { step = step; at = at }) (number_of (2 ^ 32 - 1) at))
-    (number_of (2 ^ 16 - 1) step)
+    option_and_then (λ step. option_map (λ at. record { step = step; at = at }) (number_of u32_max at))
+    (number_of u16_max step)
 
 -- the site of a text that is cut into these parts
 abbrev pub site_of_parts : List (List ℕ) → Option Site
@@ -39,7 +39,7 @@ site_of text = site_of_parts (parts 58 text)
 -- the mark of a step, a place and a row that are written so
 abbrev pub mark_from : List ℕ → List ℕ → List ℕ → Option Mark
 mark_from step at row =
-    option_and_then (λ site. option_map (λ row. record { site = site; row = row }) (number_of 255 row))
+    option_and_then (λ site. option_map (λ row. record { site = site; row = row }) (number_of u8_max row))
     (site_from step at)
 
 -- the mark of a text that is cut into these parts
@@ -56,11 +56,11 @@ mark_of text = mark_of_parts (parts 58 text)
 
 -- a site whose numbers fit their types
 abbrev pub is_site : Site → Bool
-is_site site = nat_le site.step (2 ^ 16 - 1) && nat_le site.at (2 ^ 32 - 1)
+is_site site = nat_le site.step u16_max && nat_le site.at u32_max
 
 -- a mark whose numbers fit their types
 abbrev pub is_mark : Mark → Bool
-is_mark mark = is_site mark.site && nat_le mark.row 255
+is_mark mark = is_site mark.site && nat_le mark.row u8_max
 
 -- the name of a reason
 abbrev pub reason_name : Reason → List ℕ

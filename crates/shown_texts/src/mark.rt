@@ -102,11 +102,11 @@ fn mark_of_parts(parts: &[&[u8]]) -> Option<Mark>
 fn site_from(step: &[u8], at: &[u8]) -> Option<Site>
     ensures { result ≡ site_from step.now at.now }
 {
-    let step = match read_number(step, 65535) {
+    let step = match read_number(step, u16::MAX as u32) {
         Some(step) => step,
         None => return None,
     };
-    match read_number(at, 4294967295) {
+    match read_number(at, u32::MAX) {
         Some(at) => Some(Site {
             step: step as u16,
             at,
@@ -123,7 +123,7 @@ fn mark_from(step: &[u8], at: &[u8], row: &[u8]) -> Option<Mark>
         Some(site) => site,
         None => return None,
     };
-    match read_number(row, 255) {
+    match read_number(row, u8::MAX as u32) {
         Some(row) => Some(Mark {
             site,
             row: row as u8,

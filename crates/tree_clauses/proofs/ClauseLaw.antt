@@ -1,12 +1,12 @@
 -- A clause's text is read as the clause.
-use Rattle.std.proofs.Common.{◌≡◌, ℕ, ◌-◌, ◌^◌, ◌<◌, Bool, true, false, nat_le, List, [], ◌∷◌, ◌++◌, map, Option, Some, Ok, Err, refl, sym, ap, ◌∙◌, subst, arith, append_assoc, append-nil, decimal}
+use Rattle.std.proofs.Common.{◌≡◌, ℕ, ◌^◌, ◌<◌, Bool, true, false, nat_le, List, [], ◌∷◌, ◌++◌, map, Option, Some, Ok, Err, refl, sym, ap, ◌∙◌, subst, arith, append_assoc, append-nil, decimal}
 use Rattle.std.specs.Prelude.{◌&&◌, ◌==◌, not, None, option_map, option_and_then, codes, if◌then◌else◌}
 use Rattle.std.specs.List.{flat_map, list_all}
 use Rattle.std.proofs.lemmas.Bool.{leb-true, eqb-true, and_parts, and_from}
 use Rattle.script_names.specs.Names.{is_name}
 use Rattle.feature_trees.specs.declared.kind.Kinds.{Kinds}
 use Rattle.script_names.specs.Paths.{is_filled}
-use Rattle.shown_texts.specs.Numbers.{is_digit}
+use Rattle.shown_texts.specs.Numbers.{u32_max, is_digit}
 use Rattle.shown_texts.specs.Paths.{if_name, name_of, names_onto}
 use Rattle.shown_texts.specs.Show.{is_shown, show}
 use Rattle.shown_texts.specs.Lines.{line}
@@ -92,8 +92,8 @@ shown_graphic b h = grind (arith)
 digit_graphic : (b : ℕ) → is_digit b ≡ true → is_graphic b ≡ true
 digit_graphic b h = grind (arith)
 
-below_word : (n : ℕ) → nat_le n (2 ^ 32 - 1) ≡ true → n < 2 ^ 64
-below_word n h = let w = leb-true n (2 ^ 32 - 1) h in omega arith
+below_word : (n : ℕ) → nat_le n u32_max ≡ true → n < 2 ^ 64
+below_word n h = let w = leb-true n u32_max h in omega arith
 
 pub number_graphic : (n : ℕ) → n < 2 ^ 64 → list_all is_graphic (decimal n) ≡ true
 number_graphic n small = all_weaker is_digit is_graphic digit_graphic (decimal n) (decimal_digits n small)
@@ -102,7 +102,7 @@ pub var_word : (x : Var) → is_var x ≡ true → is_word (var_text x) ≡ true
 var_word x h = number_graphic x.0 (below_word x.0 h)
 
 pub var_read : (x : Var) → is_var x ≡ true → var_of (var_text x) ≡ Some x
-var_read x h = ap (option_map (λ n. record { 0 = n })) (number_read (2 ^ 32 - 1) x.0 (omega arith) h)
+var_read x h = ap (option_map (λ n. record { 0 = n })) (number_read u32_max x.0 (omega arith) h)
 
 pub show_word : (bs : List ℕ) → list_all is_byte bs ≡ true → is_word (show bs) ≡ true
 show_word bs h = and_from (is_filled (show bs)) _ (show_filled bs) (all_weaker is_shown is_graphic shown_graphic (show bs) (show_shown bs h))

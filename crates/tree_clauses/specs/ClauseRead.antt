@@ -1,10 +1,10 @@
 -- Reading a clause's text. The reader is loose: what it reads is printed again and compared.
-use Rattle.std.specs.Prelude.{◌≡◌, ℕ, ◌-◌, ◌^◌, ◌&&◌, nat_le, Bool, IsTrue, List, [], ◌∷◌, ◌++◌, codes}
+use Rattle.std.specs.Prelude.{◌≡◌, ℕ, ◌&&◌, nat_le, Bool, IsTrue, List, [], ◌∷◌, ◌++◌, codes}
 use Rattle.std.specs.Prelude.{Option, Some, None, option_map, option_and_then, Result, Ok, Err, if◌then◌else◌}
 use Rattle.std.specs.List.{list_any, list_all}
 use Rattle.std.specs.Str.{bytes_eq}
 use Rattle.script_names.specs.Names.{is_name}
-use Rattle.shown_texts.specs.Numbers.{number_of}
+use Rattle.shown_texts.specs.Numbers.{u32_max, number_of}
 use Rattle.shown_texts.specs.Paths.{name_of, names_onto}
 use Rattle.shown_texts.specs.Show.{are_bytes, shown_of}
 use Rattle.feature_trees.specs.declared.kind.Kinds.{Kinds}
@@ -23,7 +23,7 @@ use Rattle.tree_clauses.specs.Cuts.{pieces, ends_line, ends_word, ends_member}
 -- a variable's word, `v` and its number
 abbrev pub var_of : List ℕ → Option Var
 var_of [] = None
-var_of (v ∷ digits) = option_map (λ n. record { 0 = n }) (number_of (2 ^ 32 - 1) digits)
+var_of (v ∷ digits) = option_map (λ n. record { 0 = n }) (number_of u32_max digits)
 
 -- a set of names
 abbrev pub names_of : List ℕ → Option (List (List ℕ))
@@ -99,7 +99,7 @@ clause_of text = lines_clause (pieces ends_line text)
 
 -- a variable's number fits
 abbrev pub is_var : Var → Bool
-is_var x = nat_le x.0 (2 ^ 32 - 1)
+is_var x = nat_le x.0 u32_max
 
 -- a name that the program's types represent: a name, and of bytes
 abbrev pub is_representable_name : List ℕ → Bool
