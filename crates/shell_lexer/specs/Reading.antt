@@ -48,6 +48,11 @@ abbrev pub quoted_run : Bytes → List RawPart
 quoted_run [] = []
 quoted_run (b ∷ run) = part.Quoted (b ∷ run) ∷ []
 
+-- a run of bytes in double quotes, or of plain ones, is a part, where it has one
+abbrev pub either_run : Bool → Bytes → List RawPart
+either_run true run = quoted_run run
+either_run false run = plain_run run
+
 -- the last part of double quotes; those that hold nothing have an empty one
 abbrev pub last_run : Bool → Bytes → List RawPart
 last_run true [] = part.Quoted [] ∷ []

@@ -111,24 +111,17 @@ fn opened(sign: Sign, parens: usize) -> usize
     }
 }
 
-// The run as a part, where it has a byte.
-fn flush_plain(parts: &mut List<RawPart>, run: Bytes) -> Result<(), Memory>
-    ensures { OnOk result (parts.new ≡ parts.old ++ reading.plain_run run) }
+// The run as a part, where it has a byte; `quoted` says that it stands in double quotes.
+fn flush(parts: &mut List<RawPart>, quoted: bool, run: Bytes) -> Result<(), Memory>
+    ensures { OnOk result (parts.new ≡ parts.old ++ reading.either_run quoted run) }
 {
     if run.len() == 0 {
         return Ok(());
+    }
+    if quoted {
+        return parts.add(RawPart::Quoted(run));
     }
     parts.add(RawPart::Plain(run))
-}
-
-// The run as a quoted part, where it has a byte.
-fn flush_quoted(parts: &mut List<RawPart>, run: Bytes) -> Result<(), Memory>
-    ensures { OnOk result (parts.new ≡ parts.old ++ reading.quoted_run run) }
-{
-    if run.len() == 0 {
-        return Ok(());
-    }
-    parts.add(RawPart::Quoted(run))
 }
 
 // The last part of double quotes; those that hold nothing have an empty one.
@@ -138,42 +131,24 @@ fn flush_last(parts: &mut List<RawPart>, fresh: bool, run: Bytes) -> Result<(), 
     if fresh && run.len() == 0 {
         return parts.add(RawPart::Quoted(run));
     }
-    flush_quoted(parts, run)
+    flush(parts, true, run)
 }
 
-// A part behind a run of plain bytes, with its note; then a run begins.
+// A part behind a run of bytes, with its note; then a run begins. `quoted` says that they stand in double quotes.
 fn add_part(
     alloc: Global,
     parts: &mut List<RawPart>,
     notes: &mut List<ByteNote>,
+    quoted: bool,
     run: Bytes,
     part: RawPart,
     note: ByteNote,
 ) -> Result<Bytes, Memory>
     ensures next { IfOk result (λ next. next ≡ []) }
-    ensures parts { OnOk result (parts.new ≡ parts.old ++ (reading.plain_run run ++ part ∷ [])) }
+    ensures parts { OnOk result (parts.new ≡ parts.old ++ (reading.either_run quoted run ++ part ∷ [])) }
     ensures notes { OnOk result (notes.new ≡ notes.old ++ note ∷ []) }
 {
-    flush_plain(parts, run)?;
-    parts.add(part)?;
-    notes.add(note)?;
-    Ok(Bytes::new(alloc))
-}
-
-// A part in double quotes, behind a run of bytes that stand for themselves, with its note; then a run begins.
-fn add_quoted(
-    alloc: Global,
-    parts: &mut List<RawPart>,
-    notes: &mut List<ByteNote>,
-    run: Bytes,
-    part: RawPart,
-    note: ByteNote,
-) -> Result<Bytes, Memory>
-    ensures next { IfOk result (λ next. next ≡ []) }
-    ensures parts { OnOk result (parts.new ≡ parts.old ++ (reading.quoted_run run ++ part ∷ [])) }
-    ensures notes { OnOk result (notes.new ≡ notes.old ++ note ∷ []) }
-{
-    flush_quoted(parts, run)?;
+    flush(parts, quoted, run)?;
     parts.add(part)?;
     notes.add(note)?;
     Ok(Bytes::new(alloc))
@@ -239,7 +214,7 @@ fn word(
         let here = skip(text, place);
         match look(alloc, text, here)? {
             Look::Ends => {
-                flush_plain(&mut parts, run)?;
+                flush(&mut parts, false, run)?;
                 return Ok((parts, notes, place));
             }
             Look::Byte(byte, rest) => {
@@ -248,16 +223,32 @@ fn word(
                 place = rest;
             }
             Look::Piece(part, rest) => {
-                run = add_part(alloc, &mut parts, &mut notes, run, part, ByteNote::Gap)?;
+                run = add_part(
+                    alloc,
+                    &mut parts,
+                    &mut notes,
+                    false,
+                    run,
+                    part,
+                    ByteNote::Gap,
+                )?;
                 place = rest;
             }
             Look::AllArgs(rest) => {
                 let note = ByteNote::All(here as u32, false);
-                run = add_part(alloc, &mut parts, &mut notes, run, RawPart::All, note)?;
+                run = add_part(
+                    alloc,
+                    &mut parts,
+                    &mut notes,
+                    false,
+                    run,
+                    RawPart::All,
+                    note,
+                )?;
                 place = rest;
             }
             Look::DoubleQuote(begin) => {
-                flush_plain(&mut parts, run)?;
+                flush(&mut parts, false, run)?;
                 place = quoted(alloc, text, begin, depth, here, &mut parts, &mut notes)?;
                 notes.add(ByteNote::Gap)?;
                 run = Bytes::new(alloc);
@@ -265,7 +256,15 @@ fn word(
             Look::Substitution(begin) => {
                 let (tokens, rest) = substitution(alloc, text, begin, depth, here)?;
                 let part = run_part(here, tokens, false);
-                run = add_part(alloc, &mut parts, &mut notes, run, part, ByteNote::Gap)?;
+                run = add_part(
+                    alloc,
+                    &mut parts,
+                    &mut notes,
+                    false,
+                    run,
+                    part,
+                    ByteNote::Gap,
+                )?;
                 place = rest;
             }
             Look::Bad(fault) => return Err(fault),
@@ -308,20 +307,20 @@ fn quoted(
                 place = rest;
             }
             Look::Piece(part, rest) => {
-                run = add_quoted(alloc, parts, notes, run, part, ByteNote::Gap)?;
+                run = add_part(alloc, parts, notes, true, run, part, ByteNote::Gap)?;
                 fresh = false;
                 place = rest;
             }
             Look::AllArgs(rest) => {
                 let note = ByteNote::All(here as u32, true);
-                run = add_quoted(alloc, parts, notes, run, RawPart::All, note)?;
+                run = add_part(alloc, parts, notes, true, run, RawPart::All, note)?;
                 fresh = false;
                 place = rest;
             }
             Look::Substitution(begin) => {
                 let (tokens, rest) = substitution(alloc, text, begin, depth, here)?;
                 let part = run_part(here, tokens, true);
-                run = add_quoted(alloc, parts, notes, run, part, ByteNote::Gap)?;
+                run = add_part(alloc, parts, notes, true, run, part, ByteNote::Gap)?;
                 fresh = false;
                 place = rest;
             }

@@ -67,7 +67,7 @@ whole_word-returns t c =
 
 pub word-returns-in-Ends : goal.word-returns-in-Ends
 word-returns-in-Ends t c =
-    word_whole c.args.text.now c.args.depth c.args.at c.parts.place c.skip-here.result c.parts.run c.parts.parts c.parts.notes c.parts.invariant (record { within = c.skip-here.ensures.within; on = c.skip-here.ensures.on; skips = c.skip-here.ensures.skips }) _ (looks_as c.args.text.now c.in-Ends.is c.in_ok-look.ensures.gives) c.in_ok-flush_plain-in-Ends.ensures
+    word_whole c.args.text.now c.args.depth c.args.at c.parts.place c.skip-here.result c.parts.run c.parts.parts c.parts.notes c.parts.invariant (record { within = c.skip-here.ensures.within; on = c.skip-here.ensures.on; skips = c.skip-here.ensures.skips }) _ (looks_as c.args.text.now c.in-Ends.is c.in_ok-look.ensures.gives) c.in_ok-flush-in-Ends.ensures
 
 pub word-parts-preserved-in-Byte : goal.word-parts-preserved-in-Byte
 word-parts-preserved-in-Byte t c =
@@ -83,7 +83,7 @@ word-parts-preserved-in-AllArgs t c =
 
 pub word-parts-preserved-in-DoubleQuote : goal.word-parts-preserved-in-DoubleQuote
 word-parts-preserved-in-DoubleQuote t c =
-    word_empty c.args.text.now c.args.depth c.args.at c.in_ok-place-in-DoubleQuote.place _ _ _ c.new-run-in-DoubleQuote.ensures (word_doubled c.args.text.now c.args.depth c.args.at c.parts.place c.skip-here.result c.parts.run c.parts.parts c.parts.notes c.parts.invariant (record { within = c.skip-here.ensures.within; on = c.skip-here.ensures.on; skips = c.skip-here.ensures.skips }) c.in-DoubleQuote.begin c.in_ok-place-in-DoubleQuote.place _ _ _ _ (looks_as c.args.text.now c.in-DoubleQuote.is c.in_ok-look.ensures.gives) (further_look c.skip-here.result (length c.args.text.now) c.in-DoubleQuote.is c.in_ok-look.ensures.further).0 c.in_ok-flush_plain-in-DoubleQuote.ensures c.in_ok-place-in-DoubleQuote.ensures c.in_ok-add-in-DoubleQuote.ensures.ok)
+    word_empty c.args.text.now c.args.depth c.args.at c.in_ok-place-in-DoubleQuote.place _ _ _ c.new-run-in-DoubleQuote.ensures (word_doubled c.args.text.now c.args.depth c.args.at c.parts.place c.skip-here.result c.parts.run c.parts.parts c.parts.notes c.parts.invariant (record { within = c.skip-here.ensures.within; on = c.skip-here.ensures.on; skips = c.skip-here.ensures.skips }) c.in-DoubleQuote.begin c.in_ok-place-in-DoubleQuote.place _ _ _ _ (looks_as c.args.text.now c.in-DoubleQuote.is c.in_ok-look.ensures.gives) (further_look c.skip-here.result (length c.args.text.now) c.in-DoubleQuote.is c.in_ok-look.ensures.further).0 c.in_ok-flush-in-DoubleQuote.ensures c.in_ok-place-in-DoubleQuote.ensures c.in_ok-add-in-DoubleQuote.ensures.ok)
 
 pub word-parts-preserved : goal.word-parts-preserved
 word-parts-preserved t c =
@@ -96,7 +96,7 @@ word-returns-in-Bad t c =
 pub word-returns-in_err-place-in-DoubleQuote : goal.word-returns-in_err-place-in-DoubleQuote
 word-returns-in_err-place-in-DoubleQuote t c =
     let p = err_from_is_err_and c.from_residual-in_err-place-in-DoubleQuote.result c.from_residual-in_err-place-in-DoubleQuote.ensures.1 in
-    rw (p.1, p.2) (word_double_fault c.args.text.now c.args.depth c.args.at c.parts.place c.skip-here.result c.parts.run c.parts.parts c.parts.notes c.parts.invariant (record { within = c.skip-here.ensures.within; on = c.skip-here.ensures.on; skips = c.skip-here.ensures.skips }) c.in_err-place-in-DoubleQuote.field-0.0 c.in-DoubleQuote.begin c.flush_plain-in-DoubleQuote.new.parts c.quoted.new.parts c.parts.notes c.quoted.new.notes (looks_as c.args.text.now c.in-DoubleQuote.is c.in_ok-look.ensures.gives) c.in_err-place-in-DoubleQuote.ensures)
+    rw (p.1, p.2) (word_double_fault c.args.text.now c.args.depth c.args.at c.parts.place c.skip-here.result c.parts.run c.parts.parts c.parts.notes c.parts.invariant (record { within = c.skip-here.ensures.within; on = c.skip-here.ensures.on; skips = c.skip-here.ensures.skips }) c.in_err-place-in-DoubleQuote.field-0.0 c.in-DoubleQuote.begin c.flush-in-DoubleQuote.new.parts c.quoted.new.parts c.parts.notes c.quoted.new.notes (looks_as c.args.text.now c.in-DoubleQuote.is c.in_ok-look.ensures.gives) c.in_err-place-in-DoubleQuote.ensures)
 
 pub word-returns-in_err-tokens-in-Substitution : goal.word-returns-in_err-tokens-in-Substitution
 word-returns-in_err-tokens-in-Substitution t c =
