@@ -159,7 +159,7 @@ pub fn arm_begin(level: usize, end: u32, ts: &[Token], at: usize) -> usize
 }
 
 /// How many words stand there in a row: so many are to have room in a simple command.
-pub fn words_from(ts: &[Token], at: usize) -> usize
+pub(crate) fn words_from(ts: &[Token], at: usize) -> usize
     requires { at ≤ length ts.now }
 {
     let mut now = at;
@@ -170,7 +170,7 @@ pub fn words_from(ts: &[Token], at: usize) -> usize
 }
 
 /// How many commands are to have room in a list whose first one ends there: where a separator stands, two.
-pub fn list_room(ts: &[Token], at: usize) -> usize
+pub(crate) fn list_room(ts: &[Token], at: usize) -> usize
     requires { at ≤ length ts.now }
 {
     if separates(ts, at) {
@@ -180,7 +180,7 @@ pub fn list_room(ts: &[Token], at: usize) -> usize
 }
 
 /// How many commands are to have room behind the first of an and-or list, where that ends there.
-pub fn link_room(ts: &[Token], at: usize) -> usize
+pub(crate) fn link_room(ts: &[Token], at: usize) -> usize
     requires { at ≤ length ts.now }
 {
     match link_and(look(ts, at)) {
