@@ -1,6 +1,6 @@
 -- What holds of each row of the tables of a move.
 use Rattle.std.proofs.Common.{◌≡◌, ◌≢◌, ℕ, ◌+◌, ◌<◌, ◌≤◌, ◌⊎◌, inl, inr, Bool, true, false, not, ◌&&◌, ◌||◌, nat_lt, IsTrue, if◌then◌else◌, Option, Some, None, List, [], ◌∷◌, refl, sym, ap, subst, ◌∙◌, arith}
-use Rattle.std.proofs.lemmas.Bool.{ltb-true}
+use Rattle.std.proofs.lemmas.Bool.{ltb-true, not-true}
 use Rattle.feature_trees.specs.declared.kind.Kind.{Kind}
 use Rattle.feature_trees.specs.declared.kind.Kind.TheVariants.{Absent, Reg, Link, Other, Dir}
 use Rattle.feature_trees.specs.declared.kind.Kinds.{Kinds}
@@ -63,10 +63,6 @@ implied : (a b : Bool) → implies a b ≡ true → a ≡ true → b ≡ true
 implied true b h e = h
 implied false b h e = absurd (cc)
 
-not_true : (b : Bool) → not b ≡ true → b ≡ false
-not_true false h = refl
-not_true true h = absurd (cc)
-
 well_is : (below : Bool) (r : Rule) → moves_well below r ≡ true → MovesWell below r
 well_is below r h =
     let a = and_parts (nat_lt 64 r.number) _ h in
@@ -79,8 +75,8 @@ well_is below r h =
       high = ltb-true r.number 128 b.0;
       looks = c.0;
       fits = d.0;
-      beside = λ m. not_true below (and_parts (not below) _ (e m)).0;
-      named = λ m. not_true (is_anything r.place) (and_parts (not (is_anything r.place)) _ (and_parts (not below) _ (e m)).1).0;
+      beside = λ m. not-true below (and_parts (not below) _ (e m)).0;
+      named = λ m. not-true (is_anything r.place) (and_parts (not (is_anything r.place)) _ (and_parts (not below) _ (e m)).1).0;
       through = λ m. (and_parts (is_through r.place) (there_only r.source) (and_parts (not (is_anything r.place)) _ (and_parts (not below) _ (e m)).1).1).0;
       source = λ m. (and_parts (is_through r.place) (there_only r.source) (and_parts (not (is_anything r.place)) _ (and_parts (not below) _ (e m)).1).1).1;
     }

@@ -1,5 +1,6 @@
 -- Each case of an act on one path is plain.
 use Rattle.std.proofs.Common.{◌≡◌, ◌≢◌, ℕ, zero, suc, ◌+◌, ◌<◌, ◌≤◌, ◌⊎◌, inl, inr, ◌↔◌, Bool, true, false, not, ◌&&◌, ◌||◌, IsTrue, if◌then◌else◌, Option, Some, None, List, [], ◌∷◌, ◌++◌, length, take, refl, sym, ap, subst, ◌∙◌, arith, append-nil}
+use Rattle.std.proofs.lemmas.Bool.{not-true}
 use Rattle.std.specs.List.{Contains}
 use Rattle.feature_trees.specs.declared.kind.Kind.{Kind as AnyKind}
 use Rattle.feature_trees.specs.declared.kind.Kind.TheVariants as kind
@@ -240,10 +241,6 @@ implied : (a b : Bool) → implies a b ≡ true → a ≡ true → b ≡ true
 implied true b h e = h
 implied false b h e = absurd (cc)
 
-not_true : (b : Bool) → not b ≡ true → b ≡ false
-not_true false h = refl
-not_true true h = absurd (cc)
-
 longer : (names : List (List ℕ)) (m : Option (List ℕ)) (c : Bool) → names ≢ [] → names_at c names m ≢ []
 longer names m false ne = ne
 longer names None true ne = ne
@@ -259,7 +256,7 @@ module _ (act : Act) (one_path : IsOnOnePath act) (performed : IsPerformed act) 
       (λ e.
       let more = and_parts (not (is_question act)) (is_through r.place) (implied (is_put r.effect) (not (is_question act) && is_through r.place) well.0 e) in
       record {
-        somewhere = longer (path_of act).names (inner_name act) (is_inner r.place) (performed.0 (not_true (is_question act) more.0)).0;
+        somewhere = longer (path_of act).names (inner_name act) (is_inner r.place) (performed.0 (not-true (is_question act) more.0)).0;
         last = (ways_of s r.place).last;
         through_is = through_ways s r.place more.1;
         kept = λ k. limits (ways_of s r.place).last (implied (keeps r.effect) (none_or_dir (ways_of s r.place).last) well.1 k);

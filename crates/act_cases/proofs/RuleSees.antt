@@ -1,5 +1,6 @@
 -- What a row of a table looks at is what its condition says.
 use Rattle.std.proofs.Common.{◌≡◌, ◌≢◌, ℕ, ◌⊎◌, inl, inr, Bool, true, false, not, ◌&&◌, IsTrue, if◌then◌else◌, Option, Some, None, List, [], ◌∷◌, ◌++◌, refl, sym, ap, subst, ◌∙◌}
+use Rattle.std.proofs.lemmas.Bool.{not-true}
 use Rattle.feature_trees.specs.declared.kind.Kind.{Kind}
 use Rattle.feature_trees.specs.declared.kind.Kind.TheVariants.{Absent, Reg, Link, Other, Dir}
 use Rattle.feature_trees.specs.declared.kind.Kinds.{Kinds}
@@ -49,10 +50,6 @@ kind_dir v h = dir_kind v (sym (dir_has v) ∙ h)
 
 not_of : (b : Bool) → b ≡ false → not b ≡ true
 not_of b e = ap not e
-
-of_not : (b : Bool) → not b ≡ true → b ≡ false
-of_not false e = refl
-of_not true e = cc
 
 module _ (t : Value) (names : List (List ℕ)) (slash : Bool) where
   abbrev here : Value
@@ -188,10 +185,10 @@ module _ (t : Value) (names : List (List ℕ)) (slash : Bool) where
       let parts = and_parts (in_dir t names) (has kinds (kind_of here)) h in
       (through_to (fitting slash kinds) t names (some_in t names (ne refl) parts.0) (fit_to slash kinds (kind_of here) parts.1 r.1), tt)
   rule_to m outside ne inner r h =
-      (out_to (fitting slash all) names (ne refl) r.0 (of_not (in_dir t names) h) (fit_to slash all (kind_of here) (has_all (kind_of here)) r.1), tt)
+      (out_to (fitting slash all) names (ne refl) r.0 (not-true (in_dir t names) h) (fit_to slash all (kind_of here) (has_all (kind_of here)) r.1), tt)
   rule_to m empty ne inner r h =
       let parts = and_parts (has (of Dir) (kind_of here)) (not (has_entry here)) h in
-      (dir_to parts.0, of_not (has_entry here) parts.1)
+      (dir_to parts.0, not-true (has_entry here) parts.1)
   rule_to m full ne inner r h =
       let parts = and_parts (has (of Dir) (kind_of here)) (has_entry here) h in
       (dir_to parts.0, parts.1)
@@ -201,7 +198,7 @@ module _ (t : Value) (names : List (List ℕ)) (slash : Bool) where
   rule_to m into_empty ne inner r h =
       let parts = and_parts (has (of Dir) (kind_of here)) (has (of Dir) (kind_of (inner_at here m)) && not (has_entry (inner_at here m))) h in
       let more = and_parts (has (of Dir) (kind_of (inner_at here m))) (not (has_entry (inner_at here m))) parts.1 in
-      (below_to (of Dir) m (inner refl) (kind_dir here parts.0) more.0, ap has_entry (inner_is m (inner refl)) ∙ of_not (has_entry (inner_at here m)) more.1)
+      (below_to (of Dir) m (inner refl) (kind_dir here parts.0) more.0, ap has_entry (inner_is m (inner refl)) ∙ not-true (has_entry (inner_at here m)) more.1)
   rule_to m into_full ne inner r h =
       let parts = and_parts (has (of Dir) (kind_of here)) (has (of Dir) (kind_of (inner_at here m)) && has_entry (inner_at here m)) h in
       let more = and_parts (has (of Dir) (kind_of (inner_at here m))) (has_entry (inner_at here m)) parts.1 in

@@ -1,6 +1,6 @@
 -- What holds of each row of the tables of the acts on one path.
 use Rattle.std.proofs.Common.{◌≡◌, ◌≢◌, ℕ, ◌<◌, ◌≤◌, ◌⊎◌, inl, inr, Bool, true, false, not, ◌&&◌, ◌||◌, nat_lt, IsTrue, Option, Some, None, List, [], ◌∷◌, refl, sym, ap, subst, ◌∙◌, arith}
-use Rattle.std.proofs.lemmas.Bool.{ltb-true}
+use Rattle.std.proofs.lemmas.Bool.{ltb-true, not-true}
 use Rattle.feature_trees.specs.declared.kind.Kinds.{Kinds}
 use Rattle.feature_trees.proofs.Laws.{and_parts}
 use Rattle.utility_calls.specs.declared.acts.Act.{Act}
@@ -90,10 +90,6 @@ implied : (a b : Bool) → implies a b ≡ true → IsTrue a → IsTrue b
 implied true b h a = h
 implied false b h a = cc
 
-not_true : (b : Bool) → not b ≡ true → b ≡ false
-not_true false h = refl
-not_true true h = cc
-
 pub suits_is : (asks inner : Bool) (r : Rule) → suits asks inner r ≡ true → Suits asks inner r
 suits_is asks inner r h =
     let a = and_parts (no_source r.source) _ h in
@@ -103,7 +99,7 @@ suits_is asks inner r h =
     record {
       source = none_of r.source a.0;
       number = ltb-true 64 r.number b.0;
-      needs = λ x. not_true asks (implied (needs_name r.place) (not asks) c.0 x);
+      needs = λ x. not-true asks (implied (needs_name r.place) (not asks) c.0 x);
       inner_name = λ x. implied (is_inner r.place) inner d.0 x;
       effect = d.1;
     }

@@ -1,8 +1,8 @@
 -- How the texts of constructs go through the reading of nested text: which parts they add.
-use Rattle.std.proofs.Common.{◌≡◌, ℕ, ◌-◌, ◌<◌, ◌^◌, Bool, true, false, List, [], ◌∷◌, ◌++◌, length, take, get_or, codes, decimal, refl, sym, ap, ◌∙◌, append_assoc, append-nil, arith}
+use Rattle.std.proofs.Common.{◌≡◌, ℕ, ◌-◌, ◌<◌, ◌^◌, Bool, true, List, [], ◌∷◌, ◌++◌, length, take, get_or, codes, decimal, refl, sym, ap, ◌∙◌, append_assoc, append-nil, arith}
 use Rattle.std.specs.Prelude.{not, ◌&&◌, ◌==◌, if◌then◌else◌}
 use Rattle.std.specs.List.{list_all}
-use Rattle.std.proofs.lemmas.Bool.{and_parts, and_from, ne_eqb}
+use Rattle.std.proofs.lemmas.Bool.{and_parts, and_from, ne_eqb, not-true}
 use Rattle.std.proofs.lemmas.Fmt.{decimal_nonempty}
 use Rattle.shown_texts.specs.Show.{is_shown, show, are_bytes}
 use Rattle.shown_texts.specs.Numbers.{is_digit}
@@ -107,18 +107,14 @@ within_first t ms g top up =
 abbrev pub is_letter : ℕ → Bool
 is_letter b = not (b == 32) && (not (b == 40) && not (b == 41))
 
-not_true : (b : Bool) → not b ≡ true → b ≡ false
-not_true true e = cc
-not_true false e = refl
-
 letter : (b : ℕ) (r : Reading) → is_letter b ≡ true → step r b ≡ reading (r.word ++ b ∷ []) r.top r.up
 letter b r h =
     let k = and_parts (not (b == 32)) (not (b == 40) && not (b == 41)) h in
     let m = and_parts (not (b == 40)) (not (b == 41)) k.1 in
     let kept = reading (r.word ++ b ∷ []) r.top r.up in
-    ap (λ t. if t then ended r else (if b == 40 then opened (ended r) else (if b == 41 then closed (ended r) else kept))) (not_true (b == 32) k.0)
-    ∙ ap (λ t. if t then opened (ended r) else (if b == 41 then closed (ended r) else kept)) (not_true (b == 40) m.0)
-    ∙ ap (λ t. if t then closed (ended r) else kept) (not_true (b == 41) m.1)
+    ap (λ t. if t then ended r else (if b == 40 then opened (ended r) else (if b == 41 then closed (ended r) else kept))) (not-true (b == 32) k.0)
+    ∙ ap (λ t. if t then opened (ended r) else (if b == 41 then closed (ended r) else kept)) (not-true (b == 40) m.0)
+    ∙ ap (λ t. if t then closed (ended r) else kept) (not-true (b == 41) m.1)
 
 letters : (word text : List ℕ) (top : List Nest) (up : List (List Nest)) → list_all is_letter text ≡ true → run (reading word top up) text ≡ reading (word ++ text) top up
 letters word [] top up h = ap (λ l. reading l top up) (sym (append-nil word))

@@ -1,8 +1,8 @@
 -- A text without its first line.
-use Rattle.std.proofs.Common.{◌≡◌, ℕ, suc, ◌-◌, ◌^◌, ◌<◌, Bool, true, false, nat_le, List, [], ◌∷◌, ◌++◌, length, take, drop, map, refl, sym, ap, ◌∙◌, arith, append_assoc, append-nil, decimal}
+use Rattle.std.proofs.Common.{◌≡◌, ℕ, suc, ◌-◌, ◌^◌, ◌<◌, Bool, true, nat_le, List, [], ◌∷◌, ◌++◌, length, take, drop, map, refl, sym, ap, ◌∙◌, arith, append_assoc, append-nil, decimal}
 use Rattle.std.specs.Prelude.{not, ◌==◌, codes}
 use Rattle.std.specs.List.{flat_map, onto_first}
-use Rattle.std.proofs.lemmas.Bool.{and_parts, leb-true, ne_eqb}
+use Rattle.std.proofs.lemmas.Bool.{and_parts, leb-true, ne_eqb, not-true}
 use Rattle.std.proofs.lemmas.List.Splits.{slice_split-cons_yes, slice_split-cons_no, length-slice_split}
 use Rattle.shown_texts.specs.Lines.{line}
 use Rattle.shown_texts.specs.Numbers.{is_digit}
@@ -19,15 +19,11 @@ use Rattle.report_json.specs.ReportJson.{lines_in}
 abbrev is_newline : ℕ → Bool
 is_newline b = b == 10
 
-not_false : (b : Bool) → not b ≡ true → b ≡ false
-not_false true e = cc
-not_false false e = refl
-
 cut_next : (xs rest : List ℕ) → lacks 10 xs ≡ true → parts 10 (xs ++ 10 ∷ rest) ≡ xs ∷ parts 10 rest
 cut_next [] rest h = slice_split-cons_yes is_newline 10 rest refl
 cut_next (x ∷ xs) rest h =
     let k = and_parts (not (x == 10)) (lacks 10 xs) h in
-    slice_split-cons_no is_newline x (xs ++ 10 ∷ rest) (not_false (x == 10) k.0) ∙ ap (onto_first x) (cut_next xs rest k.1)
+    slice_split-cons_no is_newline x (xs ++ 10 ∷ rest) (not-true (x == 10) k.0) ∙ ap (onto_first x) (cut_next xs rest k.1)
 
 line_cut : (xs rest : List ℕ) → lacks 10 xs ≡ true → parts 10 (line xs ++ rest) ≡ xs ∷ parts 10 rest
 line_cut xs rest h = ap (parts 10) (append_assoc xs (10 ∷ []) rest) ∙ cut_next xs rest h

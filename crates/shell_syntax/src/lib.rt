@@ -1,5 +1,5 @@
 //! The syntax of shell scripts, as POSIX.1-2017, Shell and Utilities (XCU), chapter 2, has it: what a lexer and a
-//! parser give, and what later layers take a meaning of. It stands on script_names alone. Begin with `syntax`.
+//! parser give, and what later layers take a meaning of. It stands on shown_texts. Begin with `syntax`.
 #![tactic(auto)]
 
 mod copies;

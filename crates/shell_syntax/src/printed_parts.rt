@@ -1,11 +1,11 @@
 ghost use Rattle.std.specs.Prelude.{◌≡◌, ◌++◌, OnOk};
 ghost use Rattle.std.specs.List.{flat_map};
-ghost use Rattle.std.specs.Fmt.{decimal};
 ghost use Rattle.shell_syntax.specs.PrintedParts.{is_active, escaped, is_one_byte, quoted_text, double_quote};
 ghost use Rattle.shell_syntax.specs.PrintedParts.{key_text, default_text, param_text};
 
 use crate::key::Key;
 use script_names::{Bytes, Memory};
+use shown_texts::push_number;
 
 // Whether a byte keeps a meaning of its own in double quotes (XCU 2.2.3 Double-Quotes).
 fn is_active(byte: u8) -> bool
@@ -68,24 +68,12 @@ pub(crate) fn put_double_quote(text: &mut Bytes, quoted: bool) -> Result<(), Mem
     Ok(())
 }
 
-// Adds a number in decimal.
-#[tactic(auto, using(std::proofs::lemmas::Fmt::decimal_digit))]
-fn put_number(text: &mut Bytes, number: u64) -> Result<(), Memory>
-    ensures { OnOk result (text.new ≡ text.old ++ decimal number) }
-{
-    if number < 10 {
-        return text.push(b'0' + number as u8);
-    }
-    put_number(text, number / 10)?;
-    text.push(b'0' + (number % 10) as u8)
-}
-
 fn put_key(text: &mut Bytes, key: &Key) -> Result<(), Memory>
     ensures { OnOk result (text.new ≡ text.old ++ key_text key.now) }
 {
     match key {
         Key::Named(name) => text.extend(name.as_slice()),
-        Key::Arg(number) => put_number(text, u64::from(*number)),
+        Key::Arg(number) => push_number(text, u64::from(*number)),
         Key::Count => text.extend(b"#"),
     }
 }

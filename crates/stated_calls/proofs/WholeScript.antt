@@ -4,7 +4,7 @@ use Rattle.std.specs.List.{list_any, list_all, find}
 use Rattle.std.specs.Option.{option_map}
 use Rattle.std.specs.Str.{bytes_eq}
 use Rattle.std.proofs.lemmas.Slice.Eq.{bytes_eq-Decides}
-use Rattle.std.proofs.lemmas.Bool.{and_parts}
+use Rattle.std.proofs.lemmas.Bool.{and_parts, not-true}
 use Rattle.script_names.specs.declared.name.TheConstants.{NAME_MAX}
 use Rattle.shell_syntax.specs.declared.script.Script.{Script}
 use Rattle.shell_syntax.specs.declared.syntax.Command.{Command, roll-Command, out-Command, roll-out-Command, out-roll-Command}
@@ -171,10 +171,6 @@ counted p (call ∷ calls) name plain s e =
     let u = and_parts (not (is_stated calls call.name)) (are_stated calls) t.1 in
     filtered_if (p call) p call (filter p calls) name plain refl t.0 (counted p calls name plain u.1) e
 
-not_true : (b : Bool) → not b ≡ true → b ≡ false
-not_true true e = absurd (cc e)
-not_true false e = refl
-
 and_last : (b d : Bool) → (b && d) ≡ true → d ≡ true
 and_last b d e = (and_parts b d e).1
 
@@ -182,7 +178,7 @@ and_last b d e = (and_parts b d e).1
 is_free : (name : Text) → can_be_stated name ≡ true → is_kept_name name ≡ false
 is_free name e =
     let last = not (is_kept_name name) in let bytes = list_all is_name_byte name in let short = nat_le (length name) NAME_MAX in
-    not_true (is_kept_name name) (and_last bytes last (and_last short (bytes && last) (and_last (nat_lt 0 (length name)) (short && (bytes && last)) e)))
+    not-true (is_kept_name name) (and_last bytes last (and_last short (bytes && last) (and_last (nat_lt 0 (length name)) (short && (bytes && last)) e)))
 
 sound_calls : (p : StatedCall → Bool) (calls : List StatedCall) → are_stated calls ≡ true → Sound (filter p calls)
 sound_calls p calls s name plain e =
@@ -344,7 +340,7 @@ module _ (calls : List StatedCall) (script : Script) (stated : are_stated calls 
   fresh name plain e =
       let h = counted (counts ms) calls name plain stated e in
       let all = whole_free (first_of (definitions script.body)) script.body accepted in
-      (ap (defines ms) h.is ∙ not_true (defines ms h.call.name) h.kept, ap (defines ms) (sym h.reads) ∙ none_defines (name_of h.call.end) (end_kept h.call.end) ms all)
+      (ap (defines ms) h.is ∙ not-true (defines ms h.call.name) h.kept, ap (defines ms) (sym h.reads) ∙ none_defines (name_of h.call.end) (end_kept h.call.end) ms all)
 
   clear : Clear left (defs_to ms [])
   clear name plain e = let f = fresh name plain e in (all_defs name ms [] ∙ f.0, all_defs plain ms [] ∙ f.1)

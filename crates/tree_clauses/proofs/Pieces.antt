@@ -2,7 +2,7 @@
 use Rattle.std.proofs.Common.{◌≡◌, ℕ, Bool, true, false, List, [], ◌∷◌, ◌++◌, cond, refl, ap, ◌∙◌}
 use Rattle.std.specs.Prelude.{not, filter}
 use Rattle.std.specs.List.{list_all, slice_split, onto_first}
-use Rattle.std.proofs.lemmas.Bool.{and_parts}
+use Rattle.std.proofs.lemmas.Bool.{and_parts, not-true}
 use Rattle.script_names.specs.Paths.{is_filled}
 use Rattle.tree_clauses.specs.Cuts.{pieces}
 
@@ -14,20 +14,16 @@ module _ (p : ℕ → Bool) where
   cut_here : (y : ℕ) (rest : List ℕ) → p y ≡ true → slice_split p (y ∷ rest) ≡ [] ∷ slice_split p rest
   cut_here y rest e = ap (λ c. cond c ([] ∷ slice_split p rest) (onto_first y (slice_split p rest))) e
 
-  not_false : (b : Bool) → not b ≡ true → b ≡ false
-  not_false true e = cc
-  not_false false e = refl
-
   go_on : (x : ℕ) (rest : List ℕ) → p x ≡ false → slice_split p (x ∷ rest) ≡ onto_first x (slice_split p rest)
   go_on x rest e = ap (λ c. cond c ([] ∷ slice_split p rest) (onto_first x (slice_split p rest))) e
 
   cut_at : (xs : List ℕ) (y : ℕ) (rest : List ℕ) → is_clean xs ≡ true → p y ≡ true → slice_split p (xs ++ y ∷ rest) ≡ xs ∷ slice_split p rest
   cut_at [] y rest h e = cut_here y rest e
-  cut_at (x ∷ xs) y rest h e = let k = and_parts (not (p x)) (is_clean xs) h in go_on x (xs ++ y ∷ rest) (not_false (p x) k.0) ∙ ap (onto_first x) (cut_at xs y rest k.1 e)
+  cut_at (x ∷ xs) y rest h e = let k = and_parts (not (p x)) (is_clean xs) h in go_on x (xs ++ y ∷ rest) (not-true (p x) k.0) ∙ ap (onto_first x) (cut_at xs y rest k.1 e)
 
   cut_none : (xs : List ℕ) → is_clean xs ≡ true → slice_split p xs ≡ xs ∷ []
   cut_none [] h = refl
-  cut_none (x ∷ xs) h = let k = and_parts (not (p x)) (is_clean xs) h in go_on x xs (not_false (p x) k.0) ∙ ap (onto_first x) (cut_none xs k.1)
+  cut_none (x ∷ xs) h = let k = and_parts (not (p x)) (is_clean xs) h in go_on x xs (not-true (p x) k.0) ∙ ap (onto_first x) (cut_none xs k.1)
 
   kept : (xs : List ℕ) (more : List (List ℕ)) → is_filled xs ≡ true → filter is_filled (xs ∷ more) ≡ xs ∷ filter is_filled more
   kept [] more h = cc

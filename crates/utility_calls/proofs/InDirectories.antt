@@ -1,5 +1,6 @@
 -- What an act puts or takes away is in a directory.
 use Rattle.std.proofs.Common.{◌≡◌, ◌≢◌, ℕ, Bool, true, false, not, ◌&&◌, ◌||◌, IsTrue, Option, Some, None, List, []}
+use Rattle.std.proofs.lemmas.Bool.{not-true}
 use Rattle.std.proofs.Common.{refl, sym, ap, subst, ◌∙◌}
 use Rattle.feature_trees.specs.declared.value.Value.{Value}
 use Rattle.feature_trees.specs.declared.value.Value.TheVariants as value
@@ -94,10 +95,6 @@ move_fitting below k s p =
     given_possible (possible s) (seen_by_move below (first_row (move_by below) k s).effect k s) p
     (each_sight (move_fits below k) (moves_fit below k) s)
 
-is_not : (b : Bool) → not b ≡ true → b ≡ false
-is_not true h = absurd (cc)
-is_not false h = refl
-
 -- ---- an act that moves nothing
 
 module _ (act : Act) (tree : Value) (ne : place_of act ≢ []) (place : place_of act ≡ (path_of act).names)
@@ -157,7 +154,7 @@ module _ (a b : PathParts) (tree : Value) (performed : IsPerformed (Move a b)) (
       let beside = and_parts (not below) (is_there from && seen.in_dir) h in
       let parts = and_parts (is_there from) seen.in_dir beside.1 in (
         there_parents tree a.names (not_absent parts.0),
-        kept_parents tree value.Absent a.names b.names sounds (clear_place a.names b.names (is_not below beside.0))
+        kept_parents tree value.Absent a.names b.names sounds (clear_place a.names b.names (not-true below beside.0))
             (some_in tree b.names (performed.0 refl).1 parts.1),
       )
   in_move MovesInside h =
@@ -165,7 +162,7 @@ module _ (a b : PathParts) (tree : Value) (performed : IsPerformed (Move a b)) (
       let parts = and_parts (is_there from) (has (of Dir) seen.kind) beside.1 in (
         there_parents tree a.names (not_absent parts.0),
         kept_parents tree value.Absent a.names (with_name b.names (inner_name act)) sounds
-            (clear_inside a.names b.names (inner_name act) (is_not below beside.0) performed.1)
+            (clear_inside a.names b.names (inner_name act) (not-true below beside.0) performed.1)
             (inside_parents tree b.names (inner_name act) parts.1),
       )
 
