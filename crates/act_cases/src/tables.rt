@@ -107,7 +107,7 @@ fn does(number: u8, place: Place, effect: Effect) -> TableRow
     }
 }
 
-// The same of a move, for the kinds of what it moves.
+// A row of a move that changes nothing, for the kinds of what it moves.
 fn leaves_from(number: u8, source: Kinds, place: Place, answer: Done) -> TableRow
     ensures { rule_of result ≡ leaves_from number source (where_of place) answer }
 {

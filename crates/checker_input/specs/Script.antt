@@ -28,7 +28,7 @@ pub record IsScript (text : List ℕ) (script : Script) : Type 0 where
   pub spells : SpellsWithin lexed.end lexed.tokens script.body
   pub strict : script.strict ≡ lexed.strict
 
--- and no unsupported form stands in it
+-- a text is a script in which no unsupported form stands
 pub record IsAccepted (text : List ℕ) (script : Script) : Type 0 where
   pub is_script : IsScript text script
   pub none : script_forms script.body ≡ []

@@ -53,7 +53,7 @@ EndsAt old x fence new names (Some n) =
 abbrev pub vars_past : List Variable → List (List ℕ) → List ℕ → ℕ → List Variable
 vars_past vars names f y = if member f names then vars else limited vars y (of kind.Absent)
 
--- and its name is one of these from then on
+-- past an entry that is replaced: its name is among the names from then on
 abbrev pub names_past : List (List ℕ) → List ℕ → List (List ℕ)
 names_past names f = if member f names then names else (names ++ f ∷ [])
 

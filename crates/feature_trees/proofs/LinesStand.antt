@@ -87,11 +87,11 @@ pub record Facts (x : TreeLine) : Type 0 where
   pub names : AreNames x.names
   pub filled : x.names ≢ []
   pub there : IsThere x.value
-  pub bare : without_entries x.value ≡ x.value
+  pub no_entries : without_entries x.value ≡ x.value
   pub none : (f : List ℕ) → entry x.value f ≡ Absent
   pub sound : IsTrue (sound x.value)
 
-module _ (w : Value) (there : IsThere w) (bare : without_entries w ≡ w) (none : (f : List ℕ) → entry w f ≡ Absent) (is_sound : IsTrue (sound w)) where
+module _ (w : Value) (there : IsThere w) (no_entries : without_entries w ≡ w) (none : (f : List ℕ) → entry w f ≡ Absent) (is_sound : IsTrue (sound w)) where
   long_names : (names : List (List ℕ)) → 0 < length names → names ≢ []
   long_names names lt e = let none_long : length names ≡ 0 = ap (λ (l : List (List ℕ)). length l) e in omega (arith, lt, none_long)
 
@@ -104,7 +104,7 @@ module _ (w : Value) (there : IsThere w) (bare : without_entries w ≡ w) (none 
           let made : TreeLine = record { names = names; value = w } in
           let same : made ≡ x = cc in
           let long = ltb-true 0 (length names) (and_parts (nat_lt 0 (length names)) _ d).0 in
-          let facts : Facts made = record { names = h; filled = long_names names long; there = there; bare = bare; none = none; sound = is_sound } in
+          let facts : Facts made = record { names = h; filled = long_names names long; there = there; no_entries = no_entries; none = none; sound = is_sound } in
           subst Facts same facts
       step false d e = cc
 
@@ -242,7 +242,7 @@ module _ (v : Value) (line : List ℕ) (x : TreeLine) (says : line_says line ≡
       step : PutOr x.value v x.names p → (without_entries (at v p) ≡ w) ⊎ (line_says line ≡ Some (record { names = p; value = w }))
       step (inl k) =
           let name = sym k.0 in
-          let value : x.value ≡ w = sym facts.bare ∙ sym (ap without_entries k.1) ∙ e in
+          let value : x.value ≡ w = sym facts.no_entries ∙ sym (ap without_entries k.1) ∙ e in
           inr (says ∙ λ i. Some (record { names = name i; value = value i }))
       step (inr k) = inl (sym k ∙ e)
 
@@ -261,7 +261,7 @@ module _ (v : Value) (line : List ℕ) (x : TreeLine) (says : line_says line ≡
       let same : x ≡ said = some_line x said (sym says ∙ e) in
       let names : x.names ≡ p = ap (λ (l : TreeLine). l.names) same in
       let value : x.value ≡ w = ap (λ (l : TreeLine). l.value) same in
-      sym (ap (λ q. without_entries (at (put v x.names x.value) q)) names) ∙ ap without_entries (at-put_same v x.names x.value s parents) ∙ facts.bare ∙ value
+      sym (ap (λ q. without_entries (at (put v x.names x.value) q)) names) ∙ ap without_entries (at-put_same v x.names x.value s parents) ∙ facts.no_entries ∙ value
 
   one_after : AfterOne v line (put v x.names x.value)
   one_after = record {

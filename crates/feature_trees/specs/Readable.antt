@@ -29,7 +29,7 @@ entry_depth_layer e = e.node + 1
 abbrev pub node_depth : Node → ℕ
 node_depth = fold-Node ℕ ℕ depth_layer entry_depth_layer
 
--- and one that begins with one of these entries
+-- how many names the longest path has that begins with one of these entries
 abbrev pub entries_depth : List Entry → ℕ
 entries_depth es = greatest (map (λ (e : Entry). node_depth e.node + 1) es)
 

@@ -94,7 +94,7 @@ IsAnswer wanted (Ok tree) = wanted ≡ Ok tree
 IsAnswer wanted (Err (Line n why)) = wanted ≡ Err (Line n why)
 IsAnswer wanted (Err Memory) = Unit {0}
 
--- the same where the tree is left in place
+-- what was wanted is answered, with the tree left in place, but for want of memory
 abbrev pub IsLeft : Result Value TreeFault → Value → Result (Unit {0}) TreeFault → Type 0
 IsLeft wanted tree (Ok done) = wanted ≡ Ok tree
 IsLeft wanted tree (Err (Line n why)) = wanted ≡ Err (Line n why)

@@ -35,7 +35,7 @@ value_layer (Open.Dir es) = V.Dir es
 abbrev pub value_of : Node → Value
 value_of n = value_layer (out-Node n)
 
--- it is there
+-- something is there: the value is not absent
 abbrev pub IsThere : Value → Type 0
 IsThere V.Absent = ⊥
 IsThere V.Reg = Unit {0}

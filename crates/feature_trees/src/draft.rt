@@ -98,7 +98,7 @@ impl Draft {
     /// What a line says, as a draft.
     pub(crate) fn of(alloc: Global, value: Value) -> Draft
         requires there { IsThere value }
-        requires bare { without_entries value ≡ value }
+        requires no_entries { without_entries value ≡ value }
         ensures { draft_value result ≡ value }
     {
         match value {

@@ -103,7 +103,7 @@ fn add_line(alloc: Global, tree: &mut Draft, number: u32, text: &[u8]) -> Result
 // Puts what a line says.
 fn put_line(alloc: Global, tree: &mut Draft, number: u32, line: TreeLine) -> Result<(), TreeFault>
     requires there { IsThere line.value }
-    requires bare { without_entries line.value ≡ line.value }
+    requires no_entries { without_entries line.value ≡ line.value }
     ensures { IsLeft (with_line number (draft_value tree.old) (Some line)) (draft_value tree.new) result }
 {
     let TreeLine { names, value } = line;

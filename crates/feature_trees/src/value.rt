@@ -27,6 +27,7 @@ pub struct Entries {
     pub(crate) items: Vec<NamedValue>,
 }
 
+// An entry of a directory: its name, and what stands under it.
 #[cycle(value)]
 #[derive(Drop)]
 pub(crate) struct NamedValue {

@@ -40,7 +40,7 @@ abbrev pub AllRepresentable : List ReportEntry → Type 0
 AllRepresentable [] = Unit {0}
 AllRepresentable (entry ∷ entries) = IsRepresentableEntry entry × AllRepresentable entries
 
--- and with those of each part
+-- the program's types represent the entries of each part
 abbrev pub AllPartsRepresentable : List ReportPart → Type 0
 AllPartsRepresentable [] = Unit {0}
 AllPartsRepresentable (part ∷ parts) = AllRepresentable part.entries × AllPartsRepresentable parts

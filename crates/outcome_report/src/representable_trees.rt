@@ -19,7 +19,7 @@ fn is_of_bytes(tree: &Value)
     }
 }
 
-// So are those of entries.
+// The names of entries, and the names and targets of their trees, are of bytes.
 #[cycle(tree)]
 fn are_of_bytes(entries: &Entries)
     ensures { IsTrue (entries_bytes entries.now) }

@@ -26,7 +26,7 @@ abbrev pub AllShort : List ReportEntry → Type 0
 AllShort [] = Unit {0}
 AllShort (entry ∷ entries) = HasShortPaths entry × AllShort entries
 
--- and with those of each part
+-- no path of the trees of the entries of these parts has more names than a line of a tree may have
 abbrev pub AllPartsShort : List ReportPart → Type 0
 AllPartsShort [] = Unit {0}
 AllPartsShort (part ∷ parts) = AllShort part.entries × AllPartsShort parts

@@ -23,6 +23,6 @@ ReportsReadBack =
 abbrev pub ValuesTellReports : Type 0
 ValuesTellReports = (a b : Report) → IsReadable a → IsReadable b → json_of a ≡ json_of b → a ≡ b
 
--- and so are two with one JSON text
+-- two readable reports with one JSON text are the same
 abbrev pub JsonTextsTellReports : Type 0
 JsonTextsTellReports = (a b : Report) → IsReadable a → IsReadable b → json_text a ≡ json_text b → a ≡ b

@@ -55,7 +55,7 @@ CutsAreTiled =
     (text : Bytes) (l : Lexed)
     → CutAtAnyDepth text l → IsTiled (place (length text) (behind_line text)) (behind_line text) l.tokens
 
--- and its tokens' offsets rise strictly
+-- the offsets of the tokens of a text that is cut rise strictly
 abbrev pub OffsetsRise : Type 0
 OffsetsRise = (text : Bytes) (l : Lexed) → CutAtAnyDepth text l → RiseFrom 0 l.tokens
 

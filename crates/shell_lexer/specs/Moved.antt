@@ -25,7 +25,7 @@ module _ (bytes : ℕ) where
       word : (at : ℕ) (ps qs : List RawPart) {ts us : List Token} → PartsAreMoved ps qs → AreMoved ts us
           → AreMoved (token_at at (token.Word ps) ∷ ts) (token_at (at + bytes) (token.Word qs) ∷ us)
 
-    -- the same of the parts of a word
+    -- the second parts are the first, each offset in their substitutions greater by so many bytes
     pub data PartsAreMoved : List RawPart → List RawPart → Type 0 where
       no_part : PartsAreMoved [] []
       substitution : (at : ℕ) (quoted : Bool) (ts us : List Token) {ps qs : List RawPart}

@@ -22,7 +22,7 @@ pub data Out (A : Type 0) : Type 0 where
   Whole : (value : A) (rest : Bytes) → Out A
   Stop : (fault : LexFault) → Out A
 
--- the same behind some first members
+-- some first members before those that are read, or the fault
 abbrev pub behind : {A : Type 0} → List A → Out (List A) → Out (List A)
 behind xs (Whole ys rest) = Whole (xs ++ ys) rest
 behind xs (Stop fault) = Stop fault
@@ -33,7 +33,7 @@ behind xs (Stop fault) = Stop fault
 abbrev pub Read : Type 0
 Read = List RawPart × List ByteNote
 
--- the same behind some first parts and notes
+-- some first parts and notes before those that are read, or the fault
 abbrev pub grown : List RawPart → List ByteNote → Out Read → Out Read
 grown ps ms (Whole v rest) = Whole (ps ++ v.0, ms ++ v.1) rest
 grown ps ms (Stop fault) = Stop fault

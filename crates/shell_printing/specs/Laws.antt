@@ -33,7 +33,8 @@ PrintedTokensSpell =
     → Cut text l → SpellsWithin l.end l.tokens body → zeroed_tokens us ≡ zeroed_tokens (script_tokens body)
     → (again : Command) × SpellsWithin end us again × (zeroed again ≡ zeroed body)
 
--- the same of any tokens in whose words the runs are longest
+-- Where any tokens in whose words the runs are longest spell a script, tokens that are those of the printed script but
+-- for their offsets spell the same script but for its offsets.
 abbrev pub PrintedTokensSpellAgain : Type 0
 PrintedTokensSpellAgain =
     (end other : ℕ) (ts us : Tokens) (body : Command)

@@ -13,7 +13,7 @@ pub enum Level {
     Command,
     /// Commands with `|` between them (XCU 2.9.2 Pipelines).
     PipeSequence,
-    /// The same behind `!`.
+    /// A pipeline: commands with `|` between them, perhaps behind `!` (XCU 2.9.2 Pipelines).
     Pipeline,
     /// Pipelines with `&&` and `||` between them (XCU 2.9.3 Lists).
     AndOr,

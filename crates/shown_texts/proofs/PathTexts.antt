@@ -55,27 +55,27 @@ name_lacks : (f : List ℕ) → is_name f ≡ true → lacks 47 (show f) ≡ tru
 name_lacks [] h = refl
 name_lacks (b ∷ bs) h = bytes_lack (b ∷ bs) (plain (b ∷ bs) h)
 
-abbrev is_held : List ℕ → Bool
-is_held name = is_name name && are_bytes name
+abbrev is_representable_name : List ℕ → Bool
+is_representable_name name = is_name name && are_bytes name
 
-all_lack : (names : List (List ℕ)) → list_all is_held names ≡ true → list_all (lacks 47) (map show names) ≡ true
+all_lack : (names : List (List ℕ)) → list_all is_representable_name names ≡ true → list_all (lacks 47) (map show names) ≡ true
 all_lack [] h = refl
 all_lack (name ∷ names) h =
-    let k = and_parts (is_held name) (list_all is_held names) h in
+    let k = and_parts (is_representable_name name) (list_all is_representable_name names) h in
     let m = and_parts (is_name name) (are_bytes name) k.0 in
     and_from (lacks 47 (show name)) _ (name_lacks name m.0) (all_lack names k.1)
 
 -- ---- names
 
-name_read : (name : List ℕ) → is_held name ≡ true → name_of (show name) ≡ Some name
+name_read : (name : List ℕ) → is_representable_name name ≡ true → name_of (show name) ≡ Some name
 name_read name h =
     let m = and_parts (is_name name) (are_bytes name) h in
     ap (option_and_then if_name) (show_read name m.1) ∙ ap (λ t. if t then Some name else None) m.0
 
-names_read : (done names : List (List ℕ)) → list_all is_held names ≡ true → names_onto done (map show names) ≡ Some (done ++ names)
+names_read : (done names : List (List ℕ)) → list_all is_representable_name names ≡ true → names_onto done (map show names) ≡ Some (done ++ names)
 names_read done [] h = ap Some (sym (append-nil done))
 names_read done (name ∷ names) h =
-    let k = and_parts (is_held name) (list_all is_held names) h in
+    let k = and_parts (is_representable_name name) (list_all is_representable_name names) h in
     ap (option_and_then (λ n. names_onto (done ++ n ∷ []) (map show names))) (name_read name k.0)
     ∙ names_read (done ++ name ∷ []) names k.1 ∙ ap Some (append_assoc done (name ∷ []) names)
 

@@ -547,7 +547,7 @@ fn expect<R: Abort + AllocGlobal>(rt: &R, list: &List<Case>, row: &Printed) -> R
     Ok(())
 }
 
-// So it is for each call of a table.
+// Each call of a table has its case.
 fn expect_calls<R: Abort + AllocGlobal>(rt: &R, rows: &[Printed]) -> Result<(), Fail> {
     for row in rows {
         let list = call_cases(rt, row.0)?;

@@ -193,7 +193,7 @@ fn expect<R: Abort + AllocGlobal>(rt: &R, list: &List<Case>, row: &Taken) -> Res
     Ok(())
 }
 
-// So it is for each call of a table.
+// Each call of a table takes its row.
 fn expect_calls<R: Abort + AllocGlobal>(rt: &R, rows: &[Taken]) -> Result<(), Fail> {
     for row in rows {
         let list = call_cases(rt, row.0)?;

@@ -34,7 +34,7 @@ Meets g (Similar y names x) =
     × AgreesOutside (value_of_variable g y.0) names (value_of_variable g x.0)
 Meets g (Target x target) = value_of_variable g x.0 ≡ value.Link target
 
--- it meets all of them
+-- the valuation meets all literals
 abbrev pub MeetsAll : Valuation → List Literal → Type 0
 MeetsAll g [] = Unit {0}
 MeetsAll g (literal ∷ literals) = Meets g literal × MeetsAll g literals

@@ -152,7 +152,7 @@ fn expect_place<R: Abort + AllocGlobal>(rt: &R, row: &Taken) -> Result<(), Fail>
     expect(rt, &a, row)
 }
 
-// So does its copy.
+// The copy of the act takes the row.
 fn expect_copy<R: Abort + AllocGlobal>(rt: &R, row: &Taken) -> Result<(), Fail> {
     let a = placed(rt.alloc(), row.0)?;
     let twin = copied(rt.alloc(), a)?;

@@ -37,7 +37,7 @@ leaves n place answer = record { number = n; source = None; place = place; answe
 abbrev pub does : ℕ → Where → Effect → Rule
 does n place effect = record { number = n; source = None; place = place; answer = Ok; effect = effect }
 
--- the same of a move, for the kinds of what it moves
+-- a row of a move that changes nothing, for the kinds of what it moves
 abbrev pub leaves_from : ℕ → Kinds → Where → Done → Rule
 leaves_from n source place answer =
     record { number = n; source = Some source; place = place; answer = answer; effect = Nothing }

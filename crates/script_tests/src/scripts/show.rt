@@ -15,6 +15,7 @@ pub(crate) struct Page {
 }
 
 impl Page {
+    // A page without a text, with the offsets of nodes.
     pub(crate) fn new(alloc: Global) -> Page {
         Page {
             alloc,
@@ -24,12 +25,14 @@ impl Page {
         }
     }
 
+    // More bytes at the end.
     pub(crate) fn put(&mut self, more: &[u8]) {
         if self.text.extend(more).is_err() {
             self.whole = false;
         }
     }
 
+    // One more byte at the end.
     pub(crate) fn byte(&mut self, byte: u8) {
         self.put(&[byte]);
     }
@@ -298,6 +301,7 @@ fn show_redirected(page: &mut Page, at: u32, body: &Boxed<Command>, redirects: &
     page.close();
 }
 
+// A command, by its form and its members.
 #[cycle(showing)]
 pub(crate) fn show_command(page: &mut Page, command: &Command) {
     match command {
