@@ -15,8 +15,8 @@ use script_names::{List, Memory};
 use start_trees::{Need, start_store};
 use std::alloc::Global;
 
-/// The paths of a job's scenario from all trees of files that have what is needed, by rising trace. `make_outcome` makes
-/// the outcome of each. `NoStart` and `Over` come as for `outcomes`.
+/// The paths of a job's scenario from all trees of files that have what is needed, by rising trace. `make_outcome`
+/// makes the outcome of each. `NoStart` and `Over` come as for `outcomes`.
 pub fn job_paths(
     alloc: Global,
     job: &Job,

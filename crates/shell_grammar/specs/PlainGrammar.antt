@@ -236,7 +236,8 @@ mutual
     open_arm : {end : ℕ} {ts t1 rest : Tokens} {a : CaseArm} → Stands LeftParen ts t1 → IsArmRest end t1 a rest
         → IsArm end ts a rest
     -- the arm without `(`
-    arm_without_paren : {end : ℕ} {ts rest : Tokens} {a : CaseArm} → (look ts ≡ Keyword Esac → ⊥) → IsArmRest end ts a rest
+    arm_without_paren : {end : ℕ} {ts rest : Tokens} {a : CaseArm} → (look ts ≡ Keyword Esac → ⊥)
+        → IsArmRest end ts a rest
         → IsArm end ts a rest
 
   -- patterns with `|` between them, `)`, newlines, and a list, which may be missing (case_item, pattern)

@@ -145,7 +145,8 @@ number_behind n (b ∷ rest) = number_behind (n * 10 + (b - 48)) rest
 -- a status: 1 to 3 digits, at most MAX_STATUS
 abbrev pub is_status : Text → Bool
 is_status text =
-    nat_le 1 (length text) && nat_le (length text) 3 && list_all is_digit text && nat_le (number_behind 0 text) MAX_STATUS
+    nat_le 1 (length text) && nat_le (length text) 3 && list_all is_digit text
+    && nat_le (number_behind 0 text) MAX_STATUS
 
 -- without an operand the status is kept, and with one that is a status it is a success for 0 and else a failure;
 -- anything else stops the run

@@ -1,16 +1,18 @@
 -- Numbers in decimal.
-use Rattle.std.specs.Prelude.{ℕ, ◌-◌, ◌^◌, Bool, not, ◌&&◌, ◌||◌, ◌==◌, nat_eq, nat_le, nat_lt, List, length, slice_index}
-use Rattle.std.specs.Prelude.{Option, Some, None, if◌then◌else◌}
+use Rattle.std.specs.Prelude.{ℕ, ◌-◌, ◌^◌, Bool, not, ◌&&◌, ◌||◌, ◌==◌, nat_eq, nat_le, nat_lt}
+use Rattle.std.specs.Prelude.{List, length, slice_index, Option, Some, None, if◌then◌else◌}
 use Rattle.std.specs.List.{list_all}
 use Rattle.std.specs.Str.Parse.{digits_value}
 
--- the greatest number of each type
+-- the greatest number of 8 bits
 abbrev pub u8_max : ℕ
 u8_max = 2 ^ 8 - 1
 
+-- the greatest number of 16 bits
 abbrev pub u16_max : ℕ
 u16_max = 2 ^ 16 - 1
 
+-- the greatest number of 32 bits
 abbrev pub u32_max : ℕ
 u32_max = 2 ^ 32 - 1
 

@@ -107,7 +107,8 @@ fn is_stated(calls: &[StatedCall], name: &[u8]) -> bool
     calls.iter().any(|call| call.name.as_slice() == name)
 }
 
-/// Whether a name can be stated: it is 1 to `NAME_MAX` bytes without blanks and NUL, and none that has a meaning already.
+/// Whether a name can be stated: it is 1 to `NAME_MAX` bytes without blanks and NUL, and none that has a meaning
+/// already.
 pub fn can_be_stated(name: &[u8]) -> bool
     ensures { result ≡ can_be_stated name.now }
 {
