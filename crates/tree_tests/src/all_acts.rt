@@ -2,7 +2,6 @@ use concrete_utils::steps::act;
 use feature_trees::{Entries, Value};
 use script_names::{Bytes, Copied, Done, List, Memory, Path, Reason};
 use std::alloc::Global;
-use std::process::Abort;
 use std::test::Fail;
 use utility_calls::acts::Act;
 use utility_calls::calls::{Planned, plan};
@@ -40,25 +39,46 @@ fn value(alloc: Global, letter: &[u8]) -> Result<Value, Memory> {
     }
 }
 
+// Puts a value on a tree, by a letter and a path.
+fn put_one(alloc: Global, tree: &mut Value, letter: &str, path: &str) -> Result<(), Fail> {
+    let p = Path::read(alloc, path.as_bytes())?;
+    if p.names().is_empty() {
+        return Err(Fail::from("the root"));
+    }
+    tree.put(&p, value(alloc, letter.as_bytes())?)?;
+    Ok(())
+}
+
 // Puts what a text names on a tree: a letter and a path, and further ones behind a comma.
-fn put_all<R: Abort + AllocGlobal>(rt: &R, tree: &mut Value, text: &str) -> Result<(), Fail> {
+fn put_all(alloc: Global, tree: &mut Value, text: &str) -> Result<(), Fail> {
     for part in text.split(',') {
         if let Some((letter, path)) = part.split_once(' ') {
-            let p = Path::read(rt.alloc(), path.as_bytes())?;
-            assert!(rt; !p.names().is_empty());
-            tree.put(&p, value(rt.alloc(), letter.as_bytes())?)?;
+            put_one(alloc, tree, letter, path)?;
         }
     }
     Ok(())
 }
 
-// The tree of the tests.
-fn sample<R: Abort + AllocGlobal>(rt: &R) -> Result<Value, Fail> {
-    let mut tree = Value::Dir(Entries::new(rt.alloc()));
+// Puts what stands on the tree of the tests.
+fn fill(alloc: Global, tree: &mut Value) -> Result<(), Fail> {
     for line in SAMPLE.lines() {
-        put_all(rt, &mut tree, line)?;
+        put_all(alloc, tree, line)?;
     }
+    Ok(())
+}
+
+// The tree of the tests.
+fn sample(alloc: Global) -> Result<Value, Fail> {
+    let mut tree = Value::Dir(Entries::new(alloc));
+    fill(alloc, &mut tree)?;
     Ok(tree)
+}
+
+// Whether a tree is that of the tests with what a text names.
+fn is_left(alloc: Global, tree: &Value, text: &str) -> Result<bool, Fail> {
+    let mut left = sample(alloc)?;
+    put_all(alloc, &mut left, text)?;
+    Ok(tree.equal(&left))
 }
 
 fn answer_text(answer: Done) -> &'static str {
@@ -77,17 +97,17 @@ fn answer_text(answer: Done) -> &'static str {
 // A call, the row that its last act takes on the tree of the tests, the answer, and what is put there then.
 type Taken = (&'static str, u8, &'static str, &'static str);
 
-// The act takes the row on the tree of the tests, answers so, and leaves this tree.
-fn expect<R: Abort + AllocGlobal>(rt: &R, a: &Act, row: &Taken) -> Result<(), Fail> {
-    let mut tree = sample(rt)?;
-    let mut left = sample(rt)?;
-    put_all(rt, &mut left, row.3)?;
-    assert!(rt; a.is_performed());
-    let (number, answer) = act(rt.alloc(), a, &mut tree)?;
-    assert_eq!(rt; number, row.1, "{}", row.0);
-    assert_eq!(rt; answer_text(answer), row.2, "{}", row.0);
-    assert!(rt; tree.equal(&left), "{}", row.0);
-    Ok(())
+// Whether the act takes the row on the tree of the tests, answers so, and leaves this tree.
+fn takes(alloc: Global, a: &Act, row: &Taken) -> Result<bool, Fail> {
+    if !a.is_performed() {
+        return Ok(false);
+    }
+    let mut tree = sample(alloc)?;
+    let (number, answer) = act(alloc, a, &mut tree)?;
+    if number != row.1 || answer_text(answer) != row.2 {
+        return Ok(false);
+    }
+    is_left(alloc, &tree, row.3)
 }
 
 fn words(alloc: Global, text: &str) -> Result<List<Bytes>, Memory> {
@@ -99,25 +119,35 @@ fn words(alloc: Global, text: &str) -> Result<List<Bytes>, Memory> {
     Ok(all)
 }
 
-// The last act of a call takes the row.
-fn expect_call<R: Abort + AllocGlobal>(rt: &R, row: &Taken) -> Result<(), Fail> {
-    let list = words(rt.alloc(), row.0)?;
-    assert!(rt; list.len() > 0);
-    match plan(rt.alloc(), &list)? {
-        Planned::Ask { act, negate: _ } => expect(rt, &act, row),
-        Planned::Change(all) => {
-            for acts in &all.into_vec() {
-                if let Some(last) = acts.as_slice().last() {
-                    expect(rt, last, row)?;
-                }
+// Whether the last act of each operand takes the row.
+fn all_take(alloc: Global, all: &[List<Act>], row: &Taken) -> Result<bool, Fail> {
+    for acts in all {
+        if let Some(last) = acts.as_slice().last() {
+            if !takes(alloc, last, row)? {
+                return Ok(false);
             }
-            Ok(())
-        }
-        _ => {
-            assert!(rt; false, "{}", row.0);
-            Ok(())
         }
     }
+    Ok(true)
+}
+
+// Whether the act of a plan, or the last act of each operand, takes the row.
+fn plan_takes(alloc: Global, planned: &Planned, row: &Taken) -> Result<bool, Fail> {
+    match planned {
+        Planned::Ask { act, negate: _ } => takes(alloc, act, row),
+        Planned::Change(all) => all_take(alloc, all.as_slice(), row),
+        _ => Ok(false),
+    }
+}
+
+// Whether the last act of a call takes the row.
+fn call_takes(alloc: Global, row: &Taken) -> Result<bool, Fail> {
+    let list = words(alloc, row.0)?;
+    if list.len() == 0 {
+        return Ok(false);
+    }
+    let planned = plan(alloc, &list)?;
+    plan_takes(alloc, &planned, row)
 }
 
 // The act of a package manager that a word names.
@@ -141,22 +171,22 @@ fn placed(alloc: Global, text: &str) -> Result<Act, Fail> {
     Ok(place(alloc, name.as_bytes(), p)?)
 }
 
-// A copy in the place of the act.
-fn copied(alloc: Global, a: Act) -> Result<Act, Memory> {
-    a.copy(alloc)
+// Whether the act of a package manager takes the row.
+fn placed_takes(alloc: Global, row: &Taken) -> Result<bool, Fail> {
+    let a = placed(alloc, row.0)?;
+    takes(alloc, &a, row)
 }
 
-// The act of a package manager takes the row.
-fn expect_place<R: Abort + AllocGlobal>(rt: &R, row: &Taken) -> Result<(), Fail> {
-    let a = placed(rt.alloc(), row.0)?;
-    expect(rt, &a, row)
+// A copy of the act that a row names.
+fn placed_copy(alloc: Global, text: &str) -> Result<Act, Fail> {
+    let a = placed(alloc, text)?;
+    Ok(a.copy(alloc)?)
 }
 
-// The copy of the act takes the row.
-fn expect_copy<R: Abort + AllocGlobal>(rt: &R, row: &Taken) -> Result<(), Fail> {
-    let a = placed(rt.alloc(), row.0)?;
-    let twin = copied(rt.alloc(), a)?;
-    expect(rt, &twin, row)
+// Whether the copy of the act takes the row.
+fn copy_takes(alloc: Global, row: &Taken) -> Result<bool, Fail> {
+    let twin = placed_copy(alloc, row.0)?;
+    takes(alloc, &twin, row)
 }
 
 const QUESTIONS: &[Taken] = &[
@@ -281,7 +311,7 @@ const PLACES: &[Taken] = &[
 #[test]
 fn questions_take_each_row(rt: HostRuntime) -> Result<(), Fail> {
     for row in QUESTIONS {
-        expect_call(&rt, row)?;
+        assert!(rt; call_takes(rt.alloc(), row)?, "{}", row.0);
     }
     Ok(())
 }
@@ -289,10 +319,15 @@ fn questions_take_each_row(rt: HostRuntime) -> Result<(), Fail> {
 #[test]
 fn changes_take_each_row(rt: HostRuntime) -> Result<(), Fail> {
     for row in CHANGES {
-        expect_call(&rt, row)?;
+        assert!(rt; call_takes(rt.alloc(), row)?, "{}", row.0);
     }
+    Ok(())
+}
+
+#[test]
+fn moves_take_each_row(rt: HostRuntime) -> Result<(), Fail> {
     for row in MOVES {
-        expect_call(&rt, row)?;
+        assert!(rt; call_takes(rt.alloc(), row)?, "{}", row.0);
     }
     Ok(())
 }
@@ -300,8 +335,8 @@ fn changes_take_each_row(rt: HostRuntime) -> Result<(), Fail> {
 #[test]
 fn a_package_manager_takes_each_row(rt: HostRuntime) -> Result<(), Fail> {
     for row in PLACES {
-        expect_place(&rt, row)?;
-        expect_copy(&rt, row)?;
+        assert!(rt; placed_takes(rt.alloc(), row)?, "{}", row.0);
+        assert!(rt; copy_takes(rt.alloc(), row)?, "{}", row.0);
     }
     Ok(())
 }

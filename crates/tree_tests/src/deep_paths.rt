@@ -1,59 +1,68 @@
 use concrete_utils::steps::act;
-use feature_trees::{Entries, Kind, Value};
-use script_names::{Bytes, Copied, Done, List, Name, Path, Reason};
-use std::process::Abort;
+use feature_trees::{Entries, Value};
+use script_names::{Bytes, Done, List, Name, NameFault, Path, Reason};
+use std::alloc::Global;
 use std::test::Fail;
 use utility_calls::acts::Act;
 
-const LINK: Done = Done::Stopped(Reason::Link);
-
-// The path `/n/n/..`, of so many names.
-fn deep<R: Abort + AllocGlobal>(rt: &R, count: usize) -> Result<Path, Fail> {
-    let mut names = List::new(rt.alloc());
+// The path `/n/n/..`, of so many names, at most 64.
+fn deep(alloc: Global, count: usize) -> Result<Path, NameFault> {
+    let mut names = List::new(alloc);
     for _ in 0..count {
-        names.add(Name::read(rt.alloc(), b"n")?)?;
+        names.add(Name::read(alloc, b"n")?)?;
     }
-    assert!(rt; names.len() <= 64);
+    if names.len() > 64 {
+        return Err(NameFault::Bad);
+    }
     Ok(Path::new(names, false))
 }
 
-// A value of that kind, a directory empty and a link to `x`.
-fn value<R: AllocGlobal>(rt: &R, kind: Kind) -> Result<Value, Fail> {
-    match kind {
-        Kind::Absent => Ok(Value::Absent),
-        Kind::Reg => Ok(Value::Reg),
-        Kind::Link => Ok(Value::Link(Bytes::from_slice(rt.alloc(), b"x")?)),
-        Kind::Other => Ok(Value::Other),
-        Kind::Dir => Ok(Value::Dir(Entries::new(rt.alloc()))),
+// Puts a directory, empty, or a link to `x` at the path of so many names.
+fn put(alloc: Global, tree: &mut Value, count: usize, is_dir: bool) -> Result<(), Fail> {
+    let value = if is_dir {
+        Value::Dir(Entries::new(alloc))
+    } else {
+        Value::Link(Bytes::from_slice(alloc, b"x")?)
+    };
+    let p = deep(alloc, count)?;
+    if p.names().is_empty() {
+        return Err(Fail::from("the root"));
     }
-}
-
-fn put<R: Abort + AllocGlobal>(rt: &R, tree: &mut Value, p: &Path, kind: Kind) -> Result<(), Fail> {
-    assert!(rt; !p.names().is_empty());
-    tree.put(p, value(rt, kind)?)?;
+    tree.put(&p, value)?;
     Ok(())
 }
 
-// The row that the test for something at the path takes on the tree, and its answer.
-fn taken<R: AllocGlobal>(rt: &R, path: &Path, tree: &mut Value) -> Result<(u8, Done), Fail> {
-    let exists = Act::Exists(path.copy(rt.alloc())?);
-    Ok(act(rt.alloc(), &exists, tree)?)
+// The row that the test for something at the path of 64 names takes on the tree, and its answer.
+fn taken(alloc: Global, tree: &mut Value) -> Result<(u8, Done), NameFault> {
+    let exists = Act::Exists(deep(alloc, 64)?);
+    Ok(act(alloc, &exists, tree)?)
+}
+
+// Puts directories at the paths of up to 64 names.
+fn fill(alloc: Global, tree: &mut Value) -> Result<(), Fail> {
+    for count in 1..65 {
+        put(alloc, tree, count, true)?;
+    }
+    Ok(())
+}
+
+// How many names have the path of the link that is put, and the row that is taken then.
+const LINKS: &[(usize, u8)] = &[(64, 65), (63, 63), (32, 32), (1, 1)];
+
+// Whether the row is taken where a link stands at the path of so many names.
+fn takes_link(alloc: Global, tree: &mut Value, row: &(usize, u8)) -> Result<bool, Fail> {
+    put(alloc, tree, row.0, false)?;
+    Ok(taken(alloc, tree)? == (row.1, Done::Stopped(Reason::Link)))
 }
 
 #[test]
 fn takes_rows_of_the_longest_path(rt: HostRuntime) -> Result<(), Fail> {
-    let path = deep(&rt, 64)?;
     let mut tree = Value::Dir(Entries::new(rt.alloc()));
-    assert_eq!(rt; taken(&rt, &path, &mut tree)?, (66, Done::Failed));
-    for count in 1..65 {
-        put(&rt, &mut tree, &deep(&rt, count)?, Kind::Dir)?;
-    }
-    assert_eq!(rt; taken(&rt, &path, &mut tree)?, (67, Done::Ok));
-    put(&rt, &mut tree, &deep(&rt, 64)?, Kind::Link)?;
-    assert_eq!(rt; taken(&rt, &path, &mut tree)?, (65, LINK));
-    for count in [63, 32, 1] {
-        put(&rt, &mut tree, &deep(&rt, count)?, Kind::Link)?;
-        assert_eq!(rt; taken(&rt, &path, &mut tree)?, (count as u8, LINK));
+    assert!(rt; taken(rt.alloc(), &mut tree)? == (66, Done::Failed));
+    fill(rt.alloc(), &mut tree)?;
+    assert!(rt; taken(rt.alloc(), &mut tree)? == (67, Done::Ok));
+    for row in LINKS {
+        assert!(rt; takes_link(rt.alloc(), &mut tree, row)?, "{row:?}");
     }
     Ok(())
 }

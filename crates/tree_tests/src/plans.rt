@@ -1,6 +1,5 @@
 use script_names::{Bytes, List, Memory, Path, Reason};
 use std::alloc::Global;
-use std::process::Abort;
 use std::test::Fail;
 use utility_calls::acts::Act;
 use utility_calls::calls::{Planned, plan};
@@ -169,19 +168,17 @@ fn put_printed(out: &mut Bytes, text: &[u8]) -> Result<(), Memory> {
     Ok(())
 }
 
-fn plan_text(alloc: Global, planned: &Planned) -> Result<Bytes, Memory> {
-    let mut out = Bytes::new(alloc);
+fn put_plan(out: &mut Bytes, planned: &Planned) -> Result<(), Memory> {
     match planned {
-        Planned::Known(status) => out.extend(if *status { b"yes" } else { b"no" })?,
+        Planned::Known(status) => out.extend(if *status { b"yes" } else { b"no" }),
         Planned::Ask { act, negate } => {
             out.extend(if *negate { b"not " } else { b"ask " })?;
-            put_act(&mut out, act)?;
+            put_act(out, act)
         }
-        Planned::Print(text) => put_printed(&mut out, text.as_slice())?,
-        Planned::Change(all) => put_all(&mut out, all.as_slice())?,
-        Planned::Unspecified(why) => out.extend(reason_text(*why))?,
+        Planned::Print(text) => put_printed(out, text.as_slice()),
+        Planned::Change(all) => put_all(out, all.as_slice()),
+        Planned::Unspecified(why) => out.extend(reason_text(*why)),
     }
-    Ok(out)
 }
 
 // A call, and what it comes to; `|` stands for a newline that it prints.
@@ -458,16 +455,28 @@ echo a\\b -> echo
 echo a b\\n -> echo
 echo a - -> a -|";
 
+// The text of the plan of a call.
+fn plan_text(alloc: Global, call: &str) -> Result<Bytes, Memory> {
+    let list = words(alloc, call)?;
+    let mut text = Bytes::new(alloc);
+    if list.len() > 0 {
+        let planned = plan(alloc, &list)?;
+        put_plan(&mut text, &planned)?;
+    }
+    Ok(text)
+}
+
+// Whether a row's call comes to what the row says.
+fn is_planned(alloc: Global, row: &str) -> Result<bool, Memory> {
+    let (call, wanted) = row.split_once(" -> ").unwrap_or((row, "no plan"));
+    let text = plan_text(alloc, call)?;
+    Ok(text.as_slice() == wanted.as_bytes())
+}
+
 #[test]
 fn plans_each_row(rt: HostRuntime) -> Result<(), Fail> {
-    let alloc = rt.alloc();
     for row in ROWS.lines() {
-        let (call, wanted) = row.split_once(" -> ").unwrap_or((row, ""));
-        let list = words(alloc, call)?;
-        assert!(rt; list.len() > 0);
-        let planned = plan(alloc, &list)?;
-        let text = plan_text(alloc, &planned)?;
-        assert_eq!(rt; text.as_slice(), wanted.as_bytes(), "{call}");
+        assert!(rt; is_planned(rt.alloc(), row)?, "{row}");
     }
     Ok(())
 }

@@ -1,7 +1,7 @@
 //! Texts of trees, each by hand with the tree's own text, or with the line at fault and why.
 
 use feature_trees::{Entries, TreeFault, Value, print_tree, read_tree};
-use script_names::{Bytes, Name};
+use script_names::{Bytes, Memory, Name};
 use std::alloc::Global;
 use std::test::Fail;
 
@@ -122,36 +122,12 @@ fn reads_as(alloc: Global, text: &[u8], tree: &[u8]) -> Result<bool, Fail> {
 #[test]
 fn texts_are_read(rt: HostRuntime) -> Result<(), Fail> {
     for row in READ {
-        let same = reads_as(rt.alloc(), row.0.as_bytes(), row.1.as_bytes())?;
-        assert!(rt; same, "{row:?}");
+        assert!(rt;
+            reads_as(rt.alloc(), row.0.as_bytes(), row.1.as_bytes())?,
+            "{row:?}"
+        );
     }
     Ok(())
-}
-
-#[test]
-fn the_least_line_is_refused(rt: HostRuntime) -> Result<(), Fail> {
-    for row in REFUSED {
-        match read_tree(rt.alloc(), row.0.as_bytes()) {
-            Ok(_) => assert!(rt; false, "{row:?}"),
-            Err(TreeFault::Line { line, why }) => {
-                assert!(rt;
-                    line == row.1 && why == row.2,
-                    "{row:?}: line {line} why {why}"
-                )
-            }
-            Err(TreeFault::Memory) => assert!(rt; false, "{row:?}"),
-        }
-    }
-    Ok(())
-}
-
-// A line for a directory whose path has that many names.
-fn long_line(alloc: Global, names: usize) -> Result<Bytes, Fail> {
-    let mut text = Bytes::from_slice(alloc, b"d ")?;
-    for _ in 0..names {
-        text.extend(b"/a")?;
-    }
-    Ok(text)
 }
 
 // The line at which a text is refused, and why; zeros where it is not.
@@ -163,11 +139,34 @@ fn fault(alloc: Global, text: &[u8]) -> (u32, u8) {
 }
 
 #[test]
+fn the_least_line_is_refused(rt: HostRuntime) {
+    for row in REFUSED {
+        assert!(rt;
+            fault(rt.alloc(), row.0.as_bytes()) == (row.1, row.2),
+            "{row:?}"
+        );
+    }
+}
+
+// A line for a directory whose path has that many names.
+fn long_line(alloc: Global, names: usize) -> Result<Bytes, Memory> {
+    let mut text = Bytes::from_slice(alloc, b"d ")?;
+    for _ in 0..names {
+        text.extend(b"/a")?;
+    }
+    Ok(text)
+}
+
+// Where a text is refused whose only line has that many names.
+fn long_fault(alloc: Global, names: usize) -> Result<(u32, u8), Memory> {
+    let text = long_line(alloc, names)?;
+    Ok(fault(alloc, text.as_slice()))
+}
+
+#[test]
 fn paths_have_at_most_4096_names(rt: HostRuntime) -> Result<(), Fail> {
-    let longest = long_line(rt.alloc(), 4096)?;
-    assert_eq!(rt; fault(rt.alloc(), longest.as_slice()), (1, 3));
-    let longer = long_line(rt.alloc(), 4097)?;
-    assert_eq!(rt; fault(rt.alloc(), longer.as_slice()), (1, 1));
+    assert!(rt; long_fault(rt.alloc(), 4096)? == (1, 3));
+    assert!(rt; long_fault(rt.alloc(), 4097)? == (1, 1));
     Ok(())
 }
 
@@ -183,20 +182,29 @@ fn nested(alloc: Global, names: usize) -> Result<Value, Fail> {
     Ok(tree)
 }
 
+// How many bytes the text of so many nested names has, and where it is refused.
+fn nested_fault(alloc: Global, names: usize) -> Result<(usize, (u32, u8)), Fail> {
+    let tree = nested(alloc, names)?;
+    let printed = print_tree(alloc, &tree)?;
+    Ok((printed.len(), fault(alloc, printed.as_slice())))
+}
+
+// Whether so many nested names have a text of so many bytes, and are read from it.
+fn is_read_again(alloc: Global, names: usize, bytes: usize) -> Result<bool, Fail> {
+    let tree = nested(alloc, names)?;
+    let printed = print_tree(alloc, &tree)?;
+    let read = read_tree(alloc, printed.as_slice())?;
+    Ok(printed.len() == bytes && read.equal(&tree))
+}
+
 #[test]
 fn a_tree_of_4096_names_is_read_again(rt: HostRuntime) -> Result<(), Fail> {
-    let tree = nested(rt.alloc(), 4096)?;
-    let printed = print_tree(rt.alloc(), &tree)?;
-    assert_eq!(rt; printed.len(), 16793600);
-    let read = read_tree(rt.alloc(), printed.as_slice())?;
-    assert!(rt; read.equal(&tree));
+    assert!(rt; is_read_again(rt.alloc(), 4096, 16793600)?);
     Ok(())
 }
 
 #[test]
 fn a_tree_of_4097_names_is_refused(rt: HostRuntime) -> Result<(), Fail> {
-    let printed = print_tree(rt.alloc(), &nested(rt.alloc(), 4097)?)?;
-    assert_eq!(rt; printed.len(), 16801797);
-    assert_eq!(rt; fault(rt.alloc(), printed.as_slice()), (4097, 1));
+    assert!(rt; nested_fault(rt.alloc(), 4097)? == (16801797, (4097, 1)));
     Ok(())
 }

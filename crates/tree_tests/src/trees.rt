@@ -1,151 +1,216 @@
 use feature_trees::{Entries, Kind, Kinds, PutFault, Value, print_tree, put_tree};
-use script_names::{Bytes, Copied, List, Name, Path};
-use std::process::Abort;
+use script_names::{Bytes, Copied, List, Memory, Name, NameFault, Path};
+use std::alloc::Global;
 use std::test::Fail;
 
-fn path<R: Abort + AllocGlobal>(rt: &R, words: &[&[u8]]) -> Result<Path, Fail> {
-    let mut names = List::new(rt.alloc());
+fn path(alloc: Global, words: &[&[u8]]) -> Result<Path, NameFault> {
+    let mut names = List::new(alloc);
     for word in words {
-        names.add(Name::read(rt.alloc(), word)?)?;
+        names.add(Name::read(alloc, word)?)?;
     }
-    assert!(rt; names.len() <= 64);
+    if names.len() > 64 {
+        return Err(NameFault::Bad);
+    }
     Ok(Path::new(names, false))
 }
 
 // A value of that kind, a directory empty and a link to `to x`.
-fn value<R: AllocGlobal>(rt: &R, kind: Kind) -> Result<Value, Fail> {
+fn value(alloc: Global, kind: Kind) -> Result<Value, Memory> {
     match kind {
         Kind::Absent => Ok(Value::Absent),
         Kind::Reg => Ok(Value::Reg),
-        Kind::Link => Ok(Value::Link(Bytes::from_slice(rt.alloc(), b"to x")?)),
+        Kind::Link => Ok(Value::Link(Bytes::from_slice(alloc, b"to x")?)),
         Kind::Other => Ok(Value::Other),
-        Kind::Dir => Ok(Value::Dir(Entries::new(rt.alloc()))),
+        Kind::Dir => Ok(Value::Dir(Entries::new(alloc))),
     }
 }
 
-fn put<R: Abort + AllocGlobal>(
-    rt: &R,
+// What it comes to that a value is put at a path.
+fn put(
+    alloc: Global,
     tree: &mut Value,
     words: &[&[u8]],
     kind: Kind,
 ) -> Result<Result<(), PutFault>, Fail> {
-    let p = path(rt, words)?;
-    assert!(rt; !p.names().is_empty());
-    Ok(tree.put(&p, value(rt, kind)?))
-}
-
-fn sample<R: Abort + AllocGlobal>(rt: &R) -> Result<Value, Fail> {
-    let mut tree = Value::Dir(Entries::new(rt.alloc()));
-    let rows: [(&[&[u8]], Kind); 7] = [
-        (&[b"etc"], Kind::Dir),
-        (&[b"dev"], Kind::Dir),
-        (&[b"dev", b"null"], Kind::Other),
-        (&[b"dev", b"fd"], Kind::Link),
-        (&[b"dev file"], Kind::Reg),
-        (&[b"Z"], Kind::Reg),
-        (&[b"\xc3\xa9"], Kind::Link),
-    ];
-    for (words, kind) in rows {
-        put(rt, &mut tree, words, kind)??;
+    let p = path(alloc, words)?;
+    if p.names().is_empty() {
+        return Err(Fail::from("the root"));
     }
-    Ok(tree)
+    Ok(tree.put(&p, value(alloc, kind)?))
 }
 
-fn expect<R: Abort + AllocGlobal>(rt: &R, tree: &Value, text: &str) -> Result<(), Fail> {
-    let mut printed = print_tree(rt.alloc(), tree)?;
-    assert_eq!(rt; printed.as_slice(), text.as_bytes());
-    put_tree(rt.alloc(), &mut printed, tree)?;
-    assert_eq!(rt; printed.len(), text.len() + text.len());
+// What stands on the tree of the tests.
+const SAMPLE: &[(&[&[u8]], Kind)] = &[
+    (&[b"etc"], Kind::Dir),
+    (&[b"dev"], Kind::Dir),
+    (&[b"dev", b"null"], Kind::Other),
+    (&[b"dev", b"fd"], Kind::Link),
+    (&[b"dev file"], Kind::Reg),
+    (&[b"Z"], Kind::Reg),
+    (&[b"\xc3\xa9"], Kind::Link),
+];
+
+fn fill(alloc: Global, tree: &mut Value) -> Result<(), Fail> {
+    for row in SAMPLE {
+        put(alloc, tree, row.0, row.1)??;
+    }
     Ok(())
 }
 
+fn sample(alloc: Global) -> Result<Value, Fail> {
+    let mut tree = Value::Dir(Entries::new(alloc));
+    fill(alloc, &mut tree)?;
+    Ok(tree)
+}
+
+// Whether a tree prints so, and once more behind that.
+fn is_printed(alloc: Global, tree: &Value, text: &str) -> Result<bool, Memory> {
+    let mut printed = print_tree(alloc, tree)?;
+    let is_once = printed.as_slice() == text.as_bytes();
+    put_tree(alloc, &mut printed, tree)?;
+    Ok(is_once && printed.len() == text.len() + text.len())
+}
+
 // Whether a value of this kind stands at a path.
-fn stands<R: Abort + AllocGlobal>(
-    rt: &R,
-    tree: &Value,
-    words: &[&[u8]],
-    kind: Kind,
-) -> Result<bool, Fail> {
-    let p = path(rt, words)?;
+fn stands(alloc: Global, tree: &Value, words: &[&[u8]], kind: Kind) -> Result<bool, NameFault> {
+    let p = path(alloc, words)?;
     match tree.at(&p) {
         None => Ok(kind == Kind::Absent),
         Some(value) => Ok(kind == value.kind() && kind != Kind::Absent),
     }
 }
 
+// Whether a value of this kind prints nothing.
+fn prints_nothing(alloc: Global, kind: Kind) -> Result<bool, Memory> {
+    let empty = value(alloc, kind)?;
+    is_printed(alloc, &empty, "")
+}
+
+const PRINTED: &str = "f /Z
+d /dev
+l /dev/fd to\\x20x
+o /dev/null
+f /dev\\x20file
+d /etc
+l /\\xc3\\xa9 to\\x20x
+";
+
 #[test]
 fn prints(rt: HostRuntime) -> Result<(), Fail> {
-    for kind in [Kind::Dir, Kind::Reg, Kind::Link, Kind::Absent] {
-        let empty = value(&rt, kind)?;
-        expect(&rt, &empty, "")?;
+    for kind in &[Kind::Dir, Kind::Reg, Kind::Link, Kind::Absent] {
+        assert!(rt; prints_nothing(rt.alloc(), *kind)?);
     }
-    let tree = sample(&rt)?;
-    expect(
-        &rt,
-        &tree,
-        "f /Z\nd /dev\nl /dev/fd to\\x20x\no /dev/null\nf /dev\\x20file\nd /etc\nl /\\xc3\\xa9 to\\x20x\n",
-    )
+    let tree = sample(rt.alloc())?;
+    assert!(rt; is_printed(rt.alloc(), &tree, PRINTED)?);
+    Ok(())
+}
+
+// A path, the kind of what is put there, the answer, and the kind of what stands there then.
+type Put = (&'static [&'static [u8]], Kind, Result<(), PutFault>, Kind);
+
+const PUT: &[Put] = &[
+    (
+        &[b"usr", b"bin"],
+        Kind::Reg,
+        Err(PutFault::NoParent),
+        Kind::Absent,
+    ),
+    (
+        &[b"Z", b"a"],
+        Kind::Absent,
+        Err(PutFault::NoParent),
+        Kind::Absent,
+    ),
+    (
+        &[b"dev", b"fd", b"0"],
+        Kind::Dir,
+        Err(PutFault::NoParent),
+        Kind::Absent,
+    ),
+    (&[b"usr"], Kind::Dir, Ok(()), Kind::Dir),
+    (&[b"dev", b"null"], Kind::Absent, Ok(()), Kind::Absent),
+    (&[b"dev", b"none"], Kind::Absent, Ok(()), Kind::Absent),
+    (&[b"dev", b"fd"], Kind::Reg, Ok(()), Kind::Reg),
+    (&[b"dev"], Kind::Other, Ok(()), Kind::Other),
+];
+
+// Whether it is put so, and what stands elsewhere stays.
+fn is_put(alloc: Global, row: &Put) -> Result<bool, Fail> {
+    let mut tree = sample(alloc)?;
+    if put(alloc, &mut tree, row.0, row.1)? != row.2 {
+        return Ok(false);
+    }
+    Ok(stands(alloc, &tree, row.0, row.3)? && stands(alloc, &tree, &[b"Z"], Kind::Reg)?)
 }
 
 #[test]
 fn puts(rt: HostRuntime) -> Result<(), Fail> {
-    let none = Err(PutFault::NoParent);
-    let rows: [(&[&[u8]], Kind, Result<(), PutFault>, Kind); 8] = [
-        (&[b"usr", b"bin"], Kind::Reg, none, Kind::Absent),
-        (&[b"Z", b"a"], Kind::Absent, none, Kind::Absent),
-        (&[b"dev", b"fd", b"0"], Kind::Dir, none, Kind::Absent),
-        (&[b"usr"], Kind::Dir, Ok(()), Kind::Dir),
-        (&[b"dev", b"null"], Kind::Absent, Ok(()), Kind::Absent),
-        (&[b"dev", b"none"], Kind::Absent, Ok(()), Kind::Absent),
-        (&[b"dev", b"fd"], Kind::Reg, Ok(()), Kind::Reg),
-        (&[b"dev"], Kind::Other, Ok(()), Kind::Other),
-    ];
-    for (words, kind, answer, after) in rows {
-        let mut tree = sample(&rt)?;
-        assert_eq!(rt; put(&rt, &mut tree, words, kind)?, answer);
-        assert!(rt; stands(&rt, &tree, words, after)?);
-        assert!(rt; stands(&rt, &tree, &[b"Z"], Kind::Reg)?);
+    for row in PUT {
+        assert!(rt; is_put(rt.alloc(), row)?, "{row:?}");
     }
     Ok(())
+}
+
+// Whether the tree with a value of this kind at `/dev/null` equals the other.
+fn equals_with(alloc: Global, tree: &mut Value, other: &Value, kind: Kind) -> Result<bool, Fail> {
+    put(alloc, tree, &[b"dev", b"null"], kind)??;
+    Ok(tree.equal(other))
 }
 
 #[test]
 fn compares(rt: HostRuntime) -> Result<(), Fail> {
-    let mut tree = sample(&rt)?;
+    let mut tree = sample(rt.alloc())?;
     let twin = tree.copy(rt.alloc())?;
     assert!(rt; tree.equal(&twin));
-    put(&rt, &mut tree, &[b"dev", b"null"], Kind::Reg)??;
-    assert!(rt; !tree.equal(&twin));
-    put(&rt, &mut tree, &[b"dev", b"null"], Kind::Other)??;
-    assert!(rt; tree.equal(&twin));
+    assert!(rt; !equals_with(rt.alloc(), &mut tree, &twin, Kind::Reg)?);
+    assert!(rt; equals_with(rt.alloc(), &mut tree, &twin, Kind::Other)?);
     Ok(())
+}
+
+// Two entries: `a`, a link, and `b`, a file.
+fn two_entries(alloc: Global, a: &Name, b: &Name) -> Result<Entries, Memory> {
+    let mut entries = Entries::new(alloc);
+    entries.set(b, Value::Reg)?;
+    entries.set(a, value(alloc, Kind::Link)?)?;
+    Ok(entries)
+}
+
+// Whether there are two entries, of which the first is a link under this name.
+fn begins_with(entries: &Entries, a: &Name) -> bool {
+    match entries.get_at(0) {
+        None => false,
+        Some((name, value)) => {
+            entries.len() == 2
+                && entries.get_at(2).is_none()
+                && name.equal(a)
+                && value.kind() == Kind::Link
+        }
+    }
+}
+
+// Whether the first entry is there, and then is taken away, and the second is left.
+fn are_read(alloc: Global, a: &Name, b: &Name) -> Result<bool, Memory> {
+    let mut entries = two_entries(alloc, a, b)?;
+    let is_first = begins_with(&entries, a);
+    entries.set(a, Value::Absent)?;
+    let is_gone = entries.get(a).is_none();
+    let tree = Value::Dir(entries);
+    Ok(is_first && is_gone && tree.entry(b).is_some())
 }
 
 #[test]
 fn reads_entries(rt: HostRuntime) -> Result<(), Fail> {
-    let alloc = rt.alloc();
-    let mut entries = Entries::new(alloc);
-    let a = Name::read(alloc, b"a")?;
-    let b = Name::read(alloc, b"b")?;
-    entries.set(&b, Value::Reg)?;
-    entries.set(&a, value(&rt, Kind::Link)?)?;
-    assert_eq!(rt; entries.len(), 2);
-    assert!(rt; entries.get_at(2).is_none());
-    match entries.get_at(0) {
-        None => assert!(rt; false),
-        Some((name, value)) => {
-            assert!(rt; name.equal(&a));
-            assert_eq!(rt; value.kind(), Kind::Link);
-        }
-    }
-    entries.set(&a, Value::Absent)?;
-    assert!(rt; entries.get(&a).is_none());
-    let tree = Value::Dir(entries);
-    assert_eq!(rt; tree.entry(&b).is_some(), true);
-    assert_eq!(rt; Value::Reg.entry(&b).is_some(), false);
+    let a = Name::read(rt.alloc(), b"a")?;
+    let b = Name::read(rt.alloc(), b"b")?;
+    assert!(rt; are_read(rt.alloc(), &a, &b)?);
+    assert!(rt; Value::Reg.entry(&b).is_none());
+    Ok(())
+}
+
+#[test]
+fn sets_of_kinds(rt: HostRuntime) {
     let files = Kinds::either(Kinds::of(Kind::Reg), Kinds::of(Kind::Link));
     assert!(rt; files.has(Kind::Reg) && files.has(Kind::Link) && !files.has(Kind::Dir));
     assert!(rt; Kinds::both(files, Kinds::of(Kind::Dir)).is_none());
-    assert_eq!(rt; Kinds::both(files, Kinds::all()), files);
-    Ok(())
+    assert!(rt; Kinds::both(files, Kinds::all()) == files);
 }
