@@ -10,7 +10,7 @@ use Rattle.shell_syntax.specs.declared.key.Key.{Key}
 use Rattle.shell_lexer.specs.Text.{Bytes, skip}
 use Rattle.shell_lexer.specs.Spelling.{Stands, IsOperator, IsRedirected, output, output_one, append, append_one, error, append_error, input, input_zero, output_to_error, output_one_to_error, error_to_output}
 use Rattle.shell_lexer.specs.SpelledParts.{IsParam, name, name_braced, name_default, number, number_braced, number_default, count, count_braced, IsQuoted, single, escaped, IsPiece}
-use Rattle.shell_lexer.proofs.SpelledCases.{if_case}
+use Rattle.std.proofs.lemmas.Bool.{cond_both}
 
 -- the rest is the text behind some bytes, perhaps none
 abbrev pub Behind : Bytes → Bytes → Type 0
@@ -31,7 +31,7 @@ pub skip_behind : (text : Bytes) → Behind text (skip text)
 skip_behind [] = ([], refl)
 skip_behind (a ∷ []) = ([], refl)
 skip_behind (a ∷ b ∷ rest) =
-    if_case (λ t. Behind (a ∷ b ∷ rest) t) (nat_eq a 92 && nat_eq b 10) (skip rest) (a ∷ b ∷ rest)
+    cond_both (nat_eq a 92 && nat_eq b 10) (skip rest) (a ∷ b ∷ rest) (λ t. Behind (a ∷ b ∷ rest) t)
     (λ e. let more = skip_behind rest in (a ∷ b ∷ more.0, ap (λ t. a ∷ b ∷ t) more.1)) (λ e. ([], refl))
 
 pub ahead_behind : (text rest : Bytes) → Ahead text rest → Behind text rest

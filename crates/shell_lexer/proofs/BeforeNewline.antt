@@ -20,7 +20,7 @@ use Rattle.shell_lexer.specs.Spelling.{Stands, begins}
 use Rattle.shell_lexer.proofs.Ahead.{Behind, ahead_behind, skip_behind, stands_behind}
 use Rattle.shell_lexer.proofs.Cells.{if_both}
 use Rattle.shell_lexer.proofs.QuotedBytes.{skip_first}
-use Rattle.shell_lexer.proofs.SpelledCases.{if_case, if_true, if_false, false_true, true_false}
+use Rattle.std.proofs.lemmas.Bool.{cond-false, cond-true, cond_both, false≢true, true≢false}
 use Rattle.shell_lexer.proofs.SpelledKinds.{KindOf, kind_of}
 use Rattle.shell_lexer.proofs.SpelledRuns.{IsRun, run_stands, run_is, behind_is}
 
@@ -54,7 +54,7 @@ or_map true b c h e = refl
 or_map false b c h e = h e
 
 or_rest : (a b : Bool) → a ≡ false → (a || b) ≡ true → b ≡ true
-or_rest true b n e = absurd (true_false n)
+or_rest true b n e = absurd (true≢false n)
 or_rest false b n e = e
 
 module _ (after : Bytes) where
@@ -138,8 +138,8 @@ module _ (after : Bytes) where
 
   whole_keeps : (rest : Bytes) → Unjoined rest → KeepsRest (whole_word (Some rest)) (whole_word (Some (rest ++ 10 ∷ after)))
   whole_keeps rest e =
-      if_case (λ o. KeepsRest o (whole_word (Some (rest ++ 10 ∷ after)))) (ends_word (skip rest)) (Some rest) None
-      (λ is. (if_true (ends_word (skip (rest ++ 10 ∷ after))) (Some (rest ++ 10 ∷ after)) None (ap ends_word (skip_before rest e) ∙ ends_before (skip rest) is), e)) (λ _. tt)
+      cond_both (ends_word (skip rest)) (Some rest) None (λ o. KeepsRest o (whole_word (Some (rest ++ 10 ∷ after))))
+      (λ is. (cond-true (ends_word (skip (rest ++ 10 ∷ after))) (Some (rest ++ 10 ∷ after)) None (ap ends_word (skip_before rest e) ∙ ends_before (skip rest) is), e)) (λ _. tt)
 
   words_keep : (o p : Option Bytes) → KeepsRest o p → KeepsRest (whole_word o) (whole_word p)
   words_keep None p h = tt
@@ -154,7 +154,7 @@ module _ (after : Bytes) where
   twice_keeps : (c : ℕ) (t : Bytes) (longer other : Bytes → Sight) (s u : Sight) → nat_eq 10 c ≡ false → Unjoined t
       → ((v : Bytes) → Unjoined v → KeepsSight (longer v) (other (v ++ 10 ∷ after))) → KeepsSight s u
       → KeepsSight (twice c t (longer (tail t)) s) (twice c (t ++ 10 ∷ after) (other (tail (t ++ 10 ∷ after))) u)
-  twice_keeps c [] longer other s u n e h g = subst (KeepsSight s) (sym (if_false (nat_eq 10 c) (other after) u n)) g
+  twice_keeps c [] longer other s u n e h g = subst (KeepsSight s) (sym (cond-false (nat_eq 10 c) (other after) u n)) g
   twice_keeps c (a ∷ t) longer other s u n e h g = if_sights (nat_eq a c) (longer t) s (other (t ++ 10 ∷ after)) u (h t (last_tail 92 a t e)) g
 
   -- the same by the next byte that counts
@@ -339,16 +339,16 @@ module _ (after : Bytes) where
 
   -- single quotes
   has_before : (t : Bytes) → has_quote t ≡ true → has_quote (t ++ 10 ∷ after) ≡ true
-  has_before [] e = absurd (false_true e)
+  has_before [] e = absurd (false≢true e)
   has_before (c ∷ t) e = or_map (nat_eq c 39) (has_quote t) (has_quote (t ++ 10 ∷ after)) (λ h. has_before t h) e
 
   body_before : (t : Bytes) → has_quote t ≡ true → quote_body (t ++ 10 ∷ after) ≡ quote_body t
-  body_before [] e = absurd (false_true e)
+  body_before [] e = absurd (false≢true e)
   body_before (c ∷ t) e =
       if_both (λ (u : Bytes). u) (nat_eq c 39) [] (c ∷ quote_body (t ++ 10 ∷ after)) [] (c ∷ quote_body t) (λ _. refl) (λ n. ap (λ (u : Bytes). c ∷ u) (body_before t (or_rest (nat_eq c 39) (has_quote t) n e)))
 
   quote_before : (t : Bytes) → has_quote t ≡ true → behind_quote (t ++ 10 ∷ after) ≡ behind_quote t ++ 10 ∷ after
-  quote_before [] e = absurd (false_true e)
+  quote_before [] e = absurd (false≢true e)
   quote_before (c ∷ t) e =
       if_both (λ (u : Bytes). u ++ 10 ∷ after) (nat_eq c 39) (t ++ 10 ∷ after) (behind_quote (t ++ 10 ∷ after)) t (behind_quote t) (λ _. refl) (λ n. quote_before t (or_rest (nat_eq c 39) (has_quote t) n e))
 
@@ -356,13 +356,12 @@ module _ (after : Bytes) where
       → KeepsLook (if has_quote t then Piece (Quoted (quote_body t)) (behind_quote t) else Bad (OpenQuote at))
       (if has_quote (t ++ 10 ∷ after) then Piece (Quoted (quote_body (t ++ 10 ∷ after))) (behind_quote (t ++ 10 ∷ after)) else Bad (OpenQuote to))
   single_keeps at to t =
-      if_case (λ l. KeepsLook l (if has_quote (t ++ 10 ∷ after) then Piece (Quoted (quote_body (t ++ 10 ∷ after))) (behind_quote (t ++ 10 ∷ after)) else Bad (OpenQuote to)))
-      (has_quote t) (Piece (Quoted (quote_body t)) (behind_quote t)) (Bad (OpenQuote at))
-      (λ e. if_true (has_quote (t ++ 10 ∷ after)) _ _ (has_before t e) ∙ quoted_same _ _ _ _ (body_before t e) (quote_before t e)) (λ _. tt)
+      cond_both (has_quote t) (Piece (Quoted (quote_body t)) (behind_quote t)) (Bad (OpenQuote at)) (λ l. KeepsLook l (if has_quote (t ++ 10 ∷ after) then Piece (Quoted (quote_body (t ++ 10 ∷ after))) (behind_quote (t ++ 10 ∷ after)) else Bad (OpenQuote to)))
+      (λ e. cond-true (has_quote (t ++ 10 ∷ after)) _ _ (has_before t e) ∙ quoted_same _ _ _ _ (body_before t e) (quote_before t e)) (λ _. tt)
 
   -- a backslash: it is not the last byte
   lone : {A : Type 0} (c : ℕ) → c ≡ 92 → Unjoined (c ∷ []) → A
-  lone c is e = absurd (true_false (sym (ap (λ n. nat_eq n 92) is) ∙ e))
+  lone c is e = absurd (true≢false (sym (ap (λ n. nat_eq n 92) is) ∙ e))
 
   escaped_keeps : (c : ℕ) (t : Bytes) → c ≡ 92 → Unjoined (c ∷ t) → KeepsLook (parts.escaped c t) (parts.escaped c (t ++ 10 ∷ after))
   escaped_keeps c [] is e = lone c is e

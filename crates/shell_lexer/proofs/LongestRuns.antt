@@ -10,7 +10,7 @@ use Rattle.shell_lexer.specs.Parts.{Piece}
 use Rattle.shell_lexer.specs.SpelledParts.{IsPiece}
 use Rattle.shell_lexer.specs.LongestRuns.{plain_runs_are_longest, quoted_runs_are_longest}
 use Rattle.shell_lexer.specs.Reading.{Out, Whole, Stop, Read, grown, plain_run, quoted_run, last_run, IsWord, word_ends, word_byte, word_piece, word_all, word_double, word_run, word_wrong, word_bad_double, word_bad_run, IsInner, inner_open, inner_ends, inner_byte, inner_piece, inner_all, inner_run, inner_wrong, inner_bad_run}
-use Rattle.shell_lexer.proofs.SpelledCases.{true_false}
+use Rattle.std.proofs.lemmas.Bool.{true≢false}
 use Rattle.shell_lexer.proofs.SpelledParts.{look_seen, inner_seen}
 
 -- ---- plain runs
@@ -120,7 +120,7 @@ IsApart p = (b : Bool) (ps : List RawPart) → quoted_runs_are_longest b (p ∷ 
 
 piece_apart : (p : RawPart) (text rest : Bytes) → IsPiece true p text rest → IsApart p
 piece_apart (part.Param key default quoted) text rest h b ps = refl
-piece_apart (part.Quoted bytes) text rest h b ps = absurd (true_false h.0)
+piece_apart (part.Quoted bytes) text rest h b ps = absurd (true≢false h.0)
 piece_apart _ text rest h b ps = absurd h
 
 all_apart : IsApart part.All
@@ -144,7 +144,7 @@ apart_then [] p ps h e = h false ps ∙ e
 apart_then (b ∷ run) p ps h e = h true ps ∙ e
 
 quoted_more : (fresh : Bool) (run : Bytes) (p : RawPart) (ms : List ByteNote) (q : Out Read) → IsApart p → EmptyOrLongest false q → EmptyOrLongest fresh (grown (quoted_run run ++ p ∷ []) ms q)
-quoted_more fresh run p ms (Whole v rest) h (inl f) = absurd (true_false (sym f.0))
+quoted_more fresh run p ms (Whole v rest) h (inl f) = absurd (true≢false (sym f.0))
 quoted_more fresh run p ms (Whole v rest) h (inr e) = inr (apart_then run p v.0 h e)
 quoted_more fresh run p ms (Stop fault) h f = tt
 

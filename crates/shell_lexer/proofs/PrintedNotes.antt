@@ -13,7 +13,7 @@ use Rattle.shell_lexer.specs.Parts.{Piece}
 use Rattle.shell_lexer.specs.SpelledParts.{IsPiece}
 use Rattle.shell_lexer.specs.Reading.{Out, Whole, Stop, Read, grown, plain_run, quoted_run, last_run, IsWord, word_ends, word_byte, word_piece, word_all, word_double, word_run, word_wrong, word_bad_double, word_bad_run, IsInner, inner_open, inner_ends, inner_byte, inner_piece, inner_all, inner_run, inner_wrong, inner_bad_run}
 use Rattle.shell_lexer.specs.Text.{Bytes, offset}
-use Rattle.shell_lexer.proofs.SpelledCases.{true_false}
+use Rattle.std.proofs.lemmas.Bool.{true≢false}
 use Rattle.shell_lexer.proofs.SpelledParts.{look_seen, inner_seen}
 use Rattle.shell_lexer.specs.PrintedLaws.{holds_no_all}
 
@@ -169,7 +169,7 @@ word_noted {deep} {len} {depth} {run} {text} {q} (word_piece p t q1 h x e) =
 word_noted {deep} {len} {depth} {run} {text} {q} (word_all t q1 h x e) =
     subst (WordNoted run) (sym e) (word_parts run (part.All ∷ []) (note.All (offset len text) false ∷ []) q1 (all_note (offset len text) false) (word_noted x))
 word_noted {deep} {len} {depth} {run} {text} {q} (word_double g v t q1 h i x e) =
-    subst (WordNoted run) (sym e) (word_parts run v.0 (v.1 ++ note.Gap ∷ []) q1 (λ after. inner_noted i after (λ f. absurd (true_false f))) (word_noted x))
+    subst (WordNoted run) (sym e) (word_parts run v.0 (v.1 ++ note.Gap ∷ []) q1 (λ after. inner_noted i after (λ f. absurd (true≢false f))) (word_noted x))
 word_noted {deep} {len} {depth} {run} {text} {q} (word_run g ts t q1 h i x e) =
     subst (WordNoted run) (sym e) (word_parts run (part.Run (offset len text) ts false ∷ []) (note.Gap ∷ []) q1 (other_note (part.Run (offset len text) ts false) refl) (word_noted x))
 word_noted {deep} {len} {depth} {run} {text} {q} (word_wrong f h e) = subst (WordNoted run) (sym e) (word_stop run f)
@@ -184,7 +184,7 @@ is_none (Some x) = false
 
 none_of : {A : Type 0} (o : Option A) → is_none o ≡ true → o ≡ None
 none_of None e = refl
-none_of (Some x) e = absurd (true_false (sym e))
+none_of (Some x) e = absurd (true≢false (sym e))
 
 -- a run of plain bytes without a tilde, and what follows it
 abbrev tilde_run : Bool → Bytes → (Bool → Bool) → Bool
@@ -230,23 +230,23 @@ are_plainly (_ ∷ ps) cs = false
 
 -- another part
 other_tilde : (p : RawPart) (ps : List RawPart) (may : Bool) → is_other p ≡ true → no_tilde ps false ≡ no_tilde (p ∷ ps) may
-other_tilde (part.Plain w) ps may e = absurd (true_false (sym e))
+other_tilde (part.Plain w) ps may e = absurd (true≢false (sym e))
 other_tilde _ ps may e = refl
 
 other_list : (p : RawPart) (ps : List RawPart) (dot : Bool) → is_other p ≡ true → list_in ps false ≡ list_in (p ∷ ps) dot
-other_list (part.Plain w) ps dot e = absurd (true_false (sym e))
+other_list (part.Plain w) ps dot e = absurd (true≢false (sym e))
 other_list _ ps dot e = refl
 
 other_brace : (p : RawPart) (ps : List RawPart) → is_other p ≡ true → no_brace ps ≡ no_brace (p ∷ ps)
-other_brace (part.Plain w) ps e = absurd (true_false (sym e))
+other_brace (part.Plain w) ps e = absurd (true≢false (sym e))
 other_brace _ ps e = refl
 
 other_all : (p : RawPart) (ps : List RawPart) → is_other p ≡ true → holds_no_all ps ≡ holds_no_all (p ∷ ps)
-other_all part.All ps e = absurd (true_false (sym e))
+other_all part.All ps e = absurd (true≢false (sym e))
 other_all _ ps e = refl
 
 other_plainly : (p : RawPart) (ps : List RawPart) (cs : Bytes) → is_other p ≡ true → false ≡ are_plainly (p ∷ ps) cs
-other_plainly (part.Plain w) ps cs e = absurd (true_false (sym e))
+other_plainly (part.Plain w) ps cs e = absurd (true≢false (sym e))
 other_plainly _ ps cs e = refl
 
 none_if : {A : Type 0} (t : Bool) (x : A) (o : Option A) (b : Bool) → is_none o ≡ b → is_none (if t then Some x else o) ≡ (if t then false else b)
@@ -259,7 +259,7 @@ none_brace true false l x o b f e = ap not f
 none_brace false hl l x o b f e = e
 
 vacuous : {A : Type 0} → false ≡ true → A
-vacuous e = absurd (true_false (sym e))
+vacuous e = absurd (true≢false (sym e))
 
 tilde_by : {after : Bool} {ps : List RawPart} {ns : List ByteNote} (may : Bool) → Noted after ps ns → (after ≡ true → may ≡ false) → is_none (tilde may ns) ≡ no_tilde ps may
 tilde_by may noted_none h = refl
@@ -316,7 +316,7 @@ plainly_by noted_none h cs = plainly_nil cs
 plainly_by (noted_byte {b = b} {at = at} {w = w} {ps = ps} {ns = ns} n) h cs = plainly_byte cs b at ns w (are_plainly ps) (plainly_by n refl)
 plainly_by (noted_done n) h cs = plainly_by n refl cs
 plainly_by (noted_gap {p = p} {ps = ps} {ns = ns} e n) h cs = plainly_gap cs ns ∙ other_plainly p ps cs e
-plainly_by (noted_extra n) h cs = absurd (true_false h)
+plainly_by (noted_extra n) h cs = absurd (true≢false h)
 plainly_by (noted_all {at = at} {quoted = quoted} {ns = ns} n) h cs = plainly_all cs at quoted ns
 
 -- ---- what is found
@@ -378,7 +378,7 @@ case_same zero at two ns ms e h = refl
 case_same (suc depth) at two ns ms e h = by (is_plainly (codes "case") ns) (is_plainly (codes "case") ms) e h where
   by : (x y : Bool) → x ≡ y → (if x then Some at else None) ≡ None → (if y then Some two else None) ≡ None
   by true y e h = absurd (cc h)
-  by false true e h = absurd (true_false (sym e))
+  by false true e h = absurd (true≢false (sym e))
   by false false e h = refl
 
 -- nothing is found in one text of a word where nothing is found in another

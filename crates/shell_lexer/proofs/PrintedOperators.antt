@@ -10,7 +10,8 @@ use Rattle.shell_lexer.specs.Spelling.{IsOperator, IsNotNext, IsRedirected, outp
 use Rattle.shell_lexer.specs.Reading.{Out, behind, opened, closes, kind_of_sign, token_at, IsItems, items_pass, items_sign, items_close}
 use Rattle.shell_lexer.specs.Text.{Bytes, skip, place, offset, ends_word}
 use Rattle.shell_lexer.specs.PrintedLaws.{is_apart, operator_text, OperatorsReadBack, SubstitutionsClose}
-use Rattle.shell_lexer.proofs.SpelledCases.{eq_of, eq_same, or_case}
+use Rattle.std.proofs.lemmas.Bool.{eqb-true}
+use Rattle.shell_lexer.proofs.SpelledCases.{eq_same, or_case}
 use Rattle.shell_lexer.proofs.SpelledOperators.{sees_operator}
 use Rattle.shell_lexer.proofs.PrintedBytes.{clash, skip_first, stands_here}
 
@@ -27,8 +28,8 @@ not_next : (b : ℕ) (rest : Bytes) → is_apart rest ≡ true → nat_eq 32 b �
 not_next b [] e f g = λ more h. no_nil h
 not_next b (a ∷ t) e f g = λ more h.
     or_case (nat_eq a 32) (nat_eq a 10) e
-    (λ i. clash f (subst (λ x. nat_eq x b ≡ true) (sym (heads 32 (sym (skip_first 32 t refl) ∙ ap (λ x. skip (x ∷ t)) (sym (eq_of a 32 i)) ∙ h))) (same b)))
-    (λ i. clash g (subst (λ x. nat_eq x b ≡ true) (sym (heads 10 (sym (skip_first 10 t refl) ∙ ap (λ x. skip (x ∷ t)) (sym (eq_of a 10 i)) ∙ h))) (same b)))
+    (λ i. clash f (subst (λ x. nat_eq x b ≡ true) (sym (heads 32 (sym (skip_first 32 t refl) ∙ ap (λ x. skip (x ∷ t)) (sym (eqb-true a 32 i)) ∙ h))) (same b)))
+    (λ i. clash g (subst (λ x. nat_eq x b ≡ true) (sym (heads 10 (sym (skip_first 10 t refl) ∙ ap (λ x. skip (x ∷ t)) (sym (eqb-true a 10 i)) ∙ h))) (same b)))
   where
     same : (x : ℕ) → nat_eq x x ≡ true
     same x = eq_same x
@@ -37,8 +38,8 @@ ends_there : (rest : Bytes) → is_apart rest ≡ true → ends_word (skip rest)
 ends_there [] e = refl
 ends_there (b ∷ t) e =
     or_case (nat_eq b 32) (nat_eq b 10) e
-    (λ f. subst (λ x. ends_word (skip (x ∷ t)) ≡ true) (sym (eq_of b 32 f)) (ap ends_word (skip_first 32 t refl)))
-    (λ f. subst (λ x. ends_word (skip (x ∷ t)) ≡ true) (sym (eq_of b 10 f)) (ap ends_word (skip_first 10 t refl)))
+    (λ f. subst (λ x. ends_word (skip (x ∷ t)) ≡ true) (sym (eqb-true b 32 f)) (ap ends_word (skip_first 32 t refl)))
+    (λ f. subst (λ x. ends_word (skip (x ∷ t)) ≡ true) (sym (eqb-true b 10 f)) (ap ends_word (skip_first 10 t refl)))
 
 -- ---- how they are spelled behind the blank
 

@@ -15,7 +15,7 @@ use Rattle.shell_lexer.specs.SpelledParts.{is_variable, is_default, IsDigitOf, I
 use Rattle.shell_lexer.specs.Reading.{Out, Whole, Read, grown, plain_run, IsWord, word_piece, word_double, IsInner, inner_ends, inner_piece, inner_all}
 use Rattle.shell_lexer.specs.Text.{Bytes, place, offset, is_letter, is_name_byte, is_default_byte}
 use Rattle.shell_lexer.specs.PrintedLaws.{AllIsOnePart, ParamIsOnePart}
-use Rattle.shell_lexer.proofs.SpelledCases.{eq_of, and_left, and_right, and_true as and_both}
+use Rattle.std.proofs.lemmas.Bool.{and_from, and_parts, eqb-true}
 use Rattle.shell_lexer.proofs.PrintedBytes.{clash, is_no_back, skip_first, stands_here, all_pass, all_append}
 
 -- ---- what a parameter expansion may name, and what default it may have
@@ -44,14 +44,14 @@ expansion_of (count_braced h) = how_many
 pass_no_back : (f : ℕ → Bool) → f 92 ≡ false → (b : ℕ) → f b ≡ true → is_no_back b ≡ true
 pass_no_back f e b h = by (nat_eq b 92) refl where
   by : (it : Bool) → nat_eq b 92 ≡ it → not it ≡ true
-  by true g = absurd (clash (ap f (eq_of b 92 g) ∙ e) h)
+  by true g = absurd (clash (ap f (eqb-true b 92 g) ∙ e) h)
   by false g = refl
 
 variable_no_back : (name : Bytes) → is_variable name ≡ true → list_all is_no_back name ≡ true
 variable_no_back [] e = refl
 variable_no_back (b ∷ name) e =
-    and_both (is_no_back b) (list_all is_no_back name) (pass_no_back is_letter refl b (and_left (is_letter b) (list_all is_name_byte name) e))
-    (all_pass is_name_byte is_no_back (pass_no_back is_name_byte refl) name (and_right (is_letter b) (list_all is_name_byte name) e))
+    and_from (is_no_back b) (list_all is_no_back name) (pass_no_back is_letter refl b (and_parts (is_letter b) (list_all is_name_byte name) e).0)
+    (all_pass is_name_byte is_no_back (pass_no_back is_name_byte refl) name (and_parts (is_letter b) (list_all is_name_byte name) e).1)
 
 default_no_back : (default : Bytes) → is_default default ≡ true → list_all is_no_back default ≡ true
 default_no_back default e = all_pass is_default_byte is_no_back (pass_no_back is_default_byte refl) default e
@@ -59,7 +59,7 @@ default_no_back default e = all_pass is_default_byte is_no_back (pass_no_back is
 digit_no_back : (n : ℕ) → n ≤ 9 → is_no_back (48 + n) ≡ true
 digit_no_back n le = by (nat_eq (48 + n) 92) refl where
   by : (it : Bool) → nat_eq (48 + n) 92 ≡ it → not it ≡ true
-  by true g = let e = eq_of (48 + n) 92 g in absurd (omega arith)
+  by true g = let e = eqb-true (48 + n) 92 g in absurd (omega arith)
   by false g = refl
 
 -- ---- what is printed is how a parameter may be spelled
@@ -84,12 +84,12 @@ braced key default rest (variable_or {name = n} {default = d} is default_is) =
     (all_append is_no_back n (codes ":-" ++ (d ++ codes "}")) (variable_no_back n is) (all_append is_no_back d (codes "}") (default_no_back d default_is) refl)))
 braced key default rest (positional {number = n} lo hi) =
     subst (λ k. IsParam (Arg n) None (spelled k [] ++ rest) rest) (sym (digit_is n hi))
-    (number_braced (digit_of n lo hi) (stands_here (spelled ((48 + n) ∷ []) []) rest (and_both (is_no_back (48 + n)) true (digit_no_back n hi) refl)))
+    (number_braced (digit_of n lo hi) (stands_here (spelled ((48 + n) ∷ []) []) rest (and_from (is_no_back (48 + n)) true (digit_no_back n hi) refl)))
 braced key default rest (positional_or {number = n} {default = d} lo hi default_is) =
     subst (λ k. IsParam (Arg n) (Some d) (spelled k (codes ":-" ++ d) ++ rest) rest) (sym (digit_is n hi))
     (number_default (digit_of n lo hi) default_is
     (stands_here (spelled ((48 + n) ∷ []) (codes ":-" ++ d)) rest
-    (and_both (is_no_back (48 + n)) (list_all is_no_back (d ++ codes "}")) (digit_no_back n hi) (all_append is_no_back d (codes "}") (default_no_back d default_is) refl))))
+    (and_from (is_no_back (48 + n)) (list_all is_no_back (d ++ codes "}")) (digit_no_back n hi) (all_append is_no_back d (codes "}") (default_no_back d default_is) refl))))
 braced key default rest how_many = count_braced (stands_here (spelled (codes "#") []) rest refl)
 
 -- ---- the parts

@@ -11,7 +11,8 @@ use Rattle.shell_lexer.specs.Parts.{Byte, inner, inner_at, inner_by, look_at}
 use Rattle.shell_lexer.specs.Reading.{Out, Whole, Read, grown, plain_run, last_run, IsWord, word_piece, word_double, IsInner, inner_ends, inner_byte}
 use Rattle.shell_lexer.specs.Text.{Bytes, kind, word_kind, skip, place, offset, is_blank, is_special, is_digit, is_letter}
 use Rattle.shell_lexer.specs.PrintedLaws.{QuotedIsOnePart}
-use Rattle.shell_lexer.proofs.SpelledCases.{if_case, if_false, eq_of, or_case, or_left, or_last as or_right, not_true}
+use Rattle.std.proofs.lemmas.Bool.{cond-false, cond_both, eqb-true, not-true, or_parts}
+use Rattle.shell_lexer.proofs.SpelledCases.{or_case}
 use Rattle.shell_lexer.proofs.PrintedBytes.{clash, skip_first}
 
 -- ---- bytes in double quotes
@@ -23,29 +24,29 @@ module _ (at b : ℕ) (t : Bytes) (double : nat_eq b 34 ≡ false) (dollar : nat
 
   word_itself : IsItself (word_kind b)
   word_itself =
-      if_case IsItself (nat_eq b 39) _ _ (λ e. refl) (λ e.
-      if_case IsItself (nat_eq b 34) _ _ (λ e. absurd (clash double e)) (λ e.
-      if_case IsItself (nat_eq b 92) _ _ (λ e. absurd (clash back e)) (λ e.
-      if_case IsItself (nat_eq b 96) _ _ (λ e. absurd (clash tick e)) (λ e.
-      if_case IsItself (nat_eq b 36) _ _ (λ e. absurd (clash dollar e)) (λ e.
-      if_case IsItself (nat_eq b 123) _ _ (λ e. refl) (λ e.
-      if_case IsItself (nat_eq b 64) _ _ (λ e. refl) (λ e.
-      if_case IsItself (is_special b) _ _ (λ e. refl) (λ e.
-      if_case IsItself (is_digit b) _ _ (λ e. refl) (λ e.
-      if_case IsItself (is_letter b) _ _ (λ e. refl) (λ e. refl))))))))))
+      cond_both (nat_eq b 39) _ _ IsItself (λ e. refl) (λ e.
+      cond_both (nat_eq b 34) _ _ IsItself (λ e. absurd (clash double e)) (λ e.
+      cond_both (nat_eq b 92) _ _ IsItself (λ e. absurd (clash back e)) (λ e.
+      cond_both (nat_eq b 96) _ _ IsItself (λ e. absurd (clash tick e)) (λ e.
+      cond_both (nat_eq b 36) _ _ IsItself (λ e. absurd (clash dollar e)) (λ e.
+      cond_both (nat_eq b 123) _ _ IsItself (λ e. refl) (λ e.
+      cond_both (nat_eq b 64) _ _ IsItself (λ e. refl) (λ e.
+      cond_both (is_special b) _ _ IsItself (λ e. refl) (λ e.
+      cond_both (is_digit b) _ _ IsItself (λ e. refl) (λ e.
+      cond_both (is_letter b) _ _ IsItself (λ e. refl) (λ e. refl))))))))))
 
   itself : IsItself (kind b)
   itself =
-      if_case IsItself (is_blank b) _ _ (λ e. refl) (λ e.
-      if_case IsItself (nat_eq b 10) _ _ (λ e. refl) (λ e.
-      if_case IsItself (nat_eq b 59) _ _ (λ e. refl) (λ e.
-      if_case IsItself (nat_eq b 38) _ _ (λ e. refl) (λ e.
-      if_case IsItself (nat_eq b 124) _ _ (λ e. refl) (λ e.
-      if_case IsItself (nat_eq b 40) _ _ (λ e. refl) (λ e.
-      if_case IsItself (nat_eq b 41) _ _ (λ e. refl) (λ e.
-      if_case IsItself (nat_eq b 60) _ _ (λ e. refl) (λ e.
-      if_case IsItself (nat_eq b 62) _ _ (λ e. refl) (λ e.
-      if_case IsItself (nat_eq b 35) _ _ (λ e. refl) (λ e. word_itself))))))))))
+      cond_both (is_blank b) _ _ IsItself (λ e. refl) (λ e.
+      cond_both (nat_eq b 10) _ _ IsItself (λ e. refl) (λ e.
+      cond_both (nat_eq b 59) _ _ IsItself (λ e. refl) (λ e.
+      cond_both (nat_eq b 38) _ _ IsItself (λ e. refl) (λ e.
+      cond_both (nat_eq b 124) _ _ IsItself (λ e. refl) (λ e.
+      cond_both (nat_eq b 40) _ _ IsItself (λ e. refl) (λ e.
+      cond_both (nat_eq b 41) _ _ IsItself (λ e. refl) (λ e.
+      cond_both (nat_eq b 60) _ _ IsItself (λ e. refl) (λ e.
+      cond_both (nat_eq b 62) _ _ IsItself (λ e. refl) (λ e.
+      cond_both (nat_eq b 35) _ _ IsItself (λ e. refl) (λ e. word_itself))))))))))
 
 -- a byte as it is printed there is read as itself
 abbrev IsSeen : ℕ → ℕ → Bytes → Bytes → Type 0
@@ -56,21 +57,21 @@ seen_at len b c t e h = subst (λ x. IsSeen len x t (92 ∷ x ∷ [])) (sym e) h
 
 active_seen : (len b : ℕ) (t : Bytes) → is_active b ≡ true → IsSeen len b t (92 ∷ b ∷ [])
 active_seen len b t e =
-    or_case (nat_eq b 34) (nat_eq b 36 || (nat_eq b 92 || nat_eq b 96)) e (λ f. seen_at len b 34 t (eq_of b 34 f) refl) (λ e.
-    or_case (nat_eq b 36) (nat_eq b 92 || nat_eq b 96) e (λ f. seen_at len b 36 t (eq_of b 36 f) refl) (λ e.
-    or_case (nat_eq b 92) (nat_eq b 96) e (λ f. seen_at len b 92 t (eq_of b 92 f) refl) (λ f. seen_at len b 96 t (eq_of b 96 f) refl)))
+    or_case (nat_eq b 34) (nat_eq b 36 || (nat_eq b 92 || nat_eq b 96)) e (λ f. seen_at len b 34 t (eqb-true b 34 f) refl) (λ e.
+    or_case (nat_eq b 36) (nat_eq b 92 || nat_eq b 96) e (λ f. seen_at len b 36 t (eqb-true b 36 f) refl) (λ e.
+    or_case (nat_eq b 92) (nat_eq b 96) e (λ f. seen_at len b 92 t (eqb-true b 92 f) refl) (λ f. seen_at len b 96 t (eqb-true b 96 f) refl)))
 
 literal_seen : (len b : ℕ) (t : Bytes) → is_active b ≡ false → IsSeen len b t (b ∷ [])
 literal_seen len b t e =
-    let three = or_right (nat_eq b 34) (nat_eq b 36 || (nat_eq b 92 || nat_eq b 96)) e in
-    let two = or_right (nat_eq b 36) (nat_eq b 92 || nat_eq b 96) three in
-    let back = or_left (nat_eq b 92) (nat_eq b 96) two in
+    let three = (or_parts (nat_eq b 34) (nat_eq b 36 || (nat_eq b 92 || nat_eq b 96)) e).1 in
+    let two = (or_parts (nat_eq b 36) (nat_eq b 92 || nat_eq b 96) three).1 in
+    let back = (or_parts (nat_eq b 92) (nat_eq b 96) two).0 in
     ap (λ u. inner_at (place len u) u) (skip_first b t back)
-    ∙ itself (place len (b ∷ t)) b t (or_left (nat_eq b 34) (nat_eq b 36 || (nat_eq b 92 || nat_eq b 96)) e)
-    (or_left (nat_eq b 36) (nat_eq b 92 || nat_eq b 96) three) back (or_right (nat_eq b 92) (nat_eq b 96) two)
+    ∙ itself (place len (b ∷ t)) b t (or_parts (nat_eq b 34) (nat_eq b 36 || (nat_eq b 92 || nat_eq b 96)) e).0
+    (or_parts (nat_eq b 36) (nat_eq b 92 || nat_eq b 96) three).0 back (or_parts (nat_eq b 92) (nat_eq b 96) two).1
 
 byte_seen : (len b : ℕ) (t : Bytes) → IsSeen len b t (escaped b)
-byte_seen len b t = if_case (IsSeen len b t) (is_active b) (92 ∷ b ∷ []) (b ∷ []) (active_seen len b t) (literal_seen len b t)
+byte_seen len b t = cond_both (is_active b) (92 ∷ b ∷ []) (b ∷ []) (IsSeen len b t) (active_seen len b t) (literal_seen len b t)
 
 -- ---- quotes
 
@@ -114,11 +115,11 @@ module _ (deep : ℕ → Bool) (len depth : ℕ) (run rest : Bytes) (q : Out Rea
   one_byte (b ∷ []) e w = (
     note.Gap ∷ [],
     word_piece (part.Quoted (b ∷ [])) rest q
-        (ap (λ t. look_at (place len t) t) (if_false (nat_eq b 10) (skip rest) (92 ∷ b ∷ rest) (not_true (nat_eq b 10) e))) w refl,
+        (ap (λ t. look_at (place len t) t) (cond-false (nat_eq b 10) (skip rest) (92 ∷ b ∷ rest) (not-true (nat_eq b 10) e))) w refl,
   )
   one_byte (b ∷ c ∷ bytes) e w = absurd (clash refl e)
 
 pub quoted_is_one_part : QuotedIsOnePart
 unfolding quoted_text
 quoted_is_one_part bytes deep len depth run rest q w =
-    if_case (IsRead deep len depth run rest q bytes) (is_one_byte bytes) _ _ (λ e. one_byte deep len depth run rest q bytes e w) (λ e. in_quotes deep len depth run rest q bytes w)
+    cond_both (is_one_byte bytes) _ _ (IsRead deep len depth run rest q bytes) (λ e. one_byte deep len depth run rest q bytes e w) (λ e. in_quotes deep len depth run rest q bytes w)

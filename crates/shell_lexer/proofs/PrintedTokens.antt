@@ -16,7 +16,7 @@ use Rattle.shell_lexer.specs.Parts.{look, inner, inner_at}
 use Rattle.shell_lexer.specs.Reading.{Whole, Read, items_pass, items_word, IsWord, word_ends, word_double, IsInner, inner_ends, inner_all}
 use Rattle.shell_lexer.specs.Text.{Bytes, is_digit, kind, skip, tail, head_is, cells, behind_run, passes, run, place, offset}
 use Rattle.shell_lexer.specs.PrintedLaws.{ParamIsOnePart, AllIsOnePart, raw_text, WordTokensReadBack, AllTokensReadBack}
-use Rattle.shell_lexer.proofs.SpelledCases.{if_true, if_false, eq_of, true_false, and_right, not_true}
+use Rattle.std.proofs.lemmas.Bool.{and_parts, cond-false, cond-true, eqb-true, not-true, true≢false}
 use Rattle.shell_lexer.proofs.PrintedBytes.{clash, skip_first}
 use Rattle.shell_lexer.proofs.PrintedNotes.{late_same, notes_of}
 use Rattle.shell_lexer.proofs.PrintedWords.{no_angle, begins_ten, steady, may_begin, begins_word, word_claim, ends_here}
@@ -27,24 +27,24 @@ use Rattle.shell_lexer.proofs.Begun.{begun, NotWord, if_sight, operator_no, wron
 kept_by : (b : ℕ) (t : Bytes) (digit : Bool) → is_digit b ≡ digit → (if digit then steady t else (no_angle (kind b) && not (nat_eq b 92 && begins_ten t))) ≡ true → (nat_eq b 92 && begins_ten t) ≡ false
 kept_by b t true d e = by (nat_eq b 92) refl where
   by : (is : Bool) → nat_eq b 92 ≡ is → (is && begins_ten t) ≡ false
-  by true g = absurd (clash (ap is_digit (eq_of b 92 g)) d)
+  by true g = absurd (clash (ap is_digit (eqb-true b 92 g)) d)
   by false g = refl
-kept_by b t false d e = not_true (nat_eq b 92 && begins_ten t) (and_right (no_angle (kind b)) (not (nat_eq b 92 && begins_ten t)) e)
+kept_by b t false d e = not-true (nat_eq b 92 && begins_ten t) (and_parts (no_angle (kind b)) (not (nat_eq b 92 && begins_ten t)) e).1
 
 kept : (b : ℕ) (t : Bytes) → steady (b ∷ t) ≡ true → (nat_eq b 92 && begins_ten t) ≡ false
 kept b t e = kept_by b t (is_digit b) refl e
 
 skip_kept : (b : ℕ) (t : Bytes) → (nat_eq b 92 && begins_ten t) ≡ false → skip (b ∷ t) ≡ b ∷ t
 skip_kept b [] e = refl
-skip_kept b (c ∷ t) e = if_false (nat_eq b 92 && nat_eq c 10) _ _ e
+skip_kept b (c ∷ t) e = cond-false (nat_eq b 92 && nat_eq c 10) _ _ e
 
 cells_kept : (b : ℕ) (t : Bytes) → (nat_eq b 92 && begins_ten t) ≡ false → cells (b ∷ t) ≡ (b, t) ∷ cells t
 cells_kept b [] e = refl
-cells_kept b (c ∷ t) e = if_false (nat_eq b 92 && nat_eq c 10) _ _ e
+cells_kept b (c ∷ t) e = cond-false (nat_eq b 92 && nat_eq c 10) _ _ e
 
 numbered_word : (at : ℕ) (number : Bytes) (it : ByteKind) (t : Bytes) → no_angle it ≡ true → numbered_by at number it t ≡ Word
-numbered_word at number k.Less t e = absurd (true_false (sym e))
-numbered_word at number k.Greater t e = absurd (true_false (sym e))
+numbered_word at number k.Less t e = absurd (true≢false (sym e))
+numbered_word at number k.Greater t e = absurd (true≢false (sym e))
 numbered_word at number _ t e = refl
 
 digits_word : (len : ℕ) (number text : Bytes) → steady text ≡ true → numbered len number (skip (behind_run (passes Digits) text (cells text))) ≡ Word
@@ -56,31 +56,27 @@ digits_word len number (b ∷ t) e =
     by : (digit : Bool) → is_digit b ≡ digit → (if digit then steady t else (no_angle (kind b) && not (nat_eq b 92 && begins_ten t))) ≡ true
         → (steady t ≡ true → numbered len number (skip (behind_run (passes Digits) t (cells t))) ≡ Word) → (nat_eq b 92 && begins_ten t) ≡ false
         → numbered len number (skip (if is_digit b then behind_run (passes Digits) t (cells t) else b ∷ t)) ≡ Word
-    by true d e more c = ap (λ r. numbered len number (skip r)) (if_true (is_digit b) _ _ d) ∙ more e
+    by true d e more c = ap (λ r. numbered len number (skip r)) (cond-true (is_digit b) _ _ d) ∙ more e
     by false d e more c =
-        ap (λ r. numbered len number (skip r)) (if_false (is_digit b) _ _ d) ∙ ap (numbered len number) (skip_kept b t c)
-        ∙ numbered_word (place len (b ∷ t)) number (kind b) t (left (no_angle (kind b)) (not (nat_eq b 92 && begins_ten t)) e)
-      where
-        left : (x y : Bool) → (x && y) ≡ true → x ≡ true
-        left true y h = refl
-        left false y h = h
+        ap (λ r. numbered len number (skip r)) (cond-false (is_digit b) _ _ d) ∙ ap (numbered len number) (skip_kept b t c)
+        ∙ numbered_word (place len (b ∷ t)) number (kind b) t (and_parts (no_angle (kind b)) (not (nat_eq b 92 && begins_ten t)) e).0
 
 sight_kind : (len at b : ℕ) (it : ByteKind) (t : Bytes) → may_begin it ≡ true → steady (b ∷ t) ≡ true → sight_by len at b it t ≡ Word
-sight_kind len at b k.Blank t e s = absurd (true_false (sym e))
-sight_kind len at b k.Newline t e s = absurd (true_false (sym e))
-sight_kind len at b k.Semi t e s = absurd (true_false (sym e))
-sight_kind len at b k.Amp t e s = absurd (true_false (sym e))
-sight_kind len at b k.Bar t e s = absurd (true_false (sym e))
-sight_kind len at b k.Open t e s = absurd (true_false (sym e))
-sight_kind len at b k.Close t e s = absurd (true_false (sym e))
-sight_kind len at b k.Less t e s = absurd (true_false (sym e))
-sight_kind len at b k.Greater t e s = absurd (true_false (sym e))
-sight_kind len at b k.Hash t e s = absurd (true_false (sym e))
+sight_kind len at b k.Blank t e s = absurd (true≢false (sym e))
+sight_kind len at b k.Newline t e s = absurd (true≢false (sym e))
+sight_kind len at b k.Semi t e s = absurd (true≢false (sym e))
+sight_kind len at b k.Amp t e s = absurd (true≢false (sym e))
+sight_kind len at b k.Bar t e s = absurd (true≢false (sym e))
+sight_kind len at b k.Open t e s = absurd (true≢false (sym e))
+sight_kind len at b k.Close t e s = absurd (true≢false (sym e))
+sight_kind len at b k.Less t e s = absurd (true≢false (sym e))
+sight_kind len at b k.Greater t e s = absurd (true≢false (sym e))
+sight_kind len at b k.Hash t e s = absurd (true≢false (sym e))
 sight_kind len at b k.Digit t e s = digits_word len (run Digits (b ∷ t)) (b ∷ t) s
 sight_kind len at b _ t e s = refl
 
 sight_word : (len : ℕ) (text : Bytes) → begins_word text ≡ true → steady text ≡ true → sight len text ≡ Word
-sight_word len [] e s = absurd (true_false (sym e))
+sight_word len [] e s = absurd (true≢false (sym e))
 sight_word len (b ∷ t) e s = ap (λ u. sight_at len (place len u) u) (skip_kept b t (kept b t s)) ∙ sight_kind len (place len (b ∷ t)) b (kind b) t e s
 
 -- what begins a word where it is read

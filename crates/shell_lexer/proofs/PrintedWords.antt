@@ -19,7 +19,8 @@ use Rattle.shell_lexer.specs.SpelledParts.{IsParam, name as by_name, name_braced
 use Rattle.shell_lexer.specs.Reading.{Out, Whole, Stop, Read, grown, plain_run, quoted_run, last_run, IsWord, word_ends, word_byte, word_piece, word_all, word_double, word_run, word_wrong, word_bad_double, word_bad_run, IsInner, inner_open, inner_ends, inner_byte, inner_piece, inner_all, inner_run, inner_wrong, inner_bad_run}
 use Rattle.shell_lexer.specs.Text.{Bytes, is_digit, kind, skip, place, offset, head_is, run as run_at, behind as behind_at}
 use Rattle.shell_lexer.specs.PrintedLaws.{IsOnePart, ParamIsOnePart, AllIsOnePart, raw_text, holds_no_run, is_last, ends_in_backslash, is_apart, WordsReadBack}
-use Rattle.shell_lexer.proofs.SpelledCases.{if_case, if_false, eq_of, true_false, or_case, and_true}
+use Rattle.std.proofs.lemmas.Bool.{and_from, cond-false, cond_both, eqb-true, true≢false}
+use Rattle.shell_lexer.proofs.SpelledCases.{or_case}
 use Rattle.shell_lexer.proofs.PrintedBytes.{clash, skip_first}
 use Rattle.shell_lexer.proofs.PrintedQuotes.{quoted_is_one_part}
 use Rattle.shell_lexer.proofs.SpelledKinds.{KindOf, kind_of}
@@ -82,20 +83,20 @@ begins_word (b ∷ text) = may_begin (kind b)
 
 steady_byte : (c : ℕ) (t : Bytes) (it : ByteKind) → kind c ≡ it → nat_eq c 92 ≡ false → no_angle it ≡ true → steady t ≡ true → steady (c ∷ t) ≡ true
 steady_byte c t it is nb na s =
-    if_case (λ x. x ≡ true) (is_digit c) (steady t) (no_angle (kind c) && not (nat_eq c 92 && begins_ten t)) (λ e. s)
-    (λ e. and_true (no_angle (kind c)) (not (nat_eq c 92 && begins_ten t)) (ap no_angle is ∙ na) (ap (λ x. not (x && begins_ten t)) nb))
+    cond_both (is_digit c) (steady t) (no_angle (kind c) && not (nat_eq c 92 && begins_ten t)) (λ x. x ≡ true) (λ e. s)
+    (λ e. and_from (no_angle (kind c)) (not (nat_eq c 92 && begins_ten t)) (ap no_angle is ∙ na) (ap (λ x. not (x && begins_ten t)) nb))
 
 dollar_here : (at : ℕ) (rest : Bytes) (b : ℕ) (it : ByteKind) (more : Bytes) → may_follow it ≡ true → dollar_by false at rest b it more ≡ Byte 36 rest
-dollar_here at rest b k.Open more e = absurd (true_false (sym e))
-dollar_here at rest b k.Brace more e = absurd (true_false (sym e))
-dollar_here at rest b k.Name more e = absurd (true_false (sym e))
-dollar_here at rest b k.Digit more e = absurd (true_false (sym e))
-dollar_here at rest b k.Hash more e = absurd (true_false (sym e))
-dollar_here at rest b k.At more e = absurd (true_false (sym e))
-dollar_here at rest b k.Special more e = absurd (true_false (sym e))
-dollar_here at rest b k.Dollar more e = absurd (true_false (sym e))
-dollar_here at rest b k.Single more e = absurd (true_false (sym e))
-dollar_here at rest b k.Double more e = absurd (true_false (sym e))
+dollar_here at rest b k.Open more e = absurd (true≢false (sym e))
+dollar_here at rest b k.Brace more e = absurd (true≢false (sym e))
+dollar_here at rest b k.Name more e = absurd (true≢false (sym e))
+dollar_here at rest b k.Digit more e = absurd (true≢false (sym e))
+dollar_here at rest b k.Hash more e = absurd (true≢false (sym e))
+dollar_here at rest b k.At more e = absurd (true≢false (sym e))
+dollar_here at rest b k.Special more e = absurd (true≢false (sym e))
+dollar_here at rest b k.Dollar more e = absurd (true≢false (sym e))
+dollar_here at rest b k.Single more e = absurd (true≢false (sym e))
+dollar_here at rest b k.Double more e = absurd (true≢false (sym e))
 dollar_here at rest b _ more e = refl
 
 dollar_alone : (at : ℕ) (rest t : Bytes) → after_dollar t ≡ true → dollar false at rest t ≡ Byte 36 rest
@@ -117,19 +118,19 @@ no_byte l n e = absurd (subst NoByte e n)
 
 no_closed : (quoted : Bool) (at : ℕ) (key : Key) (default : Option Bytes) (t : Bytes) → NoByte (closed quoted at key default t)
 no_closed quoted at key default [] = tt
-no_closed quoted at key default (b ∷ t) = if_case NoByte (nat_eq b 125) _ _ (λ e. tt) (λ e. tt)
+no_closed quoted at key default (b ∷ t) = cond_both (nat_eq b 125) _ _ NoByte (λ e. tt) (λ e. tt)
 
 no_colon : (quoted : Bool) (at : ℕ) (key : Key) (t : Bytes) → NoByte (behind_colon quoted at key t)
 no_colon quoted at key [] = tt
-no_colon quoted at key (b ∷ t) = if_case NoByte (nat_eq b 45) _ _ (λ e. no_closed quoted at key (Some (run_at Defaults t)) (skip (behind_at Defaults t))) (λ e. tt)
+no_colon quoted at key (b ∷ t) = cond_both (nat_eq b 45) _ _ NoByte (λ e. no_closed quoted at key (Some (run_at Defaults t)) (skip (behind_at Defaults t))) (λ e. tt)
 
 no_key : (quoted : Bool) (at : ℕ) (key : Key) (t : Bytes) → NoByte (behind_key quoted at key t)
 no_key quoted at key [] = tt
-no_key quoted at key (b ∷ t) = if_case NoByte (nat_eq b 58) _ _ (λ e. no_colon quoted at key (skip t)) (λ e. no_closed quoted at key None (b ∷ t))
+no_key quoted at key (b ∷ t) = cond_both (nat_eq b 58) _ _ NoByte (λ e. no_colon quoted at key (skip t)) (λ e. no_closed quoted at key None (b ∷ t))
 
 no_braced_by : (quoted : Bool) (at b : ℕ) (it : ByteKind) (t : Bytes) → NoByte (braced_by quoted at b it t)
 no_braced_by quoted at b k.Name t = no_key quoted at (Named (run_at Names (b ∷ t))) (skip (behind_at Names (b ∷ t)))
-no_braced_by quoted at b k.Digit t = if_case NoByte (nat_eq b 48) _ _ (λ e. tt) (λ e. no_key quoted at (Arg (b - 48)) (skip t))
+no_braced_by quoted at b k.Digit t = cond_both (nat_eq b 48) _ _ NoByte (λ e. tt) (λ e. no_key quoted at (Arg (b - 48)) (skip t))
 no_braced_by quoted at b k.Hash t = no_closed quoted at Count None (skip t)
 no_braced_by quoted at b _ t = tt
 
@@ -144,10 +145,10 @@ record IsDollar (b : ℕ) (u rest t : Bytes) : Type 0 where
   pub after : after_dollar t ≡ true
 
 dollar_seen_by : (at : ℕ) (u : Bytes) (x : ℕ) (it : ByteKind) (more : Bytes) (b : ℕ) (rest t : Bytes) → after_dollar t ≡ may_follow it → dollar_by false at u x it more ≡ Byte b rest → IsDollar b u rest t
-dollar_seen_by at u x k.Open more b rest t f h = no_byte _ (if_case NoByte (head_is 40 (skip more)) _ _ (λ e. tt) (λ e. tt)) h
+dollar_seen_by at u x k.Open more b rest t f h = no_byte _ (cond_both (head_is 40 (skip more)) _ _ NoByte (λ e. tt) (λ e. tt)) h
 dollar_seen_by at u x k.Brace more b rest t f h = no_byte _ (no_braced false at (skip more)) h
 dollar_seen_by at u x k.Name more b rest t f h = no_byte _ tt h
-dollar_seen_by at u x k.Digit more b rest t f h = no_byte _ (if_case NoByte (nat_eq x 48) _ _ (λ e. tt) (λ e. tt)) h
+dollar_seen_by at u x k.Digit more b rest t f h = no_byte _ (cond_both (nat_eq x 48) _ _ NoByte (λ e. tt) (λ e. tt)) h
 dollar_seen_by at u x k.Hash more b rest t f h = no_byte _ tt h
 dollar_seen_by at u x k.At more b rest t f h = no_byte _ tt h
 dollar_seen_by at u x k.Special more b rest t f h = no_byte _ tt h
@@ -167,7 +168,7 @@ is_back _ = false
 not_back : (c : ℕ) (it : ByteKind) → kind c ≡ it → is_back it ≡ false → nat_eq c 92 ≡ false
 not_back c it e f = by (nat_eq c 92) refl where
   by : (is : Bool) → nat_eq c 92 ≡ is → is ≡ false
-  by true g = absurd (clash f (ap is_back (sym e) ∙ ap (λ x. is_back (kind x)) (eq_of c 92 g)))
+  by true g = absurd (clash f (ap is_back (sym e) ∙ ap (λ x. is_back (kind x)) (eqb-true c 92 g)))
   by false g = refl
 
 back_only : (c : ℕ) → kind c ≡ k.Back → c ≡ 92
@@ -208,7 +209,7 @@ printed_byte all at c u k.Open b rest t is h follow ends = no_byte _ tt h
 printed_byte all at c u k.Close b rest t is h follow ends = no_byte _ tt h
 printed_byte all at c u k.Less b rest t is h follow ends = no_byte _ tt h
 printed_byte all at c u k.Greater b rest t is h follow ends = no_byte _ tt h
-printed_byte all at c u k.Single b rest t is h follow ends = no_byte _ (if_case NoByte (has_quote u) _ _ (λ e. tt) (λ e. tt)) h
+printed_byte all at c u k.Single b rest t is h follow ends = no_byte _ (cond_both (has_quote u) _ _ NoByte (λ e. tt) (λ e. tt)) h
 printed_byte all at c u k.Double b rest t is h follow ends = no_byte _ tt h
 printed_byte all at c u k.Back b rest t is h follow ends = backslash all c u b rest t is h ends
 printed_byte all at c u k.Tick b rest t is h follow ends = no_byte _ tt h
@@ -217,7 +218,7 @@ printed_byte all at c u k.Dollar b rest t is h follow ends =
     let after : after_dollar (skip t) ≡ true = follow (ap (λ r. after_dollar (skip r)) (sym d.same) ∙ d.after) in
     subst (λ x. IsPrinted all k.Dollar x t) d.is (record {
       seen = ap (λ u. look_at (place all u) u) (skip_first 36 t refl) ∙ dollar_alone (place all (36 ∷ t)) t (skip t) after;
-      follows = λ f. absurd (true_false (sym f));
+      follows = λ f. absurd (true≢false (sym f));
       stays = λ f. refl;
       begins = λ f. refl;
     })
@@ -246,21 +247,21 @@ pub ends_here : (all : ℕ) (behind : Bytes) → is_apart behind ≡ true → lo
 ends_here all [] e = refl
 ends_here all (b ∷ t) e =
     or_case (nat_eq b 32) (nat_eq b 10) e
-    (λ f. ends_at all b 32 t (eq_of b 32 f) (ap (λ u. look_at (place all u) u) (skip_first 32 t refl)))
-    (λ f. ends_at all b 10 t (eq_of b 10 f) (ap (λ u. look_at (place all u) u) (skip_first 10 t refl)))
+    (λ f. ends_at all b 32 t (eqb-true b 32 f) (ap (λ u. look_at (place all u) u) (skip_first 32 t refl)))
+    (λ f. ends_at all b 10 t (eqb-true b 10 f) (ap (λ u. look_at (place all u) u) (skip_first 10 t refl)))
 
 apart_follows : (behind : Bytes) → is_apart behind ≡ true → after_dollar (skip behind) ≡ true
 apart_follows [] e = refl
 apart_follows (b ∷ t) e =
     or_case (nat_eq b 32) (nat_eq b 10) e
-    (λ f. subst (λ x. after_dollar (skip (x ∷ t)) ≡ true) (sym (eq_of b 32 f)) (ap after_dollar (skip_first 32 t refl)))
-    (λ f. subst (λ x. after_dollar (skip (x ∷ t)) ≡ true) (sym (eq_of b 10 f)) (ap after_dollar (skip_first 10 t refl)))
+    (λ f. subst (λ x. after_dollar (skip (x ∷ t)) ≡ true) (sym (eqb-true b 32 f)) (ap after_dollar (skip_first 32 t refl)))
+    (λ f. subst (λ x. after_dollar (skip (x ∷ t)) ≡ true) (sym (eqb-true b 10 f)) (ap after_dollar (skip_first 10 t refl)))
 
 apart_steady : (behind : Bytes) → is_apart behind ≡ true → steady behind ≡ true
 apart_steady [] e = refl
 apart_steady (b ∷ t) e =
     or_case (nat_eq b 32) (nat_eq b 10) e
-    (λ f. subst (λ x. steady (x ∷ t) ≡ true) (sym (eq_of b 32 f)) refl) (λ f. subst (λ x. steady (x ∷ t) ≡ true) (sym (eq_of b 10 f)) refl)
+    (λ f. subst (λ x. steady (x ∷ t) ≡ true) (sym (eqb-true b 32 f)) refl) (λ f. subst (λ x. steady (x ∷ t) ≡ true) (sym (eqb-true b 10 f)) refl)
 
 -- ---- how a part begins that is not plain
 
@@ -276,9 +277,9 @@ unfolding quoted_text
 quoted_by w one e = ap (λ t. if t then codes "\\" ++ w else codes "\"" ++ flat_map escape w ++ codes "\"") e
 
 one_byte_head : (w : Bytes) → is_one_byte w ≡ true → PartHead (part.Quoted w)
-one_byte_head [] e = absurd (true_false (sym e))
+one_byte_head [] e = absurd (true≢false (sym e))
 one_byte_head (b ∷ []) e = record { head = 92; tail = b ∷ []; is = quoted_by (b ∷ []) true e; stays = λ z. e; begins = refl }
-one_byte_head (b ∷ c ∷ w) e = absurd (true_false (sym e))
+one_byte_head (b ∷ c ∷ w) e = absurd (true≢false (sym e))
 
 quoted_head : (w : Bytes) → PartHead (part.Quoted w)
 quoted_head w = by (is_one_byte w) refl where
@@ -375,10 +376,10 @@ no_run_right (part.Plain w ∷ xs) ys e = no_run_right xs ys e
 no_run_right (part.Quoted w ∷ xs) ys e = no_run_right xs ys e
 no_run_right (part.Param key default quoted ∷ xs) ys e = no_run_right xs ys e
 no_run_right (part.All ∷ xs) ys e = no_run_right xs ys e
-no_run_right (_ ∷ xs) ys e = absurd (true_false (sym e))
+no_run_right (_ ∷ xs) ys e = absurd (true≢false (sym e))
 
 ends_more : (x : RawPart) (zs : List RawPart) → ends_in_backslash zs ≡ true → ends_in_backslash (x ∷ zs) ≡ true
-ends_more x [] e = absurd (true_false (sym e))
+ends_more x [] e = absurd (true≢false (sym e))
 ends_more (part.Plain w) (z ∷ zs) e = e
 ends_more _ (z ∷ zs) e = e
 
@@ -416,7 +417,7 @@ unfolding quoted_text
 one_quoted b t e = rw e
 
 skip_quoted : (b : ℕ) (t : Bytes) → nat_eq b 10 ≡ false → skip (92 ∷ b ∷ t) ≡ 92 ∷ b ∷ t
-skip_quoted b t e = if_false (nat_eq b 10) _ _ e
+skip_quoted b t e = cond-false (nat_eq b 10) _ _ e
 
 -- ---- what stands at the front of a part
 
@@ -425,7 +426,7 @@ abbrev Follows : Bytes → List RawPart → Type 0
 Follows text ps = after_dollar (skip text) ≡ true → (t : Bytes) → after_dollar (skip (flat ps ++ t)) ≡ true
 
 never : (b : ℕ) (text more : Bytes) (ps : List RawPart) → may_follow (kind b) ≡ false → skip text ≡ b ∷ more → Follows text ps
-never b text more ps e f g t = absurd (true_false (sym g ∙ ap after_dollar f ∙ e))
+never b text more ps e f g t = absurd (true≢false (sym g ∙ ap after_dollar f ∙ e))
 
 param_follows : (ps : List RawPart) {key : Key} {default : Option Bytes} {text rest : Bytes} → IsParam key default text rest → Follows text ps
 param_follows ps {text = text} (by_name is h ends) = never 36 text h.0 ps refl h.1
@@ -462,7 +463,7 @@ InnerHasParts fresh (Stop fault) = Unit {0}
 last_has_parts : (fresh : Bool) (run rest : Bytes) → InnerHasParts fresh (Whole (last_run fresh run, []) rest)
 last_has_parts true [] rest = (λ n. one_more (quoted_one []) one_none, λ e. refl)
 last_has_parts true (b ∷ run) rest = (λ n. one_more (quoted_one (b ∷ run)) one_none, λ e. refl)
-last_has_parts false [] rest = (λ n. one_none, λ e. absurd (true_false (sym e)))
+last_has_parts false [] rest = (λ n. one_none, λ e. absurd (true≢false (sym e)))
 last_has_parts false (b ∷ run) rest = (λ n. one_more (quoted_one (b ∷ run)) one_none, λ e. refl)
 
 same_has_parts : (fresh : Bool) (ns : List ByteNote) (q : Out Read) → InnerHasParts fresh q → InnerHasParts fresh (grown [] ns q)
@@ -482,8 +483,8 @@ more_has_parts fresh run p ns (Whole v rest) h f = (λ n. behind_run run p v.0 h
 more_has_parts fresh run p ns (Stop fault) h f = tt
 
 no_runs : (run : Bytes) (at : ℕ) (ts : List Token) (quoted : Bool) (ps : List RawPart) → holds_no_run ((quoted_run run ++ part.Run at ts quoted ∷ []) ++ ps) ≡ true → ⊥
-no_runs [] at ts quoted ps e = true_false (sym e)
-no_runs (b ∷ run) at ts quoted ps e = true_false (sym e)
+no_runs [] at ts quoted ps e = true≢false (sym e)
+no_runs (b ∷ run) at ts quoted ps e = true≢false (sym e)
 
 run_has_parts : (fresh : Bool) (run : Bytes) (at : ℕ) (ts : List Token) (quoted : Bool) (ns : List ByteNote) (q : Out Read) → InnerHasParts fresh (grown (quoted_run run ++ part.Run at ts quoted ∷ []) ns q)
 run_has_parts fresh run at ts quoted ns (Whole v rest) = (λ n. absurd (no_runs run at ts quoted v.0 n), λ e. some_behind run (part.Run at ts quoted) v.0)
@@ -548,7 +549,7 @@ module _ (outside : PartsAreSpelled look false) (inside : PartsAreSpelled inner 
         let t = i.suffix ++ behind in
         let open_end : nat_eq b 92 ≡ true → rest ≡ [] → t ≡ [] = (λ e f.
         let is = i.at_end f in
-        let last_part : ends_in_backslash v.0 ≡ true = ap ends_in_backslash (is.1 ∙ ap (λ x. plain_run (run ++ x ∷ [])) (eq_of b 92 e)) ∙ run_ends run in
+        let last_part : ends_in_backslash v.0 ≡ true = ap ends_in_backslash (is.1 ∙ ap (λ x. plain_run (run ++ x ∷ [])) (eqb-true b 92 e)) ∙ run_ends run in
         ap (λ s. s ++ behind) is.0 ∙ ends last_part) in
         let p = front_printed all len (skip text) b rest t h i.follows open_end in
         record {
@@ -591,7 +592,7 @@ module _ (outside : PartsAreSpelled look false) (inside : PartsAreSpelled inner 
 
     double_claim : (len : ℕ) (run text rest : Bytes) (xs : List RawPart) (ns : List ByteNote) (q : Out Read)
         → some_part xs ≡ true → (holds_no_run xs ≡ true → AllOne xs) → Follows text xs → (text ≡ [] → ⊥) → Claim len [] rest q → Claim len run text (grown (plain_run run ++ xs) ns q)
-    double_claim len run text rest [] ns q some ones follow end x = absurd (true_false (sym some))
+    double_claim len run text rest [] ns q some ones follow end x = absurd (true≢false (sym some))
     double_claim len run text rest (p ∷ ps) ns q some ones follow end x = parts_claim len run text rest p ps ns q ones follow end x
 
     piece_follows : (p : RawPart) (text rest : Bytes) → IsPiece false p text rest → Follows text (p ∷ [])
@@ -601,8 +602,8 @@ module _ (outside : PartsAreSpelled look false) (inside : PartsAreSpelled inner 
 
     no_run_claim : (len : ℕ) (run text : Bytes) (at : ℕ) (ts : List Token) (ns : List ByteNote) (q : Out Read) → Claim len run text (grown (plain_run run ++ part.Run at ts false ∷ []) ns q)
     no_run_claim len run text at ts ns (Stop fault) = tt
-    no_run_claim len [] text at ts ns (Whole v rest) = λ none ends. absurd (true_false (sym none))
-    no_run_claim len (b ∷ run) text at ts ns (Whole v rest) = λ none ends. absurd (true_false (sym none))
+    no_run_claim len [] text at ts ns (Whole v rest) = λ none ends. absurd (true≢false (sym none))
+    no_run_claim len (b ∷ run) text at ts ns (Whole v rest) = λ none ends. absurd (true≢false (sym none))
 
     pub word_claim : {len : ℕ} {run text : Bytes} {q : Out Read} → IsWord deep len depth run text q → Claim len run text q
     word_claim {len} {run} {text} {q} (word_ends h e) = subst (Claim len run text) (sym e) (end_claim len run text h)

@@ -17,7 +17,8 @@ use Rattle.shell_lexer.specs.Operators.{sight_at}
 use Rattle.shell_lexer.specs.Parts.{Byte, inner, inner_at, inner_by, look_at}
 use Rattle.shell_lexer.specs.Reading.{Whole, Read, last_run, token_at, IsItems, items_end, items_word, IsWord, word_ends, word_double, IsInner, inner_ends, inner_byte}
 use Rattle.shell_lexer.specs.Text.{Bytes, kind, skip, place, offset}
-use Rattle.shell_lexer.proofs.SpelledCases.{eq_same, not_true, or_left, or_last, and_left, and_right, true_false, if_false}
+use Rattle.std.proofs.lemmas.Bool.{and_parts, cond-false, not-true, or_parts, true≢false}
+use Rattle.shell_lexer.proofs.SpelledCases.{eq_same}
 use Rattle.shell_lexer.proofs.SpelledKinds.{KindOf, kind_of}
 
 -- ---- bytes that stand for themselves
@@ -25,7 +26,7 @@ use Rattle.shell_lexer.proofs.SpelledKinds.{KindOf, kind_of}
 -- a byte before which no joined line is left
 pub skip_first : (a : ℕ) (t : Bytes) → nat_eq a 92 ≡ false → skip (a ∷ t) ≡ a ∷ t
 skip_first a [] e = refl
-skip_first a (b ∷ t) e = if_false (nat_eq a 92 && nat_eq b 10) _ _ (ap (λ x. x && nat_eq b 10) e)
+skip_first a (b ∷ t) e = cond-false (nat_eq a 92 && nat_eq b 10) _ _ (ap (λ x. x && nat_eq b 10) e)
 
 record IsApart (b : ℕ) : Type 0 where
   pub nul : nat_eq b 0 ≡ false
@@ -36,21 +37,21 @@ record IsApart (b : ℕ) : Type 0 where
 
 apart : (b : ℕ) → is_literal b ≡ true → IsApart b
 apart b e =
-    let all = not_true (nat_eq b 0 || nat_eq b 34 || nat_eq b 36 || nat_eq b 92 || nat_eq b 96) e in
-    let four = or_left (nat_eq b 0 || nat_eq b 34 || nat_eq b 36 || nat_eq b 92) (nat_eq b 96) all in
-    let three = or_left (nat_eq b 0 || nat_eq b 34 || nat_eq b 36) (nat_eq b 92) four in
-    let two = or_left (nat_eq b 0 || nat_eq b 34) (nat_eq b 36) three in
+    let all = not-true (nat_eq b 0 || nat_eq b 34 || nat_eq b 36 || nat_eq b 92 || nat_eq b 96) e in
+    let four = (or_parts (nat_eq b 0 || nat_eq b 34 || nat_eq b 36 || nat_eq b 92) (nat_eq b 96) all).0 in
+    let three = (or_parts (nat_eq b 0 || nat_eq b 34 || nat_eq b 36) (nat_eq b 92) four).0 in
+    let two = (or_parts (nat_eq b 0 || nat_eq b 34) (nat_eq b 36) three).0 in
     record {
-      nul = or_left (nat_eq b 0) (nat_eq b 34) two;
-      double = or_last (nat_eq b 0) (nat_eq b 34) two;
-      dollar = or_last (nat_eq b 0 || nat_eq b 34) (nat_eq b 36) three;
-      back = or_last (nat_eq b 0 || nat_eq b 34 || nat_eq b 36) (nat_eq b 92) four;
-      tick = or_last (nat_eq b 0 || nat_eq b 34 || nat_eq b 36 || nat_eq b 92) (nat_eq b 96) all;
+      nul = (or_parts (nat_eq b 0) (nat_eq b 34) two).0;
+      double = (or_parts (nat_eq b 0) (nat_eq b 34) two).1;
+      dollar = (or_parts (nat_eq b 0 || nat_eq b 34) (nat_eq b 36) three).1;
+      back = (or_parts (nat_eq b 0 || nat_eq b 34 || nat_eq b 36) (nat_eq b 92) four).1;
+      tick = (or_parts (nat_eq b 0 || nat_eq b 34 || nat_eq b 36 || nat_eq b 92) (nat_eq b 96) all).1;
     }
 
 -- it is none of these
 other : (b c : ℕ) → nat_eq b c ≡ false → b ≡ c → ⊥
-other b c e is = absurd (true_false (sym (same c) ∙ subst (λ x. nat_eq x c ≡ false) is e)) where
+other b c e is = absurd (true≢false (sym (same c) ∙ subst (λ x. nat_eq x c ≡ false) is e)) where
   same : (c : ℕ) → nat_eq c c ≡ true
   same c = eq_same c
 
@@ -71,8 +72,8 @@ module _ (deep : ℕ → Bool) (len depth «from» : ℕ) (fresh : Bool) (rest :
   quotes_read run [] e =
       inner_ends rest (ap (λ t. inner_at (place len t) t) (skip_first 34 rest refl)) (ap (λ r. Whole (last_run fresh r, gaps []) rest) (append-nil run))
   quotes_read run (b ∷ bytes) e =
-      let a = apart b (and_left (is_literal b) (list_all is_literal bytes) e) in
-      let more = quotes_read (run ++ b ∷ []) bytes (and_right (is_literal b) (list_all is_literal bytes) e) in
+      let a = apart b (and_parts (is_literal b) (list_all is_literal bytes) e).0 in
+      let more = quotes_read (run ++ b ∷ []) bytes (and_parts (is_literal b) (list_all is_literal bytes) e).1 in
       inner_byte b (bytes ++ 34 ∷ rest) (Whole (last_run fresh ((run ++ b ∷ []) ++ bytes), gaps bytes) rest) (literal_seen len b (bytes ++ 34 ∷ rest) a) more
       (ap (λ r. Whole (last_run fresh r, note.Gap ∷ gaps bytes) rest) (sym (append_assoc run (b ∷ []) bytes)))
 
@@ -108,8 +109,8 @@ gaps_last (b ∷ bytes) = ap (λ (ns : List ByteNote). note.Gap ∷ ns) (gaps_la
 no_nul : (at : ℕ) (bytes : Bytes) → list_all is_literal bytes ≡ true → nul_from at (bytes ++ 34 ∷ []) ≡ None
 no_nul at [] e = refl
 no_nul at (b ∷ bytes) e =
-    let a = apart b (and_left (is_literal b) (list_all is_literal bytes) e) in
-    if_false (nat_eq b 0) _ _ a.nul ∙ no_nul (at + 1) bytes (and_right (is_literal b) (list_all is_literal bytes) e)
+    let a = apart b (and_parts (is_literal b) (list_all is_literal bytes) e).0 in
+    cond-false (nat_eq b 0) _ _ a.nul ∙ no_nul (at + 1) bytes (and_parts (is_literal b) (list_all is_literal bytes) e).1
 
 length_last : (bytes : Bytes) → length (bytes ++ 34 ∷ []) ≡ suc (length bytes)
 length_last [] = refl

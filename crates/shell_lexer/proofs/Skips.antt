@@ -3,7 +3,7 @@ use Rattle.std.proofs.Common.{◌≡◌, ℕ, suc, ◌+◌, ◌<◌, ◌≤◌, 
 use Rattle.std.proofs.lemmas.Grind.{common_steps}
 use Rattle.std.proofs.Math.Seq.{drop-cons}
 use Rattle.shell_lexer.specs.Text.{Bytes, skip}
-use Rattle.shell_lexer.proofs.SpelledCases.{if_false}
+use Rattle.std.proofs.lemmas.Bool.{cond-false}
 
 skip_one : (t : Bytes) → length t ≤ 1 → skip t ≡ t
 skip_one [] le = refl
@@ -14,7 +14,7 @@ pub skip_short : (s : Bytes) (p : ℕ) → length s ≤ p + 1 → skip (drop p s
 skip_short s p le = skip_one (drop p s) (simp length-drop (omega arith))
 
 skip_pair : (a b : ℕ) (t : Bytes) → (nat_eq a 92 && nat_eq b 10) ≡ false → skip (a ∷ b ∷ t) ≡ a ∷ b ∷ t
-skip_pair a b t e = if_false _ _ _ e
+skip_pair a b t e = cond-false _ _ _ e
 
 pub skip_stays : (s : Bytes) (p : ℕ) → p + 1 < length s → (nat_eq (get_or s p 0) 92 && nat_eq (get_or s (p + 1) 0) 10) ≡ false → skip (drop p s) ≡ drop p s
 skip_stays s p lt e =

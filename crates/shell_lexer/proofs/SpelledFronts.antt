@@ -3,7 +3,7 @@ use Rattle.std.proofs.Common.{◌≡◌, ℕ, Bool, true, false, nat_eq, [], ◌
 use Rattle.shell_lexer.specs.Text.{Bytes, skip, place, tail, head_is}
 use Rattle.shell_lexer.specs.Operators.{sight, sight_at}
 use Rattle.shell_lexer.specs.Spelling.{IsNotNext}
-use Rattle.shell_lexer.proofs.SpelledCases.{eq_of, true_false}
+use Rattle.std.proofs.lemmas.Bool.{eqb-true, true≢false}
 
 pub shown : (len b : ℕ) (text more : Bytes) → skip text ≡ b ∷ more → sight len text ≡ sight_at len (place len (b ∷ more)) (b ∷ more)
 shown len b text more e = ap (λ t. sight_at len (place len t) t) e
@@ -13,7 +13,7 @@ head_of b t more e r = (ap (head_is b) e ∙ r, ap tail e)
 
 pub head_back : (b : ℕ) (t : Bytes) → head_is b t ≡ true → t ≡ b ∷ tail t
 head_back b [] e = absurd (cc e)
-head_back b (a ∷ t) e = ap (λ a. a ∷ t) (eq_of a b e)
+head_back b (a ∷ t) e = ap (λ a. a ∷ t) (eqb-true a b e)
 
 -- the next byte is another: as a test, and back
 pub is_not : (b : ℕ) (t : Bytes) → ((more : Bytes) → t ≡ b ∷ more → ⊥) → head_is b t ≡ false
@@ -23,4 +23,4 @@ is_not b t h = by (head_is b t) refl where
   by false e = refl
 
 pub not_next : (b : ℕ) (text : Bytes) → nat_eq b b ≡ true → head_is b (skip text) ≡ false → IsNotNext b text
-not_next b text r e more h = true_false (sym ((head_of b (skip text) more h r).0) ∙ e)
+not_next b text r e more h = true≢false (sym ((head_of b (skip text) more h r).0) ∙ e)

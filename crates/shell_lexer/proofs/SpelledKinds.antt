@@ -4,7 +4,7 @@ use Rattle.std.proofs.lemmas.Grind.{common_steps}
 use Rattle.shell_lexer.specs.declared.byte_kind.ByteKind.{ByteKind}
 use Rattle.shell_lexer.specs.declared.byte_kind.ByteKind.TheVariants as k
 use Rattle.shell_lexer.specs.Text.{kind, word_kind, is_blank, is_digit, is_letter, is_special}
-use Rattle.shell_lexer.proofs.SpelledCases.{if_case, eq_of}
+use Rattle.std.proofs.lemmas.Bool.{cond_both, eqb-true}
 
 abbrev pub KindOf : ℕ → ByteKind → Type 0
 KindOf b k.Blank = is_blank b ≡ true
@@ -31,29 +31,29 @@ KindOf b k.Other = (is_digit b ≡ false) × (is_letter b ≡ false)
 
 word_kind_of : (b : ℕ) → KindOf b (word_kind b)
 word_kind_of b =
-    if_case (KindOf b) (nat_eq b 39) _ _ (eq_of b 39) (λ e.
-    if_case (KindOf b) (nat_eq b 34) _ _ (eq_of b 34) (λ e.
-    if_case (KindOf b) (nat_eq b 92) _ _ (eq_of b 92) (λ e.
-    if_case (KindOf b) (nat_eq b 96) _ _ (eq_of b 96) (λ e.
-    if_case (KindOf b) (nat_eq b 36) _ _ (eq_of b 36) (λ e.
-    if_case (KindOf b) (nat_eq b 123) _ _ (eq_of b 123) (λ e.
-    if_case (KindOf b) (nat_eq b 64) _ _ (eq_of b 64) (λ e.
-    if_case (KindOf b) (is_special b) _ _ (λ e. e) (λ e.
-    if_case (KindOf b) (is_digit b) _ _ (λ e. e) (λ d.
-    if_case (KindOf b) (is_letter b) _ _ (λ e. e) (λ l. (d, l)))))))))))
+    cond_both (nat_eq b 39) _ _ (KindOf b) (eqb-true b 39) (λ e.
+    cond_both (nat_eq b 34) _ _ (KindOf b) (eqb-true b 34) (λ e.
+    cond_both (nat_eq b 92) _ _ (KindOf b) (eqb-true b 92) (λ e.
+    cond_both (nat_eq b 96) _ _ (KindOf b) (eqb-true b 96) (λ e.
+    cond_both (nat_eq b 36) _ _ (KindOf b) (eqb-true b 36) (λ e.
+    cond_both (nat_eq b 123) _ _ (KindOf b) (eqb-true b 123) (λ e.
+    cond_both (nat_eq b 64) _ _ (KindOf b) (eqb-true b 64) (λ e.
+    cond_both (is_special b) _ _ (KindOf b) (λ e. e) (λ e.
+    cond_both (is_digit b) _ _ (KindOf b) (λ e. e) (λ d.
+    cond_both (is_letter b) _ _ (KindOf b) (λ e. e) (λ l. (d, l)))))))))))
 
 pub kind_of : (b : ℕ) → KindOf b (kind b)
 kind_of b =
-    if_case (KindOf b) (is_blank b) _ _ (λ e. e) (λ e.
-    if_case (KindOf b) (nat_eq b 10) _ _ (eq_of b 10) (λ e.
-    if_case (KindOf b) (nat_eq b 59) _ _ (eq_of b 59) (λ e.
-    if_case (KindOf b) (nat_eq b 38) _ _ (eq_of b 38) (λ e.
-    if_case (KindOf b) (nat_eq b 124) _ _ (eq_of b 124) (λ e.
-    if_case (KindOf b) (nat_eq b 40) _ _ (eq_of b 40) (λ e.
-    if_case (KindOf b) (nat_eq b 41) _ _ (eq_of b 41) (λ e.
-    if_case (KindOf b) (nat_eq b 60) _ _ (eq_of b 60) (λ e.
-    if_case (KindOf b) (nat_eq b 62) _ _ (eq_of b 62) (λ e.
-    if_case (KindOf b) (nat_eq b 35) _ _ (eq_of b 35) (λ e. word_kind_of b))))))))))
+    cond_both (is_blank b) _ _ (KindOf b) (λ e. e) (λ e.
+    cond_both (nat_eq b 10) _ _ (KindOf b) (eqb-true b 10) (λ e.
+    cond_both (nat_eq b 59) _ _ (KindOf b) (eqb-true b 59) (λ e.
+    cond_both (nat_eq b 38) _ _ (KindOf b) (eqb-true b 38) (λ e.
+    cond_both (nat_eq b 124) _ _ (KindOf b) (eqb-true b 124) (λ e.
+    cond_both (nat_eq b 40) _ _ (KindOf b) (eqb-true b 40) (λ e.
+    cond_both (nat_eq b 41) _ _ (KindOf b) (eqb-true b 41) (λ e.
+    cond_both (nat_eq b 60) _ _ (KindOf b) (eqb-true b 60) (λ e.
+    cond_both (nat_eq b 62) _ _ (KindOf b) (eqb-true b 62) (λ e.
+    cond_both (nat_eq b 35) _ _ (KindOf b) (eqb-true b 35) (λ e. word_kind_of b))))))))))
 
 no_digit : (b : ℕ) → is_letter b ≡ true → is_digit b ≡ true → ⊥
 no_digit b h e = grind (arith, common_steps)

@@ -4,19 +4,20 @@ use Rattle.std.specs.List.{list_all}
 use Rattle.shell_lexer.specs.Text.{Bytes, is_blank}
 use Rattle.shell_lexer.specs.FirstLine.{after, after_blanks, or_else, after_interpreter, strict_end, begins_blank, option_of, option_behind, interpreter_behind, interpreter}
 use Rattle.shell_lexer.specs.SpelledLine.{AreBlanks, IsInterpreter, sh, dash, bash, IsFirstLine, plain, strict}
-use Rattle.shell_lexer.proofs.SpelledCases.{if_case, if_true, if_false, eq_of, false_true, and_left, and_right, and_true, some_same, none_some}
+use Rattle.std.proofs.lemmas.Bool.{and_from, and_parts, cond-false, cond-true, cond_both, eqb-true, false≢true}
+use Rattle.shell_lexer.proofs.SpelledCases.{some_same, none_some}
 
 -- ---- what is spelled is accepted
 
 -- blanks before another byte are passed over
 blanks_pass : (blanks : Bytes) (b : ℕ) (rest : Bytes) → AreBlanks blanks → is_blank b ≡ false → after_blanks (blanks ++ b ∷ rest) ≡ b ∷ rest
-blanks_pass [] b rest h n = if_false (is_blank b) _ _ n
-blanks_pass (a ∷ blanks) b rest h n = if_true (is_blank a) _ _ (and_left (is_blank a) (list_all is_blank blanks) h) ∙ blanks_pass blanks b rest (and_right (is_blank a) (list_all is_blank blanks) h) n
+blanks_pass [] b rest h n = cond-false (is_blank b) _ _ n
+blanks_pass (a ∷ blanks) b rest h n = cond-true (is_blank a) _ _ (and_parts (is_blank a) (list_all is_blank blanks) h).0 ∙ blanks_pass blanks b rest (and_parts (is_blank a) (list_all is_blank blanks) h).1 n
 
 not_all : (blanks : Bytes) (b : ℕ) (rest : Bytes) → AreBlanks blanks → is_blank b ≡ false → list_all is_blank (blanks ++ b ∷ rest) ≡ false
 not_all [] b rest h n = ap (λ it. it && list_all is_blank rest) n
 not_all (a ∷ blanks) b rest h n =
-    ap (λ it. it && list_all is_blank (blanks ++ b ∷ rest)) (and_left (is_blank a) (list_all is_blank blanks) h) ∙ not_all blanks b rest (and_right (is_blank a) (list_all is_blank blanks) h) n
+    ap (λ it. it && list_all is_blank (blanks ++ b ∷ rest)) (and_parts (is_blank a) (list_all is_blank blanks) h).0 ∙ not_all blanks b rest (and_parts (is_blank a) (list_all is_blank blanks) h).1 n
 
 shell_found : (blanks shell rest : Bytes) → AreBlanks blanks → IsInterpreter shell → after_interpreter (after_blanks (blanks ++ (shell ++ rest))) ≡ Some rest
 shell_found blanks shell rest h sh = ap after_interpreter (blanks_pass blanks 47 _ h refl)
@@ -25,20 +26,20 @@ shell_found blanks shell rest h bash = ap after_interpreter (blanks_pass blanks 
 
 pub line_accepted : (line : Bytes) (asks : Bool) → IsFirstLine asks line → interpreter line ≡ Some asks
 line_accepted line asks (plain bs s last b is l e) =
-    ap interpreter e ∙ ap option_behind (shell_found bs s last b is) ∙ if_true (list_all is_blank last) _ _ l
+    ap interpreter e ∙ ap option_behind (shell_found bs s last b is) ∙ cond-true (list_all is_blank last) _ _ l
 line_accepted line asks (strict bs s a m last b is between l e) =
     let rest = a ∷ (m ++ (codes "-e" ++ last)) in
-    ap interpreter e ∙ ap option_behind (shell_found bs s rest b is) ∙ if_false (list_all is_blank rest) _ _ (not_all (a ∷ m) 45 (101 ∷ last) between refl)
-    ∙ if_true (is_blank a) _ _ (and_left (is_blank a) (list_all is_blank m) between)
-    ∙ ap (λ t. strict_end (after (codes "-e") t)) (blanks_pass (a ∷ m) 45 (101 ∷ last) between refl) ∙ if_true (list_all is_blank last) _ _ l
+    ap interpreter e ∙ ap option_behind (shell_found bs s rest b is) ∙ cond-false (list_all is_blank rest) _ _ (not_all (a ∷ m) 45 (101 ∷ last) between refl)
+    ∙ cond-true (is_blank a) _ _ (and_parts (is_blank a) (list_all is_blank m) between).0
+    ∙ ap (λ t. strict_end (after (codes "-e") t)) (blanks_pass (a ∷ m) 45 (101 ∷ last) between refl) ∙ cond-true (list_all is_blank last) _ _ l
 
 -- ---- what is accepted is spelled
 
 after_is : (bytes line rest : Bytes) → after bytes line ≡ Some rest → line ≡ bytes ++ rest
 after_is [] line rest e = some_same e
 after_is (b ∷ bytes) [] rest e = absurd (none_some e)
-after_is (b ∷ bytes) (a ∷ line) rest e = if_case (λ o. o ≡ Some rest → a ∷ line ≡ b ∷ (bytes ++ rest)) (nat_eq a b) (after bytes line) None
-    (λ is e. both a b line (bytes ++ rest) (eq_of a b is) (after_is bytes line rest e)) (λ _ e. absurd (none_some e)) e where
+after_is (b ∷ bytes) (a ∷ line) rest e = cond_both (nat_eq a b) (after bytes line) None (λ o. o ≡ Some rest → a ∷ line ≡ b ∷ (bytes ++ rest))
+    (λ is e. both a b line (bytes ++ rest) (eqb-true a b is) (after_is bytes line rest e)) (λ _ e. absurd (none_some e)) e where
       both : (a b : ℕ) (t u : Bytes) → a ≡ b → t ≡ u → a ∷ t ≡ b ∷ u
       both a b t u e g = cc
 
@@ -51,8 +52,8 @@ passed : (line : Bytes) → (blanks : Bytes) × IsPassed blanks line
 passed [] = ([], record { all = refl; splits = refl })
 passed (b ∷ line) = by (is_blank b) refl (passed line) where
   by : (it : Bool) → is_blank b ≡ it → (blanks : Bytes) × IsPassed blanks line → (blanks : Bytes) × IsPassed blanks (b ∷ line)
-  by true e more = (b ∷ more.0, record { all = and_true (is_blank b) (list_all is_blank more.0) e more.1.all; splits = ap (λ t. b ∷ t) more.1.splits ∙ ap (λ t. b ∷ (more.0 ++ t)) (sym (if_true (is_blank b) (after_blanks line) (b ∷ line) e)) })
-  by false e more = ([], record { all = refl; splits = sym (if_false (is_blank b) (after_blanks line) (b ∷ line) e) })
+  by true e more = (b ∷ more.0, record { all = and_from (is_blank b) (list_all is_blank more.0) e more.1.all; splits = ap (λ t. b ∷ t) more.1.splits ∙ ap (λ t. b ∷ (more.0 ++ t)) (sym (cond-true (is_blank b) (after_blanks line) (b ∷ line) e)) })
+  by false e more = ([], record { all = refl; splits = sym (cond-false (is_blank b) (after_blanks line) (b ∷ line) e) })
 
 or_is : (o p : Option Bytes) (rest : Bytes) → or_else o p ≡ Some rest → (o ≡ Some rest) ⊎ (p ≡ Some rest)
 or_is None p rest e = inr e
@@ -81,12 +82,12 @@ plain_rest blanks shell last line asks b is l e h = subst (λ a. IsFirstLine a l
 strict_is : (o : Option Bytes) (asks : Bool) → strict_end o ≡ Some asks → (last : Bytes) × (o ≡ Some last) × AreBlanks last × (true ≡ asks)
 strict_is None asks e = absurd (none_some e)
 strict_is (Some last) asks e =
-    if_case (λ x. x ≡ Some asks → (end : Bytes) × (Some last ≡ Some end) × AreBlanks end × (true ≡ asks)) (list_all is_blank last) (Some true) None
+    cond_both (list_all is_blank last) (Some true) None (λ x. x ≡ Some asks → (end : Bytes) × (Some last ≡ Some end) × AreBlanks end × (true ≡ asks))
     (λ l e. (last, refl, l, some_same e)) (λ _ e. absurd (none_some e)) e
 
 strict_by : (blanks shell rest line between last : Bytes) → AreBlanks blanks → IsInterpreter shell → line ≡ codes "#!" ++ (blanks ++ (shell ++ rest)) → begins_blank rest ≡ true
     → AreBlanks between → rest ≡ between ++ (codes "-e" ++ last) → AreBlanks last → IsFirstLine true line
-strict_by blanks shell rest line [] last b is e begin all splits l = absurd (false_true (sym (ap begins_blank splits) ∙ begin))
+strict_by blanks shell rest line [] last b is e begin all splits l = absurd (false≢true (sym (ap begins_blank splits) ∙ begin))
 strict_by blanks shell rest line (a ∷ more) last b is e begin all splits l = strict blanks shell a more last b is all l (e ∙ ap (λ t. codes "#!" ++ (blanks ++ (shell ++ t))) splits)
 
 strict_rest : (blanks shell rest line : Bytes) (asks : Bool) → AreBlanks blanks → IsInterpreter shell → line ≡ codes "#!" ++ (blanks ++ (shell ++ rest)) → begins_blank rest ≡ true
@@ -99,9 +100,9 @@ strict_rest blanks shell rest line asks b is e begin h =
 
 option_is : (blanks shell rest line : Bytes) (asks : Bool) → AreBlanks blanks → IsInterpreter shell → line ≡ codes "#!" ++ (blanks ++ (shell ++ rest)) → option_of rest ≡ Some asks → IsFirstLine asks line
 option_is blanks shell rest line asks b is e h =
-    if_case (λ o. o ≡ Some asks → IsFirstLine asks line) (list_all is_blank rest) _ _
+    cond_both (list_all is_blank rest) _ _ (λ o. o ≡ Some asks → IsFirstLine asks line)
     (λ l h. plain_rest blanks shell rest line asks b is l e h)
-    (λ _ h. if_case (λ o. o ≡ Some asks → IsFirstLine asks line) (begins_blank rest) _ _ (λ begin h. strict_rest blanks shell rest line asks b is e begin h) (λ _ h. absurd (none_some h)) h) h
+    (λ _ h. cond_both (begins_blank rest) _ _ (λ o. o ≡ Some asks → IsFirstLine asks line) (λ begin h. strict_rest blanks shell rest line asks b is e begin h) (λ _ h. absurd (none_some h)) h) h
 
 behind_shell : (line rest : Bytes) (asks : Bool) (o : Option Bytes) → line ≡ codes "#!" ++ rest → after_interpreter (after_blanks rest) ≡ o → option_behind o ≡ Some asks → IsFirstLine asks line
 behind_shell line rest asks None e is h = absurd (none_some h)

@@ -11,7 +11,7 @@ use Rattle.shell_lexer.proofs.SpelledKinds.{KindOf, kind_of}
 use Rattle.shell_lexer.proofs.SpelledRuns.{run_stands}
 use Rattle.shell_lexer.proofs.SpelledFronts.{shown, head_of, head_back, is_not, not_next}
 use Rattle.shell_lexer.proofs.SpelledRedirects.{sign_same, rest_same, sees_redirected, greater_seen, less_seen, numbered_seen}
-use Rattle.shell_lexer.proofs.SpelledCases.{if_case}
+use Rattle.std.proofs.lemmas.Bool.{cond_both}
 
 -- ---- what is spelled is seen
 
@@ -60,18 +60,18 @@ seen_by : (len at c : ℕ) (text more rest : Bytes) (which : Sign) (it : ByteKin
 seen_by len at c text more rest which k.Newline e is h = one_byte 10 c text more rest which s.Newline e is h (λ g. g)
 seen_by len at c text more rest which k.Close e is h = one_byte 41 c text more rest which s.RightParen e is h (λ g. g)
 seen_by len at c text more rest which k.Open e is h =
-    if_case (λ x. x ≡ Operator which rest → IsOperator which text rest) (head_is 40 (skip more)) _ _
+    cond_both (head_is 40 (skip more)) _ _ (λ x. x ≡ Operator which rest → IsOperator which text rest)
     (λ two h. absurd (cc h)) (λ one h. one_byte 40 c text more rest which s.LeftParen e is h (λ g. (g, shorter 40 more rest which s.LeftParen refl one h))) h
 seen_by len at c text more rest which k.Semi e is h =
-    if_case (λ x. x ≡ Operator which rest → IsOperator which text rest) (head_is 59 (skip more)) _ _
+    cond_both (head_is 59 (skip more)) _ _ (λ x. x ≡ Operator which rest → IsOperator which text rest)
     (λ two h. two_bytes 59 c text more rest which s.DoubleSemi e is two h (λ g. g))
     (λ one h. one_byte 59 c text more rest which s.Semi e is h (λ g. (g, shorter 59 more rest which s.Semi refl one h))) h
 seen_by len at c text more rest which k.Bar e is h =
-    if_case (λ x. x ≡ Operator which rest → IsOperator which text rest) (head_is 124 (skip more)) _ _
+    cond_both (head_is 124 (skip more)) _ _ (λ x. x ≡ Operator which rest → IsOperator which text rest)
     (λ two h. two_bytes 124 c text more rest which s.OrOr e is two h (λ g. g))
     (λ one h. one_byte 124 c text more rest which s.Bar e is h (λ g. (g, shorter 124 more rest which s.Bar refl one h))) h
 seen_by len at c text more rest which k.Amp e is h =
-    if_case (λ x. x ≡ Operator which rest → IsOperator which text rest) (head_is 38 (skip more)) _ _
+    cond_both (head_is 38 (skip more)) _ _ (λ x. x ≡ Operator which rest → IsOperator which text rest)
     (λ two h. two_bytes 38 c text more rest which s.AndAnd e is two h (λ g. g)) (λ one h. absurd (cc h)) h
 seen_by len at c text more rest which k.Less e is h = less_seen at [] text more rest which (more, e ∙ ap (λ c. c ∷ more) is, refl) h
 seen_by len at c text more rest which k.Greater e is h = greater_seen at [] text more rest which (more, e ∙ ap (λ c. c ∷ more) is, refl) h

@@ -18,7 +18,7 @@ use Rattle.shell_lexer.proofs.Ahead.{Ahead}
 use Rattle.shell_lexer.proofs.SpelledRuns.{skip_again, stands_then, stands_parts, stands_skip, skip_stands, IsRun, run_is, behind_is, run_stands}
 use Rattle.shell_lexer.proofs.SpelledFronts.{is_not, not_next}
 use Rattle.std.proofs.Math.Bool.{or-true}
-use Rattle.shell_lexer.proofs.SpelledCases.{not_true, if_case, if_true, if_false, eq_of, false_true, true_false, and_left, and_right, and_true}
+use Rattle.std.proofs.lemmas.Bool.{and_from, and_parts, cond-false, cond-true, cond_both, eqb-true, false≢true, not-true, true≢false}
 
 -- ---- bytes of names
 
@@ -26,10 +26,10 @@ letter_passes : (b : ℕ) → is_letter b ≡ true → is_name_byte b ≡ true
 letter_passes b e = by (is_letter b) e where
   by : (it : Bool) → it ≡ true → (it || is_digit b) ≡ true
   by true e = refl
-  by false e = absurd (false_true e)
+  by false e = absurd (false≢true e)
 
 variable_pass : (b : ℕ) (name : Bytes) → is_variable (b ∷ name) ≡ true → list_all is_name_byte (b ∷ name) ≡ true
-variable_pass b name e = and_true (is_name_byte b) (list_all is_name_byte name) (letter_passes b (and_left (is_letter b) (list_all is_name_byte name) e)) (and_right (is_letter b) (list_all is_name_byte name) e)
+variable_pass b name e = and_from (is_name_byte b) (list_all is_name_byte name) (letter_passes b (and_parts (is_letter b) (list_all is_name_byte name) e).0) (and_parts (is_letter b) (list_all is_name_byte name) e).1
 
 digit_passes : {number digit : ℕ} → IsDigitOf number digit → is_digit digit ≡ true
 digit_passes {number} {digit} h = subst (λ d. is_digit d ≡ true) (sym h.digit_is) (by number h.least h.most) where
@@ -79,32 +79,32 @@ key_default quoted at key default middle rest is h =
 -- behind `${`
 name_key : (quoted : Bool) (at : ℕ) (name text middle : Bytes) → is_variable name ≡ true → Stands name text middle → begins is_name_byte (skip middle) ≡ false
     → braced quoted at (skip text) ≡ behind_key quoted at (Named name) (skip middle)
-name_key quoted at [] text middle is h ends = absurd (false_true is)
+name_key quoted at [] text middle is h ends = absurd (false≢true is)
 name_key quoted at (b ∷ name) text middle is h ends =
     let all = name_run b h.0 text middle name is h h.1 ends in
-    ap (braced quoted at) h.1 ∙ ap (λ it. braced_by quoted at b it h.0) (letter_kind b (and_left (is_letter b) (list_all is_name_byte name) is))
+    ap (braced quoted at) h.1 ∙ ap (λ it. braced_by quoted at b it h.0) (letter_kind b (and_parts (is_letter b) (list_all is_name_byte name) is).0)
     ∙ ap (λ n. behind_key quoted at (Named n) (skip (behind Names (b ∷ h.0)))) (run_is is_name_byte (b ∷ name) (b ∷ h.0) middle all)
     ∙ ap (λ t. behind_key quoted at (Named (b ∷ name)) (skip t)) (behind_is is_name_byte (b ∷ name) (b ∷ h.0) middle all)
 
 digit_key : (quoted : Bool) (at number digit : ℕ) (text more : Bytes) → IsDigitOf number digit → skip text ≡ digit ∷ more → braced quoted at (skip text) ≡ behind_key quoted at (Arg number) (skip more)
 digit_key quoted at number digit text more is e =
     ap (braced quoted at) e ∙ ap (λ it. braced_by quoted at digit it more) (digit_kind digit (digit_passes is))
-    ∙ if_false (nat_eq digit 48) _ _ (digit_no_zero is) ∙ ap (λ n. behind_key quoted at (Arg n) (skip more)) (digit_number is)
+    ∙ cond-false (nat_eq digit 48) _ _ (digit_no_zero is) ∙ ap (λ n. behind_key quoted at (Arg n) (skip more)) (digit_number is)
 
 -- behind `$`
 name_part : (quoted : Bool) (at : ℕ) (name text rest : Bytes) → is_variable name ≡ true → Stands name text rest → begins is_name_byte (skip rest) ≡ false
     → dollar quoted at text (skip text) ≡ Piece (part.Param (Named name) None quoted) rest
-name_part quoted at [] text rest is h ends = absurd (false_true is)
+name_part quoted at [] text rest is h ends = absurd (false≢true is)
 name_part quoted at (b ∷ name) text rest is h ends =
     let all = name_run b h.0 text rest name is h h.1 ends in
-    ap (dollar quoted at text) h.1 ∙ ap (λ it. dollar_by quoted at text b it h.0) (letter_kind b (and_left (is_letter b) (list_all is_name_byte name) is))
+    ap (dollar quoted at text) h.1 ∙ ap (λ it. dollar_by quoted at text b it h.0) (letter_kind b (and_parts (is_letter b) (list_all is_name_byte name) is).0)
     ∙ ap (λ n. Piece (part.Param (Named n) None quoted) (behind Names (b ∷ h.0))) (run_is is_name_byte (b ∷ name) (b ∷ h.0) rest all)
     ∙ ap (Piece (part.Param (Named (b ∷ name)) None quoted)) (behind_is is_name_byte (b ∷ name) (b ∷ h.0) rest all)
 
 digit_part : (quoted : Bool) (at number digit : ℕ) (text more : Bytes) → IsDigitOf number digit → skip text ≡ digit ∷ more → dollar quoted at text (skip text) ≡ Piece (part.Param (Arg number) None quoted) more
 digit_part quoted at number digit text more is e =
     ap (dollar quoted at text) e ∙ ap (λ it. dollar_by quoted at text digit it more) (digit_kind digit (digit_passes is))
-    ∙ if_false (nat_eq digit 48) _ _ (digit_no_zero is) ∙ ap (λ n. Piece (part.Param (Arg n) None quoted) more) (digit_number is)
+    ∙ cond-false (nat_eq digit 48) _ _ (digit_no_zero is) ∙ ap (λ n. Piece (part.Param (Arg n) None quoted) more) (digit_number is)
 
 -- a `$`, and behind it what the dollar's table gives whatever the place
 record IsDollar (quoted : Bool) (seen : Look) (text : Bytes) : Type 0 where
@@ -137,7 +137,7 @@ all_dollar quoted text rest h = record { behind = h.0; is = h.1; gives = λ at. 
 substitution_dollar : (quoted : Bool) (text rest : Bytes) → IsSubstitution text rest → IsDollar quoted (Substitution rest) text
 substitution_dollar quoted text rest h =
     let g = h.stands in
-    record { behind = g.0; is = g.1; gives = λ at. ap (dollar quoted at g.0) g.2.1 ∙ ap (parenthesis at) g.2.2 ∙ if_false (head_is 40 (skip rest)) _ _ (is_not 40 (skip rest) h.single) }
+    record { behind = g.0; is = g.1; gives = λ at. ap (dollar quoted at g.0) g.2.1 ∙ ap (parenthesis at) g.2.2 ∙ cond-false (head_is 40 (skip rest)) _ _ (is_not 40 (skip rest) h.single) }
 
 look_dollar : (len : ℕ) (seen : Look) (text : Bytes) → IsDollar false seen text → look len text ≡ seen
 look_dollar len seen text h = ap (λ t. look_at (place len t) t) h.is ∙ h.gives (place len (36 ∷ h.behind))
@@ -149,14 +149,14 @@ inner_dollar len seen text h = ap (λ t. inner_at (place len t) t) h.is ∙ h.gi
 quote_found : (bytes rest : Bytes) → list_all (λ b. not (nat_eq b 39)) bytes ≡ true → (has_quote (bytes ++ 39 ∷ rest) ≡ true) × (quote_body (bytes ++ 39 ∷ rest) ≡ bytes) × (behind_quote (bytes ++ 39 ∷ rest) ≡ rest)
 quote_found [] rest e = (refl, refl, refl)
 quote_found (b ∷ bytes) rest e =
-    let more = quote_found bytes rest (and_right (not (nat_eq b 39)) (list_all (λ b. not (nat_eq b 39)) bytes) e) in
-    let other = not_true (nat_eq b 39) (and_left (not (nat_eq b 39)) (list_all (λ b. not (nat_eq b 39)) bytes) e) in
-    (ap (λ x. nat_eq b 39 || x) more.0 ∙ or-true (nat_eq b 39), if_false (nat_eq b 39) _ _ other ∙ ap (λ t. b ∷ t) more.1, if_false (nat_eq b 39) _ _ other ∙ more.2)
+    let more = quote_found bytes rest (and_parts (not (nat_eq b 39)) (list_all (λ b. not (nat_eq b 39)) bytes) e).1 in
+    let other = not-true (nat_eq b 39) (and_parts (not (nat_eq b 39)) (list_all (λ b. not (nat_eq b 39)) bytes) e).0 in
+    (ap (λ x. nat_eq b 39 || x) more.0 ∙ or-true (nat_eq b 39), cond-false (nat_eq b 39) _ _ other ∙ ap (λ t. b ∷ t) more.1, cond-false (nat_eq b 39) _ _ other ∙ more.2)
 
 quoted_seen : (len : ℕ) (bytes text rest : Bytes) → IsQuoted bytes text rest → look len text ≡ Piece (part.Quoted bytes) rest
 quoted_seen len bytes text rest (single all h) =
     let q = quote_found bytes rest all in
-    ap (λ t. look_at (place len t) t) (h.1 ∙ ap (λ t. 39 ∷ t) h.2) ∙ if_true (has_quote (bytes ++ 39 ∷ rest)) _ _ q.0
+    ap (λ t. look_at (place len t) t) (h.1 ∙ ap (λ t. 39 ∷ t) h.2) ∙ cond-true (has_quote (bytes ++ 39 ∷ rest)) _ _ q.0
     ∙ ap (λ b. Piece (part.Quoted b) (behind_quote (bytes ++ 39 ∷ rest))) q.1 ∙ ap (Piece (part.Quoted bytes)) q.2
 quoted_seen len bytes text rest (escaped h) = ap (λ t. look_at (place len t) t) (h.1 ∙ ap (λ t. 92 ∷ t) h.2)
 
@@ -167,7 +167,7 @@ look_piece len text rest _ h = absurd h
 
 pub inner_piece : (len : ℕ) (text rest : Bytes) (it : RawPart) → IsPiece true it text rest → inner len text ≡ Piece it rest
 inner_piece len text rest (part.Param key default quoted) h = inner_dollar len _ text (param_dollar true key default text rest h.1) ∙ ap (λ q. Piece (part.Param key default q) rest) (sym h.0)
-inner_piece len text rest (part.Quoted bytes) h = absurd (true_false h.0)
+inner_piece len text rest (part.Quoted bytes) h = absurd (true≢false h.0)
 inner_piece len text rest _ h = absurd h
 
 pub look_all : (len : ℕ) (text rest : Bytes) → Stands (codes "$@") text rest → look len text ≡ AllArgs rest
@@ -212,26 +212,26 @@ closed_seen : (quoted : Bool) (at : ℕ) (key : Key) (default : Option Bytes) (t
     → IsSeen quoted (closed quoted at key default t) text
 closed_seen quoted at key default text middle [] e make = tt
 closed_seen quoted at key default text middle (b ∷ u) e make =
-    if_case (λ l. IsSeen quoted l text) (nat_eq b 125) (Piece (part.Param key default quoted) u) (bad_param at)
-    (λ is. (refl, make u (u, e ∙ ap (λ b. b ∷ u) (eq_of b 125 is), refl))) (λ _. tt)
+    cond_both (nat_eq b 125) (Piece (part.Param key default quoted) u) (bad_param at) (λ l. IsSeen quoted l text)
+    (λ is. (refl, make u (u, e ∙ ap (λ b. b ∷ u) (eqb-true b 125 is), refl))) (λ _. tt)
 
 colon_seen : (quoted : Bool) (at : ℕ) (key : Key) (text middle t : Bytes) → skip middle ≡ t
     → ((default rest : Bytes) → is_default default ≡ true → Stands (codes "-" ++ (default ++ codes "}")) middle rest → IsParam key (Some default) text rest) → IsSeen quoted (behind_colon quoted at key t) text
 colon_seen quoted at key text middle [] e make = tt
 colon_seen quoted at key text middle (b ∷ u) e make =
-    if_case (λ l. IsSeen quoted l text) (nat_eq b 45) (closed quoted at key (Some (run Defaults u)) (skip (behind Defaults u))) (bad_param at)
+    cond_both (nat_eq b 45) (closed quoted at key (Some (run Defaults u)) (skip (behind Defaults u))) (bad_param at) (λ l. IsSeen quoted l text)
     (λ is.
     let all = run_stands is_default_byte (run Defaults u) u refl in
     closed_seen quoted at key (Some (run Defaults u)) text (behind Defaults u) (skip (behind Defaults u)) refl
-    (λ rest h. make (run Defaults u) rest all.pass (u, e ∙ ap (λ b. b ∷ u) (eq_of b 45 is), stands_then (run Defaults u) (codes "}") u (behind Defaults u) rest all.stands h)))
+    (λ rest h. make (run Defaults u) rest all.pass (u, e ∙ ap (λ b. b ∷ u) (eqb-true b 45 is), stands_then (run Defaults u) (codes "}") u (behind Defaults u) rest all.stands h)))
     (λ _. tt)
 
 key_seen : (quoted : Bool) (at : ℕ) (key : Key) (text middle t : Bytes) → skip middle ≡ t → ((rest : Bytes) → Stands (codes "}") middle rest → IsParam key None text rest)
     → ((default rest : Bytes) → is_default default ≡ true → Stands (codes ":-" ++ (default ++ codes "}")) middle rest → IsParam key (Some default) text rest) → IsSeen quoted (behind_key quoted at key t) text
 key_seen quoted at key text middle [] e make make_default = tt
 key_seen quoted at key text middle (b ∷ u) e make make_default =
-    if_case (λ l. IsSeen quoted l text) (nat_eq b 58) (behind_colon quoted at key (skip u)) (closed quoted at key None (b ∷ u))
-    (λ is. colon_seen quoted at key text u (skip u) refl (λ default rest default_is h. make_default default rest default_is (u, e ∙ ap (λ b. b ∷ u) (eq_of b 58 is), h)))
+    cond_both (nat_eq b 58) (behind_colon quoted at key (skip u)) (closed quoted at key None (b ∷ u)) (λ l. IsSeen quoted l text)
+    (λ is. colon_seen quoted at key text u (skip u) refl (λ default rest default_is h. make_default default rest default_is (u, e ∙ ap (λ b. b ∷ u) (eqb-true b 58 is), h)))
     (λ _. closed_seen quoted at key None text middle (b ∷ u) e make)
 
 -- the run of a name that begins with a letter
@@ -245,9 +245,9 @@ name_stands b more text e is = by (run Names (b ∷ more)) (run_stands is_name_b
     again = sym (ap skip e) ∙ skip_again text ∙ e
 
     empty : is_name_byte b ≡ false → ⊥
-    empty n = true_false (sym (letter_passes b is) ∙ n)
+    empty n = true≢false (sym (letter_passes b is) ∙ n)
   by (c ∷ found) all = (
-    and_true (is_letter c) (list_all is_name_byte found) (ap is_letter (first (again ∙ all.stands.1)) ∙ is) (and_right (is_name_byte c) (list_all is_name_byte found) all.pass),
+    and_from (is_letter c) (list_all is_name_byte found) (ap is_letter (first (again ∙ all.stands.1)) ∙ is) (and_parts (is_name_byte c) (list_all is_name_byte found) all.pass).1,
     stands_skip c found text (behind Names (b ∷ more)) (subst (λ t. Stands (c ∷ found) t (behind Names (b ∷ more))) (sym e) all.stands),
     all.longest,
   ) where
@@ -267,7 +267,7 @@ braced_by_seen quoted at b text from more k.Name o e is =
     (λ default rest default_is h. name_default n.0 default_is
     (opened_stands text from (found ++ (codes ":-" ++ (default ++ codes "}"))) rest o (stands_then found (codes ":-" ++ (default ++ codes "}")) from middle rest n.1 h)))
 braced_by_seen quoted at b text from more k.Digit o e is =
-    if_case (λ l. IsSeen quoted l text) (nat_eq b 48) (bad_param at) (behind_key quoted at (Arg (b - 48)) (skip more)) (λ _. tt)
+    cond_both (nat_eq b 48) (bad_param at) (behind_key quoted at (Arg (b - 48)) (skip more)) (λ l. IsSeen quoted l text) (λ _. tt)
     (λ other. key_seen quoted at (Arg (b - 48)) text more (skip more) refl
     (λ rest h. number_braced (digit_of b is other) (opened_stands text from (b ∷ codes "}") rest o (more, e, h)))
     (λ default rest default_is h. number_default (digit_of b is other) default_is (opened_stands text from (b ∷ (codes ":-" ++ (default ++ codes "}"))) rest o (more, e, h))))
@@ -285,12 +285,12 @@ quote_byte false at behind text d = tt
 
 dollar_by_seen : (quoted : Bool) (at b : ℕ) (text behind more : Bytes) (it : ByteKind) → skip text ≡ 36 ∷ behind → skip behind ≡ b ∷ more → KindOf b it → IsSeen quoted (dollar_by quoted at behind b it more) text
 dollar_by_seen quoted at b text after more k.Open d e is =
-    if_case (λ l. IsSeen quoted l text) (head_is 40 (skip more)) _ (Substitution more) (λ _. tt)
+    cond_both (head_is 40 (skip more)) _ (Substitution more) (λ l. IsSeen quoted l text) (λ _. tt)
     (λ one. record { stands = (after, d, (more, e ∙ ap (λ b. b ∷ more) is, refl)); single = not_next 40 more refl one })
 dollar_by_seen quoted at b text after more k.Brace d e is = braced_seen quoted at text more (skip more) (record { behind = after; is = d; brace = e ∙ ap (λ b. b ∷ more) is }) refl
 dollar_by_seen quoted at b text after more k.Name d e is = let n = name_stands b more after e is in (refl, by_name n.0 (after, d, n.1) n.2)
 dollar_by_seen quoted at b text after more k.Digit d e is =
-    if_case (λ l. IsSeen quoted l text) (nat_eq b 48) (bad_param at) (Piece (part.Param (Arg (b - 48)) None quoted) more) (λ _. tt)
+    cond_both (nat_eq b 48) (bad_param at) (Piece (part.Param (Arg (b - 48)) None quoted) more) (λ l. IsSeen quoted l text) (λ _. tt)
     (λ other. (refl, by_number (digit_of b is other) (after, d, (more, e, refl))))
 dollar_by_seen quoted at b text after more k.Hash d e is = (refl, count (after, d, (more, e ∙ ap (λ b. b ∷ more) is, refl)))
 dollar_by_seen quoted at b text after more k.At d e is = (after, d, (more, e ∙ ap (λ b. b ∷ more) is, refl))
@@ -308,16 +308,16 @@ dollar_seen quoted at text after (b ∷ more) d e = dollar_by_seen quoted at b t
 quote_splits_by : (b : ℕ) (t : Bytes) (it : Bool) → nat_eq b 39 ≡ it → (it || has_quote t) ≡ true
     → (has_quote t ≡ true → (t ≡ quote_body t ++ 39 ∷ behind_quote t) × (list_all (λ b. not (nat_eq b 39)) (quote_body t) ≡ true))
     → (b ∷ t ≡ (if it then [] else b ∷ quote_body t) ++ 39 ∷ (if it then t else behind_quote t)) × (list_all (λ b. not (nat_eq b 39)) (if it then [] else b ∷ quote_body t) ≡ true)
-quote_splits_by b t true is e again = (ap (λ b. b ∷ t) (eq_of b 39 is), refl)
-quote_splits_by b t false is e again = let more = again e in (ap (λ t. b ∷ t) more.0, and_true (not (nat_eq b 39)) (list_all (λ b. not (nat_eq b 39)) (quote_body t)) (ap not is) more.1)
+quote_splits_by b t true is e again = (ap (λ b. b ∷ t) (eqb-true b 39 is), refl)
+quote_splits_by b t false is e again = let more = again e in (ap (λ t. b ∷ t) more.0, and_from (not (nat_eq b 39)) (list_all (λ b. not (nat_eq b 39)) (quote_body t)) (ap not is) more.1)
 
 quote_splits : (t : Bytes) → has_quote t ≡ true → (t ≡ quote_body t ++ 39 ∷ behind_quote t) × (list_all (λ b. not (nat_eq b 39)) (quote_body t) ≡ true)
-quote_splits [] e = absurd (false_true e)
+quote_splits [] e = absurd (false≢true e)
 quote_splits (b ∷ t) e = quote_splits_by b t (nat_eq b 39) refl e (λ h. quote_splits t h)
 
 look_by_seen : (at c : ℕ) (text more : Bytes) (it : ByteKind) → skip text ≡ c ∷ more → KindOf c it → IsSeen false (look_by at c it more) text
 look_by_seen at c text more k.Single e is =
-    if_case (λ l. IsSeen false l text) (has_quote more) (Piece (part.Quoted (quote_body more)) (behind_quote more)) _
+    cond_both (has_quote more) (Piece (part.Quoted (quote_body more)) (behind_quote more)) _ (λ l. IsSeen false l text)
     (λ has. let q = quote_splits more has in (refl, single q.1 (more, e ∙ ap (λ c. c ∷ more) is, q.0))) (λ _. tt)
 look_by_seen at c text more k.Double e is = (more, e ∙ ap (λ c. c ∷ more) is, refl)
 look_by_seen at c text [] k.Back e is = (c, [], e)
@@ -344,7 +344,7 @@ look_seen len text it e = subst (λ l. IsSeen false l text) e (look_at_seen (pla
 
 escaped_byte : (b : ℕ) (more text : Bytes) → skip text ≡ b ∷ more → IsSeen true (inner_escaped b more) text
 escaped_byte b [] text e = (b, [], e)
-escaped_byte b (c ∷ more) text e = if_case (λ l. IsSeen true l text) (is_escapable (kind c)) (Byte c more) (Byte b (c ∷ more)) (λ _. (b, c ∷ [], e)) (λ _. (b, [], e))
+escaped_byte b (c ∷ more) text e = cond_both (is_escapable (kind c)) (Byte c more) (Byte b (c ∷ more)) (λ l. IsSeen true l text) (λ _. (b, c ∷ [], e)) (λ _. (b, [], e))
 
 inner_by_seen : (at c : ℕ) (text more : Bytes) (it : ByteKind) → skip text ≡ c ∷ more → KindOf c it → IsSeen true (inner_by at c it more) text
 inner_by_seen at c text more k.Double e is = (more, e ∙ ap (λ c. c ∷ more) is, refl)

@@ -17,7 +17,8 @@ use Rattle.shell_lexer.specs.Spelling.{Stands, begins, IsToNull, IsRedirected, o
 use Rattle.shell_lexer.proofs.SpelledKinds.{KindOf, kind_of, digit_kind}
 use Rattle.shell_lexer.proofs.SpelledRuns.{skip_again, stands_then, stands_parts, stands_skip, bytes_stand, bytes_found, IsRun, run_is, behind_is, run_stands}
 use Rattle.shell_lexer.proofs.SpelledFronts.{shown, head_of, head_back}
-use Rattle.shell_lexer.proofs.SpelledCases.{if_case, if_true, if_false, eq_of, false_true, and_left, and_right, and_true, or_case, some_same, none_some}
+use Rattle.std.proofs.lemmas.Bool.{and_from, and_parts, cond-false, cond-true, cond_both, eqb-true, false≢true}
+use Rattle.shell_lexer.proofs.SpelledCases.{or_case, some_same, none_some}
 
 wrong_operator : {fault : LexFault} {which : Sign} {rest : Bytes} → Wrong fault ≡ Operator which rest → ⊥
 wrong_operator e = cc
@@ -36,11 +37,11 @@ rest_same e = cc
 whole_is : (o : Option Bytes) (rest : Bytes) → whole_word o ≡ Some rest → (o ≡ Some rest) × (ends_word (skip rest) ≡ true)
 whole_is None rest e = absurd (none_some e)
 whole_is (Some t) rest e =
-    if_case (λ x. x ≡ Some rest → (Some t ≡ Some rest) × (ends_word (skip rest) ≡ true)) (ends_word (skip t)) (Some t) None
+    cond_both (ends_word (skip t)) (Some t) None (λ x. x ≡ Some rest → (Some t ≡ Some rest) × (ends_word (skip rest) ≡ true))
     (λ is e. (e, ap (λ t. ends_word (skip t)) (sym (some_same e)) ∙ is)) (λ is e. absurd (none_some e)) e
 
 whole_found : (rest : Bytes) → ends_word (skip rest) ≡ true → whole_word (Some rest) ≡ Some rest
-whole_found rest e = if_true (ends_word (skip rest)) (Some rest) None e
+whole_found rest e = cond-true (ends_word (skip rest)) (Some rest) None e
 
 null_stands : (text rest : Bytes) → null_word text ≡ Some rest → IsToNull [] text rest
 null_stands text rest e =
@@ -73,15 +74,12 @@ null_parts operator text rest h =
 null_first : (b : ℕ) (text rest : Bytes) → is_blank b ≡ false → nat_eq 47 b ≡ false → IsToNull [] text rest → head_is b (skip text) ≡ false
 null_first b text rest not_blank not_slash h = by h.blanks h.blank h.stands where
   blank_is_not : (a : ℕ) → is_blank a ≡ true → (it : Bool) → nat_eq a b ≡ it → it ≡ false
-  blank_is_not a is true e = absurd (false_true (sym not_blank ∙ ap is_blank (sym (eq_of a b e)) ∙ is))
+  blank_is_not a is true e = absurd (false≢true (sym not_blank ∙ ap is_blank (sym (eqb-true a b e)) ∙ is))
   blank_is_not a is false e = refl
 
   by : (blanks : Bytes) → list_all is_blank blanks ≡ true → Stands (blanks ++ codes "/dev/null") text rest → head_is b (skip text) ≡ false
   by [] pass g = ap (head_is b) g.1 ∙ not_slash
-  by (a ∷ blanks) pass g = ap (head_is b) g.1 ∙ blank_is_not a (first (is_blank a) (list_all is_blank blanks) pass) (nat_eq a b) refl where
-    first : (x y : Bool) → (x && y) ≡ true → x ≡ true
-    first true y h = refl
-    first false y h = h
+  by (a ∷ blanks) pass g = ap (head_is b) g.1 ∙ blank_is_not a (and_parts (is_blank a) (list_all is_blank blanks) pass).0 (nat_eq a b) refl
 
 -- ---- numbers
 
@@ -90,16 +88,16 @@ same_bytes xs ys e = (bytes_eq-Decides xs ys).0 e
 
 out_number : (P : Redirect → Bytes → Type 0) → P r.OutNull [] → P r.OutNull (codes "1") → P r.ErrNull (codes "2") → (number : Bytes) (which : Redirect) → out_to number ≡ Some which → P which number
 out_number P none one two number which =
-    if_case (λ x. x ≡ Some which → P which number) (bytes_eq number [] || bytes_eq number (codes "1")) (Some r.OutNull) (if bytes_eq number (codes "2") then Some r.ErrNull else None)
+    cond_both (bytes_eq number [] || bytes_eq number (codes "1")) (Some r.OutNull) (if bytes_eq number (codes "2") then Some r.ErrNull else None) (λ x. x ≡ Some which → P which number)
     (λ is e. subst (λ w. P w number) (some_same e)
     (or_case (bytes_eq number []) (bytes_eq number (codes "1")) is
     (λ is. subst (P r.OutNull) (sym (same_bytes number [] is)) none) (λ is. subst (P r.OutNull) (sym (same_bytes number (codes "1") is)) one)))
-    (λ _. if_case (λ x. x ≡ Some which → P which number) (bytes_eq number (codes "2")) (Some r.ErrNull) None
+    (λ _. cond_both (bytes_eq number (codes "2")) (Some r.ErrNull) None (λ x. x ≡ Some which → P which number)
     (λ is e. subst (λ w. P w number) (some_same e) (subst (P r.ErrNull) (sym (same_bytes number (codes "2") is)) two)) (λ is e. absurd (none_some e)))
 
 in_number : (P : Redirect → Bytes → Type 0) → P r.InNull [] → P r.InNull (codes "0") → (number : Bytes) (which : Redirect) → in_from number ≡ Some which → P which number
 in_number P none zero' number which =
-    if_case (λ x. x ≡ Some which → P which number) (bytes_eq number [] || bytes_eq number (codes "0")) (Some r.InNull) None
+    cond_both (bytes_eq number [] || bytes_eq number (codes "0")) (Some r.InNull) None (λ x. x ≡ Some which → P which number)
     (λ is e. subst (λ w. P w number) (some_same e)
     (or_case (bytes_eq number []) (bytes_eq number (codes "0")) is
     (λ is. subst (P r.InNull) (sym (same_bytes number [] is)) none) (λ is. subst (P r.InNull) (sym (same_bytes number (codes "0") is)) zero')))
@@ -108,15 +106,15 @@ in_number P none zero' number which =
 copy_number : (P : Redirect → Bytes → ℕ → Type 0) → P r.OutToErr [] 50 → P r.OutToErr (codes "1") 50 → P r.ErrToOut (codes "2") 49
     → (number : Bytes) (b : ℕ) (which : Redirect) → copy_of number b ≡ Some which → P which number b
 copy_number P none one two number b which =
-    if_case (λ x. x ≡ Some which → P which number b) ((bytes_eq number [] || bytes_eq number (codes "1")) && nat_eq b 50) (Some r.OutToErr) (if bytes_eq number (codes "2") && nat_eq b 49 then Some r.ErrToOut else None)
+    cond_both ((bytes_eq number [] || bytes_eq number (codes "1")) && nat_eq b 50) (Some r.OutToErr) (if bytes_eq number (codes "2") && nat_eq b 49 then Some r.ErrToOut else None) (λ x. x ≡ Some which → P which number b)
     (λ is e. subst (λ w. P w number b) (some_same e)
-    (subst (P r.OutToErr number) (sym (eq_of b 50 (and_right (bytes_eq number [] || bytes_eq number (codes "1")) (nat_eq b 50) is)))
-    (or_case (bytes_eq number []) (bytes_eq number (codes "1")) (and_left (bytes_eq number [] || bytes_eq number (codes "1")) (nat_eq b 50) is)
+    (subst (P r.OutToErr number) (sym (eqb-true b 50 (and_parts (bytes_eq number [] || bytes_eq number (codes "1")) (nat_eq b 50) is).1))
+    (or_case (bytes_eq number []) (bytes_eq number (codes "1")) (and_parts (bytes_eq number [] || bytes_eq number (codes "1")) (nat_eq b 50) is).0
     (λ is. subst (λ n. P r.OutToErr n 50) (sym (same_bytes number [] is)) none) (λ is. subst (λ n. P r.OutToErr n 50) (sym (same_bytes number (codes "1") is)) one))))
-    (λ _. if_case (λ x. x ≡ Some which → P which number b) (bytes_eq number (codes "2") && nat_eq b 49) (Some r.ErrToOut) None
+    (λ _. cond_both (bytes_eq number (codes "2") && nat_eq b 49) (Some r.ErrToOut) None (λ x. x ≡ Some which → P which number b)
     (λ is e. subst (λ w. P w number b) (some_same e)
-    (subst (P r.ErrToOut number) (sym (eq_of b 49 (and_right (bytes_eq number (codes "2")) (nat_eq b 49) is)))
-    (subst (λ n. P r.ErrToOut n 49) (sym (same_bytes number (codes "2") (and_left (bytes_eq number (codes "2")) (nat_eq b 49) is))) two)))
+    (subst (P r.ErrToOut number) (sym (eqb-true b 49 (and_parts (bytes_eq number (codes "2")) (nat_eq b 49) is).1))
+    (subst (λ n. P r.ErrToOut n 49) (sym (same_bytes number (codes "2") (and_parts (bytes_eq number (codes "2")) (nat_eq b 49) is).0)) two)))
     (λ is e. absurd (none_some e)))
 
 -- ---- what is seen is spelled
@@ -159,15 +157,15 @@ copy_seen at number text x y (b ∷ u) rest which g more next e =
 
 pub greater_seen : (at : ℕ) (number text x rest : Bytes) (which : Sign) → Stands (number ++ codes ">") text x → greater at number x ≡ Operator which rest → IsOperator which text rest
 greater_seen at number text x rest which g e =
-    if_case (λ v. v ≡ Operator which rest → IsOperator which text rest) (head_is 62 (skip x)) _ _
+    cond_both (head_is 62 (skip x)) _ _ (λ v. v ≡ Operator which rest → IsOperator which text rest)
     (λ is e. append_seen at number text x (tail (skip x)) rest which g (tail (skip x), head_back 62 (skip x) is, refl) e)
-    (λ _ e. if_case (λ v. v ≡ Operator which rest → IsOperator which text rest) (head_is 38 (skip x)) _ _
+    (λ _ e. cond_both (head_is 38 (skip x)) _ _ (λ v. v ≡ Operator which rest → IsOperator which text rest)
     (λ is e. copy_seen at number text x (tail (skip x)) (skip (tail (skip x))) rest which g (head_back 38 (skip x) is) refl e)
     (λ _ e. output_seen at number text x rest which g e) e) e
 
 pub less_seen : (at : ℕ) (number text x rest : Bytes) (which : Sign) → Stands (number ++ codes "<") text x → less at number x ≡ Operator which rest → IsOperator which text rest
 less_seen at number text x rest which g e =
-    if_case (λ v. v ≡ Operator which rest → IsOperator which text rest) (head_is 60 (skip x)) _ _
+    cond_both (head_is 60 (skip x)) _ _ (λ v. v ≡ Operator which rest → IsOperator which text rest)
     (λ is e. absurd (wrong_operator e))
     (λ _ e.
     let o = redirected_is at (in_from number) (null_word x) which rest e in
@@ -202,7 +200,7 @@ plain_less len text x h = (place len (60 ∷ h.0), shown len 60 text h.0 h.1 ∙
 -- one digit, and another byte behind it
 digit_sight : (len d : ℕ) (text more : Bytes) → is_digit d ≡ true → skip text ≡ d ∷ more → begins is_digit (skip more) ≡ false → sight len text ≡ numbered len (d ∷ []) (skip more)
 digit_sight len d text more is e other =
-    let one : IsRun is_digit (d ∷ []) (d ∷ more) more = record { stands = (more, sym (ap skip e) ∙ skip_again text ∙ e, refl); pass = and_true (is_digit d) true is refl; longest = other } in
+    let one : IsRun is_digit (d ∷ []) (d ∷ more) more = record { stands = (more, sym (ap skip e) ∙ skip_again text ∙ e, refl); pass = and_from (is_digit d) true is refl; longest = other } in
     shown len d text more e ∙ ap (λ it. sight_by len (place len (d ∷ more)) d it more) (digit_kind d is)
     ∙ ap (λ number. numbered len number (skip (behind Digits (d ∷ more)))) (run_is is_digit (d ∷ []) (d ∷ more) more one)
     ∙ ap (λ t. numbered len (d ∷ []) (skip t)) (behind_is is_digit (d ∷ []) (d ∷ more) more one)
@@ -220,24 +218,24 @@ redirected_both at which rest o p e g = ap (λ o. redirected at o p) e ∙ ap (r
 
 greater_null : (at : ℕ) (number x rest : Bytes) (which : Redirect) → out_to number ≡ Some which → IsToNull [] x rest → greater at number x ≡ Operator (s.Redirect which) rest
 greater_null at number x rest which o h =
-    if_false (head_is 62 (skip x)) _ _ (null_first 62 x rest refl refl h) ∙ if_false (head_is 38 (skip x)) _ _ (null_first 38 x rest refl refl h)
+    cond-false (head_is 62 (skip x)) _ _ (null_first 62 x rest refl refl h) ∙ cond-false (head_is 38 (skip x)) _ _ (null_first 38 x rest refl refl h)
     ∙ redirected_both at which rest (out_to number) (null_word x) o (null_found x rest h)
 
 greater_append : (at : ℕ) (number x y rest : Bytes) (which : Redirect) → out_to number ≡ Some which → Stands (codes ">") x y → IsToNull [] y rest → greater at number x ≡ Operator (s.Redirect which) rest
 greater_append at number x y rest which o g h =
     let a = head_of 62 (skip x) g.0 g.1 refl in
-    if_true (head_is 62 (skip x)) _ _ a.0 ∙ redirected_both at which rest (out_to number) (null_word (tail (skip x))) o (ap null_word (a.1 ∙ g.2) ∙ null_found y rest h)
+    cond-true (head_is 62 (skip x)) _ _ a.0 ∙ redirected_both at which rest (out_to number) (null_word (tail (skip x))) o (ap null_word (a.1 ∙ g.2) ∙ null_found y rest h)
 
 greater_copy : (at d : ℕ) (number x rest : Bytes) (which : Redirect) → copy_of number d ≡ Some which → Stands (38 ∷ d ∷ []) x rest → ends_word (skip rest) ≡ true → greater at number x ≡ Operator (s.Redirect which) rest
 greater_copy at d number x rest which o g ends =
     let a = head_of 38 (skip x) g.0 g.1 refl in
-    if_false (head_is 62 (skip x)) _ _ (ap (head_is 62) g.1) ∙ if_true (head_is 38 (skip x)) _ _ a.0
+    cond-false (head_is 62 (skip x)) _ _ (ap (head_is 62) g.1) ∙ cond-true (head_is 38 (skip x)) _ _ a.0
     ∙ ap (copied at number) (ap skip a.1 ∙ g.2.1)
     ∙ redirected_both at which rest (copy_of number d) (whole_word (Some g.2.0)) o (ap (λ t. whole_word (Some t)) g.2.2 ∙ whole_found rest ends)
 
 less_null : (at : ℕ) (number x rest : Bytes) (which : Redirect) → in_from number ≡ Some which → IsToNull [] x rest → less at number x ≡ Operator (s.Redirect which) rest
 less_null at number x rest which o h =
-    if_false (head_is 60 (skip x)) _ _ (null_first 60 x rest refl refl h) ∙ redirected_both at which rest (in_from number) (null_word x) o (null_found x rest h)
+    cond-false (head_is 60 (skip x)) _ _ (null_first 60 x rest refl refl h) ∙ redirected_both at which rest (in_from number) (null_word x) o (null_found x rest h)
 
 pub sees_redirected : (len : ℕ) (text rest : Bytes) (which : Redirect) → IsRedirected which text rest → sight len text ≡ Operator (s.Redirect which) rest
 sees_redirected len text rest which (output h) =

@@ -4,7 +4,8 @@ use Rattle.std.specs.List.{list_all}
 use Rattle.shell_lexer.specs.Text.{Bytes, skip, behind_next, behind_bytes, cells, run_of, behind_run}
 use Rattle.shell_lexer.specs.Spelling.{Stands, begins}
 use Rattle.shell_lexer.proofs.Cells.{first_cell, cells_by_skip}
-use Rattle.shell_lexer.proofs.SpelledCases.{if_case, eq_of, eq_same, and_left, and_right, and_true, some_same, none_some}
+use Rattle.std.proofs.lemmas.Bool.{and_from, and_parts, cond_both, eqb-true}
+use Rattle.shell_lexer.proofs.SpelledCases.{eq_same, some_same, none_some}
 
 -- ---- joined lines
 
@@ -16,7 +17,7 @@ if_same f false x y z h g = g refl
 pub skip_again : (text : Bytes) → skip (skip text) ≡ skip text
 skip_again [] = refl
 skip_again (a ∷ []) = refl
-skip_again (a ∷ b ∷ rest) = if_case (λ t. skip t ≡ t) (nat_eq a 92 && nat_eq b 10) (skip rest) (a ∷ b ∷ rest) (λ e. skip_again rest) (λ e. other a b rest e) where
+skip_again (a ∷ b ∷ rest) = cond_both (nat_eq a 92 && nat_eq b 10) (skip rest) (a ∷ b ∷ rest) (λ t. skip t ≡ t) (λ e. skip_again rest) (λ e. other a b rest e) where
   other : (a b : ℕ) (rest : Bytes) → (nat_eq a 92 && nat_eq b 10) ≡ false → skip (a ∷ b ∷ rest) ≡ a ∷ b ∷ rest
   other a b rest e = rw e
 
@@ -42,8 +43,8 @@ next_stands : (b : ℕ) (bytes text rest t : Bytes) → ((u : Bytes) → behind_
     → behind_next b (behind_bytes bytes) t ≡ Some rest → (more : Bytes) × (skip text ≡ b ∷ more) × Stands bytes more rest
 next_stands b bytes text rest [] again s e = absurd (none_some e)
 next_stands b bytes text rest (a ∷ u) again s e =
-    if_case (λ x. x ≡ Some rest → (more : Bytes) × (skip text ≡ b ∷ more) × Stands bytes more rest) (nat_eq a b) (behind_bytes bytes u) None
-    (λ is e. (u, s ∙ ap (λ a. a ∷ u) (eq_of a b is), again u e)) (λ is e. absurd (none_some e)) e
+    cond_both (nat_eq a b) (behind_bytes bytes u) None (λ x. x ≡ Some rest → (more : Bytes) × (skip text ≡ b ∷ more) × Stands bytes more rest)
+    (λ is e. (u, s ∙ ap (λ a. a ∷ u) (eqb-true a b is), again u e)) (λ is e. absurd (none_some e)) e
 
 -- what the tables find is what stands
 pub bytes_stand : (bytes text rest : Bytes) → behind_bytes bytes text ≡ Some rest → Stands bytes text rest
@@ -98,14 +99,14 @@ behind_by test text = ap (behind_run test text) (cells_by_skip text)
 pub run_is : (test : ℕ → Bool) (run text rest : Bytes) → IsRun test run text rest → run_of test (cells text) ≡ run
 run_is test [] text rest h = run_by test text ∙ run_fails test (skip text) (ap (λ t. begins test (skip t)) h.stands ∙ h.longest)
 run_is test (b ∷ run) text rest h =
-    run_by test text ∙ ap (λ t. run_of test (first_cell t)) h.stands.1 ∙ run_passes test b h.stands.0 (and_left (test b) (list_all test run) h.pass)
-    ∙ ap (λ r. b ∷ r) (run_is test run h.stands.0 rest (record { stands = h.stands.2; pass = and_right (test b) (list_all test run) h.pass; longest = h.longest }))
+    run_by test text ∙ ap (λ t. run_of test (first_cell t)) h.stands.1 ∙ run_passes test b h.stands.0 (and_parts (test b) (list_all test run) h.pass).0
+    ∙ ap (λ r. b ∷ r) (run_is test run h.stands.0 rest (record { stands = h.stands.2; pass = (and_parts (test b) (list_all test run) h.pass).1; longest = h.longest }))
 
 pub behind_is : (test : ℕ → Bool) (run text rest : Bytes) → IsRun test run text rest → behind_run test text (cells text) ≡ rest
 behind_is test [] text rest h = behind_by test text ∙ behind_fails test text (skip text) (ap (λ t. begins test (skip t)) h.stands ∙ h.longest) ∙ h.stands
 behind_is test (b ∷ run) text rest h =
-    behind_by test text ∙ ap (λ t. behind_run test text (first_cell t)) h.stands.1 ∙ behind_passes test text b h.stands.0 (and_left (test b) (list_all test run) h.pass)
-    ∙ behind_is test run h.stands.0 rest (record { stands = h.stands.2; pass = and_right (test b) (list_all test run) h.pass; longest = h.longest })
+    behind_by test text ∙ ap (λ t. behind_run test text (first_cell t)) h.stands.1 ∙ behind_passes test text b h.stands.0 (and_parts (test b) (list_all test run) h.pass).0
+    ∙ behind_is test run h.stands.0 rest (record { stands = h.stands.2; pass = (and_parts (test b) (list_all test run) h.pass).1; longest = h.longest })
 
 -- the tables' run is a longest run
 run_ends : (test : ℕ → Bool) (text t : Bytes) → skip text ≡ t → run_of test (first_cell t) ≡ [] → IsRun test [] text (behind_run test text (first_cell t))
@@ -127,7 +128,7 @@ run_goes test b run text (a ∷ u) again s e = by (test a) refl where
       let is = first_same same in
       let more = again u (rest_same same) in
       subst (λ r. IsRun test (b ∷ run) text r) (sym (behind_passes test text a u p))
-      (record { stands = (u, s ∙ ap (λ a. a ∷ u) is, more.stands); pass = and_true (test b) (list_all test run) (ap test (sym is) ∙ p) more.pass; longest = more.longest })
+      (record { stands = (u, s ∙ ap (λ a. a ∷ u) is, more.stands); pass = and_from (test b) (list_all test run) (ap test (sym is) ∙ p) more.pass; longest = more.longest })
 
 pub run_stands : (test : ℕ → Bool) (run text : Bytes) → run_of test (cells text) ≡ run → IsRun test run text (behind_run test text (cells text))
 run_stands test [] text e = subst (λ r. IsRun test [] text r) (sym (behind_by test text)) (run_ends test text (skip text) refl (sym (run_by test text) ∙ e))

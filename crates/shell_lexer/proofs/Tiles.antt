@@ -21,7 +21,7 @@ use Rattle.shell_lexer.specs.Lexed.{CutAtAnyDepth}
 use Rattle.shell_lexer.specs.Tiled.{at_line_end, IsTiled, ends, joined, blank, comment, token, RiseFrom}
 use Rattle.shell_lexer.proofs.Ahead.{Behind, Ahead, behind_then, ahead_then, ahead_behind, operator_ahead, piece_ahead, stands_ahead}
 use Rattle.shell_lexer.proofs.Begun.{begun}
-use Rattle.shell_lexer.proofs.SpelledCases.{if_case, eq_of, and_left, and_right, and_true}
+use Rattle.std.proofs.lemmas.Bool.{and_from, and_parts, cond_both, eqb-true}
 use Rattle.shell_lexer.proofs.SpelledKinds.{KindOf, kind_of}
 use Rattle.shell_lexer.proofs.SpelledOperators.{operator_seen}
 use Rattle.shell_lexer.proofs.SpelledParts.{look_seen, inner_seen}
@@ -64,12 +64,12 @@ copied_other at number [] = tt
 copied_other at number (b ∷ rest) = redirected_other at (copy_of number b) (whole_word (Some rest))
 
 less_other : (at : ℕ) (number t : Bytes) → Other (less at number t)
-less_other at number t = if_case Other (head_is 60 (skip t)) _ _ (λ _. tt) (λ _. redirected_other at (in_from number) (null_word t))
+less_other at number t = cond_both (head_is 60 (skip t)) _ _ Other (λ _. tt) (λ _. redirected_other at (in_from number) (null_word t))
 
 greater_other : (at : ℕ) (number t : Bytes) → Other (greater at number t)
 greater_other at number t =
-    if_case Other (head_is 62 (skip t)) _ _ (λ _. redirected_other at (out_to number) (null_word (tail (skip t))))
-    (λ _. if_case Other (head_is 38 (skip t)) _ _ (λ _. copied_other at number (skip (tail (skip t)))) (λ _. redirected_other at (out_to number) (null_word t)))
+    cond_both (head_is 62 (skip t)) _ _ Other (λ _. redirected_other at (out_to number) (null_word (tail (skip t))))
+    (λ _. cond_both (head_is 38 (skip t)) _ _ Other (λ _. copied_other at number (skip (tail (skip t)))) (λ _. redirected_other at (out_to number) (null_word t)))
 
 numbered_by_other : (at : ℕ) (number : Bytes) (it : ByteKind) (t : Bytes) → Other (numbered_by at number it t)
 numbered_by_other at number k.Less t = less_other at number t
@@ -85,7 +85,7 @@ comment_step b rest true e c = record { bytes = []; is = refl; line = refl; ende
 comment_step b rest false e c = record {
   bytes = b ∷ c.bytes;
   is = ap (λ t. b ∷ t) c.is;
-  line = and_true (not (nat_eq b 10)) (list_all (λ b. not (nat_eq b 10)) c.bytes) (ap not e) c.line;
+  line = and_from (not (nat_eq b 10)) (list_all (λ b. not (nat_eq b 10)) c.bytes) (ap not e) c.line;
   ended = c.ended;
 }
 
@@ -96,10 +96,10 @@ comment_of (b ∷ rest) = comment_step b rest (nat_eq b 10) refl (comment_of res
 by_fits : (len at b : ℕ) (it : ByteKind) (rest : Bytes) → KindOf b it → Fits (b ∷ rest) (sight_by len at b it rest)
 by_fits len at b k.Blank rest is = inl (b, refl, is)
 by_fits len at b k.Hash rest is = inr (rest, ap (λ b. b ∷ rest) is, comment_of rest)
-by_fits len at b k.Semi rest is = if_case (Fits (b ∷ rest)) (head_is 59 (skip rest)) _ _ (λ _. tt) (λ _. tt)
-by_fits len at b k.Amp rest is = if_case (Fits (b ∷ rest)) (head_is 38 (skip rest)) _ _ (λ _. tt) (λ _. tt)
-by_fits len at b k.Bar rest is = if_case (Fits (b ∷ rest)) (head_is 124 (skip rest)) _ _ (λ _. tt) (λ _. tt)
-by_fits len at b k.Open rest is = if_case (Fits (b ∷ rest)) (head_is 40 (skip rest)) _ _ (λ _. tt) (λ _. tt)
+by_fits len at b k.Semi rest is = cond_both (head_is 59 (skip rest)) _ _ (Fits (b ∷ rest)) (λ _. tt) (λ _. tt)
+by_fits len at b k.Amp rest is = cond_both (head_is 38 (skip rest)) _ _ (Fits (b ∷ rest)) (λ _. tt) (λ _. tt)
+by_fits len at b k.Bar rest is = cond_both (head_is 124 (skip rest)) _ _ (Fits (b ∷ rest)) (λ _. tt) (λ _. tt)
+by_fits len at b k.Open rest is = cond_both (head_is 40 (skip rest)) _ _ (Fits (b ∷ rest)) (λ _. tt) (λ _. tt)
 by_fits len at b k.Less rest is = other_fits (b ∷ rest) (less at [] rest) (less_other at [] rest)
 by_fits len at b k.Greater rest is = other_fits (b ∷ rest) (greater at [] rest) (greater_other at [] rest)
 by_fits len at b k.Digit rest is =
@@ -216,8 +216,8 @@ word_ahead {deep} {len} {depth} {run} {text} {q} (word_bad_run g f h i e) n = su
 -- behind joined lines at the front
 joined_by : (len a b : ℕ) (rest : Bytes) (ts : List Token) → length (a ∷ b ∷ rest) ≤ len → (nat_eq a 92 && nat_eq b 10) ≡ true → IsTiled (place len rest) rest ts → IsTiled (place len (a ∷ b ∷ rest)) (a ∷ b ∷ rest) ts
 joined_by len a b rest ts le e x =
-    let ea : a ≡ 92 = eq_of a 92 (and_left (nat_eq a 92) (nat_eq b 10) e) in
-    let eb : b ≡ 10 = eq_of b 10 (and_right (nat_eq a 92) (nat_eq b 10) e) in
+    let ea : a ≡ 92 = eqb-true a 92 (and_parts (nat_eq a 92) (nat_eq b 10) e).0 in
+    let eb : b ≡ 10 = eqb-true b 10 (and_parts (nat_eq a 92) (nat_eq b 10) e).1 in
     let on : place len rest ≡ place len (a ∷ b ∷ rest) + 2 = omega arith in
     let it : IsTiled (place len (a ∷ b ∷ rest)) (92 ∷ 10 ∷ rest) ts = joined (subst (λ n. IsTiled n rest ts) on x) in
     subst (λ a'. IsTiled (place len (a ∷ b ∷ rest)) (a' ∷ b ∷ rest) ts) (sym ea) (subst (λ b'. IsTiled (place len (a ∷ b ∷ rest)) (92 ∷ b' ∷ rest) ts) (sym eb) it)
@@ -229,13 +229,13 @@ tiled_skip : (len : ℕ) (text : Bytes) (ts : List Token) → length text ≤ le
 tiled_skip len [] ts le x = x
 tiled_skip len (a ∷ []) ts le x = x
 tiled_skip len (a ∷ b ∷ rest) ts le x =
-    if_case (λ t. IsTiled (place len t) t ts → IsTiled (place len (a ∷ b ∷ rest)) (a ∷ b ∷ rest) ts) (nat_eq a 92 && nat_eq b 10) (skip rest) (a ∷ b ∷ rest)
+    cond_both (nat_eq a 92 && nat_eq b 10) (skip rest) (a ∷ b ∷ rest) (λ t. IsTiled (place len t) t ts → IsTiled (place len (a ∷ b ∷ rest)) (a ∷ b ∷ rest) ts)
     (λ e x. joined_by len a b rest ts le e (tiled_skip len rest ts (shorter len a b rest le) x)) (λ e x. x) x
 
 pub skip_length : (text : Bytes) → length (skip text) ≤ length text
 skip_length [] = omega arith
 skip_length (a ∷ []) = omega arith
-skip_length (a ∷ b ∷ rest) = if_case (λ t. length t ≤ length (a ∷ b ∷ rest)) (nat_eq a 92 && nat_eq b 10) (skip rest) (a ∷ b ∷ rest) (λ e. let l = skip_length rest in omega arith) (λ e. omega arith)
+skip_length (a ∷ b ∷ rest) = cond_both (nat_eq a 92 && nat_eq b 10) (skip rest) (a ∷ b ∷ rest) (λ t. length t ≤ length (a ∷ b ∷ rest)) (λ e. let l = skip_length rest in omega arith) (λ e. omega arith)
 
 -- what stands behind a byte and more of the text
 split_on : (len b : ℕ) (bytes rest : Bytes) → length (b ∷ (bytes ++ rest)) ≤ len → place len (b ∷ (bytes ++ rest)) + 1 + length bytes ≡ place len rest
@@ -297,7 +297,7 @@ tiles {deep} {len} {text = text} le (items_bad f h w e) = subst (TiledOut len te
 
 body_length : (text : Bytes) → length (behind_line text) ≤ length text
 body_length [] = omega arith
-body_length (b ∷ rest) = if_case (λ t. length t ≤ length (b ∷ rest)) (nat_eq b 10) rest (behind_line rest) (λ e. omega arith) (λ e. let l = body_length rest in omega arith)
+body_length (b ∷ rest) = cond_both (nat_eq b 10) rest (behind_line rest) (λ t. length t ≤ length (b ∷ rest)) (λ e. omega arith) (λ e. let l = body_length rest in omega arith)
 
 pub cut_tiled : (text : Bytes) (l : Lexed) → CutAtAnyDepth text l → IsTiled (place (length text) (behind_line text)) (behind_line text) l.tokens
 cut_tiled text l c = tiles (body_length text) c.body

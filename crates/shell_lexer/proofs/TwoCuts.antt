@@ -21,7 +21,8 @@ use Rattle.shell_lexer.proofs.Ahead.{Behind}
 use Rattle.shell_lexer.proofs.BeforeNewline.{Unjoined, unjoined_behind, skip_before, sight_before, look_before, inner_before}
 use Rattle.shell_lexer.proofs.Cells.{if_both}
 use Rattle.shell_lexer.proofs.Rests.{passed_rest, operator_rest, byte_rest, piece_rest, all_rest, double_rest, run_rest, inner_byte_rest, inner_piece_rest, inner_all_rest, inner_run_rest}
-use Rattle.shell_lexer.proofs.SpelledCases.{if_case, if_false, false_true, true_false, none_some}
+use Rattle.std.proofs.lemmas.Bool.{cond-false, cond_both, false≢true, true≢false}
+use Rattle.shell_lexer.proofs.SpelledCases.{none_some}
 use Rattle.shell_lexer.proofs.SpelledFronts.{shown}
 use Rattle.shell_lexer.proofs.Tiles.{fits, word_leave, inner_leave, sub_leave}
 
@@ -203,7 +204,7 @@ module _ (deep : ℕ → Bool) (after : Bytes) (len total : ℕ) (sum : total �
 
 and_rest : (a b : Bool) → a ≡ true → (a && b) ≡ false → b ≡ false
 and_rest true b h e = e
-and_rest false b h e = absurd (false_true h)
+and_rest false b h e = absurd (false≢true h)
 
 module _ (after : Bytes) where
   line_before : (t : Bytes) → first_line (t ++ 10 ∷ after) ≡ first_line t
@@ -211,7 +212,7 @@ module _ (after : Bytes) where
   line_before (c ∷ t) = ap (λ (line : Bytes). if nat_eq c 10 then [] else c ∷ line) (line_before t)
 
   behind_before : (t : Bytes) → list_all (λ b. not (nat_eq b 10)) t ≡ false → behind_line (t ++ 10 ∷ after) ≡ behind_line t ++ 10 ∷ after
-  behind_before [] e = absurd (true_false e)
+  behind_before [] e = absurd (true≢false e)
   behind_before (c ∷ t) e =
       if_both (λ (u : Bytes). u ++ 10 ∷ after) (nat_eq c 10) (t ++ 10 ∷ after) (behind_line (t ++ 10 ∷ after)) t (behind_line t) (λ _. refl)
       (λ n. behind_before t (and_rest (not (nat_eq c 10)) (list_all (λ b. not (nat_eq b 10)) t) (ap not n) e))
@@ -219,19 +220,19 @@ module _ (after : Bytes) where
 line_behind : (t : Bytes) → Behind t (behind_line t)
 line_behind [] = ([], refl)
 line_behind (c ∷ t) =
-    if_case (Behind (c ∷ t)) (nat_eq c 10) t (behind_line t) (λ _. (c ∷ [], refl)) (λ _. let more = line_behind t in (c ∷ more.0, ap (λ (u : Bytes). c ∷ u) more.1))
+    cond_both (nat_eq c 10) t (behind_line t) (Behind (c ∷ t)) (λ _. (c ∷ [], refl)) (λ _. let more = line_behind t in (c ∷ more.0, ap (λ (u : Bytes). c ∷ u) more.1))
 
 nul_anywhere : (at to : ℕ) (t : Bytes) → nul_from at t ≡ None → nul_from to t ≡ None
 nul_anywhere at to [] e = refl
 nul_anywhere at to (c ∷ t) e =
-    if_case (λ o. o ≡ None → nul_from to (c ∷ t) ≡ None) (nat_eq c 0) (Some at) (nul_from (at + 1) t) (λ _ e. absurd (none_some (sym e)))
-    (λ n e. if_false (nat_eq c 0) (Some to) (nul_from (to + 1) t) n ∙ nul_anywhere (at + 1) (to + 1) t e) e
+    cond_both (nat_eq c 0) (Some at) (nul_from (at + 1) t) (λ o. o ≡ None → nul_from to (c ∷ t) ≡ None) (λ _ e. absurd (none_some (sym e)))
+    (λ n e. cond-false (nat_eq c 0) (Some to) (nul_from (to + 1) t) n ∙ nul_anywhere (at + 1) (to + 1) t e) e
 
 nul_before : (at : ℕ) (t after : Bytes) → nul_from at t ≡ None → nul_of after ≡ None → nul_from at (t ++ 10 ∷ after) ≡ None
 nul_before at [] after e f = nul_anywhere 0 (at + 1) after f
 nul_before at (c ∷ t) after e f =
-    if_case (λ o. o ≡ None → nul_from at (c ∷ (t ++ 10 ∷ after)) ≡ None) (nat_eq c 0) (Some at) (nul_from (at + 1) t) (λ _ e. absurd (none_some (sym e)))
-    (λ n e. if_false (nat_eq c 0) (Some at) (nul_from (at + 1) (t ++ 10 ∷ after)) n ∙ nul_before (at + 1) t after e f) e
+    cond_both (nat_eq c 0) (Some at) (nul_from (at + 1) t) (λ o. o ≡ None → nul_from at (c ∷ (t ++ 10 ∷ after)) ≡ None) (λ _ e. absurd (none_some (sym e)))
+    (λ n e. cond-false (nat_eq c 0) (Some at) (nul_from (at + 1) (t ++ 10 ∷ after)) n ∙ nul_before (at + 1) t after e f) e
 
 -- ---- cuts
 
