@@ -7,65 +7,70 @@ use std::cmp::Ordering;
 use std::process::Abort;
 use std::test::Fail;
 
-// What a name is read as: its bytes, or why there is none.
-fn read(alloc: Global, bytes: &[u8]) -> Result<Option<Name>, Memory> {
+// Bytes, and whether they are a name.
+const NAMES: &[(&[u8], bool)] = &[
+    (b"", false),
+    (b"a", true),
+    (b".", false),
+    (b"..", false),
+    (b"...", true),
+    (b".a", true),
+    (b"a.", true),
+    (b"a/b", false),
+    (b"/", false),
+    (b"a\0", false),
+    (b" ", true),
+    (b"\xff\n", true),
+];
+
+// Whether the bytes are read as the name of these bytes where they are one, and as none elsewhere.
+fn is_read(alloc: Global, bytes: &[u8], is_name: bool) -> Result<bool, Memory> {
     match Name::read(alloc, bytes) {
-        Ok(name) => Ok(Some(name)),
-        Err(NameFault::Bad) => Ok(None),
+        Ok(name) => Ok(is_name && name.as_slice() == bytes),
+        Err(NameFault::Bad) => Ok(!is_name),
         Err(NameFault::Memory) => Err(Memory),
     }
 }
 
 #[test]
 fn names_are_read(rt: HostRuntime) -> Result<(), Fail> {
-    let alloc = rt.alloc();
-    let longest = [b'n'; 255];
-    let too_long = [b'n'; 256];
-    let rows: [(&[u8], bool); 14] = [
-        (b"", false),
-        (b"a", true),
-        (b".", false),
-        (b"..", false),
-        (b"...", true),
-        (b".a", true),
-        (b"a.", true),
-        (b"a/b", false),
-        (b"/", false),
-        (b"a\0", false),
-        (b" ", true),
-        (b"\xff\n", true),
-        (&longest, true),
-        (&too_long, false),
-    ];
-    for (bytes, is_name) in rows {
-        match read(alloc, bytes) {
-            Ok(Some(name)) => {
-                assert!(rt; is_name, "{bytes:?}");
-                assert_eq!(rt; name.as_slice(), bytes);
-            }
-            Ok(None) => assert!(rt; !is_name, "{bytes:?}"),
-            Err(_) => assert!(rt; false, "memory"),
-        }
+    for row in NAMES {
+        assert!(rt; is_read(rt.alloc(), row.0, row.1)?, "{row:?}");
     }
     Ok(())
 }
 
 #[test]
-fn lists_and_bytes_grow(rt: HostRuntime) -> Result<(), Fail> {
-    let alloc = rt.alloc();
+fn names_have_at_most_255_bytes(rt: HostRuntime) -> Result<(), Fail> {
+    assert!(rt; is_read(rt.alloc(), &[b'n'; 255], true)?);
+    assert!(rt; is_read(rt.alloc(), &[b'n'; 256], false)?);
+    Ok(())
+}
+
+fn list_grows(alloc: Global) -> Result<bool, Memory> {
     let mut list = List::new(alloc);
-    assert!(rt; list.push(3u32).is_ok());
-    assert!(rt; list.add(4).is_ok());
-    assert_eq!(rt; list.len(), 2);
-    assert_eq!(rt; list.get(1).copied(), Some(4));
-    assert_eq!(rt; list.get(2).copied(), None);
-    assert_eq!(rt; list.into_vec().as_slice(), [3, 4].as_slice());
+    if list.push(3u32).is_err() {
+        return Ok(false);
+    }
+    list.add(4)?;
+    let read = list.len() == 2 && list.get(1) == Some(&4) && list.get(2).is_none();
+    let items = list.into_vec();
+    Ok(read && items.as_slice() == [3, 4].as_slice())
+}
+
+fn bytes_grow(alloc: Global) -> Result<bool, Memory> {
     let mut bytes = Bytes::from_slice(alloc, b"ab")?;
-    assert!(rt; bytes.push(b'c').is_ok());
-    assert!(rt; bytes.extend(b"de").is_ok());
-    assert_eq!(rt; bytes.as_slice(), b"abcde".as_slice());
+    bytes.push(b'c')?;
+    bytes.extend(b"de")?;
+    let grown = bytes.as_slice() == b"abcde".as_slice();
     bytes.truncate(3);
-    assert_eq!(rt; bytes.as_slice(), b"abc".as_slice());
+    Ok(grown && bytes.as_slice() == b"abc".as_slice())
+}
+
+#[test]
+fn lists_and_bytes_grow(rt: HostRuntime) -> Result<(), Fail> {
+    assert!(rt; list_grows(rt.alloc())?);
+    assert!(rt; bytes_grow(rt.alloc())?);
     Ok(())
 }
 
@@ -137,12 +142,12 @@ fn path_is_copied(alloc: Global) -> Result<bool, PathFault> {
 #[test]
 fn owned_values_are_copied(rt: HostRuntime) {
     let alloc = rt.alloc();
-    assert_eq!(rt; list_is_copied(alloc), Ok(true));
-    assert_eq!(rt; bytes_are_copied(alloc), Ok(true));
-    assert_eq!(rt; text_is_copied(alloc), Ok(true));
-    assert_eq!(rt; box_is_copied(alloc), Ok(true));
-    assert_eq!(rt; name_is_copied(alloc), Ok(true));
-    assert_eq!(rt; path_is_copied(alloc), Ok(true));
+    assert!(rt; list_is_copied(alloc) == Ok(true));
+    assert!(rt; bytes_are_copied(alloc) == Ok(true));
+    assert!(rt; text_is_copied(alloc) == Ok(true));
+    assert!(rt; box_is_copied(alloc) == Ok(true));
+    assert!(rt; name_is_copied(alloc) == Ok(true));
+    assert!(rt; path_is_copied(alloc) == Ok(true));
 }
 
 fn slots_have_what_was_put(alloc: Global) -> Result<bool, Memory> {
@@ -156,49 +161,63 @@ fn a_slot_has_one_value_or_none(rt: HostRuntime) {
     assert_eq!(rt; slots_have_what_was_put(rt.alloc()), Ok(true));
 }
 
+// How many names a path has, whether a slash is given, and whether it stands.
+const SLASHES: &[(usize, bool, bool)] = &[
+    (0, false, false),
+    (0, true, false),
+    (1, false, false),
+    (1, true, true),
+];
+
+// Whether the path of so many names has a slash, where one is given or none.
+fn slash_of(alloc: Global, count: usize, slash: bool) -> Result<bool, NameFault> {
+    let mut names = List::new(alloc);
+    for _ in 0..count {
+        names.add(Name::read(alloc, b"srv")?)?;
+    }
+    if names.len() > MAX_NAMES {
+        return Err(NameFault::Bad);
+    }
+    Ok(Path::new(names, slash).slash())
+}
+
 #[test]
 fn a_slash_stands_behind_a_name(rt: HostRuntime) -> Result<(), Fail> {
-    let alloc = rt.alloc();
-    let rows = [
-        (0, false, false),
-        (0, true, false),
-        (1, false, false),
-        (1, true, true),
-    ];
-    for (count, slash, stands) in rows {
-        let mut names = List::new(alloc);
-        for _ in 0..count {
-            names.add(Name::read(alloc, b"srv")?)?;
-        }
-        assert!(rt; names.len() <= MAX_NAMES);
-        assert_eq!(rt; Path::new(names, slash).slash(), stands);
+    for row in SLASHES {
+        assert!(rt; slash_of(rt.alloc(), row.0, row.1)? == row.2, "{row:?}");
     }
     Ok(())
 }
 
+// The step, the offset and the row of marks, each behind the one before it.
+const RISING: &[(u16, u32, u8)] = &[
+    (0, 9, 9),
+    (1, 0, 9),
+    (1, 1, 0),
+    (1, 1, 1),
+    (1, 2, 0),
+    (2, 0, 0),
+];
+
+fn mark(row: &(u16, u32, u8)) -> Mark {
+    Mark {
+        site: Site {
+            step: row.0,
+            at: row.1,
+        },
+        row: row.2,
+    }
+}
+
+// Whether a mark is less than another, and its site not greater.
+fn is_below(first: Mark, second: Mark) -> bool {
+    first.cmp(&second) == Ordering::Less && first.site.cmp(&second.site) != Ordering::Greater
+}
+
 #[test]
 fn marks_are_ordered_by_their_fields(rt: HostRuntime) {
-    let at = |step: u16, at: u32, row: u8| Mark {
-        site: Site { step, at },
-        row,
-    };
-    let rising = [
-        at(0, 9, 9),
-        at(1, 0, 9),
-        at(1, 1, 0),
-        at(1, 1, 1),
-        at(1, 2, 0),
-        at(2, 0, 0),
-    ];
-    for i in 1..rising.len() {
-        assert_eq!(rt; rising[i - 1].cmp(&rising[i]), Ordering::Less);
-        assert_eq!(rt;
-            rising[i - 1].site.cmp(&rising[i].site) == Ordering::Greater,
-            false
-        );
+    for i in 1..RISING.len() {
+        assert!(rt; is_below(mark(&RISING[i - 1]), mark(&RISING[i])), "{i}");
     }
-    assert_eq!(rt;
-        Done::Stopped(Reason::Link) == Done::Stopped(Reason::Slash),
-        false
-    );
+    assert!(rt; Done::Stopped(Reason::Link) != Done::Stopped(Reason::Slash));
 }

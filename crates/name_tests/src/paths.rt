@@ -175,13 +175,9 @@ a|#|{a}{255}||a
 @b/|c|many|63 names|b
 ";
 
-// The columns of a row.
-fn columns(alloc: Global, row: &str) -> Result<Vec<&str>, Memory> {
-    let mut out = Vec::new(alloc);
-    for column in row.split('|') {
-        out.push(column)?;
-    }
-    Ok(out)
+// The first column of a row, and those behind it.
+fn cut(row: &str) -> (&str, &str) {
+    row.split_once('|').unwrap_or((row, "no column"))
 }
 
 // Bytes, over and over.
@@ -287,56 +283,77 @@ fn parent_text(alloc: Global, path: &Path) -> Result<Bytes, Memory> {
     Ok(out)
 }
 
-// Whether an answer is the one of a column.
-fn agrees(answer: bool, column: &str) -> bool {
-    column == if answer { "yes" } else { "no" }
+// Whether a column spells a path that is shown, or refused, so.
+fn spells(alloc: Global, column: &str, wanted: &str) -> Result<bool, Memory> {
+    let answer = show_answer(alloc, path_of(alloc, column))?;
+    Ok(answer.as_slice() == wanted.as_bytes())
 }
 
 #[test]
 fn words_spell_paths(rt: HostRuntime) -> Result<(), Fail> {
-    let alloc = rt.alloc();
     for row in WORDS.lines() {
-        let columns = columns(alloc, row)?;
-        assert_eq!(rt; columns.len(), 2);
-        let answer = show_answer(alloc, path_of(alloc, columns[0]))?;
-        assert!(rt; answer.as_slice() == columns[1].as_bytes(), "{row}");
+        let (word, wanted) = cut(row);
+        assert!(rt; spells(rt.alloc(), word, wanted)?, "{row}");
     }
     Ok(())
+}
+
+// The columns for what a path is to another.
+fn relation(path: &Path, other: &Path) -> &'static str {
+    match (path.is_strict_prefix(other), path.same_names(other)) {
+        (false, false) => "no|no",
+        (false, true) => "no|yes",
+        (true, false) => "yes|no",
+        (true, true) => "yes|yes",
+    }
+}
+
+// Whether the paths of two columns are so to each other.
+fn are_so(alloc: Global, first: &str, second: &str, wanted: &str) -> Result<bool, PathFault> {
+    let path = path_of(alloc, first)?;
+    let other = path_of(alloc, second)?;
+    Ok(relation(&path, &other) == wanted)
 }
 
 #[test]
 fn paths_begin_others(rt: HostRuntime) -> Result<(), Fail> {
-    let alloc = rt.alloc();
     for row in PAIRS.lines() {
-        let columns = columns(alloc, row)?;
-        assert_eq!(rt; columns.len(), 4);
-        let (Ok(path), Ok(other)) = (path_of(alloc, columns[0]), path_of(alloc, columns[1])) else {
-            return Err(Fail::from("path"));
-        };
-        assert!(rt; agrees(path.is_strict_prefix(&other), columns[2]), "{row}");
-        assert!(rt; agrees(path.same_names(&other), columns[3]), "{row}");
+        let (first, rest) = cut(row);
+        let (second, wanted) = cut(rest);
+        assert!(rt; are_so(rt.alloc(), first, second, wanted)?, "{row}");
     }
     Ok(())
 }
 
+// Whether a path with a name more is shown, or refused, so.
+fn joins(alloc: Global, path: &Path, name: &str, wanted: &str) -> Result<bool, Memory> {
+    let longer = show_answer(alloc, joined(alloc, path, name))?;
+    Ok(longer.as_slice() == wanted.as_bytes())
+}
+
+// Whether a path has this parent and this last name.
+fn ends(alloc: Global, path: &Path, wanted: &str) -> Result<bool, Memory> {
+    let (parent, name) = cut(wanted);
+    let last = match path.last() {
+        Some(name) => name.as_slice(),
+        None => b"none",
+    };
+    Ok(last == name.as_bytes() && parent_text(alloc, path)?.as_slice() == parent.as_bytes())
+}
+
+// Whether the path of a column has the relatives of the columns behind it.
+fn has_relatives(alloc: Global, column: &str, rest: &str) -> Result<bool, PathFault> {
+    let path = path_of(alloc, column)?;
+    let (name, rest) = cut(rest);
+    let (longer, rest) = cut(rest);
+    Ok(joins(alloc, &path, name, longer)? && ends(alloc, &path, rest)?)
+}
+
 #[test]
 fn paths_have_relatives(rt: HostRuntime) -> Result<(), Fail> {
-    let alloc = rt.alloc();
     for row in RELATIVES.lines() {
-        let columns = columns(alloc, row)?;
-        assert_eq!(rt; columns.len(), 5);
-        let Ok(path) = path_of(alloc, columns[0]) else {
-            return Err(Fail::from("path"));
-        };
-        let longer = show_answer(alloc, joined(alloc, &path, columns[1]))?;
-        assert!(rt; longer.as_slice() == columns[2].as_bytes(), "{row}");
-        let parent = parent_text(alloc, &path)?;
-        assert!(rt; parent.as_slice() == columns[3].as_bytes(), "{row}");
-        let last = match path.last() {
-            Some(name) => name.as_slice(),
-            None => b"none",
-        };
-        assert!(rt; last == columns[4].as_bytes(), "{row}");
+        let (column, rest) = cut(row);
+        assert!(rt; has_relatives(rt.alloc(), column, rest)?, "{row}");
     }
     Ok(())
 }

@@ -84,6 +84,44 @@ impl Pair {
     }
 }
 
+// A list and its fork, each changed beside the other.
+fn changed_pair<L: Ledger>(
+    alloc: Global,
+    count: u32,
+    at: usize,
+    steps: &mut Steps<L>,
+) -> Result<(Pair, Pair), Memory> {
+    let mut first = Pair::counted(alloc, count, steps)?;
+    let mut second = first.fork(steps)?;
+    first.set(at, 100_001, steps)?;
+    second.push(100_002, steps)?;
+    Ok((first, second))
+}
+
+// Both are changed further.
+fn change<L: Ledger>(
+    first: &mut Pair,
+    second: &mut Pair,
+    at: usize,
+    steps: &mut Steps<L>,
+) -> Result<(), Memory> {
+    second.set(at, 100_003, steps)?;
+    first.push(100_004, steps)?;
+    first.set(at, 100_005, steps)
+}
+
+// Whether a fork of the second agrees with its plain list where both are changed further.
+fn fork_agrees<L: Ledger>(
+    first: &mut Pair,
+    second: &mut Pair,
+    at: usize,
+    steps: &mut Steps<L>,
+) -> Result<bool, Memory> {
+    let third = second.fork(steps)?;
+    change(first, second, at, steps)?;
+    Ok(third.agrees())
+}
+
 // A list and two forks, each changed beside the others; whether all agree with their plain lists.
 fn changed_in_turn<L: Ledger>(
     alloc: Global,
@@ -96,15 +134,9 @@ fn changed_in_turn<L: Ledger>(
     requires some { 0 < blank.parts }
 {
     let mut steps = Steps::<L>::start(blank);
-    let mut first = Pair::counted(alloc, count, &mut steps)?;
-    let mut second = first.fork(&mut steps)?;
-    first.set(at, 100_001, &mut steps)?;
-    second.push(100_002, &mut steps)?;
-    let third = second.fork(&mut steps)?;
-    second.set(at, 100_003, &mut steps)?;
-    first.push(100_004, &mut steps)?;
-    first.set(at, 100_005, &mut steps)?;
-    Ok(first.agrees() && second.agrees() && third.agrees())
+    let (mut first, mut second) = changed_pair(alloc, count, at, &mut steps)?;
+    let third = fork_agrees(&mut first, &mut second, at, &mut steps)?;
+    Ok(first.agrees() && second.agrees() && third)
 }
 
 #[test]
@@ -200,16 +232,22 @@ fn set_beside_a_fork<L: Ledger>(
     Ok((list, fork))
 }
 
+// Whether the list has the numbers below 17, and none behind them.
+fn is_counted(list: &Shared<u32>) -> bool {
+    for at in 0..17usize {
+        if list.get(at) != Some(&(at as u32)) {
+            return false;
+        }
+    }
+    list.get(17).is_none()
+}
+
 #[test]
 fn a_fork_reads_as_before(rt: HostRuntime) -> Result<(), Fail> {
     let Ok((list, fork)) = set_beside_a_fork::<Brand>(rt.alloc(), Blank::new(1)) else {
         return Err(Fail::from("want of memory"));
     };
-    assert_eq!(rt; list.get(3), Some(&99));
-    assert_eq!(rt; list.get(16), Some(&16));
-    for at in 0..17usize {
-        assert_eq!(rt; fork.get(at), Some(&(at as u32)));
-    }
-    assert_eq!(rt; fork.get(17), None);
+    assert!(rt; list.get(3) == Some(&99) && list.get(16) == Some(&16));
+    assert!(rt; is_counted(&fork));
     Ok(())
 }

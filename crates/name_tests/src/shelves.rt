@@ -4,120 +4,155 @@ use checker_io::{
     DirShelf, Following, MemShelf, MemSink, OutSink, PIECE, Shelf, ShelfFault, Sink, SinkFault,
     Stop, read_content, readings_follow, write_text,
 };
-use script_names::Bytes;
+use script_names::{Bytes, Memory};
+use std::alloc::Global;
 use std::fs;
 use std::io::{self, ErrorKind, Write};
-use std::process::Abort;
 use std::test::Fail;
 
-// A read of `name` answers so.
-fn reads<R: Abort + AllocGlobal, S: Shelf>(
-    rt: &R,
-    shelf: &mut S,
-    name: &str,
-    max: usize,
-    want: Result<&[u8], ShelfFault>,
-) {
-    match shelf.read(rt.alloc(), name, max) {
-        Ok(bytes) => {
-            assert!(rt; want.is_ok(), "{name} was read");
-            assert_eq!(rt; bytes.as_slice(), want.unwrap_or(b"".as_slice()), "{name}");
-        }
-        Err(fault) => {
-            assert_eq!(rt; Some(fault), want.err(), "{name}");
-        }
+// A name, a limit of bytes, and what a read answers.
+type Read<'a> = (&'a str, usize, Result<&'a [u8], ShelfFault>);
+
+// Whether a read answers so.
+fn reads<S: Shelf>(alloc: Global, shelf: &mut S, row: &Read) -> bool {
+    match shelf.read(alloc, row.0, row.1) {
+        Ok(bytes) => row.2 == Ok(bytes.as_slice()),
+        Err(fault) => row.2 == Err(fault),
     }
 }
 
-#[test]
-fn shelf_in_memory(rt: HostRuntime) -> Result<(), Fail> {
-    let mut shelf = MemShelf::new(rt.alloc());
+// Two files, one of them put twice, and the reads that fail.
+fn fill(shelf: &mut MemShelf) -> Result<(), Memory> {
     shelf.put("p/list", b"xyz")?;
     shelf.put("p/empty", b"")?;
     shelf.put("p/list", b"wx")?;
     shelf.fail_at(3)?;
     shelf.fail_at(8)?;
-    shelf.fail_at(8)?;
-    let rows: [(&str, usize, Result<&[u8], ShelfFault>); 9] = [
-        ("p/list", 2, Ok(b"wx")),
-        ("p/list", 1, Err(ShelfFault::TooLong)),
-        ("p/list", 2, Err(ShelfFault::Failed)),
-        ("p/lis", 2, Err(ShelfFault::Missing)),
-        ("p/empty", 0, Ok(b"")),
-        ("p/list", 0, Err(ShelfFault::TooLong)),
-        ("p/list", 1_048_576, Ok(b"wx")),
-        ("p/none", 2, Err(ShelfFault::Failed)),
-        ("p/none", 2, Err(ShelfFault::Missing)),
-    ];
-    for (name, max, want) in rows {
-        reads(&rt, &mut shelf, name, max, want);
+    shelf.fail_at(8)
+}
+
+// Reads, one after the other.
+const READS: &[Read] = &[
+    ("p/list", 2, Ok(b"wx")),
+    ("p/list", 1, Err(ShelfFault::TooLong)),
+    ("p/list", 2, Err(ShelfFault::Failed)),
+    ("p/lis", 2, Err(ShelfFault::Missing)),
+    ("p/empty", 0, Ok(b"")),
+    ("p/list", 0, Err(ShelfFault::TooLong)),
+    ("p/list", 1_048_576, Ok(b"wx")),
+    ("p/none", 2, Err(ShelfFault::Failed)),
+    ("p/none", 2, Err(ShelfFault::Missing)),
+];
+
+#[test]
+fn shelf_in_memory(rt: HostRuntime) -> Result<(), Fail> {
+    let mut shelf = MemShelf::new(rt.alloc());
+    fill(&mut shelf)?;
+    for row in READS {
+        assert!(rt; reads(rt.alloc(), &mut shelf, row), "{}", row.0);
     }
     Ok(())
+}
+
+// The writes that fail, and how many bytes are taken then.
+fn let_fail(sink: &mut MemSink) -> Result<(), Memory> {
+    sink.fail_at(2, 3)?;
+    sink.fail_at(2, 1)?;
+    sink.fail_at(4, 10)?;
+    sink.fail_at(5, 0)
+}
+
+// A piece, what a write of it answers, and the bytes that are taken until then.
+type Written = (&'static [u8], Result<(), SinkFault>, &'static [u8]);
+
+// Writes, one after the other.
+const WRITES: &[Written] = &[
+    (b"hello ", Ok(()), b"hello "),
+    (b"world", Err(SinkFault::Failed), b"hello wor"),
+    (b"", Ok(()), b"hello wor"),
+    (b"k", Err(SinkFault::Failed), b"hello work"),
+    (b"s", Err(SinkFault::Failed), b"hello work"),
+    (b"ed", Ok(()), b"hello worked"),
+];
+
+fn are_same(bytes: &[u8], others: &[u8]) -> bool {
+    bytes == others
+}
+
+// Whether a write answers so.
+fn takes(sink: &mut MemSink, row: &Written) -> bool {
+    let answer = sink.write(row.0);
+    answer == row.1 && are_same(sink.bytes(), row.2)
 }
 
 #[test]
 fn sink_in_memory(rt: HostRuntime) -> Result<(), Fail> {
     let mut sink = MemSink::new(rt.alloc());
-    sink.fail_at(2, 3)?;
-    sink.fail_at(2, 1)?;
-    sink.fail_at(4, 10)?;
-    sink.fail_at(5, 0)?;
-    let rows: [(&[u8], Result<(), SinkFault>, &[u8]); 6] = [
-        (b"hello ", Ok(()), b"hello "),
-        (b"world", Err(SinkFault::Failed), b"hello wor"),
-        (b"", Ok(()), b"hello wor"),
-        (b"k", Err(SinkFault::Failed), b"hello work"),
-        (b"s", Err(SinkFault::Failed), b"hello work"),
-        (b"ed", Ok(()), b"hello worked"),
-    ];
-    for (piece, want, taken) in rows {
-        assert_eq!(&rt; sink.write(piece), want);
-        assert_eq!(&rt; sink.bytes(), taken);
+    let_fail(&mut sink)?;
+    for row in WRITES {
+        assert!(rt; takes(&mut sink, row), "{row:?}");
     }
     Ok(())
 }
 
-// A text of so many bytes, into a sink that fails at a write, takes so many bytes of it.
-fn writes<R: Abort + AllocGlobal>(
-    rt: &R,
-    text: &[u8],
-    failing: Option<(u32, u32)>,
-    taken: usize,
-) -> Result<(), Fail> {
-    let mut sink = MemSink::new(rt.alloc());
+// A text of so many bytes.
+fn long_text(alloc: Global, count: u32) -> Result<Bytes, Memory> {
+    let mut text = Bytes::new(alloc);
+    for place in 0..count {
+        text.push((place % 251) as u8)?;
+    }
+    Ok(text)
+}
+
+// The write that fails and how many bytes it takes, and how many bytes of the text are taken.
+type Taken = (Option<(u32, u32)>, usize);
+
+// Writes of a text of 131,172 bytes.
+const WHOLE: &[Taken] = &[
+    (None, 131_172),
+    (Some((1, 10)), 10),
+    (Some((2, 10)), 65_546),
+    (Some((2, 65_536)), 131_072),
+    (Some((3, 0)), 131_072),
+    (Some((3, 1_000)), 131_172),
+];
+
+// Whether a text is written up to there, with a fault where a write fails.
+fn writes(alloc: Global, text: &[u8], row: &Taken) -> Result<bool, Memory> {
+    let mut sink = MemSink::new(alloc);
     let mut want = Ok(());
-    if let Some((number, count)) = failing {
+    if let Some((number, count)) = row.0 {
         sink.fail_at(number, count)?;
         want = Err(SinkFault::Failed);
     }
-    assert_eq!(rt; write_text(&mut sink, text), want);
-    assert_eq!(rt; sink.bytes().len(), taken);
-    assert!(rt; taken <= text.len());
-    assert!(rt; sink.bytes() == &text[..taken]);
-    Ok(())
+    let answer = write_text(&mut sink, text);
+    Ok(answer == want && sink.bytes().len() == row.1 && text.starts_with(sink.bytes()))
+}
+
+// Whether an empty text and a piece take one write.
+fn empty_takes_no_write(alloc: Global, piece: &[u8]) -> Result<bool, Memory> {
+    let mut sink = MemSink::new(alloc);
+    sink.fail_at(2, 0)?;
+    let none = write_text(&mut sink, b"");
+    let one = write_text(&mut sink, piece);
+    Ok(none == Ok(()) && one == Ok(()) && sink.bytes().len() == 65_536)
 }
 
 #[test]
 fn pieces(rt: HostRuntime) -> Result<(), Fail> {
-    let mut text = Vec::new(rt.alloc());
-    for place in 0..131_172u32 {
-        text.push((place % 251) as u8)?;
+    let text = long_text(rt.alloc(), 131_172)?;
+    for row in WHOLE {
+        assert!(rt; writes(rt.alloc(), text.as_slice(), row)?, "{row:?}");
     }
-    assert_eq!(&rt; PIECE, 65_536);
-    let text = text.as_slice();
-    let piece = text.get(..65_536).ok_or("no piece")?;
-    writes(&rt, text, None, 131_172)?;
-    writes(&rt, text, Some((1, 10)), 10)?;
-    writes(&rt, text, Some((2, 10)), 65_546)?;
-    writes(&rt, text, Some((2, 65_536)), 131_072)?;
-    writes(&rt, text, Some((3, 0)), 131_072)?;
-    writes(&rt, text, Some((3, 1_000)), 131_172)?;
-    writes(&rt, piece, Some((1, 65_535)), 65_535)?;
-    let mut sink = MemSink::new(rt.alloc());
-    sink.fail_at(2, 0)?;
-    assert_eq!(&rt; write_text(&mut sink, b""), Ok(()));
-    assert_eq!(&rt; write_text(&mut sink, piece), Ok(()));
-    assert_eq!(&rt; sink.bytes().len(), 65_536);
+    Ok(())
+}
+
+#[test]
+fn one_piece(rt: HostRuntime) -> Result<(), Fail> {
+    let text = long_text(rt.alloc(), 65_536)?;
+    assert!(rt; PIECE == 65_536);
+    assert!(rt; writes(rt.alloc(), text.as_slice(), &(Some((1, 65_535)), 65_535))?);
+    assert!(rt; empty_takes_no_write(rt.alloc(), text.as_slice())?);
     Ok(())
 }
 
@@ -133,57 +168,90 @@ impl Following<u8, u8, Option<Bytes>, u8> for Nothing {
     ghost next = { λ _. done (Ok 1) };
 }
 
+// A name, a limit of bytes, and what a read of a content answers.
+type Content = (
+    &'static str,
+    usize,
+    Result<Option<&'static [u8]>, Stop<u8, u8>>,
+);
+
+// Reads, one after the other; the fourth fails.
+const CONTENTS: &[Content] = &[
+    ("p/postinst", 5, Ok(Some(b"true\n"))),
+    ("p/postinst", 4, Err(Stop::Refused(9))),
+    ("p/prerm", 5, Ok(None)),
+    ("p/postinst", 5, Err(Stop::ReadFailed(7))),
+];
+
+// Whether a read of a content answers so.
+fn has_content(alloc: Global, shelf: &mut MemShelf, row: &Content) -> bool {
+    match read_content(alloc, shelf, 7u8, row.0, row.1, 9u8) {
+        Ok(Some(bytes)) => row.2 == Ok(Some(bytes.as_slice())),
+        Ok(None) => row.2 == Ok(None),
+        Err(stop) => row.2 == Err(stop),
+    }
+}
+
 #[test]
 fn contents(rt: HostRuntime) -> Result<(), Fail> {
     readings_follow::<u8, u8, Option<Bytes>, u8, Nothing>();
     let mut shelf = MemShelf::new(rt.alloc());
     shelf.put("p/postinst", b"true\n")?;
     shelf.fail_at(4)?;
-    let rows: [(&str, usize, Result<Option<&[u8]>, Stop<u8, u8>>); 4] = [
-        ("p/postinst", 5, Ok(Some(b"true\n"))),
-        ("p/postinst", 4, Err(Stop::Refused(9))),
-        ("p/prerm", 5, Ok(None)),
-        ("p/postinst", 5, Err(Stop::ReadFailed(7))),
-    ];
-    for (name, max, want) in rows {
-        match read_content(rt.alloc(), &mut shelf, 7u8, name, max, 9u8) {
-            Ok(Some(bytes)) => assert_eq!(&rt; Ok(Some(bytes.as_slice())), want),
-            Ok(None) => assert_eq!(&rt; Ok(None), want),
-            Err(stop) => assert_eq!(&rt; Err(stop), want),
-        }
+    for row in CONTENTS {
+        assert!(rt; has_content(rt.alloc(), &mut shelf, row), "{}", row.0);
+    }
+    Ok(())
+}
+
+// Reads of files beside `written/short`, which has five bytes.
+const FILES: &[Read] = &[
+    ("written/short", 5, Ok(b"hello")),
+    ("written/short", 4, Err(ShelfFault::TooLong)),
+    ("written/short", usize::MAX, Ok(b"hello")),
+    ("written/none", 5, Err(ShelfFault::Missing)),
+    ("written", 5, Err(ShelfFault::Failed)),
+    ("written/none/none", 5, Err(ShelfFault::Missing)),
+    ("written/short/none", 5, Err(ShelfFault::Failed)),
+    ("/dev/zero", 10_000, Err(ShelfFault::TooLong)),
+];
+
+#[test]
+fn real_files(rt: HostRuntime) -> Result<(), Fail> {
+    let _made = fs::create_dir(&rt, "written");
+    fs::write(&rt, "written/short", b"hello")?;
+    let mut shelf = DirShelf::new(&rt);
+    for row in FILES {
+        assert!(rt; reads(rt.alloc(), &mut shelf, row), "{}", row.0);
     }
     Ok(())
 }
 
 #[test]
-fn real_files(rt: HostRuntime) -> Result<(), Fail> {
-    let mut text = Vec::new(rt.alloc());
-    for place in 0..10_000u32 {
-        text.push((place % 251) as u8)?;
-    }
-    let text = text.as_slice();
+fn a_long_file_is_written(rt: HostRuntime) -> Result<(), Fail> {
+    let text = long_text(rt.alloc(), 10_000)?;
     let _made = fs::create_dir(&rt, "written");
-    fs::write(&rt, "written/short", b"hello")?;
     let mut sink = OutSink::new(fs::create(&rt, "written/long")?);
-    assert_eq!(&rt; write_text(&mut sink, text), Ok(()));
+    assert!(rt; write_text(&mut sink, text.as_slice()) == Ok(()));
     let mut shelf = DirShelf::new(&rt);
-    let rows: [(&str, usize, Result<&[u8], ShelfFault>); 10] = [
-        ("written/short", 5, Ok(b"hello")),
-        ("written/short", 4, Err(ShelfFault::TooLong)),
-        ("written/short", usize::MAX, Ok(b"hello")),
-        ("written/none", 5, Err(ShelfFault::Missing)),
-        ("written", 5, Err(ShelfFault::Failed)),
-        ("written/none/none", 5, Err(ShelfFault::Missing)),
-        ("written/short/none", 5, Err(ShelfFault::Failed)),
-        ("written/long", 10_000, Ok(text)),
-        ("written/long", 9_999, Err(ShelfFault::TooLong)),
-        ("/dev/zero", 10_000, Err(ShelfFault::TooLong)),
-    ];
-    for (name, max, want) in rows {
-        reads(&rt, &mut shelf, name, max, want);
-    }
-    let mut closed = OutSink::new(fs::open(&rt, "written/short")?);
-    assert_eq!(&rt; closed.write(b"x"), Err(SinkFault::Failed));
+    assert!(rt;
+        reads(
+            rt.alloc(),
+            &mut shelf,
+            &("written/long", 10_000, Ok(text.as_slice()))
+        )
+    );
+    let short = ("written/long", 9_999, Err(ShelfFault::TooLong));
+    assert!(rt; reads(rt.alloc(), &mut shelf, &short));
+    Ok(())
+}
+
+#[test]
+fn a_file_that_is_read_takes_no_byte(rt: HostRuntime) -> Result<(), Fail> {
+    let _made = fs::create_dir(&rt, "written");
+    fs::write(&rt, "written/closed", b"hello")?;
+    let mut closed = OutSink::new(fs::open(&rt, "written/closed")?);
+    assert!(rt; closed.write(b"x") == Err(SinkFault::Failed));
     Ok(())
 }
 
@@ -210,16 +278,28 @@ impl Write for Narrow {
     }
 }
 
+// A piece, the room of a writer, whether it flushes, and what a write of the piece answers.
+type Flushed = (&'static [u8], usize, bool, Result<(), SinkFault>);
+
+const NARROW: &[Flushed] = &[
+    (b"hello", 5, true, Ok(())),
+    (b"hello", 4, true, Err(SinkFault::Failed)),
+    (b"hello", 5, false, Err(SinkFault::Failed)),
+    (b"", 0, true, Ok(())),
+];
+
+// Whether a write answers so.
+fn is_written(row: &Flushed) -> bool {
+    let mut sink = OutSink::new(Narrow {
+        room: row.1,
+        flushes: row.2,
+    });
+    sink.write(row.0) == row.3
+}
+
 #[test]
 fn narrow_writers(rt: HostRuntime) {
-    let rows: [(&[u8], usize, bool, Result<(), SinkFault>); 4] = [
-        (b"hello", 5, true, Ok(())),
-        (b"hello", 4, true, Err(SinkFault::Failed)),
-        (b"hello", 5, false, Err(SinkFault::Failed)),
-        (b"", 0, true, Ok(())),
-    ];
-    for (piece, room, flushes, want) in rows {
-        let mut sink = OutSink::new(Narrow { room, flushes });
-        assert_eq!(&rt; sink.write(piece), want, "room {room}");
+    for row in NARROW {
+        assert!(rt; is_written(row), "room {}", row.1);
     }
 }

@@ -1,6 +1,6 @@
 //! Each text by hand, a row for each: a value with its text, or a text that no value has, and why.
 
-use script_names::{Bytes, List, Mark, Name, Reason, Site};
+use script_names::{Bytes, List, Mark, Memory, Name, NameFault, Reason, Site};
 use shown_texts::{
     push_line, push_lines, push_mark, push_name, push_number, push_path, push_reason, push_shown,
     push_site, read_lines, read_mark, read_number, read_path, read_reason, read_shown, read_site,
@@ -35,7 +35,7 @@ const NOT_SHOWN: &[(&[u8], &str)] = &[
 ];
 
 // Bytes as `show` spells them behind a text, and read again.
-fn expect_shown(alloc: Global, bytes: &[u8], text: &[u8]) -> Result<bool, Fail> {
+fn is_shown(alloc: Global, bytes: &[u8], text: &[u8]) -> Result<bool, Memory> {
     let mut printed = Bytes::from_slice(alloc, b"- ")?;
     push_shown(&mut printed, bytes)?;
     let spelled = show(alloc, bytes)?;
@@ -50,15 +50,23 @@ fn expect_shown(alloc: Global, bytes: &[u8], text: &[u8]) -> Result<bool, Fail> 
     }
 }
 
+// Whether the text spells no bytes.
+fn is_not_shown(alloc: Global, text: &[u8]) -> Result<bool, Memory> {
+    Ok(read_shown(alloc, text)?.is_none())
+}
+
 #[test]
 fn bytes_are_shown(rt: HostRuntime) -> Result<(), Fail> {
     for row in SHOWN {
-        let same = expect_shown(rt.alloc(), row.0, row.1)?;
-        assert!(rt; same, "{row:?}");
+        assert!(rt; is_shown(rt.alloc(), row.0, row.1)?, "{row:?}");
     }
+    Ok(())
+}
+
+#[test]
+fn other_texts_spell_no_bytes(rt: HostRuntime) -> Result<(), Fail> {
     for row in NOT_SHOWN {
-        let read = read_shown(rt.alloc(), row.0)?;
-        assert!(rt; read.is_none(), "{row:?}");
+        assert!(rt; is_not_shown(rt.alloc(), row.0)?, "{row:?}");
     }
     Ok(())
 }
@@ -83,18 +91,27 @@ const NUMBERS: &[(u32, &[u8], Option<u32>)] = &[
     (4294967295, b"7a", None),
 ];
 
+// A number as text.
+fn number_text(alloc: Global, number: u64) -> Result<Bytes, Memory> {
+    let mut printed = Bytes::new(alloc);
+    push_number(&mut printed, number)?;
+    Ok(printed)
+}
+
+// Whether the text of a row is read so, and is that of the number that is read, if one is.
+fn is_number(alloc: Global, row: &(u32, &[u8], Option<u32>)) -> Result<bool, Memory> {
+    let read = read_number(row.1, row.0);
+    let printed = number_text(alloc, u64::from(read.unwrap_or(0)))?;
+    Ok(read == row.2 && (printed.as_slice() == row.1) == read.is_some())
+}
+
 #[test]
 fn numbers_are_decimal(rt: HostRuntime) -> Result<(), Fail> {
     for row in NUMBERS {
-        let read = read_number(row.1, row.0);
-        assert_eq!(rt; read, row.2, "{row:?}");
-        let mut printed = Bytes::new(rt.alloc());
-        push_number(&mut printed, u64::from(read.unwrap_or(0)))?;
-        assert_eq!(rt; printed.as_slice() == row.1, read.is_some(), "{row:?}");
+        assert!(rt; is_number(rt.alloc(), row)?, "{row:?}");
     }
-    let mut longest = Bytes::new(rt.alloc());
-    push_number(&mut longest, 18446744073709551615)?;
-    assert_eq!(rt; longest.as_slice(), b"18446744073709551615".as_slice());
+    let longest = number_text(rt.alloc(), 18446744073709551615)?;
+    assert!(rt; longest.as_slice() == b"18446744073709551615".as_slice());
     Ok(())
 }
 
@@ -109,23 +126,37 @@ const LINES: &[(&[u8], Option<usize>)] = &[
     (b"\n ", None),
 ];
 
+// How many lines a text has.
+fn line_count(alloc: Global, text: &[u8]) -> Result<Option<usize>, Memory> {
+    match read_lines(alloc, text)? {
+        Some(lines) => Ok(Some(lines.len())),
+        None => Ok(None),
+    }
+}
+
 #[test]
 fn lines_end_in_newlines(rt: HostRuntime) -> Result<(), Fail> {
-    let alloc = rt.alloc();
     for row in LINES {
-        let count = match read_lines(alloc, row.0)? {
-            Some(lines) => Some(lines.len()),
-            None => None,
-        };
-        assert_eq!(rt; count, row.1, "{row:?}");
+        assert!(rt; line_count(rt.alloc(), row.0)? == row.1, "{row:?}");
     }
+    Ok(())
+}
+
+// A line, and the lines of a list behind it.
+fn lines_text(alloc: Global) -> Result<Bytes, Memory> {
     let mut lines = List::new(alloc);
     lines.add(Bytes::from_slice(alloc, b"a")?)?;
     lines.add(Bytes::new(alloc))?;
     let mut text = Bytes::new(alloc);
     push_line(&mut text, b" b")?;
     push_lines(&mut text, lines.as_slice())?;
-    assert_eq!(rt; text.as_slice(), b" b\na\n\n".as_slice());
+    Ok(text)
+}
+
+#[test]
+fn lines_are_printed_in_order(rt: HostRuntime) -> Result<(), Fail> {
+    let text = lines_text(rt.alloc())?;
+    assert!(rt; text.as_slice() == b" b\na\n\n".as_slice());
     Ok(())
 }
 
@@ -153,24 +184,46 @@ const NOT_PATHS: &[(&[u8], &str)] = &[
     (b"/\\x00", "NUL stands in no name"),
 ];
 
+// The path of one name.
+fn path_text(alloc: Global, name: &[u8]) -> Result<Bytes, NameFault> {
+    let mut names = List::new(alloc);
+    names.add(Name::read(alloc, name)?)?;
+    let mut text = Bytes::new(alloc);
+    push_path(&mut text, names.as_slice())?;
+    Ok(text)
+}
+
+// How many names the path has that a text shows.
+fn name_count(alloc: Global, text: &[u8]) -> Result<Option<usize>, Memory> {
+    match read_path(alloc, text)? {
+        Some(names) => Ok(Some(names.len())),
+        None => Ok(None),
+    }
+}
+
+// Whether the path of the first name, and that of both, is shown so, and read again.
+fn is_path(alloc: Global, row: &(&[u8], &[u8], &[u8], &[u8])) -> Result<bool, NameFault> {
+    let mut text = path_text(alloc, row.0)?;
+    if text.as_slice() != row.3 {
+        return Ok(false);
+    }
+    let second = Name::read(alloc, row.1)?;
+    push_name(&mut text, &second)?;
+    Ok(text.as_slice() == row.2 && name_count(alloc, row.2)? == Some(2))
+}
+
 #[test]
 fn paths_are_shown(rt: HostRuntime) -> Result<(), Fail> {
-    let alloc = rt.alloc();
     for row in PATHS {
-        let mut names = List::new(alloc);
-        names.add(Name::read(alloc, row.0)?)?;
-        let mut first = Bytes::new(alloc);
-        push_path(&mut first, names.as_slice())?;
-        assert_eq!(rt; first.as_slice(), row.3);
-        let second = Name::read(alloc, row.1)?;
-        push_name(&mut first, &second)?;
-        assert_eq!(rt; first.as_slice(), row.2);
-        let read = read_path(alloc, row.2)?;
-        assert_eq!(rt; read.map(|names| names.len()), Some(2));
+        assert!(rt; is_path(rt.alloc(), row)?, "{row:?}");
     }
+    Ok(())
+}
+
+#[test]
+fn other_texts_show_no_path(rt: HostRuntime) -> Result<(), Fail> {
     for row in NOT_PATHS {
-        let read = read_path(alloc, row.0)?;
-        assert!(rt; read.is_none(), "{row:?}");
+        assert!(rt; name_count(rt.alloc(), row.0)?.is_none(), "{row:?}");
     }
     Ok(())
 }
@@ -179,9 +232,8 @@ fn paths_are_shown(rt: HostRuntime) -> Result<(), Fail> {
 fn the_root_is_a_slash(rt: HostRuntime) -> Result<(), Fail> {
     let mut text = Bytes::new(rt.alloc());
     push_path(&mut text, &[])?;
-    assert_eq!(rt; text.as_slice(), b"/".as_slice());
-    let read = read_path(rt.alloc(), b"/")?;
-    assert_eq!(rt; read.map(|names| names.len()), Some(0));
+    assert!(rt; text.as_slice() == b"/".as_slice());
+    assert!(rt; name_count(rt.alloc(), b"/")? == Some(0));
     Ok(())
 }
 
@@ -213,30 +265,47 @@ const NOT_MARKS: &[(&[u8], &str)] = &[
     (b"3:17:67:1", "four numbers"),
 ];
 
+// Whether a site has this text, and is read from it.
+fn is_site(alloc: Global, site: Site, wanted: &[u8]) -> Result<bool, Memory> {
+    let mut text = Bytes::new(alloc);
+    push_site(&mut text, site)?;
+    Ok(text.as_slice() == wanted && read_site(alloc, wanted)? == Some(site))
+}
+
+// Whether a mark has this text, and is read from it.
+fn is_mark(alloc: Global, mark: Mark, wanted: &[u8]) -> Result<bool, Memory> {
+    let mut text = Bytes::new(alloc);
+    push_mark(&mut text, mark)?;
+    Ok(text.as_slice() == wanted && read_mark(alloc, wanted)? == Some(mark))
+}
+
+// Whether the site and the mark of a row have its texts.
+fn are_shown(alloc: Global, row: &(u16, u32, &[u8], u8, &[u8])) -> Result<bool, Memory> {
+    let site = Site {
+        step: row.0,
+        at: row.1,
+    };
+    let mark = Mark { site, row: row.3 };
+    Ok(is_site(alloc, site, row.2)? && is_mark(alloc, mark, row.4)?)
+}
+
+// Whether a text is neither that of a site nor that of a mark.
+fn is_neither(alloc: Global, text: &[u8]) -> Result<bool, Memory> {
+    Ok(read_site(alloc, text)?.is_none() && read_mark(alloc, text)?.is_none())
+}
+
 #[test]
 fn sites_and_marks_are_numbers(rt: HostRuntime) -> Result<(), Fail> {
-    let alloc = rt.alloc();
     for row in MARKS {
-        let site = Site {
-            step: row.0,
-            at: row.1,
-        };
-        let mark = Mark { site, row: row.3 };
-        let mut text = Bytes::new(alloc);
-        push_site(&mut text, site)?;
-        assert_eq!(rt; text.as_slice(), row.2);
-        let mut text = Bytes::new(alloc);
-        push_mark(&mut text, mark)?;
-        assert_eq!(rt; text.as_slice(), row.4);
-        let found = read_site(alloc, row.2)?;
-        assert!(rt; found == Some(site));
-        let found = read_mark(alloc, row.4)?;
-        assert!(rt; found == Some(mark));
+        assert!(rt; are_shown(rt.alloc(), row)?, "{row:?}");
     }
+    Ok(())
+}
+
+#[test]
+fn other_texts_are_no_site_and_no_mark(rt: HostRuntime) -> Result<(), Fail> {
     for row in NOT_MARKS {
-        let site = read_site(alloc, row.0)?;
-        let mark = read_mark(alloc, row.0)?;
-        assert!(rt; site.is_none() && mark.is_none(), "{row:?}");
+        assert!(rt; is_neither(rt.alloc(), row.0)?, "{row:?}");
     }
     Ok(())
 }
@@ -255,16 +324,22 @@ const REASONS: &[(&[u8], Option<Reason>)] = &[
     (b"lin", None),
 ];
 
+// Whether the text is the name of this reason, which is printed so.
+fn is_reason(alloc: Global, text: &[u8], wanted: Option<Reason>) -> Result<bool, Memory> {
+    match read_reason(text) {
+        None => Ok(wanted.is_none()),
+        Some(reason) => {
+            let mut printed = Bytes::new(alloc);
+            push_reason(&mut printed, reason)?;
+            Ok(wanted == Some(reason) && printed.as_slice() == text)
+        }
+    }
+}
+
 #[test]
 fn reasons_have_names(rt: HostRuntime) -> Result<(), Fail> {
     for row in REASONS {
-        let read = read_reason(row.0);
-        assert!(rt; read == row.1, "{row:?}");
-        if let Some(reason) = read {
-            let mut text = Bytes::new(rt.alloc());
-            push_reason(&mut text, reason)?;
-            assert_eq!(rt; text.as_slice(), row.0);
-        }
+        assert!(rt; is_reason(rt.alloc(), row.0, row.1)?, "{row:?}");
     }
     Ok(())
 }
