@@ -1,15 +1,17 @@
 //! Calls one after the other, by the rows that they take.
 
+ghost use Rattle.std.specs.Prelude.{All};
+ghost use Rattle.tree_clauses.specs.Plain.{IsPlain};
+
 use crate::call_words::call_cases;
-use crate::clause_texts::read_again;
-use crate::stores::shown_tree;
+use crate::clause_texts::has_clause;
+use crate::stores::shows;
 use clause_solver::Store;
 use script_names::{Bytes, Memory};
 use shown_texts::push_number;
 use std::alloc::Global;
-use std::process::Abort;
 use std::test::Fail;
-use tree_clauses::{ClauseFault, print_clause};
+use tree_clauses::{Case, ClauseFault};
 
 // Calls with the row that each takes, from all trees on; a call behind them; and the rows that are left of it.
 const LEFT: &str = "; | mkdir /a | 67 68
@@ -48,61 +50,92 @@ touch /a 67; -> now v3|kind v0 dir|entry v0 a v1|kind v1 absent,reg|kind v2 reg|
 ln -s t /a 68; -> now v3|kind v0 dir|entry v0 a v1|kind v1 absent|target v2 t|similar v3 {a} v0|entry v3 a v2| ->
 mkdir /a 68; mkdir /a/b 68; -> now v7|kind v0 dir|entry v0 a v1|kind v1 absent|kind v2 dir|fence v2 {}|similar v3 {a} v0|entry v3 a v2|kind v4 absent|kind v5 dir|fence v5 {}|similar v6 {b} v2|entry v6 b v5|similar v7 {a} v3|entry v7 a v6| ->";
 
-// The rows that are left of a call, each with a blank before it.
-fn rows_left<R: Abort + AllocGlobal>(rt: &R, store: &Store, text: &str) -> Result<Bytes, Fail> {
-    let all = call_cases(rt, text)?;
-    let mut rows = Bytes::new(rt.alloc());
-    for made in all.as_slice() {
-        if let Some(_) = store.add_case(made)? {
-            rows.extend(b" ")?;
-            push_number(&mut rows, u64::from(made.row))?;
-        }
-    }
-    Ok(rows)
+// The number of a row as text.
+fn number_text(alloc: Global, number: u8) -> Result<Bytes, Memory> {
+    let mut text = Bytes::new(alloc);
+    push_number(&mut text, u64::from(number))?;
+    Ok(text)
 }
 
-// The store with the case of a row, or as it is where no case has the row.
-fn with_row<R: Abort + AllocGlobal>(
-    rt: &R,
-    store: Store,
-    text: &str,
-    row: &str,
-) -> Result<Store, Fail> {
-    let all = call_cases(rt, text)?;
-    for made in all.as_slice() {
-        let mut number = Bytes::new(rt.alloc());
-        push_number(&mut number, u64::from(made.row))?;
-        if number.as_slice() == row.as_bytes() {
-            let added = store.add_case(made)?;
-            assert!(rt; added.is_some(), "{}", text);
-            if let Some(new) = added {
-                return Ok(new);
-            }
+// Whether a text is that of a row's number.
+fn is_number(alloc: Global, number: u8, text: &str) -> Result<bool, Memory> {
+    let shown = number_text(alloc, number)?;
+    Ok(shown.as_slice() == text.as_bytes())
+}
+
+// Whether something is left of the store with the case.
+fn is_left(store: &Store, made: &Case) -> Result<bool, Memory>
+    requires { IsPlain made.now }
+{
+    let added = store.add_case(made)?;
+    Ok(added.is_some())
+}
+
+// The rows of the cases that are left, each with a blank before it.
+fn put_rows(rows: &mut Bytes, store: &Store, list: &[Case]) -> Result<(), Memory>
+    requires { All IsPlain list.now }
+{
+    for made in list {
+        if is_left(store, made)? {
+            rows.extend(b" ")?;
+            push_number(rows, u64::from(made.row))?;
         }
     }
-    assert!(rt; false, "{}", text);
-    Ok(store)
+    Ok(())
+}
+
+// Whether these rows are left of a call.
+fn are_left(alloc: Global, store: &Store, call: &str, wanted: &str) -> Result<bool, Memory> {
+    let list = call_cases(alloc, call)?;
+    let mut rows = Bytes::new(alloc);
+    put_rows(&mut rows, store, list.as_slice())?;
+    Ok(rows.as_slice() == wanted.as_bytes())
+}
+
+// The store with the case of a row; none where no case has the row, or nothing is left.
+fn with_row(alloc: Global, store: &Store, list: &[Case], row: &str) -> Result<Option<Store>, Memory>
+    requires { All IsPlain list.now }
+{
+    for made in list {
+        if is_number(alloc, made.row, row)? {
+            return store.add_case(made);
+        }
+    }
+    Ok(None)
+}
+
+// The store with the case of a row of a call.
+fn with_call(alloc: Global, store: &Store, call: &str, row: &str) -> Result<Option<Store>, Memory> {
+    let list = call_cases(alloc, call)?;
+    with_row(alloc, store, list.as_slice(), row)
 }
 
 // The store behind calls, each with the row that it takes, from all trees on.
-fn store_behind<R: Abort + AllocGlobal>(rt: &R, calls: &str) -> Result<Store, Fail> {
-    let mut store = Store::start(rt.alloc())?;
+fn store_behind(alloc: Global, calls: &str) -> Result<Store, Fail> {
+    let mut store = Store::start(alloc)?;
     for call in calls.split(';') {
         if let Some((text, row)) = call.trim().rsplit_once(' ') {
-            store = with_row(rt, store, text, row)?;
+            match with_call(alloc, &store, text, row)? {
+                Some(new) => store = new,
+                None => return Err(Fail::from("nothing is left of a row")),
+            }
         }
     }
     Ok(store)
+}
+
+// Whether the rows of a line are left of its call.
+fn is_line_left(alloc: Global, line: &str) -> Result<bool, Fail> {
+    let (calls, rest) = line.split_once(" | ").unwrap_or(("", ""));
+    let (call, rows) = rest.split_once(" |").unwrap_or(("", "none"));
+    let store = store_behind(alloc, calls)?;
+    Ok(are_left(alloc, &store, call, rows)?)
 }
 
 #[test]
 fn rows_are_left(rt: HostRuntime) -> Result<(), Fail> {
     for line in LEFT.lines() {
-        let (calls, rest) = line.split_once(" | ").unwrap_or(("", ""));
-        let (call, rows) = rest.split_once(" |").unwrap_or(("", "none"));
-        let store = store_behind(&rt, calls)?;
-        let left = rows_left(&rt, &store, call)?;
-        assert_eq!(rt; left.as_slice(), rows.as_bytes(), "{}", line);
+        assert!(rt; is_line_left(rt.alloc(), line)?, "{line}");
     }
     Ok(())
 }
@@ -117,24 +150,29 @@ fn text_of(alloc: Global, begin: &[u8], row: &str) -> Result<Bytes, Memory> {
 }
 
 // Whether a store's clause has the text of a row, and is read as it was printed.
-fn has_text(alloc: Global, store: &Store, row: &str) -> Result<bool, ClauseFault> {
+fn has_row(alloc: Global, store: &Store, row: &str) -> Result<bool, ClauseFault> {
     let wanted = text_of(alloc, b"clause start v0 ", row)?;
-    let clause = store.clause()?;
-    let printed = print_clause(alloc, &clause)?;
-    let again = read_again(alloc, &printed)?;
-    Ok(printed.as_slice() == wanted.as_slice() && again.as_slice() == wanted.as_slice())
+    has_clause(alloc, store, wanted.as_slice())
+}
+
+// Whether a store shows the tree of a row.
+fn shows_row(alloc: Global, store: &mut Store, row: &str) -> Result<bool, Memory> {
+    let wanted = text_of(alloc, b"", row)?;
+    shows(alloc, store, wanted.as_slice())
+}
+
+// Whether the store behind the calls of a line has the clause and the tree of the line.
+fn is_line(alloc: Global, line: &str) -> Result<bool, Fail> {
+    let (calls, rest) = line.split_once(" -> ").unwrap_or(("", ""));
+    let (clause, tree) = rest.split_once(" ->").unwrap_or(("", "none"));
+    let mut store = store_behind(alloc, calls)?;
+    Ok(has_row(alloc, &store, clause)? && shows_row(alloc, &mut store, tree.trim())?)
 }
 
 #[test]
 fn clauses_of_stores(rt: HostRuntime) -> Result<(), Fail> {
     for line in CLAUSES.lines() {
-        let (calls, rest) = line.split_once(" -> ").unwrap_or(("", ""));
-        let (clause, tree) = rest.split_once(" ->").unwrap_or(("", "none"));
-        let mut store = store_behind(&rt, calls)?;
-        assert!(rt; has_text(rt.alloc(), &store, clause)?, "{}", line);
-        let wanted = text_of(rt.alloc(), b"", tree.trim())?;
-        let shown = shown_tree(&rt, &mut store)?;
-        assert_eq!(rt; shown.as_slice(), wanted.as_slice(), "{}", line);
+        assert!(rt; is_line(rt.alloc(), line)?, "{line}");
     }
     Ok(())
 }

@@ -4,10 +4,8 @@ ghost use Rattle.std.specs.Prelude.{All, IfOk};
 ghost use Rattle.tree_clauses.specs.Plain.{IsPlain};
 
 use act_cases::cases;
-use script_names::{Bytes, List, Memory, Path};
+use script_names::{Bytes, List, Memory, Path, PathFault};
 use std::alloc::Global;
-use std::process::Abort;
-use std::test::Fail;
 use tree_clauses::Case;
 use utility_calls::acts::Act;
 use utility_calls::calls::{Planned, plan};
@@ -22,32 +20,50 @@ fn words(alloc: Global, text: &str) -> Result<List<Bytes>, Memory> {
     Ok(all)
 }
 
-// The cases of an act.
-fn act_cases<R: Abort + AllocGlobal>(rt: &R, act: &Act) -> Result<List<Case>, Fail>
+// The cases of an act; none where it is not performed on trees.
+fn act_cases(alloc: Global, act: &Act) -> Result<List<Case>, Memory>
     ensures { IfOk result (All IsPlain) }
 {
-    assert!(rt; act.is_performed());
-    Ok(cases(rt.alloc(), act)?)
+    if !act.is_performed() {
+        return Ok(List::new(alloc));
+    }
+    let found = cases(alloc, act)?;
+    Ok(found)
+}
+
+// The cases of the last act of the first operand.
+fn change_cases(alloc: Global, all: &[List<Act>]) -> Result<List<Case>, Memory>
+    ensures { IfOk result (All IsPlain) }
+{
+    for acts in all {
+        if let Some(last) = acts.as_slice().last() {
+            return act_cases(alloc, last);
+        }
+    }
+    Ok(List::new(alloc))
+}
+
+// The cases of the act of a plan, or of the last act of its first operand; none where the plan has no act.
+fn plan_cases(alloc: Global, planned: &Planned) -> Result<List<Case>, Memory>
+    ensures { IfOk result (All IsPlain) }
+{
+    match planned {
+        Planned::Ask { act, negate: _ } => act_cases(alloc, act),
+        Planned::Change(all) => change_cases(alloc, all.as_slice()),
+        _ => Ok(List::new(alloc)),
+    }
 }
 
 /// The cases of the last act of a call's first operand; none where the call has no act.
-pub(crate) fn call_cases<R: Abort + AllocGlobal>(rt: &R, text: &str) -> Result<List<Case>, Fail>
+pub(crate) fn call_cases(alloc: Global, text: &str) -> Result<List<Case>, Memory>
     ensures { IfOk result (All IsPlain) }
 {
-    let list = words(rt.alloc(), text)?;
-    assert!(rt; list.len() > 0);
-    match plan(rt.alloc(), &list)? {
-        Planned::Ask { act, negate: _ } => act_cases(rt, &act),
-        Planned::Change(all) => {
-            for acts in &all.into_vec() {
-                if let Some(last) = acts.as_slice().last() {
-                    return act_cases(rt, last);
-                }
-            }
-            Ok(List::new(rt.alloc()))
-        }
-        _ => Ok(List::new(rt.alloc())),
+    let list = words(alloc, text)?;
+    if list.len() == 0 {
+        return Ok(List::new(alloc));
     }
+    let planned = plan(alloc, &list)?;
+    plan_cases(alloc, &planned)
 }
 
 // The act of a package manager that a word names; a link leads to `t`.
@@ -66,13 +82,13 @@ fn placed(alloc: Global, name: &[u8], p: Path) -> Result<Option<Act>, Memory> {
 }
 
 /// The cases of the act of a package manager that a text names by a word and a path; none where it names none.
-pub(crate) fn placed_cases<R: Abort + AllocGlobal>(rt: &R, text: &str) -> Result<List<Case>, Fail>
+pub(crate) fn placed_cases(alloc: Global, text: &str) -> Result<List<Case>, PathFault>
     ensures { IfOk result (All IsPlain) }
 {
     let (name, path) = text.split_once(' ').unwrap_or(("", "/"));
-    let p = Path::read(rt.alloc(), path.as_bytes())?;
-    match placed(rt.alloc(), name.as_bytes(), p)? {
-        Some(act) => act_cases(rt, &act),
-        None => Ok(List::new(rt.alloc())),
+    let p = Path::read(alloc, path.as_bytes())?;
+    match placed(alloc, name.as_bytes(), p)? {
+        Some(act) => Ok(act_cases(alloc, &act)?),
+        None => Ok(List::new(alloc)),
     }
 }

@@ -1,12 +1,24 @@
-//! The texts of clauses, read.
+//! The texts of clauses, printed and read.
 
-use script_names::Bytes;
+use clause_solver::Store;
 use std::alloc::Global;
-use tree_clauses::{ClauseFault, print_clause, read_clause};
+use tree_clauses::{Clause, ClauseFault, print_clause, read_clause};
 
-/// The text of the clause that is read from a text.
-pub(crate) fn read_again(alloc: Global, text: &Bytes) -> Result<Bytes, ClauseFault> {
-    let clause = read_clause(alloc, text.as_slice())?;
+// Whether the clause that is read from a text is printed with it.
+fn is_read_again(alloc: Global, text: &[u8]) -> Result<bool, ClauseFault> {
+    let clause = read_clause(alloc, text)?;
     let again = print_clause(alloc, &clause)?;
-    Ok(again)
+    Ok(again.as_slice() == text)
+}
+
+/// Whether a clause has a text, and is read as it was printed.
+pub(crate) fn has_text(alloc: Global, clause: &Clause, text: &[u8]) -> Result<bool, ClauseFault> {
+    let printed = print_clause(alloc, clause)?;
+    Ok(printed.as_slice() == text && is_read_again(alloc, text)?)
+}
+
+/// Whether the clause of a store has a text, and is read as it was printed.
+pub(crate) fn has_clause(alloc: Global, s: &Store, text: &[u8]) -> Result<bool, ClauseFault> {
+    let clause = s.clause()?;
+    has_text(alloc, &clause, text)
 }

@@ -6,9 +6,8 @@ ghost use Rattle.clause_solver.specs.Stands.{Alive};
 
 use clause_solver::Store;
 use feature_trees::{Kind, Kinds, Value, print_tree};
-use script_names::{Bytes, Memory, Name};
+use script_names::{Bytes, Memory, Name, NameFault};
 use std::alloc::Global;
-use std::process::Abort;
 use std::test::Fail;
 use tree_clauses::Var;
 
@@ -64,25 +63,41 @@ fn has_another(value: Option<&Value>, a: &Name) -> bool {
     }
 }
 
+// The two names of a path.
+fn names(alloc: Global, second: &[u8]) -> Result<(Name, Name), NameFault> {
+    let srv = Name::read(alloc, b"srv")?;
+    let name = Name::read(alloc, second)?;
+    Ok((srv, name))
+}
+
+// Whether the shown tree has another entry where `/srv` without an entry that is absent is to have one.
+fn another_is_shown(alloc: Global, srv: &Name, a: &Name) -> Result<bool, Memory> {
+    let (mut s, x) = open_store(alloc, srv, a, Kinds::of(Kind::Absent))?;
+    let left = can_be_filled(&mut s, x, a, false)?;
+    if !left {
+        return Ok(false);
+    }
+    let tree = s.start_tree(alloc)?;
+    Ok(has_another(tree.entry(srv), a))
+}
+
 #[test]
 fn shows_another_entry(rt: HostRuntime) -> Result<(), Fail> {
-    let srv = Name::read(rt.alloc(), b"srv")?;
-    let a = Name::read(rt.alloc(), b"a")?;
-    let (mut s, x) = open_store(rt.alloc(), &srv, &a, Kinds::of(Kind::Absent))?;
-    let left = can_be_filled(&mut s, x, &a, false)?;
-    assert!(rt; left);
-    let tree = s.start_tree(rt.alloc())?;
-    assert!(rt; has_another(tree.entry(&srv), &a));
+    let (srv, a) = names(rt.alloc(), b"a")?;
+    assert!(rt; another_is_shown(rt.alloc(), &srv, &a)?);
     Ok(())
+}
+
+// Whether something is left where `/srv` without an entry that is absent is empty, and is to have an entry.
+fn is_anything_left(alloc: Global, srv: &Name, a: &Name) -> Result<bool, Memory> {
+    let (mut s, x) = open_store(alloc, srv, a, Kinds::of(Kind::Absent))?;
+    can_be_filled(&mut s, x, a, true)
 }
 
 #[test]
 fn knows_that_nothing_is_left(rt: HostRuntime) -> Result<(), Fail> {
-    let srv = Name::read(rt.alloc(), b"srv")?;
-    let a = Name::read(rt.alloc(), b"a")?;
-    let (mut s, x) = open_store(rt.alloc(), &srv, &a, Kinds::of(Kind::Absent))?;
-    let left = can_be_filled(&mut s, x, &a, true)?;
-    assert!(rt; !left);
+    let (srv, a) = names(rt.alloc(), b"a")?;
+    assert!(rt; !is_anything_left(rt.alloc(), &srv, &a)?);
     Ok(())
 }
 
@@ -113,14 +128,23 @@ fn filled_tree(alloc: Global, srv: &Name, b: &Name, kinds: Kinds) -> Result<Byte
     Ok(text)
 }
 
+// Whether the shown tree of a row is the row's.
+fn is_filled(
+    alloc: Global,
+    srv: &Name,
+    b: &Name,
+    row: &(Kind, Kind, &str),
+) -> Result<bool, Memory> {
+    let kinds = Kinds::either(Kinds::of(row.0), Kinds::of(row.1));
+    let text = filled_tree(alloc, srv, b, kinds)?;
+    Ok(text.as_slice() == row.2.as_bytes())
+}
+
 #[test]
 fn shows_an_entry_that_is_known(rt: HostRuntime) -> Result<(), Fail> {
-    let srv = Name::read(rt.alloc(), b"srv")?;
-    let b = Name::read(rt.alloc(), b"b")?;
+    let (srv, b) = names(rt.alloc(), b"b")?;
     for row in FILLED {
-        let kinds = Kinds::either(Kinds::of(row.0), Kinds::of(row.1));
-        let text = filled_tree(rt.alloc(), &srv, &b, kinds)?;
-        assert_eq!(rt; text.as_slice(), row.2.as_bytes());
+        assert!(rt; is_filled(rt.alloc(), &srv, &b, row)?, "{row:?}");
     }
     Ok(())
 }

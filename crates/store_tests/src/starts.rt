@@ -18,19 +18,25 @@ const ROWS: &[(&[u8], Kind, &[u8], Kind, bool)] = &[
     (b"/a/b", Kind::Dir, b"/c", Kind::Reg, true),
 ];
 
+// What is needed at a path.
+fn need(alloc: Global, path: &[u8], kind: Kind) -> Result<Need, PathFault> {
+    Ok(Need {
+        path: Path::read(alloc, path)?,
+        wanted: Wanted::Kinds(Kinds::of(kind)),
+    })
+}
+
+// What is needed at both paths of a row.
+fn needs(alloc: Global, row: &(&[u8], Kind, &[u8], Kind, bool)) -> Result<List<Need>, PathFault> {
+    let mut needs = List::new(alloc);
+    needs.add(need(alloc, row.0, row.1)?)?;
+    needs.add(need(alloc, row.2, row.3)?)?;
+    Ok(needs)
+}
+
 // Whether a tree has both.
 fn has_both(alloc: Global, row: &(&[u8], Kind, &[u8], Kind, bool)) -> Result<bool, PathFault> {
-    let mut needs = List::new(alloc);
-    let path = Path::read(alloc, row.0)?;
-    needs.add(Need {
-        path,
-        wanted: Wanted::Kinds(Kinds::of(row.1)),
-    })?;
-    let path = Path::read(alloc, row.2)?;
-    needs.add(Need {
-        path,
-        wanted: Wanted::Kinds(Kinds::of(row.3)),
-    })?;
+    let needs = needs(alloc, row)?;
     let found = start_store(alloc, &needs)?;
     Ok(found.is_some())
 }
@@ -38,13 +44,7 @@ fn has_both(alloc: Global, row: &(&[u8], Kind, &[u8], Kind, bool)) -> Result<boo
 #[test]
 fn what_is_needed_together(rt: HostRuntime) -> Result<(), Fail> {
     for row in ROWS {
-        assert_eq!(rt;
-            has_both(rt.alloc(), row)?,
-            row.4,
-            "{:?} {:?}",
-            row.0,
-            row.2
-        );
+        assert!(rt; has_both(rt.alloc(), row)? == row.4, "{row:?}");
     }
     Ok(())
 }

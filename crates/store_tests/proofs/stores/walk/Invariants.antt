@@ -2,4 +2,4 @@ use Rattle.std.proofs.Common.{◌<◌}
 use Rattle.store_tests.proofs.stores.walk.Given as goal
 
 abbrev pub invariant-loop-word : goal.invariant-loop-word
-invariant-loop-word g l = l.here.0 < l.s.count
+invariant-loop-word l = l.here.0 < l.s.count
