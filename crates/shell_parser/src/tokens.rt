@@ -14,6 +14,9 @@ use crate::looks::look;
 use shell_grammar::{Look, ParseFault, Reserved};
 use shell_lexer::{RawPart, Token, TokenKind};
 
+/// How many levels of compound commands and substitutions may stand inside one another.
+pub const MAX_LEVELS: usize = 64;
+
 /// The byte offset at which the token at a place begins; behind the last token that is `end`.
 pub fn place(ts: &[Token], at: usize, end: u32) -> u32
     requires { at ≤ length ts.now }
@@ -23,6 +26,16 @@ pub fn place(ts: &[Token], at: usize, end: u32) -> u32
         Some(token) => token.at,
         None => end,
     }
+}
+
+/// Whether the token at a place looks so.
+pub fn stands(ts: &[Token], at: usize, want: Look) -> bool
+    requires within { at ≤ length ts.now }
+    requires token { IsTrue (is_token want) }
+    ensures looks { IsTrue result ↔ (look_of (drop at ts.now) ≡ want) }
+    ensures inside { IsTrue result → (at < length ts.now) }
+{
+    at < ts.len() && same_look(look(ts, at), want)
 }
 
 /// The place behind the token at a place, which has to look so; else the fault there.
@@ -37,13 +50,12 @@ pub fn take(
     requires token { IsTrue (is_token want) }
     ensures { Takes level end (Is want) (place_of end (drop at ts.now)) ts.now at result }
 {
-    if at < ts.len() && same_look(look(ts, at), want) {
-        Ok(at + 1)
-    } else {
-        Err(ParseFault::Syntax {
-            at: place(ts, at, end),
-        })
+    if stands(ts, at, want) {
+        return Ok(at + 1);
     }
+    Err(ParseFault::Syntax {
+        at: place(ts, at, end),
+    })
 }
 
 /// The place behind the token at a place, which has to look so and opens a level; else the fault there, also where
@@ -56,33 +68,22 @@ pub fn opens(
     want: Look,
 ) -> Result<usize, ParseFault>
     requires within { at ≤ length ts.now }
-    requires shallow { level ≤ 64 }
+    requires shallow { level ≤ MAX_LEVELS }
     requires token { IsTrue (is_token want) }
-    ensures below { OnOk result (level < 64) }
+    ensures below { OnOk result (level < MAX_LEVELS) }
     ensures takes { Takes level end (Opens want) (place_of end (drop at ts.now)) ts.now at result }
 {
-    if at < ts.len() && same_look(look(ts, at), want) {
-        if level == 64 {
-            return Err(ParseFault::Deep {
-                at: place(ts, at, end),
-            });
-        }
-        Ok(at + 1)
-    } else {
-        Err(ParseFault::Syntax {
+    if !stands(ts, at, want) {
+        return Err(ParseFault::Syntax {
             at: place(ts, at, end),
-        })
+        });
     }
-}
-
-/// Whether the token at a place looks so.
-pub fn stands(ts: &[Token], at: usize, want: Look) -> bool
-    requires within { at ≤ length ts.now }
-    requires token { IsTrue (is_token want) }
-    ensures looks { IsTrue result ↔ (look_of (drop at ts.now) ≡ want) }
-    ensures inside { IsTrue result → (at < length ts.now) }
-{
-    at < ts.len() && same_look(look(ts, at), want)
+    if level == MAX_LEVELS {
+        return Err(ParseFault::Deep {
+            at: place(ts, at, end),
+        });
+    }
+    Ok(at + 1)
 }
 
 /// The parts of the word at a place; None where no word stands there.
@@ -107,7 +108,7 @@ pub fn newlines(level: usize, end: u32, ts: &[Token], at: usize) -> usize
     ensures { Reads level end Newlines ts.now at (Done (tt, result)) }
 {
     let mut now = at;
-    while now < ts.len() && same_look(look(ts, now), Look::Newline) {
+    while stands(ts, now, Look::Newline) {
         now += 1;
     }
     now

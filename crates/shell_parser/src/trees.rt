@@ -200,54 +200,27 @@ pub fn first_item(alloc: Global, room: usize, word: Word) -> Result<Items, Memor
 pub fn with_assign(items: Items, assign: Assign) -> Result<Items, Memory>
     ensures { IfOk result (λ all. all ≡ joined items (an_assign assign)) }
 {
-    let Items {
-        assigns,
-        words,
-        redirects,
-    } = items;
-    let mut assigns = assigns;
-    assigns.add(assign)?;
-    Ok(Items {
-        assigns,
-        words,
-        redirects,
-    })
+    let mut all = items;
+    all.assigns.add(assign)?;
+    Ok(all)
 }
 
 /// The items of a simple command, and a word behind them.
 pub fn with_word(items: Items, word: Word) -> Result<Items, Memory>
     ensures { IfOk result (λ all. all ≡ joined items (a_word word)) }
 {
-    let Items {
-        assigns,
-        words,
-        redirects,
-    } = items;
-    let mut words = words;
-    words.add(word)?;
-    Ok(Items {
-        assigns,
-        words,
-        redirects,
-    })
+    let mut all = items;
+    all.words.add(word)?;
+    Ok(all)
 }
 
 /// The items of a simple command, and a redirection behind them.
 pub fn with_redirect(items: Items, redirect: Redirect) -> Result<Items, Memory>
     ensures { IfOk result (λ all. all ≡ joined items (a_redirect redirect)) }
 {
-    let Items {
-        assigns,
-        words,
-        redirects,
-    } = items;
-    let mut redirects = redirects;
-    redirects.add(redirect)?;
-    Ok(Items {
-        assigns,
-        words,
-        redirects,
-    })
+    let mut all = items;
+    all.redirects.add(redirect)?;
+    Ok(all)
 }
 
 /// The part that a parameter expansion is.

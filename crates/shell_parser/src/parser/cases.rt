@@ -11,7 +11,7 @@ use crate::forms::ends_arm;
 use crate::looks::look;
 use crate::parser::lists::members;
 use crate::parser::words::word;
-use crate::tokens::{arm_begin, newlines, opens, place, stands, take};
+use crate::tokens::{MAX_LEVELS, arm_begin, newlines, opens, place, stands, take};
 use crate::trees::{one_word, seq_of, with_case_arm};
 use script_names::{Boxed, List};
 use shell_grammar::{Look, ParseFault, Reserved};
@@ -29,7 +29,7 @@ pub(super) fn choice(
     at: usize,
 ) -> Result<(Boxed<Command>, usize), ParseFault>
     requires within { at ≤ length ts.now }
-    requires shallow { level ≤ 64 }
+    requires shallow { level ≤ MAX_LEVELS }
     requires form { compound_form_of (look_of (drop at ts.now)) ≡ a_compound.Case }
     ensures { Reads level end Compound ts.now at result }
 {
@@ -66,7 +66,7 @@ fn case_rest(
     at: usize,
 ) -> Result<((Word, List<CaseArm>), usize), ParseFault>
     requires within { at ≤ length ts.now }
-    requires shallow { level ≤ 64 }
+    requires shallow { level ≤ MAX_LEVELS }
     ensures { Reads level end CaseRest ts.now at result }
 {
     let (subject, behind) = match word(alloc, level, end, ts, at) {
@@ -96,7 +96,7 @@ fn case_arms(
     at: usize,
 ) -> Result<(List<CaseArm>, usize), ParseFault>
     requires within { at ≤ length ts.now }
-    requires shallow { level ≤ 64 }
+    requires shallow { level ≤ MAX_LEVELS }
     ensures { Reads level end CaseArms ts.now at result }
 {
     let mut arms = List::new(alloc);
@@ -125,7 +125,7 @@ fn case_arm(
     at: usize,
 ) -> Result<((List<Word>, Boxed<Command>), usize), ParseFault>
     requires within { at ≤ length ts.now }
-    requires shallow { level ≤ 64 }
+    requires shallow { level ≤ MAX_LEVELS }
     ensures { CaseArmRead level end ts.now at result }
 {
     let first = arm_begin(level, end, ts, at);
@@ -155,7 +155,7 @@ fn patterns(
     at: usize,
 ) -> Result<(List<Word>, usize), ParseFault>
     requires within { at ≤ length ts.now }
-    requires shallow { level ≤ 64 }
+    requires shallow { level ≤ MAX_LEVELS }
     ensures { Reads level end Patterns ts.now at result }
 {
     let (first, behind) = match word(alloc, level, end, ts, at) {
@@ -185,7 +185,7 @@ fn arm_body(
     at: usize,
 ) -> Result<(Boxed<Command>, usize), ParseFault>
     requires within { at ≤ length ts.now }
-    requires shallow { level ≤ 64 }
+    requires shallow { level ≤ MAX_LEVELS }
     ensures { Reads level end ArmBody ts.now at result }
 {
     if ends_arm(look(ts, at)) {

@@ -15,7 +15,7 @@ use crate::parser::conditionals::branches;
 use crate::parser::lists::block;
 use crate::parser::loops::{for_loop, turns};
 use crate::parser::simple_commands::{named, simple};
-use crate::tokens::{opens, place, take};
+use crate::tokens::{MAX_LEVELS, opens, place, take};
 use crate::trees::redirected;
 use script_names::{Boxed, List};
 use shell_grammar::{CommandForm, CompoundForm, Look, ParseFault, Reserved};
@@ -33,7 +33,7 @@ pub(super) fn command(
     at: usize,
 ) -> Result<(Boxed<Command>, usize), ParseFault>
     requires within { at ≤ length ts.now }
-    requires shallow { level ≤ 64 }
+    requires shallow { level ≤ MAX_LEVELS }
     ensures { Reads level end ACommand ts.now at result }
 {
     let form = match command_form(look(ts, at)) {
@@ -59,7 +59,7 @@ fn compound_command(
     at: usize,
 ) -> Result<(Boxed<Command>, usize), ParseFault>
     requires within { at ≤ length ts.now }
-    requires shallow { level ≤ 64 }
+    requires shallow { level ≤ MAX_LEVELS }
     requires form { command_form_of (look_of (drop at ts.now)) ≡ Found a_command.Compound }
     ensures { Reads level end ACommand ts.now at result }
 {
@@ -111,7 +111,7 @@ fn compound(
     at: usize,
 ) -> Result<(Boxed<Command>, usize), ParseFault>
     requires within { at ≤ length ts.now }
-    requires shallow { level ≤ 64 }
+    requires shallow { level ≤ MAX_LEVELS }
     ensures { Reads level end Compound ts.now at result }
 {
     match compound_form(look(ts, at)) {
@@ -134,7 +134,7 @@ fn subshell(
     at: usize,
 ) -> Result<(Boxed<Command>, usize), ParseFault>
     requires within { at ≤ length ts.now }
-    requires shallow { level ≤ 64 }
+    requires shallow { level ≤ MAX_LEVELS }
     requires form { compound_form_of (look_of (drop at ts.now)) ≡ a_compound.Subshell }
     ensures { Reads level end Compound ts.now at result }
 {
@@ -170,7 +170,7 @@ fn group(
     at: usize,
 ) -> Result<(Boxed<Command>, usize), ParseFault>
     requires within { at ≤ length ts.now }
-    requires shallow { level ≤ 64 }
+    requires shallow { level ≤ MAX_LEVELS }
     requires form { compound_form_of (look_of (drop at ts.now)) ≡ a_compound.Braces }
     ensures { Reads level end Compound ts.now at result }
 {
@@ -187,7 +187,7 @@ pub(super) fn braces(
     at: usize,
 ) -> Result<(Boxed<Command>, usize), ParseFault>
     requires within { at ≤ length ts.now }
-    requires shallow { level ≤ 64 }
+    requires shallow { level ≤ MAX_LEVELS }
     ensures { Reads level end Braces ts.now at result }
 {
     let first = match opens(level, end, ts, at, Look::Keyword(Reserved::Open)) {

@@ -8,7 +8,7 @@ ghost use Rattle.shell_grammar.specs.declared.form.CompoundForm.TheVariants as a
 ghost use Rattle.shell_parser.specs.Reads.{Reads, ArmRead};
 
 use crate::parser::lists::block;
-use crate::tokens::{opens, place, stands, take};
+use crate::tokens::{MAX_LEVELS, opens, place, stands, take};
 use crate::trees::{one_if_arm, with_if_arm};
 use script_names::{Boxed, List};
 use shell_grammar::{Look, ParseFault, Reserved};
@@ -26,7 +26,7 @@ pub(super) fn branches(
     at: usize,
 ) -> Result<(Boxed<Command>, usize), ParseFault>
     requires within { at ≤ length ts.now }
-    requires shallow { level ≤ 64 }
+    requires shallow { level ≤ MAX_LEVELS }
     requires form { compound_form_of (look_of (drop at ts.now)) ≡ a_compound.If }
     ensures { Reads level end Compound ts.now at result }
 {
@@ -63,7 +63,7 @@ fn clause(
     at: usize,
 ) -> Result<((List<IfArm>, Option<Boxed<Command>>), usize), ParseFault>
     requires within { at ≤ length ts.now }
-    requires shallow { level ≤ 64 }
+    requires shallow { level ≤ MAX_LEVELS }
     ensures { Reads level end Clause ts.now at result }
 {
     let ((cond, body), behind) = match if_arm(alloc, level, end, ts, at) {
@@ -100,7 +100,7 @@ fn if_arm(
     at: usize,
 ) -> Result<((Boxed<Command>, Boxed<Command>), usize), ParseFault>
     requires within { at ≤ length ts.now }
-    requires shallow { level ≤ 64 }
+    requires shallow { level ≤ MAX_LEVELS }
     ensures { ArmRead level end ts.now at result }
 {
     let (cond, behind) = match block(alloc, level, end, ts, at) {

@@ -7,7 +7,7 @@ ghost use Rattle.shell_parser.specs.Reads.{Reads, Parses};
 use crate::forms::{link_and, same_look, starts};
 use crate::looks::look;
 use crate::parser::commands::command;
-use crate::tokens::{link_room, list_room, newlines, place, separates, stands};
+use crate::tokens::{MAX_LEVELS, link_room, list_room, newlines, place, separates, stands};
 use crate::trees::{chain_of, one_command, pipe_of, seq_of, with_command, with_link};
 use script_names::{Boxed, List};
 use shell_grammar::{Look, ParseFault, Reserved};
@@ -23,7 +23,7 @@ pub fn script(
     end: u32,
     ts: &[Token],
 ) -> Result<Boxed<Command>, ParseFault>
-    requires shallow { level ≤ 64 }
+    requires shallow { level ≤ MAX_LEVELS }
     ensures { Parses level end ts.now result }
 {
     let first = newlines(level, end, ts, 0);
@@ -53,7 +53,7 @@ pub(super) fn block(
     at: usize,
 ) -> Result<(Boxed<Command>, usize), ParseFault>
     requires within { at ≤ length ts.now }
-    requires shallow { level ≤ 64 }
+    requires shallow { level ≤ MAX_LEVELS }
     ensures { Reads level end Block ts.now at result }
 {
     let first = newlines(level, end, ts, at);
@@ -70,7 +70,7 @@ pub(super) fn members(
     at: usize,
 ) -> Result<(Boxed<Command>, usize), ParseFault>
     requires within { at ≤ length ts.now }
-    requires shallow { level ≤ 64 }
+    requires shallow { level ≤ MAX_LEVELS }
     ensures { Reads level end Members ts.now at result }
 {
     let (first, behind) = match and_or(alloc, level, end, ts, at) {
@@ -104,7 +104,7 @@ fn and_or(
     at: usize,
 ) -> Result<(Boxed<Command>, usize), ParseFault>
     requires within { at ≤ length ts.now }
-    requires shallow { level ≤ 64 }
+    requires shallow { level ≤ MAX_LEVELS }
     ensures { Reads level end AndOr ts.now at result }
 {
     let (first, behind) = match pipeline(alloc, level, end, ts, at) {
@@ -139,7 +139,7 @@ fn pipeline(
     at: usize,
 ) -> Result<(Boxed<Command>, usize), ParseFault>
     requires within { at ≤ length ts.now }
-    requires shallow { level ≤ 64 }
+    requires shallow { level ≤ MAX_LEVELS }
     ensures { Reads level end Pipeline ts.now at result }
 {
     if stands(ts, at, Look::Keyword(Reserved::Bang)) {
@@ -169,7 +169,7 @@ fn piped(
     at: usize,
 ) -> Result<(Boxed<Command>, usize), ParseFault>
     requires within { at ≤ length ts.now }
-    requires shallow { level ≤ 64 }
+    requires shallow { level ≤ MAX_LEVELS }
     ensures { Reads level end Piped ts.now at result }
 {
     let (first, behind) = match command(alloc, level, end, ts, at) {

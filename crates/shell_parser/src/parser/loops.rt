@@ -11,7 +11,7 @@ use crate::forms::{is_name_word, is_word, loop_word};
 use crate::looks::look;
 use crate::parser::lists::block;
 use crate::parser::words::word;
-use crate::tokens::{apart, newlines, no_words, opens, place, stands, take};
+use crate::tokens::{MAX_LEVELS, apart, newlines, no_words, opens, place, stands, take};
 use crate::trees::name_of;
 use script_names::{Boxed, Bytes, List};
 use shell_grammar::{Look, ParseFault, Reserved};
@@ -30,7 +30,7 @@ pub(super) fn turns(
     until: bool,
 ) -> Result<(Boxed<Command>, usize), ParseFault>
     requires within { at ≤ length ts.now }
-    requires shallow { level ≤ 64 }
+    requires shallow { level ≤ MAX_LEVELS }
     requires form { compound_form_of (look_of (drop at ts.now)) ≡ a_compound.Loop until }
     ensures { Reads level end Compound ts.now at result }
 {
@@ -69,7 +69,7 @@ fn turn(
     at: usize,
 ) -> Result<((Boxed<Command>, Boxed<Command>), usize), ParseFault>
     requires within { at ≤ length ts.now }
-    requires shallow { level ≤ 64 }
+    requires shallow { level ≤ MAX_LEVELS }
     ensures { Reads level end Loop ts.now at result }
 {
     let (cond, behind) = match block(alloc, level, end, ts, at) {
@@ -97,7 +97,7 @@ pub(super) fn for_loop(
     at: usize,
 ) -> Result<(Boxed<Command>, usize), ParseFault>
     requires within { at ≤ length ts.now }
-    requires shallow { level ≤ 64 }
+    requires shallow { level ≤ MAX_LEVELS }
     requires form { compound_form_of (look_of (drop at ts.now)) ≡ a_compound.For }
     ensures { Reads level end Compound ts.now at result }
 {
@@ -135,7 +135,7 @@ fn for_rest(
     at: usize,
 ) -> Result<((Bytes, Option<List<Word>>, Boxed<Command>), usize), ParseFault>
     requires within { at ≤ length ts.now }
-    requires shallow { level ≤ 64 }
+    requires shallow { level ≤ MAX_LEVELS }
     ensures { Reads level end ForRest ts.now at result }
 {
     let (name, behind) = match for_name(alloc, level, end, ts, at) {
@@ -168,7 +168,7 @@ fn for_name(
     at: usize,
 ) -> Result<(Bytes, usize), ParseFault>
     requires within { at ≤ length ts.now }
-    requires shallow { level ≤ 64 }
+    requires shallow { level ≤ MAX_LEVELS }
     ensures { Reads level end ForName ts.now at result }
 {
     if !is_name_word(look(ts, at)) {
@@ -194,7 +194,7 @@ fn for_words(
     at: usize,
 ) -> Result<(Option<List<Word>>, usize), ParseFault>
     requires within { at ≤ length ts.now }
-    requires shallow { level ≤ 64 }
+    requires shallow { level ≤ MAX_LEVELS }
     ensures { Reads level end ForWords ts.now at result }
 {
     if !stands(ts, at, Look::Keyword(Reserved::In)) {
@@ -221,7 +221,7 @@ fn each(
     at: usize,
 ) -> Result<(List<Word>, usize), ParseFault>
     requires within { at ≤ length ts.now }
-    requires shallow { level ≤ 64 }
+    requires shallow { level ≤ MAX_LEVELS }
     ensures { Reads level end Each ts.now at result }
 {
     let mut words = List::new(alloc);

@@ -12,7 +12,7 @@ use crate::forms::{has_word, item};
 use crate::looks::look;
 use crate::parser::commands::braces;
 use crate::parser::words::{assignment, word};
-use crate::tokens::{newlines, place, stands, take, words_from};
+use crate::tokens::{MAX_LEVELS, newlines, place, stands, take, words_from};
 use crate::trees::{
     defined, first_item, no_items, simple_of, with_assign, with_redirect, with_word,
 };
@@ -32,7 +32,7 @@ pub(super) fn named(
     at: usize,
 ) -> Result<(Boxed<Command>, usize), ParseFault>
     requires within { at ≤ length ts.now }
-    requires shallow { level ≤ 64 }
+    requires shallow { level ≤ MAX_LEVELS }
     requires form { command_form_of (look_of (drop at ts.now)) ≡ Found a_command.Named }
     ensures { Reads level end ACommand ts.now at result }
 {
@@ -66,7 +66,7 @@ fn definition(
     at: usize,
 ) -> Result<(Boxed<Command>, usize), ParseFault>
     requires within { at ≤ length ts.now }
-    requires shallow { level ≤ 64 }
+    requires shallow { level ≤ MAX_LEVELS }
     requires looks { look_of (drop at ts.now) ≡ LeftParen }
     ensures { DefinitionReads level end ts.now at result }
 {
@@ -96,7 +96,7 @@ pub(super) fn simple(
     at: usize,
 ) -> Result<(Boxed<Command>, usize), ParseFault>
     requires within { at ≤ length ts.now }
-    requires shallow { level ≤ 64 }
+    requires shallow { level ≤ MAX_LEVELS }
     requires form { command_form_of (look_of (drop at ts.now)) ≡ Found a_command.Simple }
     ensures { Reads level end ACommand ts.now at result }
 {
@@ -120,7 +120,7 @@ fn items(
     begun: Items,
 ) -> Result<(Items, usize), ParseFault>
     requires within { at ≤ length ts.now }
-    requires shallow { level ≤ 64 }
+    requires shallow { level ≤ MAX_LEVELS }
     ensures { ItemsRead level end behind_word begun ts.now at result }
 {
     let mut all = begun;
@@ -155,7 +155,7 @@ fn one_item(
     begun: Items,
 ) -> Result<(Items, usize), ParseFault>
     requires inside { at < length ts.now }
-    requires shallow { level ≤ 64 }
+    requires shallow { level ≤ MAX_LEVELS }
     requires item { item_of behind_word (look_of (drop at ts.now)) ≡ Found which }
     ensures { ItemRead level end behind_word which begun ts.now at result }
 {

@@ -7,7 +7,7 @@ ghost use Rattle.shell_parser.specs.Reads.{PartsRead, PartRead, WordRead, Assign
 
 use crate::assignments::{behind_equals, plain_part, raw_text, rest_of, up_to_equals};
 use crate::parser::lists::script;
-use crate::tokens::{place, word_parts};
+use crate::tokens::{MAX_LEVELS, place, word_parts};
 use crate::trees::param_of;
 use script_names::{Bytes, Copied, List};
 use shell_grammar::ParseFault;
@@ -25,7 +25,7 @@ pub(super) fn assignment(
     at: usize,
 ) -> Result<(Assign, usize), ParseFault>
     requires within { at ≤ length ts.now }
-    requires shallow { level ≤ 64 }
+    requires shallow { level ≤ MAX_LEVELS }
     requires looks { look_of (drop at ts.now) ≡ Assignment }
     ensures { AssignRead level end ts.now at result }
 {
@@ -57,7 +57,7 @@ pub(super) fn word(
     at: usize,
 ) -> Result<(Word, usize), ParseFault>
     requires within { at ≤ length ts.now }
-    requires shallow { level ≤ 64 }
+    requires shallow { level ≤ MAX_LEVELS }
     ensures { WordRead level end ts.now at result }
 {
     let raws = match word_parts(ts, at) {
@@ -83,7 +83,7 @@ fn parts(
     raws: &[RawPart],
     begun: List<Part>,
 ) -> Result<List<Part>, ParseFault>
-    requires shallow { level ≤ 64 }
+    requires shallow { level ≤ MAX_LEVELS }
     ensures { PartsRead level begun raws.now result }
 {
     let mut parts = begun;
@@ -100,7 +100,7 @@ fn parts(
 /// A part of a word; the tokens of a substitution are a script one level further in, and end at its own offset.
 #[cycle(parser)]
 fn part(alloc: Global, level: usize, raw: &RawPart) -> Result<Part, ParseFault>
-    requires shallow { level ≤ 64 }
+    requires shallow { level ≤ MAX_LEVELS }
     ensures { PartRead level raw.now result }
 {
     match raw {
@@ -113,7 +113,7 @@ fn part(alloc: Global, level: usize, raw: &RawPart) -> Result<Part, ParseFault>
         } => Ok(param_of(alloc, key, default, *quoted)?),
         RawPart::All => Ok(Part::All),
         RawPart::Run { at, tokens, quoted } => {
-            if level == 64 {
+            if level == MAX_LEVELS {
                 return Err(ParseFault::Deep { at: *at });
             }
             let body = match script(alloc, level + 1, *at, tokens.as_slice()) {

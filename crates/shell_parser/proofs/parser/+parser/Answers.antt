@@ -436,11 +436,11 @@ words::parts-returns t c = w.parts_end _ _ _ _ _ (drop_all c.loop-raw.raw-index 
 
 -- ---- a part
 
-pub words::part-returns-then-level-eq64 : goal.words::part-returns-then-level-eq64
-words::part-returns-then-level-eq64 t c = w.part_deep _ _ _ _ _ c.in-Run.is c.if-level-eq64.true
+pub words::part-returns-then-level-eq-MAX_LEVELS : goal.words::part-returns-then-level-eq-MAX_LEVELS
+words::part-returns-then-level-eq-MAX_LEVELS t c = w.part_deep _ _ _ _ _ c.in-Run.is c.if-level-eq-MAX_LEVELS.true
 
 pub words::part-returns-in-Err : goal.words::part-returns-in-Err
-words::part-returns-in-Err t c = w.part_bad _ _ _ _ _ c.in-Run.is (omega (arith, c.requires.shallow, c.if-level-eq64.false)) c.in-Err.fault (subst (λ ts. Caused (Stops (c.args.level + 1) c.in-Run.at Script ts) c.in-Err.fault) c.as_slice.ensures c.in-Err.ensures)
+words::part-returns-in-Err t c = w.part_bad _ _ _ _ _ c.in-Run.is (omega (arith, c.requires.shallow, c.if-level-eq-MAX_LEVELS.false)) c.in-Err.fault (subst (λ ts. Caused (Stops (c.args.level + 1) c.in-Run.at Script ts) c.in-Err.fault) c.as_slice.ensures c.in-Err.ensures)
 
 pub words::part-returns-in_ok-copy-in-Plain : goal.words::part-returns-in_ok-copy-in-Plain
 words::part-returns-in_ok-copy-in-Plain t c = w.part_plain _ _ _ _ c.in-Plain.is c.in_ok-copy-in-Plain.ensures
@@ -455,7 +455,7 @@ pub words::part-returns-in-All : goal.words::part-returns-in-All
 words::part-returns-in-All t c = w.part_all _ _ c.in-All.is
 
 pub words::part-returns-in-Ok : goal.words::part-returns-in-Ok
-words::part-returns-in-Ok t c = w.part_run _ _ _ _ _ _ c.in-Run.is (omega (arith, c.requires.shallow, c.if-level-eq64.false)) (subst (λ ts. Gives (c.args.level + 1) c.in-Run.at Script ts c.in-Ok.body) c.as_slice.ensures c.in-Ok.ensures)
+words::part-returns-in-Ok t c = w.part_run _ _ _ _ _ _ c.in-Run.is (omega (arith, c.requires.shallow, c.if-level-eq-MAX_LEVELS.false)) (subst (λ ts. Gives (c.args.level + 1) c.in-Run.at Script ts c.in-Ok.body) c.as_slice.ensures c.in-Ok.ensures)
 
 -- ---- a script
 

@@ -1,119 +1,120 @@
 use Rattle.std.proofs.Common.{length, ◌-◌, ◌*◌, ◌+◌, ◌≤◌, drop}
+use Rattle.shell_parser.specs.declared.tokens.TheConstants.{MAX_LEVELS}
 use Rattle.shell_parser.specs.Reads.{MembersFrom, LinksFrom, BarsFrom, ArmsFrom, EachFrom, PatternsFrom, CaseArmsFrom, ItemsFrom, PartsFrom}
 use Rattle.shell_parser.proofs.parser.+parser.Given as goal
 
 -- ---- every way back to a function of no lower number goes one level further in
 
 abbrev pub decreases-cases::case_rest : goal.decreases-cases::case_rest
-decreases-cases::case_rest l = 32 * (64 - l.level) + 19
+decreases-cases::case_rest l = 32 * (MAX_LEVELS - l.level) + 19
 
 abbrev pub decreases-cases::case_arms : goal.decreases-cases::case_arms
-decreases-cases::case_arms l = 32 * (64 - l.level) + 18
+decreases-cases::case_arms l = 32 * (MAX_LEVELS - l.level) + 18
 
 abbrev pub decreases-cases::case_arm : goal.decreases-cases::case_arm
-decreases-cases::case_arm l = 32 * (64 - l.level) + 17
+decreases-cases::case_arm l = 32 * (MAX_LEVELS - l.level) + 17
 
 abbrev pub decreases-conditionals::clause : goal.decreases-conditionals::clause
-decreases-conditionals::clause l = 32 * (64 - l.level) + 17
+decreases-conditionals::clause l = 32 * (MAX_LEVELS - l.level) + 17
 
 abbrev pub decreases-conditionals::if_arm : goal.decreases-conditionals::if_arm
-decreases-conditionals::if_arm l = 32 * (64 - l.level) + 16
+decreases-conditionals::if_arm l = 32 * (MAX_LEVELS - l.level) + 16
 
 abbrev pub decreases-loops::turn : goal.decreases-loops::turn
-decreases-loops::turn l = 32 * (64 - l.level) + 16
+decreases-loops::turn l = 32 * (MAX_LEVELS - l.level) + 16
 
 abbrev pub decreases-loops::for_rest : goal.decreases-loops::for_rest
-decreases-loops::for_rest l = 32 * (64 - l.level) + 16
+decreases-loops::for_rest l = 32 * (MAX_LEVELS - l.level) + 16
 
 abbrev pub decreases-lists::script : goal.decreases-lists::script
-decreases-lists::script l = 32 * (64 - l.level) + 15
+decreases-lists::script l = 32 * (MAX_LEVELS - l.level) + 15
 
 abbrev pub decreases-lists::block : goal.decreases-lists::block
-decreases-lists::block l = 32 * (64 - l.level) + 15
+decreases-lists::block l = 32 * (MAX_LEVELS - l.level) + 15
 
 abbrev pub decreases-cases::arm_body : goal.decreases-cases::arm_body
-decreases-cases::arm_body l = 32 * (64 - l.level) + 15
+decreases-cases::arm_body l = 32 * (MAX_LEVELS - l.level) + 15
 
 abbrev pub decreases-lists::members : goal.decreases-lists::members
-decreases-lists::members l = 32 * (64 - l.level) + 14
+decreases-lists::members l = 32 * (MAX_LEVELS - l.level) + 14
 
 abbrev pub decreases-lists::and_or : goal.decreases-lists::and_or
-decreases-lists::and_or l = 32 * (64 - l.level) + 13
+decreases-lists::and_or l = 32 * (MAX_LEVELS - l.level) + 13
 
 abbrev pub decreases-lists::pipeline : goal.decreases-lists::pipeline
-decreases-lists::pipeline l = 32 * (64 - l.level) + 12
+decreases-lists::pipeline l = 32 * (MAX_LEVELS - l.level) + 12
 
 abbrev pub decreases-lists::piped : goal.decreases-lists::piped
-decreases-lists::piped l = 32 * (64 - l.level) + 11
+decreases-lists::piped l = 32 * (MAX_LEVELS - l.level) + 11
 
 abbrev pub decreases-commands::command : goal.decreases-commands::command
-decreases-commands::command l = 32 * (64 - l.level) + 10
+decreases-commands::command l = 32 * (MAX_LEVELS - l.level) + 10
 
 abbrev pub decreases-commands::compound_command : goal.decreases-commands::compound_command
-decreases-commands::compound_command l = 32 * (64 - l.level) + 9
+decreases-commands::compound_command l = 32 * (MAX_LEVELS - l.level) + 9
 
 abbrev pub decreases-commands::compound : goal.decreases-commands::compound
-decreases-commands::compound l = 32 * (64 - l.level) + 8
+decreases-commands::compound l = 32 * (MAX_LEVELS - l.level) + 8
 
 abbrev pub decreases-commands::subshell : goal.decreases-commands::subshell
-decreases-commands::subshell l = 32 * (64 - l.level) + 7
+decreases-commands::subshell l = 32 * (MAX_LEVELS - l.level) + 7
 
 abbrev pub decreases-commands::group : goal.decreases-commands::group
-decreases-commands::group l = 32 * (64 - l.level) + 7
+decreases-commands::group l = 32 * (MAX_LEVELS - l.level) + 7
 
 abbrev pub decreases-conditionals::branches : goal.decreases-conditionals::branches
-decreases-conditionals::branches l = 32 * (64 - l.level) + 7
+decreases-conditionals::branches l = 32 * (MAX_LEVELS - l.level) + 7
 
 abbrev pub decreases-loops::for_loop : goal.decreases-loops::for_loop
-decreases-loops::for_loop l = 32 * (64 - l.level) + 7
+decreases-loops::for_loop l = 32 * (MAX_LEVELS - l.level) + 7
 
 abbrev pub decreases-cases::choice : goal.decreases-cases::choice
-decreases-cases::choice l = 32 * (64 - l.level) + 7
+decreases-cases::choice l = 32 * (MAX_LEVELS - l.level) + 7
 
 abbrev pub decreases-loops::turns : goal.decreases-loops::turns
-decreases-loops::turns l = 32 * (64 - l.level) + 7
+decreases-loops::turns l = 32 * (MAX_LEVELS - l.level) + 7
 
 abbrev pub decreases-simple_commands::named : goal.decreases-simple_commands::named
-decreases-simple_commands::named l = 32 * (64 - l.level) + 7
+decreases-simple_commands::named l = 32 * (MAX_LEVELS - l.level) + 7
 
 abbrev pub decreases-simple_commands::simple : goal.decreases-simple_commands::simple
-decreases-simple_commands::simple l = 32 * (64 - l.level) + 7
+decreases-simple_commands::simple l = 32 * (MAX_LEVELS - l.level) + 7
 
 abbrev pub decreases-simple_commands::definition : goal.decreases-simple_commands::definition
-decreases-simple_commands::definition l = 32 * (64 - l.level) + 6
+decreases-simple_commands::definition l = 32 * (MAX_LEVELS - l.level) + 6
 
 abbrev pub decreases-loops::for_words : goal.decreases-loops::for_words
-decreases-loops::for_words l = 32 * (64 - l.level) + 6
+decreases-loops::for_words l = 32 * (MAX_LEVELS - l.level) + 6
 
 abbrev pub decreases-simple_commands::items : goal.decreases-simple_commands::items
-decreases-simple_commands::items l = 32 * (64 - l.level) + 6
+decreases-simple_commands::items l = 32 * (MAX_LEVELS - l.level) + 6
 
 abbrev pub decreases-commands::braces : goal.decreases-commands::braces
-decreases-commands::braces l = 32 * (64 - l.level) + 5
+decreases-commands::braces l = 32 * (MAX_LEVELS - l.level) + 5
 
 abbrev pub decreases-loops::for_name : goal.decreases-loops::for_name
-decreases-loops::for_name l = 32 * (64 - l.level) + 5
+decreases-loops::for_name l = 32 * (MAX_LEVELS - l.level) + 5
 
 abbrev pub decreases-loops::each : goal.decreases-loops::each
-decreases-loops::each l = 32 * (64 - l.level) + 5
+decreases-loops::each l = 32 * (MAX_LEVELS - l.level) + 5
 
 abbrev pub decreases-cases::patterns : goal.decreases-cases::patterns
-decreases-cases::patterns l = 32 * (64 - l.level) + 5
+decreases-cases::patterns l = 32 * (MAX_LEVELS - l.level) + 5
 
 abbrev pub decreases-simple_commands::one_item : goal.decreases-simple_commands::one_item
-decreases-simple_commands::one_item l = 32 * (64 - l.level) + 5
+decreases-simple_commands::one_item l = 32 * (MAX_LEVELS - l.level) + 5
 
 abbrev pub decreases-words::assignment : goal.decreases-words::assignment
-decreases-words::assignment l = 32 * (64 - l.level) + 4
+decreases-words::assignment l = 32 * (MAX_LEVELS - l.level) + 4
 
 abbrev pub decreases-words::word : goal.decreases-words::word
-decreases-words::word l = 32 * (64 - l.level) + 4
+decreases-words::word l = 32 * (MAX_LEVELS - l.level) + 4
 
 abbrev pub decreases-words::parts : goal.decreases-words::parts
-decreases-words::parts l = 32 * (64 - l.level) + 3
+decreases-words::parts l = 32 * (MAX_LEVELS - l.level) + 3
 
 abbrev pub decreases-words::part : goal.decreases-words::part
-decreases-words::part l = 32 * (64 - l.level) + 2
+decreases-words::part l = 32 * (MAX_LEVELS - l.level) + 2
 
 -- ---- loops
 
