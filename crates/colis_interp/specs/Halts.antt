@@ -19,34 +19,20 @@ Answer = Result (Unit {0}) Halt
 abbrev pub ended_by_exit : Answer → Answer
 ended_by_exit (Ok _) = Ok tt
 ended_by_exit (Err (halt.Left leave.Exited)) = Ok tt
-ended_by_exit (Err (halt.Left leave.Broke)) = Err (halt.Left leave.Broke)
-ended_by_exit (Err (halt.Left leave.Continued)) = Err (halt.Left leave.Continued)
-ended_by_exit (Err (halt.Left leave.Returned)) = Err (halt.Left leave.Returned)
-ended_by_exit (Err (halt.Left (leave.Stopped reason site))) = Err (halt.Left (leave.Stopped reason site))
-ended_by_exit (Err (halt.Left (leave.Bound site))) = Err (halt.Left (leave.Bound site))
-ended_by_exit (Err halt.Memory) = Err halt.Memory
+ended_by_exit (Err other) = Err other
 
 -- `return` ends what is run
 abbrev pub ended_by_return : Answer → Answer
 ended_by_return (Ok _) = Ok tt
 ended_by_return (Err (halt.Left leave.Returned)) = Ok tt
-ended_by_return (Err (halt.Left leave.Broke)) = Err (halt.Left leave.Broke)
-ended_by_return (Err (halt.Left leave.Continued)) = Err (halt.Left leave.Continued)
-ended_by_return (Err (halt.Left leave.Exited)) = Err (halt.Left leave.Exited)
-ended_by_return (Err (halt.Left (leave.Stopped reason site))) = Err (halt.Left (leave.Stopped reason site))
-ended_by_return (Err (halt.Left (leave.Bound site))) = Err (halt.Left (leave.Bound site))
-ended_by_return (Err halt.Memory) = Err halt.Memory
+ended_by_return (Err other) = Err other
 
 -- whether a loop goes on behind its body
 abbrev pub behind_body : Answer → Result Bool Halt
 behind_body (Ok _) = Ok true
 behind_body (Err (halt.Left leave.Continued)) = Ok true
 behind_body (Err (halt.Left leave.Broke)) = Ok false
-behind_body (Err (halt.Left leave.Returned)) = Err (halt.Left leave.Returned)
-behind_body (Err (halt.Left leave.Exited)) = Err (halt.Left leave.Exited)
-behind_body (Err (halt.Left (leave.Stopped reason site))) = Err (halt.Left (leave.Stopped reason site))
-behind_body (Err (halt.Left (leave.Bound site))) = Err (halt.Left (leave.Bound site))
-behind_body (Err halt.Memory) = Err halt.Memory
+behind_body (Err other) = Err other
 
 -- what comes behind a condition that went on, by its status
 abbrev pub by_status : Bool → Result Behind Halt
@@ -58,11 +44,7 @@ abbrev pub behind_condition : Answer → Bool → Result Behind Halt
 behind_condition (Ok _) status = by_status status
 behind_condition (Err (halt.Left leave.Continued)) status = Ok Again
 behind_condition (Err (halt.Left leave.Broke)) status = Ok Ends
-behind_condition (Err (halt.Left leave.Returned)) status = Err (halt.Left leave.Returned)
-behind_condition (Err (halt.Left leave.Exited)) status = Err (halt.Left leave.Exited)
-behind_condition (Err (halt.Left (leave.Stopped reason site))) status = Err (halt.Left (leave.Stopped reason site))
-behind_condition (Err (halt.Left (leave.Bound site))) status = Err (halt.Left (leave.Bound site))
-behind_condition (Err halt.Memory) status = Err halt.Memory
+behind_condition (Err other) status = Err other
 
 -- what a word without a value stops the run for
 abbrev pub halt_of : WordFault → Place → Halt

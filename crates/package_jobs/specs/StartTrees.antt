@@ -93,25 +93,15 @@ Fits scenario listed tree entry = IsTrue (is_to_fit scenario listed entry) → S
 
 -- whether a line is `fits`
 abbrev pub is_fits : BaseLine → Bool
-is_fits (base.Folder path) = false
-is_fits (base.File path) = false
-is_fits (base.Gone path) = false
-is_fits (base.NoFolder path) = false
 is_fits base.Fits = true
-is_fits base.Own = false
-is_fits (base.Call call) = false
+is_fits _ = false
 
 -- ---- `own`
 
 -- whether a line is `own`
 abbrev pub is_own : BaseLine → Bool
-is_own (base.Folder path) = false
-is_own (base.File path) = false
-is_own (base.Gone path) = false
-is_own (base.NoFolder path) = false
-is_own base.Fits = false
 is_own base.Own = true
-is_own (base.Call call) = false
+is_own _ = false
 
 -- the entries of the package that `own` speaks of: in an upgrade the old one, elsewhere the new one
 abbrev pub owner : Scenario → Entries → Entries → Entries

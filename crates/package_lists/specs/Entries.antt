@@ -28,30 +28,22 @@ entry_at path kind = entry_if kind (path_names path)
 -- a folder
 abbrev pub is_folder : EntryKind → Bool
 is_folder Folder = true
-is_folder File = false
-is_folder Conf = false
-is_folder (LinkTo target) = false
+is_folder _ = false
 
 -- a regular file that is no configuration file
 abbrev pub is_file : EntryKind → Bool
-is_file Folder = false
 is_file File = true
-is_file Conf = false
-is_file (LinkTo target) = false
+is_file _ = false
 
 -- a configuration file
 abbrev pub is_conf : EntryKind → Bool
-is_conf Folder = false
-is_conf File = false
 is_conf Conf = true
-is_conf (LinkTo target) = false
+is_conf _ = false
 
 -- a symbolic link
 abbrev pub is_link : EntryKind → Bool
-is_link Folder = false
-is_link File = false
-is_link Conf = false
 is_link (LinkTo target) = true
+is_link _ = false
 
 -- any kind
 abbrev pub is_any : EntryKind → Bool

@@ -64,11 +64,8 @@ some_unquoted_in words = list_any (λ word. list_any is_unquoted word.parts) wor
 
 -- whether a part is a substitution
 abbrev pub layer_runs : Layer → Bool
-layer_runs (o.Plain bytes) = false
-layer_runs (o.Quoted bytes) = false
-layer_runs (o.Param key default quoted) = false
-layer_runs o.All = false
 layer_runs (o.Run at body quoted) = true
+layer_runs _ = false
 
 -- whether a part is a substitution
 abbrev pub is_run : Part → Bool
@@ -84,11 +81,8 @@ sets_ifs_in assigns = list_any (λ assign. bytes_eq assign.name (codes "IFS")) a
 
 -- whether a part is `"$@"`
 abbrev pub layer_all : Layer → Bool
-layer_all (o.Plain bytes) = false
-layer_all (o.Quoted bytes) = false
-layer_all (o.Param key default quoted) = false
 layer_all o.All = true
-layer_all (o.Run at body quoted) = false
+layer_all _ = false
 
 -- whether a part is `"$@"`
 abbrev pub is_all : Part → Bool

@@ -364,22 +364,6 @@ fn read_part(alloc: Global, calls: &[StatedCall], part: &Part) -> Result<Part, M
     ensures { IfOk result (λ read. read ≡ part_read calls.now part.now) }
 {
     match part {
-        Part::Plain(text) => Ok(Part::Plain(text.copy(alloc)?)),
-        Part::Quoted(text) => Ok(Part::Quoted(text.copy(alloc)?)),
-        Part::Param {
-            key,
-            default,
-            quoted,
-        } => {
-            let key = key.copy(alloc)?;
-            let default = default.copy(alloc)?;
-            Ok(Part::Param {
-                key,
-                default,
-                quoted: *quoted,
-            })
-        }
-        Part::All => Ok(Part::All),
         Part::Run { at, body, quoted } => {
             let body = read_boxed(alloc, calls, body)?;
             Ok(Part::Run {
@@ -388,6 +372,7 @@ fn read_part(alloc: Global, calls: &[StatedCall], part: &Part) -> Result<Part, M
                 quoted: *quoted,
             })
         }
+        _ => part.copy(alloc),
     }
 }
 
