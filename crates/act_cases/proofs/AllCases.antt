@@ -160,7 +160,7 @@ link_by : (names : List (List ℕ)) (n more k : ℕ) → (n ≡ k) ⊎ (suc n �
 link_by names n more k (inl e) later = (case_of (link_plan n) (take n names) [], inl refl, e)
 link_by names n more k (inr lt) later = row_later k (case_of (link_plan n) (take n names) []) (link_cases names (n + 1) more) (later (omega arith))
 
-same_or_above : (n k : ℕ) → n ≤ k → (n ≡ k) ⊎ (suc n ≤ k)
+pub same_or_above : (n k : ℕ) → n ≤ k → (n ≡ k) ⊎ (suc n ≤ k)
 same_or_above zero zero le = inl refl
 same_or_above zero (suc k) le = inr (omega arith)
 same_or_above (suc n) zero le = absurd (omega arith)

@@ -20,7 +20,7 @@ use Rattle.act_cases.proofs.Meets.{AreNames}
 use Rattle.act_cases.proofs.AnyRow.{Tells, way, slash, second, table, row_tells}
 use Rattle.act_cases.proofs.EachCase.{IsOne}
 use Rattle.act_cases.proofs.PlainCases.{link_plain, slash_plain}
-use Rattle.act_cases.proofs.AllCases.{Every, every_all, every_join, every_map, every_link, every_slash, answers_join, rows_join, link_answers, slash_answers, rows_answers, In, in_contains, HasRow, row_left, row_right, row_later, has_link, has_slash}
+use Rattle.act_cases.proofs.AllCases.{Every, every_all, every_join, every_map, every_link, every_slash, answers_join, rows_join, link_answers, slash_answers, rows_answers, In, in_contains, HasRow, row_left, row_right, row_later, has_link, has_slash, same_or_above}
 use Rattle.act_cases.proofs.MoveTabled.{move_well, moves_apart}
 use Rattle.act_cases.proofs.RisingRows.{moves_rise}
 use Rattle.act_cases.proofs.MoveCases.{move_link_one, move_slash_one, move_second_one, move_rule_one}
@@ -93,12 +93,6 @@ second_by act k more j (inl e) later =
     (move_case (second_plan (path_of act).slash (is_below act) k) (path_of act).names (take k (place_of act)), inl refl, ap (λ i. 128 + i) e)
 second_by act k more j (inr lt) later =
     row_later (128 + j) (move_case (second_plan (path_of act).slash (is_below act) k) (path_of act).names (take k (place_of act))) (second_cases act (k + 1) more) (later (omega arith))
-
-same_or_above : (n k : ℕ) → n ≤ k → (n ≡ k) ⊎ (suc n ≤ k)
-same_or_above zero zero le = inl refl
-same_or_above zero (suc k) le = inr (omega arith)
-same_or_above (suc n) zero le = absurd (omega arith)
-same_or_above (suc n) (suc k) le = elim (same_or_above n k (omega arith)) [ inl e ↦ inl (ap suc e) | inr lt ↦ inr (omega arith) ]
 
 has_second : (act : Act) (k more j : ℕ) → k ≤ j → j < k + more → HasRow (128 + j) (second_cases act k more)
 has_second act k zero j low high = absurd (omega arith)

@@ -1,5 +1,5 @@
 -- Which row an act takes on a tree.
-use Rattle.std.proofs.Common.{◌≡◌, ◌≢◌, ℕ, ◌+◌, ◌<◌, ◌≤◌, ◌⊎◌, inl, inr, Bool, true, false, ◌&&◌, ◌||◌, IsTrue, if◌then◌else◌, Option, Some, None, List, length, refl, sym, ap, subst, ◌∙◌, arith}
+use Rattle.std.proofs.Common.{◌≡◌, ◌≢◌, ℕ, ◌+◌, ◌<◌, ◌≤◌, ◌⊎◌, Bool, true, false, ◌&&◌, ◌||◌, if◌then◌else◌, Option, Some, None, List, length, refl, sym, ap, subst, ◌∙◌, arith}
 use Rattle.feature_trees.specs.declared.kind.Kind.{Kind}
 use Rattle.feature_trees.specs.declared.kind.Kind.TheVariants.{Absent, Reg, Link, Other, Dir}
 use Rattle.feature_trees.specs.declared.value.Value.{Value}
@@ -12,7 +12,7 @@ use Rattle.utility_calls.specs.Table.{Rule, rules, rule_holds, row_of}
 use Rattle.utility_calls.specs.Acts.{path_of, place_of, source_of, is_below, is_there, second_link, by_way, by_slash, slash_row, sight_on, own_row, row, IsPerformed}
 use Rattle.utility_calls.specs.ActRows.{IsAmong, Reaches, LooksAtWay, Applies, on_way, at_slash, on_second_way, own}
 use Rattle.utility_calls.proofs.Ways.{counted}
-use Rattle.utility_calls.proofs.ActRow.{none_on, only_row, one_holds, row_applies}
+use Rattle.utility_calls.proofs.ActRow.{none_on, only_row, one_holds, row_applies, no_slash_is}
 use Rattle.act_cases.specs.Cases.{link_row}
 
 slash_is : (s : Bool) (k : Kind) (r : Row) → s ≡ true → k ≢ Absent → k ≢ Dir → by_slash s k r ≡ slash_row
@@ -22,10 +22,6 @@ slash_is true Reg r h na nd = refl
 slash_is true Link r h na nd = refl
 slash_is true Other r h na nd = refl
 slash_is true Dir r h na nd = absurd (nd refl)
-
-no_slash_is : (s : Bool) (k : Kind) (r : Row) → (IsTrue s → (k ≡ Absent) ⊎ (k ≡ Dir)) → by_slash s k r ≡ r
-no_slash_is false k r h = refl
-no_slash_is true k r h = elim (h refl) [ inl e ↦ ap (λ x. by_slash true x r) e | inr e ↦ ap (λ x. by_slash true x r) e ]
 
 module _ (act : Act) (t : Value) where
   abbrev names : List (List ℕ)

@@ -3,9 +3,8 @@ use Rattle.std.proofs.Common.{◌≡◌, ℕ, ◌+◌, Bool, true, false, IsTrue
 use Rattle.feature_trees.specs.declared.value.Value.{Value}
 use Rattle.feature_trees.specs.declared.value.Value.TheVariants as value
 use Rattle.feature_trees.specs.Kinds.{has}
-use Rattle.feature_trees.specs.Tree.{entry, at, kind_of, put, entries_of}
+use Rattle.feature_trees.specs.Tree.{at, kind_of, put, entries_of}
 use Rattle.feature_trees.specs.Sound.{sound, IsTree}
-use Rattle.feature_trees.proofs.Laws.{sound-entry}
 use Rattle.feature_trees.proofs.Kept.{sound_entries}
 use Rattle.tree_clauses.specs.Literals.{Valuation, value_of_variable, IsSound, MeetsAll}
 use Rattle.utility_calls.specs.declared.sights.Effect.{Effect}
@@ -17,10 +16,7 @@ use Rattle.act_cases.specs.Plans.{EndMet, end_literals, is_put, made_value, made
 use Rattle.tree_clauses.specs.Leads.{Leads}
 use Rattle.act_cases.proofs.Meets.{meets_split, meets_join, Along, Outwards, AreNames, first_seen, way_from, way_to, along_end, end_length, end_from, end_to, made_from, made_to, put_from, put_to, outwards_root}
 use Rattle.act_cases.proofs.Valued.{line, rings, line_length, value_at, along_at, outwards_at, Each, each_sound, each_join, line_sound, rings_sound}
-
-sound_at_names : (names : List (List ℕ)) (v : Value) → IsTrue (sound v) → IsTrue (sound (at v names))
-sound_at_names [] v s = s
-sound_at_names (f ∷ rest) v s = sound_at_names rest (entry v f) (sound-entry v f s)
+use Rattle.utility_calls.proofs.ActChanges.{at_sound as sound_at_names}
 
 made_sound : (e : Effect) (target : List ℕ) (v : Value) → IsTrue (sound v) → IsTrue (sound (made_value e target v))
 made_sound Nothing target v s = s

@@ -15,7 +15,7 @@ use Rattle.utility_calls.specs.ActRows.{IsAmong}
 use Rattle.act_cases.specs.Tables.{is_inner}
 use Rattle.act_cases.specs.Moves.{is_anything, is_move}
 use Rattle.act_cases.proofs.Tabled.{all_of, test_of, apart, implies}
-use Rattle.act_cases.proofs.PlainCases.{is_through}
+use Rattle.act_cases.proofs.PlainCases.{is_through, implied}
 
 -- whether the kinds are those of things that are there
 abbrev pub there_only : Option Kinds → Bool
@@ -58,10 +58,6 @@ pub record MovesWell (below : Bool) (r : Rule) : Type 0 where
   pub named : is_move r.effect ≡ true → is_anything r.place ≡ false
   pub through : is_move r.effect ≡ true → is_through r.place ≡ true
   pub source : is_move r.effect ≡ true → there_only r.source ≡ true
-
-implied : (a b : Bool) → implies a b ≡ true → a ≡ true → b ≡ true
-implied true b h e = h
-implied false b h e = absurd (cc)
 
 well_is : (below : Bool) (r : Rule) → moves_well below r ≡ true → MovesWell below r
 well_is below r h =

@@ -5,9 +5,8 @@ use Rattle.feature_trees.specs.declared.value.Value.{Value}
 use Rattle.feature_trees.specs.declared.value.Value.TheVariants as value
 use Rattle.feature_trees.specs.declared.kind.Kind.TheVariants.{Absent}
 use Rattle.feature_trees.specs.Kinds.{has, of, all}
-use Rattle.feature_trees.specs.Tree.{entry, at, kind_of, put, has_parents}
+use Rattle.feature_trees.specs.Tree.{at, kind_of, put, has_parents}
 use Rattle.feature_trees.specs.Sound.{sound, IsTree}
-use Rattle.feature_trees.proofs.Laws.{sound-entry}
 use Rattle.feature_trees.proofs.Kept.{sound-put}
 use Rattle.tree_clauses.specs.Literals.{Valuation, value_of_variable, IsSound, MeetsAll}
 use Rattle.tree_clauses.proofs.KindSets.{of_absent}
@@ -23,10 +22,7 @@ use Rattle.tree_clauses.specs.Leads.{Leads}
 use Rattle.act_cases.proofs.Meets.{meets_split, meets_join, Along, Outwards, AreNames, first_seen, way_from, way_to, along_end, end_length, end_from, end_to, put_from, put_to, outwards_root}
 use Rattle.act_cases.proofs.Valued.{line, rings, line_length, rings_length, value_at, along_at, outwards_at, Each, each_sound, each_join, line_sound, rings_sound}
 use Rattle.act_cases.proofs.Seeing.{has_all, through_to}
-
-at_sound : (names : List (List ℕ)) (v : Value) → IsTrue (sound v) → IsTrue (sound (at v names))
-at_sound [] v s = s
-at_sound (f ∷ rest) v s = at_sound rest (entry v f) (sound-entry v f s)
+use Rattle.utility_calls.proofs.ActChanges.{at_sound}
 
 look_from : (w : Ways) (g : Valuation) (x y : ℕ) (v : Value) (names : List (List ℕ)) → value_of_variable g x ≡ v → MeetsAll g (look_literals w x y names)
     → Sees w v names × Along g y v names

@@ -237,7 +237,7 @@ well_by : (s asks : Bool) (rs : List Rule) (r : Rule) → PutWell rs asks → Is
 well_by false asks rs r h among = test_of (puts_well asks false) rs r h.0 among
 well_by true asks rs r h among = test_of (puts_well asks true) rs r h.1 among
 
-implied : (a b : Bool) → implies a b ≡ true → a ≡ true → b ≡ true
+pub implied : (a b : Bool) → implies a b ≡ true → a ≡ true → b ≡ true
 implied true b h e = h
 implied false b h e = absurd (cc)
 

@@ -15,6 +15,7 @@ use Rattle.clause_solver.specs.Drafts.{place_in, IsPlaced, Agrees, IsSteady, Lea
 use Rattle.clause_solver.specs.Decided.{AreDecided}
 use Rattle.clause_solver.proofs.Names.{nat_cases}
 use Rattle.clause_solver.proofs.PlainViews.{view, SimilarView, is_same, is_replaced}
+use Rattle.tree_clauses.proofs.Passing.{nothing_left}
 
 -- on the way: what is left of a case to be passed
 abbrev pub Going : List Variable → ℕ → Case → List Literal → Draft → Type 0
@@ -85,10 +86,6 @@ goes_on old now made left rest more literal a b e g on =
 pub can_go : (old : List Variable) (now : ℕ) (made : Case) (left rest : List Literal) (literal : Literal) (a : Draft) → left ≡ literal ∷ rest → Going old now made left a → CanGo a (literal ∷ rest)
 can_go old now made left rest literal a e g =
     (old, now, made.literals, g.0, subst (λ l. Goes old now made.literals g.0 l a) e g.2)
-
-nothing_left : (left : List Literal) → length left < 1 → left ≡ []
-nothing_left [] w = refl
-nothing_left (l ∷ ls) w = absurd (omega arith)
 
 pub ends : (old : List Variable) (now : ℕ) (made : Case) (left : List Literal) (draft : Draft) → length left < 1 → Going old now made left draft → IsDrafted old now made draft
 ends old now made left draft w g =

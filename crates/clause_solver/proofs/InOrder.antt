@@ -13,8 +13,9 @@ use Rattle.clause_solver.specs.declared.variable.Definition.TheVariants.{Start, 
 use Rattle.clause_solver.specs.declared.variable.Variable.{Variable}
 use Rattle.clause_solver.specs.Variables.{var_at, Earlier, Ordered}
 use Rattle.clause_solver.specs.Written.{var, made_literals, definition_literals, is_all, kinds_literals, fence_literals, filled_literals, literals_from}
-use Rattle.tree_clauses.specs.Solved.{IsInOrder, Solves, done, made, fact}
+use Rattle.tree_clauses.specs.Solved.{Solves, done, made, fact}
 use Rattle.clause_solver.proofs.Names.{bool_cases, nat_cases}
+use Rattle.tree_clauses.proofs.PlainCases.{none_in_order, one_in_order}
 
 -- the numbers below n, the greatest first
 abbrev pub below : ℕ → List ℕ
@@ -61,13 +62,6 @@ facts_on : (i n : ℕ) (v : Variable) (rest : List Literal) (after : List ℕ) �
 facts_on i n v rest after w h =
     rw (append_assoc (kinds_literals i v.kinds) (fence_literals i v.fence ++ filled_literals i v.not_empty) rest, append_assoc (fence_literals i v.fence) (filled_literals i v.not_empty) rest)
     (kinds_on i n v.kinds _ after w (fence_on i n v.fence _ after w (filled_on i n v.not_empty rest after w h)))
-
--- a set of no name, or of one, is in order
-none_in_order : IsInOrder [] []
-none_in_order = record { rises = tt; same = λ f. (λ c. c, λ c. c) }
-
-one_in_order : (f : List ℕ) → IsInOrder (f ∷ []) (f ∷ [])
-one_in_order f = record { rises = tt; same = λ g. (λ c. c, λ c. c) }
 
 -- a definition makes its variable known
 made_on : (i : ℕ) (m : MadeValue) (rest : List Literal) (after : List ℕ) → Solves (below (suc i)) rest after → Solves (below i) (made_literals i m ++ rest) after

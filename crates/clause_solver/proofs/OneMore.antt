@@ -23,7 +23,8 @@ use Rattle.clause_solver.specs.Fresh.{fresh}
 use Rattle.clause_solver.specs.Written.{literals_from}
 use Rattle.clause_solver.proofs.Names.{last_cases}
 use Rattle.clause_solver.proofs.GreatestKinds.{all_have}
-use Rattle.tree_clauses.proofs.Values.{derived_sound, sound_entries}
+use Rattle.tree_clauses.proofs.Values.{derived_sound}
+use Rattle.feature_trees.proofs.Kept.{sound_entries}
 use Rattle.clause_solver.proofs.Pairs.{sound_at, fits_from, fits_to}
 
 abbrev pub seen_of : List Variable → ℕ → Seen

@@ -189,10 +189,10 @@ told_any : (holds : Option Files) (P Q : Files → Type 0) → ((files : Files) 
 told_any None P Q q = tt
 told_any (Some files) P Q q = λ _. q files
 
-same_task : {a b : Task} → ◌≡◌ {A = Result Task InputRefusal} (Ok a) (Ok b) → a ≡ b
+pub same_task : {a b : Task} → ◌≡◌ {A = Result Task InputRefusal} (Ok a) (Ok b) → a ≡ b
 same_task e = cc
 
-task_or_fault : {a : Task} {fault : InputRefusal} → ◌≡◌ {A = Result Task InputRefusal} (Ok a) (Err fault) → ⊥
+pub task_or_fault : {a : Task} {fault : InputRefusal} → ◌≡◌ {A = Result Task InputRefusal} (Ok a) (Err fault) → ⊥
 task_or_fault e = cc
 
 -- a request whose text was written is not refused

@@ -1,15 +1,15 @@
 -- What words spell is in range, and the files of a request come to a task that fits it.
-use Rattle.std.proofs.Common.{◌≡◌, ℕ, List, Result, Ok, Err, inl, inr, subst, sym}
+use Rattle.std.proofs.Common.{◌≡◌, ℕ, List, Ok, Err, inl, inr, subst, sym}
 use Rattle.checker_io.specs.Reading.{Asking, done, ask, and_then, MayAnswer}
 use Rattle.command_words.specs.declared.request.Request.{Request}
 use Rattle.command_words.specs.declared.request.Request.TheVariants as words
-use Rattle.checker_input.specs.declared.faults.InputRefusal.{InputRefusal}
 use Rattle.checker_input.specs.declared.task.Task.{Task}
 use Rattle.checker_input.specs.declared.task.Task.TheVariants as read
 use Rattle.checker_input.specs.Input.{input, packages_in, start_in, translated_in, HasTree}
 use Rattle.command_words.specs.Words.{form}
 use Rattle.command_words.specs.Laws.{LoadsAreSmall}
 use Rattle.colis_checker.specs.Tasks.{IsInRange, Fits}
+use Rattle.colis_checker.proofs.Calls.{same_task}
 
 -- what words spell is in range
 pub in_range : LoadsAreSmall → (words : List (List ℕ)) (request : Request) → form words ≡ Ok request → IsInRange request
@@ -25,9 +25,6 @@ may_then (done (Ok given)) more value may = (given, may)
 may_then (done (Err refusal)) more value may = absurd (cc may)
 may_then (ask file comes next) more value (found, inl came) = may_then (next came.0) more value came.2
 may_then (ask file comes next) more value (found, inr refused) = absurd (cc refused.2)
-
-same_task : {a b : Task} → ◌≡◌ {A = Result Task InputRefusal} (Ok a) (Ok b) → a ≡ b
-same_task e = cc
 
 pub fits : (request : Request) (task : Task) → IsInRange request → MayAnswer (Ok task) (input request) → HasTree task
     → Fits request task

@@ -24,6 +24,7 @@ use Rattle.colis_checker.specs.Tasks.{IsTaskRefusal}
 use Rattle.colis_checker.specs.Laws.{OneRefusal}
 use Rattle.colis_checker.proofs.Loaded.{one_loaded}
 use Rattle.colis_checker.proofs.Refused.{can_or_refused}
+use Rattle.colis_checker.proofs.Calls.{same_task, task_or_fault}
 
 -- ---- a scenario
 
@@ -107,14 +108,8 @@ task_refused_once (words.Load number limit) (read.Run packages tree) one other x
 task_refused_once (words.Load number limit) (read.Translate script) one other x y = absurd x
 task_refused_once (words.Load number limit) read.Load one other x y = load_refused_once number limit one other x y
 
-same_task : {a b : Task} → ◌≡◌ {A = Result Task InputRefusal} (Ok a) (Ok b) → a ≡ b
-same_task e = cc
-
 same_fault : {a b : InputRefusal} → ◌≡◌ {A = Result Task InputRefusal} (Err a) (Err b) → a ≡ b
 same_fault e = cc
-
-task_or_fault : {a : Task} {fault : InputRefusal} → ◌≡◌ {A = Result Task InputRefusal} (Ok a) (Err fault) → ⊥
-task_or_fault e = cc
 
 pub one_refusal : OneAnswer → OneRefusal
 one_refusal once request files one other (inl x) (inl y) =

@@ -21,6 +21,7 @@ use Rattle.outcome_report.specs.Whole.{IsWholeEntry, AllWhole, AllPartsWhole, Ar
 use Rattle.outcome_report.specs.TextLaws.{TextsTellReports}
 use Rattle.colis_checker.specs.Reports.{AreParts, chosen}
 use Rattle.colis_checker.specs.Laws.{WholeReports, PlainTextsTellReports}
+use Rattle.outcome_report.proofs.Entries.{same_run}
 
 -- ---- an entry
 
@@ -28,9 +29,6 @@ use Rattle.colis_checker.specs.Laws.{WholeReports, PlainTextsTellReports}
 pub record ShowsTrees (run : Value → Option Replayed) (outcome : Outcome) : Type 0 where
   pub shown : kind_of outcome.shown ≡ Dir
   pub after : (replayed : Replayed) → run outcome.shown ≡ Some replayed → kind_of replayed.after ≡ Dir
-
-same_run : (o : Option Replayed) (a b : Replayed) → o ≡ Some a → o ≡ Some b → a ≡ b
-same_run o a b p q = cc
 
 shows_at : (run : Value → Option Replayed) (start : Value → Type 0) → ((tree : Value) → start tree → kind_of tree ≡ Dir)
     → (outcomes : List Outcome) → IsExact run start outcomes → (place : ℕ) (outcome : Outcome)

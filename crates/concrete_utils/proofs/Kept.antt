@@ -6,16 +6,10 @@ use Rattle.feature_trees.specs.declared.shape.Entry.{Entry}
 use Rattle.feature_trees.specs.declared.value.Value.{Value}
 use Rattle.feature_trees.specs.declared.value.Value.TheVariants.{Absent, Reg, Link, Other, Dir}
 use Rattle.feature_trees.specs.Tree.{find, name_cmp, by_order, at, put, update, entry_if_present, is_dir, entries_of}
-use Rattle.feature_trees.specs.View.{IsThere, node_of, value_of}
+use Rattle.feature_trees.specs.View.{IsThere, value_of}
 use Rattle.feature_trees.proofs.Found.{same_name}
 use Rattle.feature_trees.proofs.Kept.{node_of-value_of, value_there}
-
-there : (f : List ℕ) (w : Value) → IsThere w → entry_if_present f w ≡ record { name = f; node = node_of w } ∷ []
-there f Absent h = absurd h
-there f Reg h = refl
-there f (Link b) h = refl
-there f Other h = refl
-there f (Dir es) h = refl
+use Rattle.feature_trees.proofs.TreeAdds.{entry_there as there}
 
 -- an entry is what stands under its name
 entry_back : (f : List ℕ) (e : Entry) → f ≡ e.name → entry_if_present f (value_of e.node) ≡ e ∷ []

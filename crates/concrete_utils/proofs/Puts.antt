@@ -5,20 +5,12 @@ use Rattle.feature_trees.specs.declared.value.Value.TheVariants as value
 use Rattle.feature_trees.specs.Tree.{entry, at, put, update, entries_of, kind_of}
 use Rattle.utility_calls.specs.Ways.{in_dir}
 use Rattle.concrete_utils.specs.Ways.{is_link}
+use Rattle.utility_calls.proofs.Ways.{nothing_within as in_nothing, at_absent as at_nothing}
 
 -- a put below a path puts what stands there with it
 pub put_below : (v : Value) (p q : List (List ℕ)) (w : Value) → put v p (put (at v p) q w) ≡ put v (p ++ q) w
 put_below v [] q w = refl
 put_below v (f ∷ p) q w = ap (λ (x : Value). value.Dir (update (entries_of v) f x)) (put_below (entry v f) p q w)
-
-at_nothing : (p : List (List ℕ)) → at value.Absent p ≡ value.Absent
-at_nothing [] = refl
-at_nothing (f ∷ p) = at_nothing p
-
-in_nothing : (p : List (List ℕ)) → in_dir value.Absent p ≡ false
-in_nothing [] = refl
-in_nothing (f ∷ []) = refl
-in_nothing (f ∷ g ∷ rest) = in_nothing (g ∷ rest)
 
 -- nothing stands below a link, and nothing there is in a directory
 pub at_link : (v : Value) (g : List ℕ) (p : List (List ℕ)) → is_link (kind_of v) ≡ true → at v (g ∷ p) ≡ value.Absent

@@ -95,7 +95,7 @@ dir_bare (Link b) e = cc
 dir_bare Other e = cc
 dir_bare (Dir es) e = refl
 
-kind_dir : (v : Value) → kind_of v ≡ kind.Dir → is_dir v ≡ true
+pub kind_dir : (v : Value) → kind_of v ≡ kind.Dir → is_dir v ≡ true
 kind_dir Absent e = cc
 kind_dir Reg e = cc
 kind_dir (Link b) e = cc

@@ -174,7 +174,7 @@ at-put_other (n ∷ b) v f g p q w s differ =
     ap (λ (x : Value). at x (b ++ (g ∷ q))) (find-update_same (entries_of v) n (put (entry v n) (b ++ (f ∷ p)) w) (rises_v v s))
     ∙ at-put_other b (entry v n) f g p q w (sound-entry v n s) differ
 
-at-append : (v : Value) (p q : List (List ℕ)) → at v (p ++ q) ≡ at (at v p) q
+pub at-append : (v : Value) (p q : List (List ℕ)) → at v (p ++ q) ≡ at (at v p) q
 at-append v [] q = refl
 at-append v (f ∷ p) q = at-append (entry v f) p q
 

@@ -36,7 +36,7 @@ use Rattle.feature_trees.proofs.TreeAdds.{leaf, below, adds, weight_of}
 
 -- ---- how deep, and of which numbers
 
-abbrev entry_depth : Entry → ℕ
+abbrev pub entry_depth : Entry → ℕ
 entry_depth = fold-Entry ℕ ℕ depth_layer entry_depth_layer
 
 entry_depths : (es : List Entry) → map entry_depth es ≡ map (λ (e : Entry). node_depth e.node + 1) es
@@ -58,10 +58,10 @@ depth_of n = ap node_depth (sym (roll-out-Node n)) ∙ layer (out-Node n)
     layer Open.Other = fold-roll-Node ℕ ℕ depth_layer entry_depth_layer Open.Other
     layer (Open.Dir es) = fold-roll-Node ℕ ℕ depth_layer entry_depth_layer (Open.Dir es) ∙ ap greatest (entry_depths es)
 
-abbrev entry_bytes : Entry → Bool
+abbrev pub entry_bytes : Entry → Bool
 entry_bytes = fold-Entry Bool Bool bytes_layer entry_bytes_layer
 
-entry_bytes_all : (es : List Entry) → list_all (λ b. b) (map entry_bytes es) ≡ entries_bytes es
+pub entry_bytes_all : (es : List Entry) → list_all (λ b. b) (map entry_bytes es) ≡ entries_bytes es
 entry_bytes_all [] = refl
 entry_bytes_all (e ∷ es) =
     let first : entry_bytes e ≡ (are_bytes e.name && node_bytes e.node) =
@@ -71,7 +71,7 @@ entry_bytes_all (e ∷ es) =
     λ i. first i && rest i
 
 -- a node is of bytes where its value is
-bytes_of : (n : Node) → node_bytes n ≡ of_bytes (value_of n)
+pub bytes_of : (n : Node) → node_bytes n ≡ of_bytes (value_of n)
 bytes_of n = ap node_bytes (sym (roll-out-Node n)) ∙ layer (out-Node n)
   where
     layer : (x : Open.Node-F Node Entry) → node_bytes (roll-Node x) ≡ of_bytes (value_layer x)
@@ -80,7 +80,7 @@ bytes_of n = ap node_bytes (sym (roll-out-Node n)) ∙ layer (out-Node n)
     layer Open.Other = fold-roll-Node Bool Bool bytes_layer entry_bytes_layer Open.Other
     layer (Open.Dir es) = fold-roll-Node Bool Bool bytes_layer entry_bytes_layer (Open.Dir es) ∙ entry_bytes_all es
 
-inner_bytes : (w : Value) → of_bytes w ≡ true → entries_bytes (entries_of w) ≡ true
+pub inner_bytes : (w : Value) → of_bytes w ≡ true → entries_bytes (entries_of w) ≡ true
 inner_bytes Absent h = refl
 inner_bytes Reg h = refl
 inner_bytes (Link b) h = refl
@@ -99,10 +99,10 @@ spelled_both (f ∷ p) q = ap (λ t. after_slash f ++ t) (spelled_both p q) ∙ 
 spelled_grown : (p : List (List ℕ)) (f : List ℕ) → spelled (p ++ f ∷ []) ≡ path_below (spelled p) f
 spelled_grown p f = spelled_both p (f ∷ []) ∙ ap (λ t. spelled p ++ t) (append-nil (after_slash f))
 
-abbrev is_step : List ℕ → Bool
+abbrev pub is_step : List ℕ → Bool
 is_step f = is_name f && are_bytes f
 
-spelled_shown : (p : List (List ℕ)) → list_all is_step p ≡ true → list_all is_shown (spelled p) ≡ true
+pub spelled_shown : (p : List (List ℕ)) → list_all is_step p ≡ true → list_all is_shown (spelled p) ≡ true
 spelled_shown [] g = refl
 spelled_shown (f ∷ p) g =
     let r = and_parts (is_step f) (list_all is_step p) g in
@@ -134,17 +134,17 @@ path_back (n ∷ p) w g f =
 
 -- ---- one line
 
-abbrev value_line : Value → List ℕ → List ℕ
+abbrev pub value_line : Value → List ℕ → List ℕ
 value_line Absent path = []
 value_line Reg path = codes "f " ++ path
 value_line (Link b) path = codes "l " ++ path ++ codes " " ++ show b
 value_line Other path = codes "o " ++ path
 value_line (Dir es) path = codes "d " ++ path
 
-two_words : (letter path : List ℕ) → lacks 32 letter ≡ true → lacks 32 path ≡ true → parts 32 (letter ++ 32 ∷ path) ≡ letter ∷ path ∷ []
+pub two_words : (letter path : List ℕ) → lacks 32 letter ≡ true → lacks 32 path ≡ true → parts 32 (letter ++ 32 ∷ path) ≡ letter ∷ path ∷ []
 two_words letter path h g = joined_cut 32 letter (path ∷ []) (and_from (lacks 32 letter) _ h (and_from (lacks 32 path) true g refl))
 
-three_words : (letter path target : List ℕ) → lacks 32 letter ≡ true → lacks 32 path ≡ true → lacks 32 target ≡ true
+pub three_words : (letter path target : List ℕ) → lacks 32 letter ≡ true → lacks 32 path ≡ true → lacks 32 target ≡ true
     → parts 32 (letter ++ 32 ∷ (path ++ 32 ∷ target)) ≡ letter ∷ path ∷ target ∷ []
 three_words letter path target h g k =
     joined_cut 32 letter (path ∷ target ∷ [])
@@ -193,7 +193,7 @@ under_below p f (x ∷ xs) =
     let rest = under_below p f xs in
     λ i. record { names = first i; value = x.value } ∷ rest i
 
-map_both : {A B : Type 0} (g : A → B) (xs ys : List A) → map g (xs ++ ys) ≡ map g xs ++ map g ys
+pub map_both : {A B : Type 0} (g : A → B) (xs ys : List A) → map g (xs ++ ys) ≡ map g xs ++ map g ys
 map_both g [] ys = refl
 map_both g (x ∷ xs) ys = ap (λ l. g x ∷ l) (map_both g xs ys)
 
@@ -271,7 +271,7 @@ lines_both : (ls ms : List (List ℕ)) → lines_text (ls ++ ms) ≡ lines_text 
 lines_both [] ms = refl
 lines_both (l ∷ ls) ms = ap (λ t. line l ++ t) (lines_both ls ms) ∙ sym (append_assoc (line l) (lines_text ls) (lines_text ms))
 
-entry_is : (e : Entry) (path : List ℕ) → entry_text e path ≡ value_text (value_of e.node) (path_below path e.name)
+pub entry_is : (e : Entry) (path : List ℕ) → entry_text e path ≡ value_text (value_of e.node) (path_below path e.name)
 entry_is e path =
     entry_text_of e path ∙ ap (λ n. node_text n (path_below path e.name)) (sym (node_of-value_of e.node))
     ∙ node_text_of (value_of e.node) (path_below path e.name) (value_there e.node)

@@ -27,7 +27,7 @@ use Rattle.feature_trees.specs.View.{IsThere}
 use Rattle.feature_trees.proofs.Found.{same_name, at_Absent}
 use Rattle.feature_trees.proofs.Kept.{sound-put}
 use Rattle.feature_trees.proofs.Laws.{ord, sound-entry, at-put_same, at-put_other, at-put_above}
-use Rattle.feature_trees.proofs.ReadLines.{stays_dir}
+use Rattle.feature_trees.proofs.ReadLines.{stays_dir, same_tree}
 
 -- ---- what a line says
 
@@ -277,9 +277,6 @@ after_line n v u line s e =
     subst (AfterOne v line) st.is (one_after v line st.line st.says st.free st.parents s)
 
 -- ---- lines one after another
-
-same_tree : (a b : Value) → ◌≡◌ {A = Result Value TreeFault} (Ok a) (Ok b) → a ≡ b
-same_tree a b e = cc
 
 none_after : (v : Value) → IsTrue (sound v) → After v [] v
 none_after v s = record { sound = s; dir = λ d. d; to = λ p w t e. inl e; old = λ p w t e. e; said = λ p w t h. absurd h }

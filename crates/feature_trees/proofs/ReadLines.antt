@@ -16,7 +16,7 @@ texts ls = map (λ line. line.now) ls
 cut_one : (ls : List (Bor (List ℕ))) (i : ℕ) (d : Bor (List ℕ)) → i < length ls → texts (drop i ls) ≡ (get_or ls i d).now ∷ texts (drop (i + 1) ls)
 cut_one ls i d lt = ap texts (drop-cons ls i d lt) ∙ ap (λ k. (get_or ls i d).now ∷ texts (drop k ls)) (sym (add-one i))
 
-same_tree : (a b : Value) → ◌≡◌ {A = Result Value TreeFault} (Ok a) (Ok b) → a ≡ b
+pub same_tree : (a b : Value) → ◌≡◌ {A = Result Value TreeFault} (Ok a) (Ok b) → a ≡ b
 same_tree a b e = cc
 
 named_dir : (n : ℕ) (tree more w : Value) (f : List ℕ) (p : List (List ℕ)) (here parents : Bool)

@@ -50,7 +50,7 @@ adds (suc k) (e ∷ es) =
 
 -- ---- updates
 
-entry_there : (f : List ℕ) (w : Value) → IsThere w → entry_if_present f w ≡ record { name = f; node = node_of w } ∷ []
+pub entry_there : (f : List ℕ) (w : Value) → IsThere w → entry_if_present f w ≡ record { name = f; node = node_of w } ∷ []
 entry_there f Absent h = absurd h
 entry_there f Reg h = refl
 entry_there f (Link b) h = refl

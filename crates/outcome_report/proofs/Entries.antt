@@ -23,7 +23,7 @@ each_replays run [] each = tt
 each_replays run (outcome ∷ outcomes) each =
     (each 0 outcome refl, each_replays run outcomes (λ place other at. each (suc place) other at))
 
-same_run : (o : Option Replayed) (a b : Replayed) → o ≡ Some a → o ≡ Some b → a ≡ b
+pub same_run : (o : Option Replayed) (a b : Replayed) → o ≡ Some a → o ≡ Some b → a ≡ b
 same_run o a b p q = cc
 
 module _ (run : Value → Option Replayed) (start : Value → Type 0) (dirs : (tree : Value) → start tree → kind_of tree ≡ Dir) where

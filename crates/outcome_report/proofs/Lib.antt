@@ -1,4 +1,4 @@
-mod Entries
+pub mod Entries
 mod PlaceEquality
 mod Counted
 mod Growing

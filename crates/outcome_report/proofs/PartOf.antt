@@ -13,7 +13,7 @@ use Rattle.outcome_report.specs.Kept.{replay_of}
 use Rattle.outcome_report.specs.OutcomeReport.{IsEntryOf, AllEntries, outcomes_of, IsPart}
 
 -- the outcome of an entry
-abbrev outcome_of : ReportEntry → Outcome
+abbrev pub outcome_of : ReportEntry → Outcome
 outcome_of entry = entry.outcome
 
 module _ (run : Value → Option Replayed) where

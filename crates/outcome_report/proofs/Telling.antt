@@ -11,7 +11,6 @@ use Rattle.case_paths.specs.Paths.{AllAlive, states}
 use Rattle.clause_solver.specs.Stands.{Alive}
 use Rattle.dpkg_scenarios.specs.declared.scenario.Scenario.{Scenario}
 use Rattle.scenario_runs.specs.declared.replayed.Replayed.{Replayed}
-use Rattle.scenario_outcomes.specs.declared.outcome.Outcome.{Outcome}
 use Rattle.scenario_outcomes.specs.OutcomeOf.{Path, IsOutcomeOf, AreOutcomes, ArePaths}
 use Rattle.outcome_report.specs.declared.outcome_report.ReportEntry.{ReportEntry}
 use Rattle.outcome_report.specs.declared.places.EndPlace.{EndPlace}
@@ -26,12 +25,9 @@ use Rattle.outcome_report.specs.Told.{first_line, IsTold}
 use Rattle.outcome_report.specs.Whole.{IsRepresentableEntry, AllRepresentable}
 use Rattle.outcome_report.proofs.Counted.{one_place}
 use Rattle.outcome_report.proofs.Entries.{entries_more}
+use Rattle.outcome_report.proofs.PartOf.{outcome_of}
 
 -- ---- one more entry
-
--- the outcome of an entry
-abbrev outcome_of : ReportEntry → Outcome
-outcome_of entry = entry.outcome
 
 outcomes_more : (first place : ℕ) (paths : List Path) (entries : List ReportEntry) (path : Path) (entry : ReportEntry)
     → AreOutcomes first paths (map outcome_of entries) → place ≡ first + length paths → IsOutcomeOf place path entry.outcome

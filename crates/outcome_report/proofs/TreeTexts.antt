@@ -10,29 +10,24 @@ use Rattle.script_names.specs.Names.{is_name}
 use Rattle.shown_texts.specs.Lines.{line, lines_text, is_line}
 use Rattle.shown_texts.specs.Parts.{parts, lacks}
 use Rattle.shown_texts.specs.Paths.{after_slash, path_of}
-use Rattle.shown_texts.specs.Show.{is_shown, show, are_bytes}
-use Rattle.shown_texts.proofs.Cuts.{joined_cut}
+use Rattle.shown_texts.specs.Show.{show, are_bytes}
 use Rattle.shown_texts.proofs.Lists.{all_both}
 use Rattle.shown_texts.proofs.PathTexts.{slashes_joined, path_read}
 use Rattle.shown_texts.proofs.Spelled.{show_read, show_shown}
-use Rattle.feature_trees.specs.declared.shape.Entry.{Entry, rolls-Entry'}
-use Rattle.feature_trees.specs.declared.shape.Node.{Node}
+use Rattle.feature_trees.specs.declared.shape.Entry.{Entry}
 use Rattle.feature_trees.specs.declared.shape.Node.TheOpen as Open
-use Rattle.feature_trees.specs.declared.shape.Node.TheViews.{out-Node, roll-Node, roll-out-Node}
-use Rattle.feature_trees.specs.declared.shape.Node.TheFolds.{fold-Entry, fold-roll-Node, fold-roll-Entry}
 use Rattle.feature_trees.specs.declared.value.Value.{Value}
 use Rattle.feature_trees.specs.declared.value.Value.TheVariants.{Absent, Reg, Link, Other, Dir}
-use Rattle.feature_trees.specs.Readable.{bytes_layer, entry_bytes_layer, node_bytes, entries_bytes, of_bytes}
+use Rattle.feature_trees.specs.Readable.{node_bytes, entries_bytes, of_bytes}
 use Rattle.feature_trees.specs.Shape.{count_all, entry_weight_of}
 use Rattle.feature_trees.specs.Sound.{before, sound_all, sound_node}
 use Rattle.feature_trees.specs.Tree.{entries_of}
 use Rattle.feature_trees.specs.TreeLines.{letter_value, link_value}
-use Rattle.feature_trees.specs.TreeText.{path_below, entry_text, entries_text, node_text, value_text}
-use Rattle.feature_trees.specs.View.{value_of, value_layer, node_of, IsThere}
+use Rattle.feature_trees.specs.TreeText.{path_below, entries_text, value_text}
+use Rattle.feature_trees.specs.View.{value_of, node_of, IsThere}
 use Rattle.feature_trees.proofs.Kept.{node_of-value_of, value_there, sound_entries}
 use Rattle.feature_trees.proofs.Laws.{sound_value}
-use Rattle.feature_trees.proofs.LinesBack.{spelled}
-use Rattle.feature_trees.proofs.Printed.{entry_text_of, node_text_of}
+use Rattle.feature_trees.proofs.LinesBack.{spelled, bytes_of, inner_bytes, spelled_shown, value_line as own_line, three_words, entry_is, map_both, is_step, two_words}
 use Rattle.feature_trees.proofs.TreeAdds.{leaf, weight_of}
 use Rattle.outcome_report.proofs.Blocks.{front_apart, stops, second, is_marked}
 use Rattle.outcome_report.proofs.ShownBytes.{no_space, no_newline}
@@ -69,26 +64,9 @@ said_second l e = ap (second is_blank) (sym (join_with_byte-slice_split 32 l)) �
 
 -- ---- one line
 
-abbrev own_line : Value → List ℕ → List ℕ
-own_line Absent path = []
-own_line Reg path = codes "f " ++ path
-own_line (Link b) path = codes "l " ++ path ++ codes " " ++ show b
-own_line Other path = codes "o " ++ path
-own_line (Dir es) path = codes "d " ++ path
-
-abbrev is_step : List ℕ → Bool
-is_step f = is_name f && are_bytes f
-
 abbrev is_longer : List (List ℕ) → Bool
 is_longer [] = false
 is_longer (f ∷ p) = true
-
-spelled_shown : (p : List (List ℕ)) → list_all is_step p ≡ true → list_all is_shown (spelled p) ≡ true
-spelled_shown [] g = refl
-spelled_shown (f ∷ p) g =
-    let r = and_parts (is_step f) (list_all is_step p) g in
-    let k = and_parts (is_name f) (are_bytes f) r.0 in
-    all_both is_shown (after_slash f) (spelled p) (and_from (is_shown 47) (list_all is_shown (show f)) refl (show_shown f k.1)) (spelled_shown p r.1)
 
 path_back : (p : List (List ℕ)) (w : Value) → list_all is_step p ≡ true → is_longer p ≡ true
     → said_at (spelled p) w ≡ (let made : Said = record { names = p; value = w } in Some made)
@@ -96,15 +74,6 @@ path_back [] w g f = cc
 path_back (n ∷ p) w g f =
     ap (λ t. option_map (λ names. let made : Said = record { names = names; value = w } in made) (path_of t)) (slashes_joined n p)
     ∙ ap (option_map (λ names. let made : Said = record { names = names; value = w } in made)) (path_read (n ∷ p) g)
-
-two_words : (letter path : List ℕ) → lacks 32 letter ≡ true → lacks 32 path ≡ true → parts 32 (letter ++ 32 ∷ path) ≡ letter ∷ path ∷ []
-two_words letter path h g = joined_cut 32 letter (path ∷ []) (and_from (lacks 32 letter) _ h (and_from (lacks 32 path) true g refl))
-
-three_words : (letter path target : List ℕ) → lacks 32 letter ≡ true → lacks 32 path ≡ true → lacks 32 target ≡ true
-    → parts 32 (letter ++ 32 ∷ (path ++ 32 ∷ target)) ≡ letter ∷ path ∷ target ∷ []
-three_words letter path target h g k =
-    joined_cut 32 letter (path ∷ target ∷ [])
-    (and_from (lacks 32 letter) _ h (and_from (lacks 32 path) _ g (and_from (lacks 32 target) true k refl)))
 
 abbrev Says : Value → List (List ℕ) → Type 0
 Says w p = said (own_line w (spelled p)) ≡ (let made : Said = record { names = p; value = leaf w } in Some made)
@@ -158,38 +127,6 @@ under_below p f (x ∷ xs) =
 under_none : (xs : List Said) → map (under []) xs ≡ xs
 under_none [] = refl
 under_none (x ∷ xs) = ap (λ l. x ∷ l) (under_none xs)
-
-map_both : {A B : Type 0} (g : A → B) (xs ys : List A) → map g (xs ++ ys) ≡ map g xs ++ map g ys
-map_both g [] ys = refl
-map_both g (x ∷ xs) ys = ap (λ l. g x ∷ l) (map_both g xs ys)
-
-abbrev entry_bytes : Entry → Bool
-entry_bytes = fold-Entry Bool Bool bytes_layer entry_bytes_layer
-
-entry_bytes_all : (es : List Entry) → list_all (λ b. b) (map entry_bytes es) ≡ entries_bytes es
-entry_bytes_all [] = refl
-entry_bytes_all (e ∷ es) =
-    let first : entry_bytes e ≡ (are_bytes e.name && node_bytes e.node) =
-    ap entry_bytes (sym (rolls-Entry' (record { name = e.name; node = e.node })))
-    ∙ fold-roll-Entry Bool Bool bytes_layer entry_bytes_layer (record { name = e.name; node = e.node }) in
-    let rest = entry_bytes_all es in
-    λ i. first i && rest i
-
-pub bytes_of : (n : Node) → node_bytes n ≡ of_bytes (value_of n)
-bytes_of n = ap node_bytes (sym (roll-out-Node n)) ∙ layer (out-Node n)
-  where
-    layer : (x : Open.Node-F Node Entry) → node_bytes (roll-Node x) ≡ of_bytes (value_layer x)
-    layer Open.Reg = fold-roll-Node Bool Bool bytes_layer entry_bytes_layer Open.Reg
-    layer (Open.Link b) = fold-roll-Node Bool Bool bytes_layer entry_bytes_layer (Open.Link b)
-    layer Open.Other = fold-roll-Node Bool Bool bytes_layer entry_bytes_layer Open.Other
-    layer (Open.Dir es) = fold-roll-Node Bool Bool bytes_layer entry_bytes_layer (Open.Dir es) ∙ entry_bytes_all es
-
-inner_bytes : (w : Value) → of_bytes w ≡ true → entries_bytes (entries_of w) ≡ true
-inner_bytes Absent h = refl
-inner_bytes Reg h = refl
-inner_bytes (Link b) h = refl
-inner_bytes Other h = refl
-inner_bytes (Dir es) h = h
 
 -- what is asked of the entries at a path
 abbrev pub AreRepresentable : List (List ℕ) → List Entry → Type 0
@@ -260,11 +197,6 @@ lines_marked k es h = each_marked said said_second (own_lines k [] es) (map (und
 
 spelled_grown : (p : List (List ℕ)) (f : List ℕ) → spelled (p ++ f ∷ []) ≡ path_below (spelled p) f
 spelled_grown p f = flat_map-append after_slash p (f ∷ []) ∙ ap (λ t. spelled p ++ t) (append-nil (after_slash f))
-
-entry_is : (e : Entry) (path : List ℕ) → entry_text e path ≡ value_text (value_of e.node) (path_below path e.name)
-entry_is e path =
-    entry_text_of e path ∙ ap (λ n. node_text n (path_below path e.name)) (sym (node_of-value_of e.node))
-    ∙ node_text_of (value_of e.node) (path_below path e.name) (value_there e.node)
 
 value_spelled : (w : Value) (path : List ℕ) (more : List (List ℕ)) → IsThere w → ((ds : List Entry) → w ≡ Dir ds → lines_text more ≡ entries_text ds path)
     → (entries_of w ≡ [] → more ≡ []) → line (own_line w path) ++ lines_text more ≡ value_text w path

@@ -9,7 +9,7 @@ use Rattle.feature_trees.specs.declared.value.Value.TheVariants.{Dir}
 use Rattle.feature_trees.specs.Readable.{node_bytes, entries_bytes, of_bytes}
 use Rattle.feature_trees.specs.Shape.{weight, weight_Dir, count_all, entry_weight, entry_weight_of}
 use Rattle.feature_trees.specs.View.{node_of, value_of-node_of, IsThere}
-use Rattle.outcome_report.proofs.TreeTexts.{bytes_of}
+use Rattle.feature_trees.proofs.LinesBack.{bytes_of}
 
 -- ---- bytes
 

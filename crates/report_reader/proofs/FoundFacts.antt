@@ -33,7 +33,7 @@ use Rattle.report_reader.proofs.TextFacts.{got, made, kept}
 use Rattle.report_reader.proofs.TreeFacts.{IsFound, found_tree}
 use Rattle.report_reader.proofs.PieceFacts.{ending_fits, trace_fits, calls_fit}
 
-one_value : {A : Type 0} (o : Option A) (a b : A) → o ≡ Some a → o ≡ Some b → a ≡ b
+pub one_value : {A : Type 0} (o : Option A) (a b : A) → o ≡ Some a → o ≡ Some b → a ≡ b
 one_value o a b e f = cc
 
 -- ---- pieces

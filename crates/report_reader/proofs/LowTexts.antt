@@ -18,6 +18,7 @@ use Rattle.feature_trees.specs.declared.value.Value.TheVariants.{Reg, Link, Othe
 use Rattle.feature_trees.specs.TreeLines.{letter_value, link_value, line_of_names, line_at, line_of_words, line_says}
 use Rattle.report_reader.proofs.TextFacts.{shown_bytes}
 use Rattle.report_reader.proofs.TreeFacts.{path_bytes}
+use Rattle.outcome_report.proofs.WholeLines.{has}
 
 abbrev pub is_low : ℕ → Bool
 is_low b = nat_lt b 128
@@ -51,10 +52,6 @@ shows_low (name ∷ names) h =
     and_from (low (show name)) (list_all low (map show names)) (show_low name k.0) (shows_low names k.1)
 
 -- ---- lines of trees
-
-abbrev pub has : {X : Type 0} → Option X → Bool
-has None = false
-has (Some x) = true
 
 given : {X Y A : Type 0} (f : X → Option Y) (o : Option X) → has (option_and_then f o) ≡ true → ((x : X) → o ≡ Some x → has (f x) ≡ true → A) → A
 given f None e more = cc

@@ -1,6 +1,5 @@
 -- The JSON text of a readable report is read as the report.
-use Rattle.std.proofs.Common.{◌≡◌, Some, Ok, Err, sym, ap, ◌∙◌}
-use Rattle.std.specs.Prelude.{Option}
+use Rattle.std.proofs.Common.{◌≡◌, Ok, Err, sym, ap, ◌∙◌}
 use Rattle.serde_json.specs.Read.{read}
 use Rattle.report_json.specs.ReportJson.{json_of, json_text}
 use Rattle.report_reader.specs.declared.read.JsonFault.TheVariants as fault
@@ -8,9 +7,7 @@ use Rattle.report_reader.specs.Laws.{ReportsReadBack, ValuesTellReports, JsonTex
 use Rattle.report_reader.specs.ReportRead.{report_in}
 use Rattle.report_reader.proofs.ReportLaws.{report_back}
 use Rattle.report_reader.proofs.ValueLaws.{text_reads}
-
-one_value : {A : Type 0} (o : Option A) (a b : A) → o ≡ Some a → o ≡ Some b → a ≡ b
-one_value o a b e f = cc
+use Rattle.report_reader.proofs.FoundFacts.{one_value}
 
 pub values_tell : ValuesTellReports
 values_tell a b h g e = one_value (report_in (json_of b)) a b (ap report_in (sym e) ∙ report_back a h) (report_back b g)

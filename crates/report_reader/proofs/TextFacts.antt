@@ -1,11 +1,11 @@
 -- What is read of a text is made of bytes, and its numbers fit.
-use Rattle.std.proofs.Common.{◌≡◌, ℕ, ◌+◌, ◌-◌, ◌*◌, ◌/◌, ◌%◌, ◌^◌, ◌<◌, Bool, true, false, nat_lt, nat_le, List, [], ◌∷◌, ◌++◌, Some, None, refl, sym, ap, ◌∙◌, subst, arith}
+use Rattle.std.proofs.Common.{◌≡◌, ℕ, ◌+◌, ◌-◌, ◌*◌, ◌/◌, ◌%◌, ◌^◌, ◌<◌, Bool, true, false, nat_lt, nat_le, List, [], ◌∷◌, ◌++◌, Some, None, refl, sym, ap, ◌∙◌, arith}
 use Rattle.std.specs.Prelude.{Option, ◌==◌, ◌&&◌, codes, if◌then◌else◌}
 use Rattle.std.specs.List.{flat_map}
 use Rattle.std.specs.Option.{option_map, option_and_then}
 use Rattle.std.specs.Str.{bytes_eq}
 use Rattle.std.specs.Str.Parse.{digits_value}
-use Rattle.std.proofs.lemmas.Bool.{lt-ltb, eqb-true, and_parts, and_from}
+use Rattle.std.proofs.lemmas.Bool.{lt-ltb, and_parts, and_from}
 use Rattle.std.proofs.lemmas.Slice.Eq.{bytes_eq-Decides}
 use Rattle.script_names.specs.declared.mark.Mark.{Mark}
 use Rattle.script_names.specs.declared.mark.Site.{Site}
@@ -13,6 +13,7 @@ use Rattle.shown_texts.specs.Marks.{site_from, site_of_parts, site_of, mark_from
 use Rattle.shown_texts.specs.Numbers.{is_numeral, number_of}
 use Rattle.shown_texts.specs.Parts.{parts}
 use Rattle.shown_texts.specs.Show.{is_literal, hex_digit, hex_value, shown_byte, show, are_bytes, escaped, bytes_after, if_spelled, shown_of}
+use Rattle.shown_texts.proofs.Spelled.{no_backslash}
 
 -- ---- what an option was made of
 
@@ -35,13 +36,6 @@ record IsNext (text rest : List ℕ) : Type 0 where
   byte : ℕ
   is : text ≡ byte ∷ rest
   small : byte < 256
-
-no_backslash : (b : ℕ) → is_literal b ≡ true → (b == 92) ≡ false
-no_backslash b h = step (b == 92) refl
-  where
-    step : (t : Bool) → (b == 92) ≡ t → t ≡ false
-    step true e = let g = subst (λ (x : ℕ). is_literal x ≡ true) (eqb-true b 92 e) h in cc
-    step false e = refl
 
 literal_small : (b : ℕ) → is_literal b ≡ true → b < 256
 literal_small b h = grind arith

@@ -19,12 +19,12 @@ use Rattle.feature_trees.specs.declared.read.TreeFault.{TreeFault}
 use Rattle.feature_trees.specs.declared.read.TreeFault.TheVariants.{Line}
 use Rattle.feature_trees.specs.declared.shape.Entry.{Entry, rolls-Entry'}
 use Rattle.feature_trees.specs.declared.shape.Node.{Node}
-use Rattle.feature_trees.specs.declared.shape.Node.TheFolds.{fold-Entry, fold-roll-Node, fold-roll-Entry}
+use Rattle.feature_trees.specs.declared.shape.Node.TheFolds.{fold-roll-Node, fold-roll-Entry}
 use Rattle.feature_trees.specs.declared.shape.Node.TheOpen as Open
 use Rattle.feature_trees.specs.declared.shape.Node.TheViews.{out-Node, roll-Node, roll-out-Node}
 use Rattle.feature_trees.specs.declared.value.Value.{Value}
 use Rattle.feature_trees.specs.declared.value.Value.TheVariants.{Absent, Reg, Link, Other, Dir}
-use Rattle.feature_trees.specs.Readable.{bytes_layer, entry_bytes_layer, node_bytes, entries_bytes, of_bytes, greatest, depth_layer, entry_depth_layer, node_depth, entries_depth, depth}
+use Rattle.feature_trees.specs.Readable.{node_bytes, entries_bytes, of_bytes, greatest, depth_layer, entry_depth_layer, node_depth, entries_depth, depth}
 use Rattle.feature_trees.specs.Sound.{sound}
 use Rattle.feature_trees.specs.Tree.{kind_of, by_order, name_cmp, find, entry, at, entries_of, entry_if_present, update, has_parents, put}
 use Rattle.feature_trees.specs.TreeLines.{letter_value, link_value, line_of_names, line_at, line_of_words, line_says, is_there, with_line, and_then, with_lines, text_lines, tree_of}
@@ -32,32 +32,9 @@ use Rattle.feature_trees.specs.View.{value_layer, value_of, node_of, IsThere, va
 use Rattle.feature_trees.proofs.LinesStand.{lines_stand}
 use Rattle.report_reader.specs.ReportRead.{tree_found}
 use Rattle.report_reader.proofs.TextFacts.{got, kept, shown_bytes}
+use Rattle.feature_trees.proofs.LinesBack.{bytes_of, entry_depth}
 
 -- ---- values of nodes
-
-abbrev entry_bytes : Entry → Bool
-entry_bytes = fold-Entry Bool Bool bytes_layer entry_bytes_layer
-
-entry_bytes_all : (es : List Entry) → list_all (λ b. b) (map entry_bytes es) ≡ entries_bytes es
-entry_bytes_all [] = refl
-entry_bytes_all (e ∷ es) =
-    let first : entry_bytes e ≡ (are_bytes e.name && node_bytes e.node) =
-    ap entry_bytes (sym (rolls-Entry' (record { name = e.name; node = e.node })))
-    ∙ fold-roll-Entry Bool Bool bytes_layer entry_bytes_layer (record { name = e.name; node = e.node }) in
-    let rest = entry_bytes_all es in
-    λ i. first i && rest i
-
-bytes_of : (n : Node) → node_bytes n ≡ of_bytes (value_of n)
-bytes_of n = ap node_bytes (sym (roll-out-Node n)) ∙ layer (out-Node n)
-  where
-    layer : (x : Open.Node-F Node Entry) → node_bytes (roll-Node x) ≡ of_bytes (value_layer x)
-    layer Open.Reg = fold-roll-Node Bool Bool bytes_layer entry_bytes_layer Open.Reg
-    layer (Open.Link b) = fold-roll-Node Bool Bool bytes_layer entry_bytes_layer (Open.Link b)
-    layer Open.Other = fold-roll-Node Bool Bool bytes_layer entry_bytes_layer Open.Other
-    layer (Open.Dir es) = fold-roll-Node Bool Bool bytes_layer entry_bytes_layer (Open.Dir es) ∙ entry_bytes_all es
-
-abbrev entry_depth : Entry → ℕ
-entry_depth = fold-Entry ℕ ℕ depth_layer entry_depth_layer
 
 entry_depth_all : (es : List Entry) → greatest (map entry_depth es) ≡ entries_depth es
 entry_depth_all [] = refl

@@ -17,6 +17,7 @@ use Rattle.scenario_outcomes.specs.declared.outcome.Outcome.{Outcome}
 use Rattle.scenario_outcomes.specs.OutcomeOf.{Path, IsOutcomeOf, AreOutcomes}
 use Rattle.scenario_outcomes.specs.Outcomes.{CoversOnce, EndsAs, IsExact, TraceBelow, Rising, IsTrace, AreTraces, IsNone, Differ, AreTooMany, AreFew}
 use Rattle.scenario_outcomes.proofs.Counting.{In, AllIn, no_more}
+use Rattle.scenario_runs.proofs.Turning.{same_run as some_same}
 
 -- ---- the outcomes of a list of paths
 
@@ -137,9 +138,6 @@ trace_in (x ∷ xs) (suc at) path trace there e = inr (trace_in xs at path trace
 as_many : (paths : List Path) → length (traces (states paths)) ≡ length paths
 as_many [] = refl
 as_many (x ∷ xs) = ap suc (as_many xs)
-
-some_same : (a b : Replayed) → Some a ≡ Some b → a ≡ b
-some_same a b e = cc
 
 module _ (run : Value → Option Replayed) (start : Value → Type 0) (d : Decision (Ending × List ScriptCall)) (s : Seen)
     (played : (tree : Value) → run tree ≡ Some (replayed_of (play d tree [] [])))

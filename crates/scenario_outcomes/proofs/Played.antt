@@ -12,9 +12,7 @@ use Rattle.scenario_runs.specs.Runs.{scenario_run}
 use Rattle.scenario_runs.specs.Performed.{ArePerformed}
 use Rattle.scenario_runs.specs.Deciding.{decision_of}
 use Rattle.scenario_runs.specs.Laws.{DecisionsArePlayed, replayed_of}
-
-same_end : (a b : Replayed) → Some a ≡ Some b → a ≡ b
-same_end a b e = cc
+use Rattle.scenario_runs.proofs.Turning.{same_run as same_end}
 
 -- the run gives what is played, behind a trace too
 pub run_gives : PlaysBehind (Ending × List ScriptCall) → DecisionsArePlayed → (job : Job) (files : ArePerformed job.files) (tree : Value) (trace marks : List Mark) (end : Replayed)

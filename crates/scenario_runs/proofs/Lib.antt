@@ -2,4 +2,4 @@ mod Lines
 mod Walking
 mod Taking
 mod Deciding
-mod Turning
+pub mod Turning

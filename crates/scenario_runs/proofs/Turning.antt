@@ -155,7 +155,7 @@ replayed_more : (n : ℕ) (next : StepNext) (c : Course) → replayed_at next (c
 replayed_more n (Go k) c = refl
 replayed_more n (Stop ending) c = refl
 
-same_run : (a b : Replayed) → Some a ≡ Some b → a ≡ b
+pub same_run : (a b : Replayed) → Some a ≡ Some b → a ≡ b
 same_run a b e = cc
 
 bound_ending : (next : StepNext) (c : Course) (run : Replayed) → replayed_at next c ≡ Some run → IsTrue (is_bound_next next)

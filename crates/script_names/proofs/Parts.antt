@@ -15,7 +15,7 @@ use Rattle.script_names.specs.declared.path.PathFault.{PathFault}
 use Rattle.script_names.specs.declared.path.PathFault.TheVariants.{Empty, Nul, DotDot, Dot, LongName, Many}
 
 -- the last item, read through a reference
-last_mapped : {A B : Type 0} (v : A → B) (o : Option A) (xs : List A) → option_map v (last_or o xs) ≡ last_or (option_map v o) (map v xs)
+pub last_mapped : {A B : Type 0} (v : A → B) (o : Option A) (xs : List A) → option_map v (last_or o xs) ≡ last_or (option_map v o) (map v xs)
 last_mapped v o [] = refl
 last_mapped v o (x ∷ xs) = last_mapped v (Some x) xs
 

@@ -19,7 +19,7 @@ use Rattle.shell_forms.proofs.Known.{Adds, lesser-none, lesser-swap}
 abbrev pub names : Text → Text → Ordering
 names = slice_cmp nat_cmp
 
-equal : (r : Ordering) → is_eq r ≡ true → r ≡ Equal
+pub equal : (r : Ordering) → is_eq r ≡ true → r ≡ Equal
 equal Less e = cc
 equal Equal e = refl
 equal Greater e = cc
@@ -27,7 +27,7 @@ equal Greater e = cc
 same_name : (q name : Text) → eq_by_cmp names q name ≡ true → q ≡ name
 same_name q name e = slice_cmp-IsAntisymmetric nat_cmp-IsAntisymmetric q name (equal _ e)
 
-differ : true ≡ false → ⊥
+pub differ : true ≡ false → ⊥
 differ e = cc
 
 -- two names that differ, the other way round

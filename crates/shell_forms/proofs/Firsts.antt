@@ -6,6 +6,7 @@ use Rattle.shell_syntax.specs.declared.form.Form.TheVariants as form
 use Rattle.shell_forms.specs.Forms.{Found}
 use Rattle.shell_forms.specs.First.{rank, NotBehind, IsFirst}
 use Rattle.shell_forms.specs.Soonest.{is_sooner, sooner, soonest}
+use Rattle.shell_forms.proofs.Added.{differ}
 
 -- ---- the order of forms
 
@@ -17,9 +18,6 @@ stays a b c (inr x) (inr y) = inr (x.0 ∙ y.0, omega (arith, x.1, y.1))
 
 same : (a : Found) → NotBehind a a
 same a = inr (refl, omega arith)
-
-differ : true ≡ false → ⊥
-differ e = cc
 
 -- one of two, by a test
 abbrev either : Bool → Type 0 → Type 0 → Type 0

@@ -14,7 +14,7 @@ at_part parts i part lt is =
     ap static_of (drop-cons parts i part lt) ∙ ap (λ p. both_bytes (bytes_of p) (static_of (drop (suc i) parts))) (sym is)
     ∙ ap (λ n. both_bytes (bytes_of part) (static_of (drop n parts))) (sym (add-one i))
 
-both_both : (text bytes : Text) (rest : Option Text) → both_bytes (Some text) (both_bytes (Some bytes) rest) ≡ both_bytes (Some (text ++ bytes)) rest
+pub both_both : (text bytes : Text) (rest : Option Text) → both_bytes (Some text) (both_bytes (Some bytes) rest) ≡ both_bytes (Some (text ++ bytes)) rest
 both_both text bytes None = refl
 both_both text bytes (Some more) = ap Some (sym (append_assoc text bytes more))
 

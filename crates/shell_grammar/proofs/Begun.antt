@@ -9,7 +9,8 @@ use Rattle.shell_grammar.specs.Reading.{Out, Whole, Stop, turned, IsRule, rule, 
 use Rattle.shell_grammar.specs.Spelling.{no_limit}
 use Rattle.shell_grammar.specs.Trees.{word_at}
 use Rattle.shell_grammar.specs.Begins.{BeginsAll, begins_none, begins_first, begins_later, BeginsSign, begins_is, begins_opens, begins_word, begins_of, begins_inside, BeginsRule, begins_rule}
-use Rattle.shell_grammar.proofs.Unique.{clash, not_both, wholes, none_some, same_sign}
+use Rattle.shell_grammar.proofs.Unique.{not_both, wholes, none_some, same_sign}
+use Rattle.shell_lexer.proofs.PrintedBytes.{clash}
 
 abbrev pub rest_of : {A : Type 0} → Out A → Tokens
 rest_of (Whole v r) = r

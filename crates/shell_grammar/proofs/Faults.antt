@@ -18,7 +18,8 @@ use Rattle.shell_grammar.specs.Grammar.{Script, Body, Newlines, Is, Of, Values, 
 use Rattle.shell_grammar.specs.Reading.{Whole, Judged, Faultless, Faulty, after, IsRule, rule, IsAll, no_more, one_more, one_stops, IsSign, is, is_not, IsParts, plain_part, run_part, run_stops, run_deep}
 use Rattle.shell_grammar.specs.Spelling.{deep_64, SpellsWithin, Stopped}
 use Rattle.shell_grammar.specs.Places.{HoldScripts, Passes, Pass, FirstFault, at_token, at_end, FaultAt, cannot_follow, too_far_in, in_word, FaultIn, at_substitution, in_substitution, behind_part, NoFault}
-use Rattle.shell_grammar.proofs.Unique.{clash, not_both, wholes, somes, runs, no_run, run_moved}
+use Rattle.shell_grammar.proofs.Unique.{not_both, wholes, somes, runs, no_run, run_moved}
+use Rattle.shell_lexer.proofs.PrintedBytes.{clash}
 use Rattle.shell_grammar.proofs.Limits.{free_rule}
 use Rattle.shell_grammar.proofs.Levels.{level_rule, same_level}
 use Rattle.shell_grammar.proofs.Fronts.{order, Order, same, sooner, later}

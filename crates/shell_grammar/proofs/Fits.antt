@@ -12,7 +12,8 @@ use Rattle.shell_grammar.specs.declared.look.Look.TheVariants.{AtEnd, Newline, S
 use Rattle.shell_grammar.specs.declared.look.Reserved.TheVariants.{Bang, Elif, Else, In, Esac}
 use Rattle.shell_grammar.specs.Forms.{is_token, command_form, compound_form, item, starts, is_name_word, is_word, is_separator, link_and, redirection, ends_arm}
 use Rattle.shell_grammar.specs.Grammar.{Rule, Script, Body, Newlines, Block, Members, More, Behind, AndOr, Links, Pipeline, Piped, Bars, ACommand, Compound, Clause, Arms, Loop, ForRest, ForName, ForWords, Each, Apart, CaseRest, CaseArms, CaseMore, OneArm, ArmRest, Patterns, MorePatterns, ArmBody, Braces, Named, SimpleItems, Redirects, Sign, Is, Opens, AWord, Here, Never, Of, Inside, production, production_more, production_behind, production_links, production_command, production_compound, production_name, production_each, production_apart, production_arm_body, production_items, production_redirects}
-use Rattle.shell_grammar.proofs.Unique.{clash, none_some}
+use Rattle.shell_grammar.proofs.Unique.{none_some}
+use Rattle.shell_lexer.proofs.PrintedBytes.{clash}
 use Rattle.shell_syntax.specs.declared.redirect.Redirect.{Redirect}
 
 -- no word, or a reserved one

@@ -27,7 +27,8 @@ use Rattle.shell_grammar.specs.Reading.{Out, Whole, Judged, Faultless, Faulty, a
 use Rattle.shell_grammar.specs.Spelling.{no_limit, Spells}
 use Rattle.shell_grammar.specs.Trees.{pipe_of, redirected, link, case_arm, simple, named}
 use Rattle.shell_grammar.specs.PlainGrammar.{Stands, AreNewlines, no_newline, newline, IsSeparator, semicolon, line_end, AreRedirects, no_redirect, one_redirect, IsScript, no_script, a_script, IsList, a_list, AreMembers, no_member, last_separator, one_member, IsAndOr, an_and_or, AreLinks, no_link, and_link, or_link, IsPipeline, plain_pipeline, not_pipeline, IsSequence, a_sequence, ArePiped, no_pipe, one_pipe, IsCommand, simple_command, compound_command, definition, IsBlock, a_block, IsCompound, brace_group, subshell, if_command, for_loop, while_loop, case_command, IsClause, a_clause, IsElse, no_else, elif_part, else_part, IsName, a_name, AreForWords, in_words, for_semicolon, no_in, AreWords, no_words, one_word, AreArms, no_arm, last_arm, one_arm, IsArm, open_arm, arm_without_paren, IsArmRest, arm_rest, ArePatterns, no_pattern, one_pattern, IsArmList, no_arm_list, arm_list, IsBraces, braces, IsSimple, begins_with_assignment, begins_with_redirect, begins_with_word, AreItems, no_item, assignment_item, redirect_item, word_item, IsWord, the_word, PartsAre, no_part, a_part, a_substitution}
-use Rattle.shell_grammar.proofs.Unique.{clash, not_both, wholes, same_faultless, somes, none_some}
+use Rattle.shell_grammar.proofs.Unique.{not_both, wholes, same_faultless, somes, none_some}
+use Rattle.shell_lexer.proofs.PrintedBytes.{clash}
 use Rattle.shell_grammar.proofs.Begun.{whole_from}
 use Rattle.shell_grammar.proofs.Faults.{ended, behind_end}
 
@@ -121,7 +122,7 @@ step_links end l (Some is_and) ts vs r e (one_sign t1 a (one_sign t2 n (one_sign
 step_links end l None ts vs r e no_signs = no_link refl refl
 
 -- a reserved word begins a compound command or none
-keyword_form : (which : Reserved) → (command_form (Keyword which) ≡ Some command.Compound) ⊎ (command_form (Keyword which) ≡ None)
+pub keyword_form : (which : Reserved) → (command_form (Keyword which) ≡ Some command.Compound) ⊎ (command_form (Keyword which) ≡ None)
 keyword_form Open = inl refl
 keyword_form If = inl refl
 keyword_form While = inl refl
@@ -130,13 +131,13 @@ keyword_form For = inl refl
 keyword_form Case = inl refl
 keyword_form _ = inr refl
 
-keyword_not_named : (which : Reserved) → command_form (Keyword which) ≡ Some command.Named → ⊥
+pub keyword_not_named : (which : Reserved) → command_form (Keyword which) ≡ Some command.Named → ⊥
 keyword_not_named which e = elim (keyword_form which) as (λ _. ⊥) [ inl h ↦ cc (sym e ∙ h) | inr h ↦ cc (sym e ∙ h) ]
 
-keyword_not_simple : (which : Reserved) → command_form (Keyword which) ≡ Some command.Simple → ⊥
+pub keyword_not_simple : (which : Reserved) → command_form (Keyword which) ≡ Some command.Simple → ⊥
 keyword_not_simple which e = elim (keyword_form which) as (λ _. ⊥) [ inl h ↦ cc (sym e ∙ h) | inr h ↦ cc (sym e ∙ h) ]
 
-named_look : (l : Look) → command_form l ≡ Some command.Named → l ≡ Name
+pub named_look : (l : Look) → command_form l ≡ Some command.Named → l ≡ Name
 named_look Name e = refl
 named_look (Keyword which) e = absurd (keyword_not_named which e)
 named_look _ e = absurd (cc e)
@@ -186,7 +187,7 @@ step_arm_body : (end : ℕ) (b : Bool) (ts : Tokens) (vs : Values (production_ar
 step_arm_body end true ts vs r no_signs = no_arm_list refl refl
 step_arm_body end false ts vs r (one_sign t1 a no_signs) = arm_list a
 
-item_assignment : (b : Bool) (l : Look) → item b l ≡ Some an.Assignment → (b ≡ false) × (l ≡ Assignment)
+pub item_assignment : (b : Bool) (l : Look) → item b l ≡ Some an.Assignment → (b ≡ false) × (l ≡ Assignment)
 item_assignment false Assignment e = (refl, refl)
 item_assignment true Assignment e = absurd (cc e)
 item_assignment _ _ e = absurd (cc e)
@@ -204,7 +205,7 @@ item_none true Other e = absurd (cc e)
 item_none false Other e = absurd (cc e)
 item_none _ _ e = (refl, refl)
 
-no_assignment : (b : Bool) (l : Look) → item b l ≡ Some an.Word → b ≡ false → l ≡ Assignment → ⊥
+pub no_assignment : (b : Bool) (l : Look) → item b l ≡ Some an.Word → b ≡ false → l ≡ Assignment → ⊥
 no_assignment false Assignment e f h = cc e
 no_assignment true l e f h = clash f refl
 no_assignment _ _ e f h = cc h

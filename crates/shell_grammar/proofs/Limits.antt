@@ -8,7 +8,8 @@ use Rattle.shell_grammar.specs.Look.{Tokens, look}
 use Rattle.shell_grammar.specs.Grammar.{Rule, Script, Sign, Tree, Value, Values, production}
 use Rattle.shell_grammar.specs.Reading.{Out, Whole, Stop, turned, Judged, Faultless, Faulty, after, IsRule, rule, IsAll, no_more, one_more, one_stops, IsSign, is, is_not, opens, opens_not, too_deep, a_word, a_word_stops, no_word, here, never, of, inside, IsParts, no_parts, plain_part, run_part, run_stops, run_deep}
 use Rattle.shell_grammar.specs.Spelling.{no_limit, deep_64, Spells, Stopped}
-use Rattle.shell_grammar.proofs.Unique.{clash, not_both, wholes, stops, same_rule}
+use Rattle.shell_grammar.proofs.Unique.{not_both, wholes, stops, same_rule}
+use Rattle.shell_lexer.proofs.PrintedBytes.{clash}
 
 abbrev pub is_deep_fault : ParseFault → Bool
 is_deep_fault (Syntax at) = false

@@ -13,7 +13,7 @@ use Rattle.shell_grammar.specs.WithoutRuns.{part_without_runs, parts_without_run
 use Rattle.shell_grammar.specs.Reading.{Faultless, plainly, IsParts, no_parts, plain_part}
 use Rattle.shell_grammar.specs.Spelling.{no_limit}
 
-abbrev Seen : Type 0
+abbrev pub Seen : Type 0
 Seen = o.RawPart-F RawPart TokenKind Token
 
 seen_quoted : out-RawPart (raw.Quoted []) ≡ o.Quoted []

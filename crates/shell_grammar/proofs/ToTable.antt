@@ -23,7 +23,7 @@ use Rattle.shell_grammar.specs.Reading.{Whole, Faultless, IsRule, rule, IsAll, n
 use Rattle.shell_grammar.specs.Spelling.{no_limit, Spells}
 use Rattle.shell_grammar.specs.Trees.{an_assign, a_word, a_redirect, joined, assigned, Defines, Continues, word_at}
 use Rattle.shell_grammar.specs.PlainGrammar.{Stands, AreNewlines, no_newline, newline, IsSeparator, semicolon, line_end, AreRedirects, no_redirect, one_redirect, IsScript, no_script, a_script, IsList, a_list, AreMembers, no_member, last_separator, one_member, IsAndOr, an_and_or, AreLinks, no_link, and_link, or_link, IsPipeline, plain_pipeline, not_pipeline, IsSequence, a_sequence, ArePiped, no_pipe, one_pipe, IsCommand, simple_command, compound_command, definition, IsBlock, a_block, IsCompound, brace_group, subshell, if_command, for_loop, while_loop, case_command, IsClause, a_clause, IsElse, no_else, elif_part, else_part, IsName, a_name, AreForWords, in_words, for_semicolon, no_in, AreWords, no_words, one_word, AreArms, no_arm, last_arm, one_arm, IsArm, open_arm, arm_without_paren, IsArmRest, arm_rest, ArePatterns, no_pattern, one_pattern, IsArmList, no_arm_list, arm_list, IsBraces, braces, IsSimple, begins_with_assignment, begins_with_redirect, begins_with_word, AreItems, no_item, assignment_item, redirect_item, word_item, IsWord, the_word, PartsAre, no_part, a_part, a_substitution}
-use Rattle.shell_grammar.proofs.Unique.{clash}
+use Rattle.shell_lexer.proofs.PrintedBytes.{clash}
 use Rattle.shell_grammar.proofs.Behind.{behind_command, behind_pipeline, behind_and_or, behind_list, is_newline, is_open, list_separator, list_newline, list_starts_none, and_or_link, command_redirection, start_newline, start_arm, form_starts, separator_word, name_or_other, word_is, braces_look, compound_look, command_look, sequence_look, and_or_look, list_look, pipeline_look, separator_look, arm_rest_look, arm_esac, arms_newline, arm_list_newline, for_words_newline, members_behind, links_behind, piped_behind, else_behind, items_open}
 
 -- ---- readings by their pieces
@@ -55,19 +55,19 @@ ended_at {d} {end} {n} {ts} {v = v} e x = subst (λ r. IsRule no_limit d end n t
 
 -- ---- rows that are the same for many kinds of tokens
 
-newlines_row : (l : Look) → is_newline l ≡ false → production Newlines l ≡ record { signs = []; tree = λ v. tt }
+pub newlines_row : (l : Look) → is_newline l ≡ false → production Newlines l ≡ record { signs = []; tree = λ v. tt }
 newlines_row Newline e = absurd (clash e refl)
 newlines_row _ e = refl
 
-body_row : (l : Look) → starts l ≡ true → production Body l ≡ record { signs = Of Members ∷ []; tree = λ v. v.0 }
+pub body_row : (l : Look) → starts l ≡ true → production Body l ≡ record { signs = Of Members ∷ []; tree = λ v. v.0 }
 body_row AtEnd e = absurd (clash refl e)
 body_row _ e = refl
 
-pipeline_row : (l : Look) → is_some (command_form l) ≡ true → production Pipeline l ≡ record { signs = Of Piped ∷ []; tree = λ v. v.0 }
+pub pipeline_row : (l : Look) → is_some (command_form l) ≡ true → production Pipeline l ≡ record { signs = Of Piped ∷ []; tree = λ v. v.0 }
 pipeline_row (Keyword Bang) e = absurd (clash refl e)
 pipeline_row _ e = refl
 
-bars_row : (l : Look) → behind_pipeline l ≡ true → production Bars l ≡ record { signs = []; tree = λ v. [] }
+pub bars_row : (l : Look) → behind_pipeline l ≡ true → production Bars l ≡ record { signs = []; tree = λ v. [] }
 bars_row Bar e = absurd (clash refl e)
 bars_row _ e = refl
 
@@ -79,7 +79,7 @@ one_arm_row : (l : Look) → is_word l ≡ true → production OneArm l ≡ reco
 one_arm_row LeftParen e = absurd (clash refl e)
 one_arm_row _ e = refl
 
-named_row : (l : Look) → is_open l ≡ false → production Named l ≡ record { signs = Of (SimpleItems true) ∷ []; tree = λ v. Continues v.0 }
+pub named_row : (l : Look) → is_open l ≡ false → production Named l ≡ record { signs = Of (SimpleItems true) ∷ []; tree = λ v. Continues v.0 }
 named_row LeftParen e = absurd (clash e refl)
 named_row _ e = refl
 
@@ -87,11 +87,11 @@ loop_form : (until : Bool) → compound_form (loop_word until) ≡ compound.Loop
 loop_form true = refl
 loop_form false = refl
 
-item_redirection : (b : Bool) (which : Redirect) → item b (Redirection which) ≡ Some (an.Redirection which)
+pub item_redirection : (b : Bool) (which : Redirect) → item b (Redirection which) ≡ Some (an.Redirection which)
 item_redirection true which = refl
 item_redirection false which = refl
 
-item_is_none : (b : Bool) (l : Look) → is_word l ≡ false → redirection l ≡ None → item b l ≡ None
+pub item_is_none : (b : Bool) (l : Look) → is_word l ≡ false → redirection l ≡ None → item b l ≡ None
 item_is_none true (Redirection which) w d = absurd (cc d)
 item_is_none false (Redirection which) w d = absurd (cc d)
 item_is_none true (Keyword which) w d = absurd (clash w refl)
@@ -104,7 +104,7 @@ item_is_none true Other w d = absurd (clash w refl)
 item_is_none false Other w d = absurd (clash w refl)
 item_is_none _ _ w d = refl
 
-item_is_word : (b : Bool) (l : Look) → is_word l ≡ true → (b ≡ false → l ≡ Assignment → ⊥) → item b l ≡ Some an.Word
+pub item_is_word : (b : Bool) (l : Look) → is_word l ≡ true → (b ≡ false → l ≡ Assignment → ⊥) → item b l ≡ Some an.Word
 item_is_word false Assignment w n = absurd (n refl refl)
 item_is_word true Assignment w n = refl
 item_is_word true (Keyword which) w n = refl

@@ -20,7 +20,8 @@ use Rattle.shell_grammar.specs.Spelling.{no_limit, deep_64}
 use Rattle.shell_grammar.specs.Trees.{word_at}
 use Rattle.shell_grammar.specs.Begins.{BeginsAll, begins_first, begins_later, BeginsSign, begins_is, begins_opens, begins_word, begins_of, begins_inside, BeginsRule, begins_rule, Begins}
 use Rattle.shell_grammar.specs.Places.{HoldScripts, Pass, FirstFault, at_token, at_end, FaultAt, cannot_follow, too_far_in, in_word, FaultIn, at_substitution, in_substitution, behind_part}
-use Rattle.shell_grammar.proofs.Unique.{clash, not_both, somes, none_some, same_rule}
+use Rattle.shell_grammar.proofs.Unique.{not_both, somes, none_some, same_rule}
+use Rattle.shell_lexer.proofs.PrintedBytes.{clash}
 use Rattle.shell_grammar.proofs.Limits.{free_rule, is_deep_fault}
 use Rattle.shell_grammar.proofs.Levels.{level_rule}
 use Rattle.shell_grammar.proofs.Fronts.{tails, too_long, same_front, in_either}

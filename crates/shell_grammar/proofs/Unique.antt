@@ -1,5 +1,5 @@
 -- Tokens have one reading.
-use Rattle.std.proofs.Common.{◌≡◌, ℕ, suc, Bool, true, false, List, Option, Some, None, sym, ap, ◌∙◌, subst}
+use Rattle.std.proofs.Common.{◌≡◌, ℕ, suc, Bool, List, Option, Some, None, sym, ap, ◌∙◌, subst}
 use Rattle.shell_syntax.specs.declared.syntax.Command.{Command}
 use Rattle.shell_syntax.specs.declared.syntax.Part.{Part}
 use Rattle.shell_syntax.specs.declared.syntax.Part.TheVariants as part
@@ -13,9 +13,7 @@ use Rattle.shell_grammar.specs.Look.{Tokens, look, behind, place}
 use Rattle.shell_grammar.specs.Grammar.{Rule, Script, Sign, Tree, Value, Values, production}
 use Rattle.shell_grammar.specs.Trees.{word_at}
 use Rattle.shell_grammar.specs.Reading.{Out, Whole, Stop, turned, Judged, Faultless, Faulty, after, plainly, IsRule, rule, IsAll, no_more, one_more, one_stops, IsSign, is, is_not, opens, opens_not, too_deep, a_word, a_word_stops, no_word, here, never, of, inside, IsParts, no_parts, plain_part, run_part, run_stops, run_deep}
-
-pub clash : {b : Bool} → b ≡ false → b ≡ true → ⊥
-clash e f = cc
+use Rattle.shell_lexer.proofs.PrintedBytes.{clash}
 
 pub not_both : {A : Type 0} {v : A} {f : ParseFault} {r r' : Tokens} → Whole v r ≡ Stop f r' → ⊥
 not_both h = cc

@@ -19,7 +19,7 @@ use Rattle.shell_lexer.specs.Parts.{Look, Ends, Byte, Piece, AllArgs, DoubleQuot
 use Rattle.shell_lexer.specs.Spelling.{Stands, begins}
 use Rattle.shell_lexer.proofs.Ahead.{Behind, ahead_behind, skip_behind, stands_behind}
 use Rattle.shell_lexer.proofs.Cells.{if_both}
-use Rattle.shell_lexer.proofs.QuotedBytes.{skip_first}
+use Rattle.shell_lexer.proofs.PrintedBytes.{skip_first}
 use Rattle.std.proofs.lemmas.Bool.{cond-false, cond-true, cond_both, false≢true, true≢false}
 use Rattle.shell_lexer.proofs.SpelledKinds.{KindOf, kind_of}
 use Rattle.shell_lexer.proofs.SpelledRuns.{IsRun, run_stands, run_is, behind_is}

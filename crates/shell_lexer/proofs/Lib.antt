@@ -11,20 +11,20 @@ mod LongestRuns
 mod MovedReadings
 mod Numbers
 mod Pieces
-mod PrintedBytes
-mod PrintedNotes
+pub mod PrintedBytes
+pub mod PrintedNotes
 mod PrintedOperators
 mod PrintedParams
 mod PrintedQuotes
-mod PrintedRuns
+pub mod PrintedRuns
 mod PrintedTokens
-mod PrintedWords
+pub mod PrintedWords
 mod QuotedBytes
 mod Quotes
 mod Rests
 mod Skips
 mod SoFar
-mod SpelledCases
+pub mod SpelledCases
 mod SpelledFronts
 mod SpelledKinds
 mod SpelledLine

@@ -178,7 +178,7 @@ word_noted {deep} {len} {depth} {run} {text} {q} (word_bad_run g f h i e) = subs
 
 -- ---- what is looked for, by the parts
 
-abbrev is_none : {A : Type 0} → Option A → Bool
+abbrev pub is_none : {A : Type 0} → Option A → Bool
 is_none None = true
 is_none (Some x) = false
 
@@ -187,7 +187,7 @@ none_of None e = refl
 none_of (Some x) e = absurd (true≢false (sym e))
 
 -- a run of plain bytes without a tilde, and what follows it
-abbrev tilde_run : Bool → Bytes → (Bool → Bool) → Bool
+abbrev pub tilde_run : Bool → Bytes → (Bool → Bool) → Bool
 tilde_run may [] goes = goes may
 tilde_run may (b ∷ w) goes = if may && nat_eq b 126 then false else tilde_run (nat_eq b 61 || nat_eq b 58) w goes
 
@@ -196,7 +196,7 @@ no_tilde [] may = true
 no_tilde (part.Plain w ∷ ps) may = tilde_run may w (no_tilde ps)
 no_tilde (_ ∷ ps) may = no_tilde ps false
 
-abbrev list_run : Bool → Bytes → (Bool → Bool) → Bool
+abbrev pub list_run : Bool → Bytes → (Bool → Bool) → Bool
 list_run dot [] goes = goes dot
 list_run dot (b ∷ w) goes = (nat_eq b 44 || (dot && nat_eq b 46)) || list_run (nat_eq b 46) w goes
 
@@ -205,7 +205,7 @@ list_in [] dot = false
 list_in (part.Plain w ∷ ps) dot = list_run dot w (list_in ps)
 list_in (_ ∷ ps) dot = list_in ps false
 
-abbrev brace_run : Bytes → Bool → (Bool → Bool) → Bool
+abbrev pub brace_run : Bytes → Bool → (Bool → Bool) → Bool
 brace_run [] goes lists = goes
 brace_run (b ∷ w) goes lists = if nat_eq b 123 then not (list_run false w lists) else brace_run w goes lists
 
@@ -214,11 +214,11 @@ no_brace [] = true
 no_brace (part.Plain w ∷ ps) = brace_run w (no_brace ps) (list_in ps)
 no_brace (_ ∷ ps) = no_brace ps
 
-abbrev is_nil : {A : Type 0} → List A → Bool
+abbrev pub is_nil : {A : Type 0} → List A → Bool
 is_nil [] = true
 is_nil (x ∷ xs) = false
 
-abbrev run_is : Bytes → Bytes → (Bytes → Bool) → Bool
+abbrev pub run_is : Bytes → Bytes → (Bytes → Bool) → Bool
 run_is cs [] goes = goes cs
 run_is [] (b ∷ w) goes = false
 run_is (c ∷ cs) (b ∷ w) goes = nat_eq b c && run_is cs w goes
@@ -335,11 +335,11 @@ sooner_second (Some a) b e = absurd (none_of_some (sooner_first (Some a) b e)) w
   none_of_some : Some a ≡ None → ⊥
   none_of_some e = cc
 
-nothing_found : (which : Form) (o : Option ℕ) → found which o ≡ None → o ≡ None
+pub nothing_found : (which : Form) (o : Option ℕ) → found which o ≡ None → o ≡ None
 nothing_found which None e = refl
 nothing_found which (Some at) e = absurd (cc e)
 
-no_fault : (o : Option (ℕ × Form)) → as_fault o ≡ None → o ≡ None
+pub no_fault : (o : Option (ℕ × Form)) → as_fault o ≡ None → o ≡ None
 no_fault None e = refl
 no_fault (Some a) e = absurd (cc e)
 
@@ -369,7 +369,7 @@ nothing_late depth at ns e =
 late_nothing : (depth at : ℕ) (ns : List ByteNote) → NothingLate depth at ns → late depth at ns ≡ None
 late_nothing depth at ns n = rw (n.all, n.tildes, n.braces, n.cases) refl
 
-if_none : (t : Bool) (o : Option ℕ) → o ≡ None → (if t then None else o) ≡ None
+pub if_none : (t : Bool) (o : Option ℕ) → o ≡ None → (if t then None else o) ≡ None
 if_none true o e = refl
 if_none false o e = e
 

@@ -88,7 +88,7 @@ module _ (deep : ℕ → Bool) (len depth «from» : ℕ) (rest : Bytes) where
       (inner_byte b t (Whole (last_run true ((run ++ b ∷ []) ++ bytes), map (λ b. note.Gap) bytes) rest) (byte_seen len b t) more
       (ap (λ r. Whole (last_run true r, note.Gap ∷ map (λ b. note.Gap) bytes) rest) (sym (append_assoc run (b ∷ []) bytes))))
 
-last_is : (bytes : Bytes) → last_run true bytes ≡ part.Quoted bytes ∷ []
+pub last_is : (bytes : Bytes) → last_run true bytes ≡ part.Quoted bytes ∷ []
 last_is [] = refl
 last_is (b ∷ bytes) = refl
 

@@ -14,7 +14,7 @@ use Rattle.shell_lexer.specs.Text.{Bytes, place, offset}
 use Rattle.shell_lexer.specs.PrintedLaws.{RunIsOnePart}
 use Rattle.shell_lexer.proofs.PrintedBytes.{skip_first}
 
-grouped : (q a k b r rest : Bytes) → ((((q ++ a) ++ k) ++ b) ++ r) ++ rest ≡ q ++ (a ++ (k ++ (b ++ (r ++ rest))))
+pub grouped : (q a k b r rest : Bytes) → ((((q ++ a) ++ k) ++ b) ++ r) ++ rest ≡ q ++ (a ++ (k ++ (b ++ (r ++ rest))))
 grouped q a k b r rest = simp append_assoc refl
 
 printed : (body : Bytes) (quoted : Bool) (rest : Bytes)

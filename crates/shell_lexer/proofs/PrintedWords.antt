@@ -331,7 +331,7 @@ grown_twice xs ys ms ns (Whole v rest) =
     ap (λ ps. Whole (ps, ms ++ (ns ++ v.1)) rest) (sym (append_assoc xs ys v.0)) ∙ ap (λ l. Whole ((xs ++ ys) ++ v.0, l) rest) (sym (append_assoc ms ns v.1))
 grown_twice xs ys ms ns (Stop fault) = refl
 
-abbrev flat : List RawPart → Bytes
+abbrev pub flat : List RawPart → Bytes
 flat ps = flat_map raw_text ps
 
 module _ (deep : ℕ → Bool) (all depth : ℕ) where
@@ -383,7 +383,7 @@ ends_more x [] e = absurd (true≢false (sym e))
 ends_more (part.Plain w) (z ∷ zs) e = e
 ends_more _ (z ∷ zs) e = e
 
-ends_right : (xs ys : List RawPart) → ends_in_backslash ys ≡ true → ends_in_backslash (xs ++ ys) ≡ true
+pub ends_right : (xs ys : List RawPart) → ends_in_backslash ys ≡ true → ends_in_backslash (xs ++ ys) ≡ true
 ends_right [] ys e = e
 ends_right (x ∷ xs) ys e = ends_more x (xs ++ ys) (ends_right xs ys e)
 
@@ -391,17 +391,17 @@ plain_flat : (run : Bytes) → flat (plain_run run) ≡ run
 plain_flat [] = refl
 plain_flat (b ∷ run) = append-nil (b ∷ run)
 
-last_of : (run : Bytes) → is_last 92 (run ++ 92 ∷ []) ≡ true
+pub last_of : (run : Bytes) → is_last 92 (run ++ 92 ∷ []) ≡ true
 last_of [] = refl
 last_of (a ∷ []) = refl
 last_of (a ∷ c ∷ run) = last_of (c ∷ run)
 
-run_ends : (run : Bytes) → ends_in_backslash (plain_run (run ++ 92 ∷ [])) ≡ true
+pub run_ends : (run : Bytes) → ends_in_backslash (plain_run (run ++ 92 ∷ [])) ≡ true
 run_ends [] = refl
 run_ends (a ∷ run) = last_of (a ∷ run)
 
 -- no joined line is left before bytes that count
-no_joined : (text : Bytes) (b : ℕ) (r : Bytes) → skip text ≡ 92 ∷ b ∷ r → nat_eq b 10 ≡ false
+pub no_joined : (text : Bytes) (b : ℕ) (r : Bytes) → skip text ≡ 92 ∷ b ∷ r → nat_eq b 10 ≡ false
 no_joined [] b r e = absurd (cc e)
 no_joined (a ∷ []) b r e = absurd (cc e)
 no_joined (a ∷ c ∷ t) b r e = by (nat_eq a 92 && nat_eq c 10) refl e (no_joined t b r) where
@@ -445,12 +445,12 @@ quoted_follows {text = text} {rest = rest} (by_backslash {byte = b} h) = λ g t.
     ap (λ u. after_dollar (skip u)) (one_quoted b t n) ∙ ap after_dollar (skip_quoted b t n)
 
 -- what is no end of a word stands before no end of the text
-not_end : (len : ℕ) (text : Bytes) (l : Look) → look len text ≡ l → (Ends ≡ l → ⊥) → text ≡ [] → ⊥
+pub not_end : (len : ℕ) (text : Bytes) (l : Look) → look len text ≡ l → (Ends ≡ l → ⊥) → text ≡ [] → ⊥
 not_end len text l h g e = g (ap (look len) (sym e) ∙ h)
 
 -- ---- what stands in double quotes
 
-abbrev some_part : List RawPart → Bool
+abbrev pub some_part : List RawPart → Bool
 some_part [] = false
 some_part (p ∷ ps) = true
 
@@ -474,7 +474,7 @@ behind_run : (run : Bytes) (p : RawPart) (ps : List RawPart) → One p → AllOn
 behind_run [] p ps h a = one_more h a
 behind_run (b ∷ run) p ps h a = one_more (quoted_one (b ∷ run)) (one_more h a)
 
-some_behind : (run : Bytes) (p : RawPart) (ps : List RawPart) → some_part ((quoted_run run ++ p ∷ []) ++ ps) ≡ true
+pub some_behind : (run : Bytes) (p : RawPart) (ps : List RawPart) → some_part ((quoted_run run ++ p ∷ []) ++ ps) ≡ true
 some_behind [] p ps = refl
 some_behind (b ∷ run) p ps = refl
 

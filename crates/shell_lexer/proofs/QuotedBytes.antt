@@ -20,13 +20,10 @@ use Rattle.shell_lexer.specs.Text.{Bytes, kind, skip, place, offset}
 use Rattle.std.proofs.lemmas.Bool.{and_parts, cond-false, not-true, or_parts, true≢false}
 use Rattle.shell_lexer.proofs.SpelledCases.{eq_same}
 use Rattle.shell_lexer.proofs.SpelledKinds.{KindOf, kind_of}
+use Rattle.shell_lexer.proofs.PrintedBytes.{skip_first}
+use Rattle.shell_lexer.proofs.PrintedQuotes.{last_is}
 
 -- ---- bytes that stand for themselves
-
--- a byte before which no joined line is left
-pub skip_first : (a : ℕ) (t : Bytes) → nat_eq a 92 ≡ false → skip (a ∷ t) ≡ a ∷ t
-skip_first a [] e = refl
-skip_first a (b ∷ t) e = cond-false (nat_eq a 92 && nat_eq b 10) _ _ (ap (λ x. x && nat_eq b 10) e)
 
 record IsApart (b : ℕ) : Type 0 where
   pub nul : nat_eq b 0 ≡ false
@@ -76,10 +73,6 @@ module _ (deep : ℕ → Bool) (len depth «from» : ℕ) (fresh : Bool) (rest :
       let more = quotes_read (run ++ b ∷ []) bytes (and_parts (is_literal b) (list_all is_literal bytes) e).1 in
       inner_byte b (bytes ++ 34 ∷ rest) (Whole (last_run fresh ((run ++ b ∷ []) ++ bytes), gaps bytes) rest) (literal_seen len b (bytes ++ 34 ∷ rest) a) more
       (ap (λ r. Whole (last_run fresh r, note.Gap ∷ gaps bytes) rest) (sym (append_assoc run (b ∷ []) bytes)))
-
-last_is : (bytes : Bytes) → last_run true bytes ≡ part.Quoted bytes ∷ []
-last_is [] = refl
-last_is (b ∷ bytes) = refl
 
 pub quotes_one_part : (deep : ℕ → Bool) (len depth «from» : ℕ) (bytes rest : Bytes) → list_all is_literal bytes ≡ true → IsInner deep len depth «from» true [] (bytes ++ 34 ∷ rest) (Whole (part.Quoted bytes ∷ [], gaps bytes) rest)
 quotes_one_part deep len depth «from» bytes rest e =

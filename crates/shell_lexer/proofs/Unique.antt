@@ -12,9 +12,7 @@ use Rattle.shell_lexer.specs.Operators.{sight, Sight, End, Passed, Operator, Wro
 use Rattle.shell_lexer.specs.Parts.{look, inner, Look, Ends, Byte, Piece, AllArgs, DoubleQuote, Substitution, Bad}
 use Rattle.shell_lexer.specs.Late.{late}
 use Rattle.shell_lexer.specs.Reading.{Out, Whole, Stop, Read, behind, grown, closes, opened, token_at, kind_of_sign, plain_run, quoted_run, last_run, IsItems, items_end, items_pass, items_wrong, items_close, items_sign, items_word, items_late, items_bad, IsWord, word_ends, word_byte, word_piece, word_all, word_double, word_run, word_wrong, word_bad_double, word_bad_run, IsInner, inner_open, inner_ends, inner_byte, inner_piece, inner_all, inner_run, inner_wrong, inner_bad_run, IsSub, sub_deep, sub_items}
-
-clash : {b : Bool} → b ≡ false → b ≡ true → ⊥
-clash e f = cc
+use Rattle.shell_lexer.proofs.PrintedBytes.{clash}
 
 -- ---- what stands at a place tells most rules apart
 

@@ -24,6 +24,7 @@ use Rattle.shell_printing.specs.TokenTexts.{raw_layer as raw_text_layer, kind_la
 use Rattle.shell_printing.specs.Zeroed.{raw_layer, kind_layer, token_layer, zeroed_raw, zeroed_kind, zeroed_token, zeroed_tokens}
 use Rattle.shell_printing.proofs.CleanTexts.{is_clean, IsClean}
 use Rattle.shell_printing.proofs.Texts.{word_is, line_is, double_semi_is, and_is, or_is, bar_is, left_is, right_is, redirect_is, plain_raw}
+use Rattle.shell_printing.proofs.Offsets.{both as two}
 
 pub false_true : false ≡ true → ⊥
 false_true e = cc
@@ -71,9 +72,6 @@ preceded_twice us vs (Stop f) = refl
 
 grouped : (us vs : Tokens) (rest : Bytes) → tokens_text (us ++ vs) ++ rest ≡ tokens_text us ++ (tokens_text vs ++ rest)
 grouped us vs rest = ap (λ t. t ++ rest) (flat_map-append token_text us vs) ∙ append_assoc (tokens_text us) (tokens_text vs) rest
-
-two : {A B C : Type 0} (f : A → B → C) {a a2 : A} {b b2 : B} → a ≡ a2 → b ≡ b2 → f a b ≡ f a2 b2
-two f {a2 = a2} {b = b} e g = ap (λ a. f a b) e ∙ ap (f a2) g
 
 -- ---- operators by what is seen of a text
 

@@ -12,6 +12,8 @@ use Rattle.shell_lexer.specs.Reading.{Out, Whole, Stop, Read, plain_run, quoted_
 use Rattle.shell_lexer.specs.SpelledParts.{IsPiece}
 use Rattle.shell_lexer.specs.Text.{Bytes}
 use Rattle.shell_printing.proofs.Backs.{false_true}
+use Rattle.shell_lexer.proofs.PrintedNotes.{is_nil}
+use Rattle.shell_printing.proofs.Offsets.{both as two}
 
 -- ---- parts without `$@`
 
@@ -57,10 +59,6 @@ plain_no_all run xs ps e f = no_all_append (plain_run run ++ xs) ps (no_all_appe
 
 -- ---- the word `"$@"`
 
-abbrev is_nil : {A : Type 0} → List A → Bool
-is_nil [] = true
-is_nil (x ∷ xs) = false
-
 nil_of : {A : Type 0} (xs : List A) → is_nil xs ≡ true → xs ≡ []
 nil_of [] e = refl
 nil_of (x ∷ xs) e = absurd (false_true e)
@@ -96,9 +94,6 @@ notes_second a xs ys g ms e = ap (λ l. ((a ∷ l) ++ g) ++ ms) e
 third : {A : Type 0} (test : List A → Bool) (ns : List A) → test ns ≡ true → (a b : A) (zs : List A) → ns ≡ a ∷ b ∷ zs → ((m : A) (ms : List A) → test (a ∷ b ∷ m ∷ ms) ≡ false) → is_nil zs ≡ true
 third test ns f a b [] e h = refl
 third test ns f a b (m ∷ ms) e h = absurd (false_true (sym (ap test e ∙ h m ms) ∙ f))
-
-two : {A B C : Type 0} (f : A → B → C) {a a2 : A} {b b2 : B} → a ≡ a2 → b ≡ b2 → f a b ≡ f a2 b2
-two f {a2 = a2} {b = b} e g = ap (λ a. f a b) e ∙ ap (f a2) g
 
 first_none : (a b : Option (ℕ × Form)) → as_fault (sooner a b) ≡ None → a ≡ None
 first_none None b e = refl

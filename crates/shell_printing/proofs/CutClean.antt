@@ -3,7 +3,6 @@ use Rattle.std.proofs.Common.{◌≡◌, ℕ, zero, suc, ◌+◌, ◌≤◌, Boo
 use Rattle.std.specs.List.{flat_map, list_all}
 use Rattle.std.specs.Fmt.{decimal}
 use Rattle.std.proofs.lemmas.Fmt.{decimal_digit}
-use Rattle.std.proofs.lemmas.Grind.{common_steps}
 use Rattle.shell_syntax.specs.declared.key.Key.{Key}
 use Rattle.shell_syntax.specs.declared.redirect.Redirect.{Redirect}
 use Rattle.shell_syntax.specs.PrintedParts.{is_active, escaped as escape, is_one_byte, quoted_text, double_quote, key_text, default_text, param_text}
@@ -22,6 +21,7 @@ use Rattle.shell_printing.proofs.CleanTexts.{is_clean, IsClean}
 use Rattle.shell_printing.specs.TokenTexts.{raw_text}
 use Rattle.shell_printing.proofs.Backs.{false_true, clean_append, same_text}
 use Rattle.shell_printing.proofs.CutDollars.{either, IsDollar, dollar_seen}
+use Rattle.shell_printing.proofs.WordBytes.{eq_of}
 
 -- ---- lists of bytes
 
@@ -78,9 +78,6 @@ AllClean (p ∷ ps) = CleanPart p × AllClean ps
 all_clean : (xs ys : List RawPart) → AllClean xs → AllClean ys → AllClean (xs ++ ys)
 all_clean [] ys a b = b
 all_clean (x ∷ xs) ys a b = (a.0, all_clean xs ys a.1 b)
-
-eq_of : (a b : ℕ) → nat_eq a b ≡ true → a ≡ b
-eq_of a b e = grind (arith, common_steps)
 
 digit_byte : (n : ℕ) → is_clean (48 + n) ≡ true
 digit_byte n = by (nat_eq (48 + n) 0) refl where

@@ -1,23 +1,18 @@
 -- In a text that is cut, only its last word may end in a plain backslash; and a word in which `$@` stands is `"$@"`.
-use Rattle.std.proofs.Common.{◌≡◌, ℕ, Bool, true, false, if◌then◌else◌, nat_eq, List, [], ◌∷◌, ◌++◌, append-nil, arith, refl, sym, ap, ◌∙◌, subst}
-use Rattle.std.proofs.lemmas.Grind.{common_steps}
+use Rattle.std.proofs.Common.{◌≡◌, ℕ, Bool, true, false, if◌then◌else◌, nat_eq, List, [], ◌∷◌, ◌++◌, append-nil, refl, sym, ap, ◌∙◌, subst}
 use Rattle.shell_lexer.specs.declared.token.RawPart.{RawPart}
 use Rattle.shell_lexer.specs.declared.token.RawPart.TheVariants as raw
 use Rattle.shell_lexer.specs.Laws.{PartsAreSpelled}
-use Rattle.shell_lexer.specs.Parts.{Look, Ends, Byte, look, look_at, look_by, inner, dollar, escaped, has_quote}
+use Rattle.shell_lexer.specs.Parts.{Look, Byte, look, look_at, look_by, inner, dollar, escaped, has_quote}
 use Rattle.shell_lexer.specs.PrintedLaws.{is_last, ends_in_backslash}
 use Rattle.shell_lexer.specs.Reading.{Out, Whole, Stop, Read, plain_run, quoted_run, last_run, IsWord, word_ends, word_byte, word_piece, word_all, word_double, word_run, word_wrong, word_bad_double, word_bad_run, IsInner, inner_open, inner_ends, inner_byte, inner_piece, inner_all, inner_run, inner_wrong, inner_bad_run}
 use Rattle.shell_lexer.specs.SpelledParts.{IsPiece}
 use Rattle.shell_lexer.specs.Text.{Bytes, kind, is_blank, is_digit, is_letter, is_special, skip, place}
 use Rattle.shell_printing.proofs.Backs.{false_true}
 use Rattle.shell_printing.proofs.CutDollars.{either, IsDollar, dollar_seen}
-
-tested : {A : Type 0} (Q : A → Type 0) (b : Bool) {x y : A} → (b ≡ true → Q x) → (b ≡ false → Q y) → Q (if b then x else y)
-tested Q true h g = h refl
-tested Q false h g = g refl
-
-eq_of : (a b : ℕ) → nat_eq a b ≡ true → a ≡ b
-eq_of a b e = grind (arith, common_steps)
+use Rattle.shell_printing.proofs.Ends.{if_case as tested}
+use Rattle.shell_lexer.proofs.PrintedWords.{not_end}
+use Rattle.shell_printing.proofs.WordBytes.{eq_of}
 
 -- ---- what stands where a plain backslash is seen
 
@@ -77,27 +72,27 @@ word_last len text = by (place len (skip text)) (skip text) where
 
 -- ---- parts that are not plain
 
-abbrev no_plain : List RawPart → Bool
+abbrev pub no_plain : List RawPart → Bool
 no_plain [] = true
 no_plain (raw.Plain w ∷ ps) = false
 no_plain (_ ∷ ps) = no_plain ps
 
-no_plain_append : (xs ys : List RawPart) → no_plain xs ≡ true → no_plain ys ≡ true → no_plain (xs ++ ys) ≡ true
+pub no_plain_append : (xs ys : List RawPart) → no_plain xs ≡ true → no_plain ys ≡ true → no_plain (xs ++ ys) ≡ true
 no_plain_append [] ys e f = f
 no_plain_append (raw.Plain w ∷ xs) ys e f = absurd (false_true e)
 no_plain_append (_ ∷ xs) ys e f = no_plain_append xs ys e f
 
-no_plain_run : (run : Bytes) → no_plain (quoted_run run) ≡ true
+pub no_plain_run : (run : Bytes) → no_plain (quoted_run run) ≡ true
 no_plain_run [] = refl
 no_plain_run (b ∷ run) = refl
 
-no_plain_last : (fresh : Bool) (run : Bytes) → no_plain (last_run fresh run) ≡ true
+pub no_plain_last : (fresh : Bool) (run : Bytes) → no_plain (last_run fresh run) ≡ true
 no_plain_last true [] = refl
 no_plain_last true (b ∷ run) = refl
 no_plain_last false [] = refl
 no_plain_last false (b ∷ run) = refl
 
-piece_not_plain : (inside : Bool) (p : RawPart) (text rest : Bytes) → IsPiece inside p text rest → no_plain (p ∷ []) ≡ true
+pub piece_not_plain : (inside : Bool) (p : RawPart) (text rest : Bytes) → IsPiece inside p text rest → no_plain (p ∷ []) ≡ true
 piece_not_plain inside (raw.Param key default quoted) text rest h = refl
 piece_not_plain inside (raw.Quoted bytes) text rest h = refl
 piece_not_plain inside _ text rest h = absurd h
@@ -148,15 +143,11 @@ parts_end run text [] [] rest n some h k e =
 parts_end run text (x ∷ xs) [] rest n some h k e =
     absurd (false_true (sym (not_plain_end x xs n) ∙ sym (ends_append (plain_run run) x xs) ∙ sym (ap ends_in_backslash (append-nil (plain_run run ++ x ∷ xs))) ∙ e))
 
--- what is no end of a word stands before no end of the text
-not_end : (len : ℕ) (text : Bytes) (l : Look) → look len text ≡ l → (Ends ≡ l → ⊥) → text ≡ [] → ⊥
-not_end len text l h g e = g (ap (look len) (sym e) ∙ h)
-
 abbrev NoPlain : Out Read → Type 0
 NoPlain (Whole v rest) = no_plain v.0 ≡ true
 NoPlain (Stop f) = Unit {0}
 
-quoted_so : (run : Bytes) (p : RawPart) (ps : List RawPart) → no_plain (p ∷ []) ≡ true → no_plain ps ≡ true → no_plain ((quoted_run run ++ p ∷ []) ++ ps) ≡ true
+pub quoted_so : (run : Bytes) (p : RawPart) (ps : List RawPart) → no_plain (p ∷ []) ≡ true → no_plain ps ≡ true → no_plain ((quoted_run run ++ p ∷ []) ++ ps) ≡ true
 quoted_so run p ps n x = no_plain_append (quoted_run run ++ p ∷ []) ps (no_plain_append (quoted_run run) (p ∷ []) (no_plain_run run) n) x
 
 module _ (outside : PartsAreSpelled look false) (inside : PartsAreSpelled inner true) where

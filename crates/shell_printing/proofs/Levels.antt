@@ -2,7 +2,6 @@
 use Rattle.std.proofs.Common.{◌≡◌, ℕ, suc, Bool, true, false, if◌then◌else◌, nat_le, List, [], ◌∷◌, ◌++◌, append_assoc, ◌⊎◌, inl, inr, Some, None, codes, refl, sym, ap, ◌∙◌, subst}
 use Rattle.shell_syntax.specs.declared.level.Level.{Level}
 use Rattle.shell_syntax.specs.declared.level.Level.TheVariants as level
-use Rattle.shell_syntax.specs.declared.redirect.Redirect.{Redirect}
 use Rattle.shell_syntax.specs.declared.syntax.Command.{Command}
 use Rattle.shell_syntax.specs.declared.syntax.Command.TheVariants as c
 use Rattle.shell_syntax.specs.Printed.{rank}
@@ -17,17 +16,17 @@ use Rattle.shell_grammar.specs.declared.form.Item.TheVariants as an
 use Rattle.shell_grammar.specs.declared.items.Items.{Items}
 use Rattle.shell_grammar.specs.declared.look.Look.{Look}
 use Rattle.shell_grammar.specs.declared.look.Look.TheVariants.{AtEnd, Newline, DoubleSemi, AndAnd, OrOr, Bar, LeftParen, RightParen, Redirection, Keyword, Name, Assignment, Other}
-use Rattle.shell_grammar.specs.declared.look.Reserved.TheVariants.{Open, Bang}
-use Rattle.shell_grammar.specs.Forms.{command_form, compound_form, item, starts, is_some, is_word, redirection, link_and}
-use Rattle.shell_grammar.specs.Grammar.{Rule, Newlines, Block, Members, More, Behind, AndOr, Links, Pipeline, Piped, Bars, ACommand, Compound, Braces, Named, SimpleItems, Redirects, Sign, Is, Opens, Here, Of, Tree, Value, Values, Production, production, production_more, production_behind, production_links, production_command, production_compound, production_redirects}
+use Rattle.shell_grammar.specs.declared.look.Reserved.TheVariants.{Open}
+use Rattle.shell_grammar.specs.Forms.{command_form, compound_form, starts, is_some, is_word, redirection, link_and}
+use Rattle.shell_grammar.specs.Grammar.{Rule, Newlines, Block, Members, More, Behind, AndOr, Links, Pipeline, Piped, Bars, ACommand, Compound, Braces, SimpleItems, Redirects, Sign, Is, Opens, Here, Tree, Value, Values, Production, production, production_more, production_behind, production_links, production_command, production_compound, production_redirects}
 use Rattle.shell_grammar.specs.Look.{Text, Tokens, look, word, place, kind_look, kind_word, word_look, first_look, whole_look, reserved}
 use Rattle.shell_grammar.specs.Reading.{Out, Whole, Stop, turned, Judged, Faultless, Faulty, after, IsRule, rule, IsAll, no_more, one_more, one_stops, IsSign, is, is_not, opens, opens_not, too_deep, a_word as reads_word, a_word_stops, no_word, here, never, of, inside, IsParts, no_parts, plain_part, run_part, run_stops, run_deep}
-use Rattle.shell_grammar.specs.Trees.{Continues}
-use Rattle.shell_grammar.proofs.Unique.{clash}
+use Rattle.shell_lexer.proofs.PrintedBytes.{clash}
 use Rattle.shell_grammar.proofs.Behind.{behind_pipeline, behind_list, is_newline, is_open, list_separator, list_newline, list_starts_none, start_newline, form_starts}
 use Rattle.shell_printing.specs.Zeroed.{kind_layer, zeroed}
 use Rattle.shell_printing.specs.PrintedTokens.{Phrase, word_token, plain_token, operator, line, braced, placed, phrase}
 use Rattle.shell_printing.proofs.ZeroedTokens.{SeenKind, seen_kind, seen_plain}
+use Rattle.shell_grammar.proofs.ToTable.{newlines_row, pipeline_row, bars_row}
 
 -- ---- how printed tokens look
 
@@ -97,50 +96,6 @@ no_link OrOr e = absurd (clash refl e)
 no_link _ e = refl
 
 -- ---- rows that are the same for many kinds of tokens
-
-newlines_row : (l : Look) → is_newline l ≡ false → production Newlines l ≡ record { signs = []; tree = λ v. tt }
-newlines_row Newline e = absurd (clash e refl)
-newlines_row _ e = refl
-
-pipeline_row : (l : Look) → is_some (command_form l) ≡ true → production Pipeline l ≡ record { signs = Of Piped ∷ []; tree = λ v. v.0 }
-pipeline_row (Keyword Bang) e = absurd (clash refl e)
-pipeline_row _ e = refl
-
-pub bars_row : (l : Look) → behind_pipeline l ≡ true → production Bars l ≡ record { signs = []; tree = λ v. [] }
-bars_row Bar e = absurd (clash refl e)
-bars_row _ e = refl
-
-pub named_row : (l : Look) → is_open l ≡ false → production Named l ≡ record { signs = Of (SimpleItems true) ∷ []; tree = λ v. Continues v.0 }
-named_row LeftParen e = absurd (clash e refl)
-named_row _ e = refl
-
-pub item_is_none : (b : Bool) (l : Look) → is_word l ≡ false → redirection l ≡ None → item b l ≡ None
-item_is_none true (Redirection which) w d = absurd (cc d)
-item_is_none false (Redirection which) w d = absurd (cc d)
-item_is_none true (Keyword which) w d = absurd (clash w refl)
-item_is_none false (Keyword which) w d = absurd (clash w refl)
-item_is_none true Name w d = absurd (clash w refl)
-item_is_none false Name w d = absurd (clash w refl)
-item_is_none true Assignment w d = absurd (clash w refl)
-item_is_none false Assignment w d = absurd (clash w refl)
-item_is_none true Other w d = absurd (clash w refl)
-item_is_none false Other w d = absurd (clash w refl)
-item_is_none _ _ w d = refl
-
-pub item_is_word : (b : Bool) (l : Look) → is_word l ≡ true → (b ≡ false → l ≡ Assignment → ⊥) → item b l ≡ Some an.Word
-item_is_word false Assignment w n = absurd (n refl refl)
-item_is_word true Assignment w n = refl
-item_is_word true (Keyword which) w n = refl
-item_is_word false (Keyword which) w n = refl
-item_is_word true Name w n = refl
-item_is_word false Name w n = refl
-item_is_word true Other w n = refl
-item_is_word false Other w n = refl
-item_is_word _ _ w n = absurd (clash refl w)
-
-pub item_redirection : (b : Bool) (which : Redirect) → item b (Redirection which) ≡ Some (an.Redirection which)
-item_redirection true which = refl
-item_redirection false which = refl
 
 -- ---- the end of a list
 

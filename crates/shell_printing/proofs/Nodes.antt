@@ -1,5 +1,5 @@
 -- The printed tokens of each form of command are read es it, where those of its members are read es them.
-use Rattle.std.proofs.Common.{◌≡◌, ℕ, Bool, true, false, if◌then◌else◌, List, [], ◌∷◌, ◌++◌, map, append_assoc, append-nil, Option, Some, None, refl, sym, ap, ◌∙◌, subst}
+use Rattle.std.proofs.Common.{◌≡◌, ℕ, Bool, true, false, if◌then◌else◌, List, [], ◌∷◌, ◌++◌, map, append_assoc, append-nil, Some, None, refl, sym, ap, ◌∙◌, subst}
 use Rattle.std.specs.List.{flat_map}
 use Rattle.shell_syntax.specs.declared.redirect.Redirect.{Redirect}
 use Rattle.shell_syntax.specs.declared.syntax.Command.{Command}
@@ -10,62 +10,35 @@ use Rattle.shell_syntax.specs.declared.syntax.Part.TheVariants as part
 use Rattle.shell_syntax.specs.declared.syntax.Command.TheOpen as seen
 use Rattle.shell_syntax.specs.declared.syntax.Assign.{Assign}
 use Rattle.shell_syntax.specs.declared.syntax.Word.{Word}
-use Rattle.shell_lexer.specs.declared.token.Token.{Token}
-use Rattle.shell_lexer.specs.declared.token.TokenKind.{TokenKind}
 use Rattle.shell_lexer.specs.declared.token.TokenKind.TheVariants as token
-use Rattle.shell_lexer.specs.declared.token.RawPart.{RawPart, out-RawPart}
+use Rattle.shell_lexer.specs.declared.token.RawPart.{RawPart}
 use Rattle.shell_lexer.specs.declared.token.RawPart.TheVariants as raw
 use Rattle.shell_lexer.specs.declared.token.RawPart.TheOpen as o
 use Rattle.shell_grammar.specs.declared.form.CommandForm.TheVariants as command
 use Rattle.shell_grammar.specs.declared.form.Item.TheVariants as an
 use Rattle.shell_grammar.specs.declared.items.Items.{Items}
 use Rattle.shell_grammar.specs.declared.look.Look.{Look}
-use Rattle.shell_grammar.specs.declared.look.Look.TheVariants.{AtEnd, Bar, RightParen, Redirection, Name, Assignment, Other}
-use Rattle.shell_grammar.specs.declared.look.Reserved.{Reserved}
-use Rattle.shell_grammar.specs.Forms.{command_form, item, starts, is_some, is_word}
-use Rattle.shell_grammar.specs.Grammar.{Body, Members, ACommand, Each, Patterns, MorePatterns, SimpleItems, Redirects, AWord, Of, production, production_command, production_each, production_items}
-use Rattle.shell_grammar.specs.Look.{Text, Tokens, look, place, word_look, first_look, begun_look, whole_look, reserved, assigns_from, is_name}
+use Rattle.shell_grammar.specs.declared.look.Look.TheVariants.{Bar, RightParen, Redirection, Name, Assignment, Other}
+use Rattle.shell_grammar.specs.Forms.{command_form, item, is_some, is_word}
+use Rattle.shell_grammar.specs.Grammar.{ACommand, Each, Patterns, MorePatterns, SimpleItems, Redirects, AWord, production_command, production_each, production_items}
+use Rattle.shell_grammar.specs.Look.{Text, Tokens, look, place, word_look, whole_look, reserved}
 use Rattle.shell_grammar.specs.Reading.{Whole, Faultless, plainly, IsRule, IsSign, a_word as reads_word, IsParts, no_parts, plain_part, of}
 use Rattle.shell_grammar.specs.Trees.{word_at, word_text, plain_text, simple, assigned, Continues}
-use Rattle.shell_grammar.proofs.Unique.{clash}
-use Rattle.shell_grammar.proofs.Behind.{is_open, word_open}
+use Rattle.shell_lexer.proofs.PrintedBytes.{clash}
+use Rattle.shell_grammar.proofs.Behind.{is_open, word_open, raws_are_word}
 use Rattle.shell_printing.specs.Zeroed.{zeroed_part, zeroed_assign, zeroed_word}
 use Rattle.shell_printing.specs.PrintedTokens.{Phrase, word_token, plain_token, operator, redirect_token, command_layer, part_layer, assign_layer, case_arm_layer, if_arm_layer, link_layer, word_layer, raw_of, assign_raws, word_raws}
 use Rattle.shell_printing.proofs.ZeroedTrees.{zeroed_word_of, assigned_zeroed}
 use Rattle.shell_printing.proofs.ZeroedTokens.{seen_plain}
-use Rattle.shell_printing.proofs.Levels.{look_kind, look_word, word_of, after_command, no_redirect, not_a_word, not_open, named_row, item_is_none, item_is_word, item_redirection, tok, hre, done, more, made, ruled, moved, valued, redirects_none, AsCommand, AsCompound, AsItems}
+use Rattle.shell_printing.proofs.Levels.{look_kind, look_word, word_of, after_command, no_redirect, not_a_word, not_open, tok, hre, done, more, made, ruled, moved, valued, redirects_none, AsCommand, AsCompound, AsItems}
+use Rattle.shell_grammar.proofs.ToTable.{item_redirection, named_row, item_is_word, item_is_none}
 
 -- a fact of each member
 abbrev pub AllOf : {A : Type 0} → (A → Type 0) → List A → Type 0
 AllOf P [] = Unit {0}
 AllOf P (x ∷ xs) = P x × AllOf P xs
 
-pub body_row : (l : Look) → starts l ≡ true → production Body l ≡ record { signs = Of Members ∷ []; tree = λ v. v.0 }
-body_row AtEnd e = absurd (clash refl e)
-body_row _ e = refl
-
 -- ---- words
-
-begun_is_word : (b : Bool) → is_word (if b then Assignment else Other) ≡ true
-begun_is_word true = refl
-begun_is_word false = refl
-
-whole_is_word : (w : Text) (r : Option Reserved) (b : Bool) → is_name w ≡ b → is_word (whole_look w r) ≡ true
-whole_is_word w (Some which) b e = refl
-whole_is_word w None true e = ap (λ b. is_word (if b then Name else begun_look w)) e
-whole_is_word w None false e = ap (λ b. is_word (if b then Name else begun_look w)) e ∙ begun_is_word (assigns_from true w)
-
-seen_is_word : (r : o.RawPart-F RawPart TokenKind Token) (ps : List RawPart) → is_word (first_look r ps) ≡ true
-seen_is_word (o.Plain w) [] = whole_is_word w (reserved w) (is_name w) refl
-seen_is_word (o.Plain w) (p ∷ ps) = begun_is_word (assigns_from true w)
-seen_is_word (o.Quoted w) ps = refl
-seen_is_word (o.Param key v b) ps = refl
-seen_is_word o.All ps = refl
-seen_is_word (o.Run at ts b) ps = refl
-
-raws_are_word : (raws : List RawPart) → is_word (word_look raws) ≡ true
-raws_are_word [] = refl
-raws_are_word (p ∷ ps) = seen_is_word (out-RawPart p) ps
 
 pub word_raws_of : (w : Word) → word_raws w ≡ map raw_of w.parts
 word_raws_of w = fold_out-Word Phrase RawPart (List RawPart) Tokens Tokens Tokens (List RawPart) command_layer part_layer assign_layer case_arm_layer if_arm_layer link_layer word_layer w

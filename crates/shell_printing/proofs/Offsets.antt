@@ -101,7 +101,7 @@ SameValues (s ∷ ss) v w = SameValue s v.0 w.0 × SameValues ss v.1 w.1
 
 -- ---- lists and pairs
 
-both : {A B C : Type 0} (f : A → B → C) {a a2 : A} {b b2 : B} → a ≡ a2 → b ≡ b2 → f a b ≡ f a2 b2
+pub both : {A B C : Type 0} (f : A → B → C) {a a2 : A} {b b2 : B} → a ≡ a2 → b ≡ b2 → f a b ≡ f a2 b2
 both f {a2 = a2} {b = b} e g = ap (λ a. f a b) e ∙ ap (f a2) g
 
 cons : {A : Type 0} {a a2 : A} {es as2 : List A} → a ≡ a2 → es ≡ as2 → ◌≡◌ {A = List A} (a ∷ es) (a2 ∷ as2)
@@ -258,7 +258,7 @@ faultless_from : (p : Part) (q : Judged) (ps : List Part) → after p q ≡ Faul
 faultless_from p (Faultless more) ps e = (more, refl, sym (same_faultless e))
 faultless_from p _ ps e = absurd (cc e)
 
-abbrev zeroed_raws : List RawPart → List RawPart
+abbrev pub zeroed_raws : List RawPart → List RawPart
 zeroed_raws ps = map zeroed_raw ps
 
 module _ (deep : ℕ → Bool) where

@@ -25,7 +25,7 @@ use Rattle.shell_grammar.specs.Grammar.{Opens, Newlines, Script, Block, More, Li
 use Rattle.shell_grammar.specs.Look.{Text, Tokens, look, place}
 use Rattle.shell_grammar.specs.Reading.{Whole, IsRule, IsSign, is, of, inside}
 use Rattle.shell_grammar.specs.Trees.{link, if_arm, case_arm, Defines}
-use Rattle.shell_grammar.proofs.Unique.{clash}
+use Rattle.shell_lexer.proofs.PrintedBytes.{clash}
 use Rattle.shell_grammar.proofs.Behind.{behind_list, is_newline, start_newline, start_arm, form_starts}
 use Rattle.shell_printing.specs.Zeroed.{zeroed, zeroed_case_arm, zeroed_if_arm, zeroed_link, zeroed_word}
 use Rattle.shell_printing.specs.PrintedTokens.{Phrase, word_token, plain_token, operator, line, redirect_token, braced, placed, link_token, if_end, do_tokens, loop_token, phrase, arm_tokens, condition_tokens, further_tokens, word_raws}
@@ -34,7 +34,8 @@ use Rattle.shell_printing.proofs.ZeroedLayers.{zeroed_simple, zeroed_redirected,
 use Rattle.shell_printing.proofs.ZeroedTrees.{zeroed_link_of, zeroed_if_arm_of, zeroed_case_arm_of}
 use Rattle.shell_printing.proofs.Offsets.{zeroed_otherwise}
 use Rattle.shell_printing.proofs.Levels.{look_kind, look_plain, after_command, after_pipeline, after_and_or, and_or_pipeline, pipeline_command, Closes, closes_here, closes_line, closes_and_or, tok, opn, hre, done, more, made, ruled, moved, valued, newlines_none, one_newline, bars_none, links_none, closes_more, AsCommand, AsCompound, AsItems, AsPipeline, AsAndOr, AsList, Own, up_list, block_read, braces_read, braces_compound, low_own, Good, Placeable, at_command, at_sequence, at_pipeline, at_and_or, good_by, placeable_by}
-use Rattle.shell_printing.proofs.Nodes.{AllOf, body_row, AWordOk, AssignOk, FirstWords, Begins, word_read, words_tokens, each_read, more_patterns, patterns_read, simple_tokens, as_items, as_command, behind_redirects, before_redirects, plain_word_read, plain_word_text, looks_so}
+use Rattle.shell_printing.proofs.Nodes.{AllOf, AWordOk, AssignOk, FirstWords, Begins, word_read, words_tokens, each_read, more_patterns, patterns_read, simple_tokens, as_items, as_command, behind_redirects, before_redirects, plain_word_read, plain_word_text, looks_so}
+use Rattle.shell_grammar.proofs.ToTable.{body_row}
 
 module _ (deep : ℕ → Bool) (lower : (d : ℕ) → deep (suc d) ≡ false → deep d ≡ false) where
   -- ---- simple commands and redirections

@@ -29,7 +29,7 @@ use Rattle.shell_grammar.specs.Look.{Text, Tokens, look, behind, place, word_loo
 use Rattle.shell_grammar.specs.Reading.{plainly}
 use Rattle.shell_grammar.specs.Trees.{seq_of, pipe_of, chain_of, redirected, link, if_arm, case_arm, no_items, an_assign, a_word as word_item_of, a_redirect, joined as joined_items, simple as simple_of, word_at, word_text, assigned}
 use Rattle.shell_grammar.specs.PlainGrammar.{Stands, AreNewlines, no_newline, newline, IsSeparator, semicolon, line_end, AreRedirects, no_redirect, one_redirect, IsScript, no_script, a_script, IsList, a_list, AreMembers, no_member, last_separator, one_member, IsAndOr, an_and_or, AreLinks, no_link, and_link, or_link, IsPipeline, plain_pipeline, not_pipeline, IsSequence, a_sequence, ArePiped, no_pipe, one_pipe, IsCommand, simple_command, compound_command, definition, IsBlock, a_block, IsCompound, brace_group, subshell, if_command, for_loop, while_loop, case_command, IsClause, a_clause, IsElse, no_else, elif_part, else_part, IsName, a_name, AreForWords, in_words, for_semicolon, no_in, AreWords, no_words, one_word, AreArms, no_arm, last_arm, one_arm, IsArm, open_arm, arm_without_paren, IsArmRest, arm_rest, ArePatterns, no_pattern, one_pattern, IsArmList, no_arm_list, arm_list, IsBraces, braces, IsSimple, begins_with_assignment, begins_with_redirect, begins_with_word, AreItems, no_item, assignment_item, redirect_item, word_item, IsWord, the_word, PartsAre, no_part, a_part, a_substitution}
-use Rattle.shell_grammar.proofs.Unique.{clash}
+use Rattle.shell_lexer.proofs.PrintedBytes.{clash}
 use Rattle.shell_printing.specs.PrintedTokens.{Phrase, word_token, plain_token, operator, line, redirect_token, braced, placed, between, link_token, do_tokens, loop_token, phrase, raw_of, assign_raws, arm_tokens, condition_tokens, further_tokens, word_raws}
 use Rattle.shell_printing.proofs.PhraseLayers.{phrase_simple, phrase_redirected, phrase_pipe, phrase_not, phrase_chain, phrase_seq, phrase_if, phrase_if_else, phrase_for, phrase_for_in, phrase_while, phrase_case, phrase_sub, phrase_define, phrase_run, phrase_the_case_arm, phrase_the_if_arm, phrase_the_link, phrase_the_word}
 use Rattle.shell_printing.proofs.Words.{single, word_looks_so}

@@ -1,5 +1,5 @@
 -- What is seen as an operator or a redirection is no word: by the tests of its first byte, one after another.
-use Rattle.std.proofs.Common.{◌≡◌, ℕ, Bool, true, false, if◌then◌else◌, nat_eq, [], ◌∷◌, Option, Some, None, ap}
+use Rattle.std.proofs.Common.{◌≡◌, ℕ, if◌then◌else◌, nat_eq, [], ◌∷◌, Option, Some, None, ap}
 use Rattle.shell_syntax.specs.declared.redirect.Redirect.{Redirect}
 use Rattle.shell_lexer.specs.declared.token.TokenKind.{out-TokenKind}
 use Rattle.shell_lexer.specs.declared.token.RawPart.TheOpen as o
@@ -8,14 +8,11 @@ use Rattle.shell_lexer.specs.Reading.{kind_of_sign}
 use Rattle.shell_lexer.specs.Text.{Bytes, kind, is_blank, is_digit, is_letter, is_special, skip, place, tail, head_is, cells, run_of, behind_run}
 use Rattle.shell_grammar.specs.Look.{kind_word}
 use Rattle.shell_printing.proofs.ZeroedTokens.{seen_kind}
+use Rattle.shell_printing.proofs.CutDollars.{either}
 
 abbrev pub NoWord : Sight → Type 0
 NoWord (Operator which rest) = kind_word (out-TokenKind (kind_of_sign which)) ≡ None
 NoWord _ = Unit {0}
-
-either : {A : Type 0} (Q : A → Type 0) (b : Bool) {x y : A} → Q x → Q y → Q (if b then x else y)
-either Q true h g = h
-either Q false h g = g
 
 redirected_no : (at : ℕ) (which : Option Redirect) (rest : Option Bytes) → NoWord (redirected at which rest)
 redirected_no at None rest = tt

@@ -13,19 +13,17 @@ use Rattle.shell_grammar.specs.Look.{Tokens, word, behind, kind_word}
 use Rattle.shell_grammar.specs.Reading.{plainly}
 use Rattle.shell_printing.specs.PrintedTokens.{word_token, raw_of}
 use Rattle.shell_printing.proofs.PhraseLayers.{phrase_plain, phrase_quoted, phrase_param, phrase_all}
-use Rattle.shell_printing.proofs.ZeroedTokens.{SeenPart}
+use Rattle.shell_grammar.proofs.RunsLeftOut.{Seen as SeenPart}
 use Rattle.shell_printing.proofs.Backs.{ReadsBack}
+use Rattle.shell_lexer.proofs.SpelledCases.{some_same as somes}
 
 -- whether the text may end where these tokens are left
 abbrev pub may_end : Bool → Tokens → Bool
 may_end last [] = last
 may_end last (t ∷ ts) = false
 
-somes : {A : Type 0} {x y : A} → Some x ≡ Some y → x ≡ y
-somes e = cc
-
 -- a part without a substitution is printed as itself
-rolled : (p : RawPart) (r : SeenPart) → out-RawPart p ≡ r → p ≡ roll-RawPart r
+pub rolled : (p : RawPart) (r : SeenPart) → out-RawPart p ≡ r → p ≡ roll-RawPart r
 rolled p r e = sym (roll-out-RawPart p) ∙ ap roll-RawPart e
 
 same_part_by : (p : RawPart) (r : SeenPart) (x : Part) → out-RawPart p ≡ r → plainly r ≡ Some x → raw_of x ≡ p

@@ -26,15 +26,15 @@ use Rattle.shell_grammar.specs.declared.form.Item.TheVariants as an
 use Rattle.shell_grammar.specs.declared.items.Items.{Items}
 use Rattle.shell_grammar.specs.declared.look.Look.{Look}
 use Rattle.shell_grammar.specs.declared.look.Look.TheVariants.{AtEnd, Semi, DoubleSemi, Bar, LeftParen, Redirection, Keyword, Name, Assignment, Other}
-use Rattle.shell_grammar.specs.declared.look.Reserved.{Reserved}
-use Rattle.shell_grammar.specs.declared.look.Reserved.TheVariants.{Open, Bang, If, Elif, Else, While, Until, For, In, Case, Esac}
+use Rattle.shell_grammar.specs.declared.look.Reserved.TheVariants.{Bang, If, Elif, Else, For, In, Case, Esac}
 use Rattle.shell_grammar.specs.Forms.{command_form, compound_form, item, starts, is_name_word, is_word, is_separator, link_and, ends_arm}
 use Rattle.shell_grammar.specs.Grammar.{Rule, Script, Body, Newlines, Block, Members, More, Behind, AndOr, Links, Pipeline, Piped, Bars, ACommand, Compound, Clause, Arms, Loop, ForRest, ForName, ForWords, Each, Apart, CaseRest, CaseArms, CaseMore, OneArm, ArmRest, Patterns, MorePatterns, ArmBody, Braces, Named, SimpleItems, Redirects, Sign, Is, Opens, AWord, Here, Never, Of, Inside, Tree, Value, Values, production, production_more, production_behind, production_links, production_command, production_compound, production_name, production_each, production_arm_body, production_items}
 use Rattle.shell_grammar.specs.Look.{Tokens, look, place, word_look}
 use Rattle.shell_grammar.specs.Reading.{Out, Whole, Judged, Faultless, Faulty, after, plainly, IsRule, rule, IsAll, no_more, one_more, one_stops, IsSign, is, is_not, opens, opens_not, too_deep, a_word as reads_word, a_word_stops, no_word, here, never, of, inside, IsParts, no_parts, plain_part, run_part, run_stops, run_deep}
 use Rattle.shell_grammar.specs.Spelling.{deep_64}
 use Rattle.shell_grammar.specs.Trees.{seq_of, pipe_of, chain_of, redirected, case_arm, named, word_at, word_text, assigned, Tail, Defines, Continues}
-use Rattle.shell_grammar.proofs.Unique.{clash, not_both, wholes, same_faultless, runs, no_run}
+use Rattle.shell_grammar.proofs.Unique.{not_both, wholes, same_faultless, runs, no_run}
+use Rattle.shell_lexer.proofs.PrintedBytes.{clash}
 use Rattle.shell_grammar.proofs.Begun.{whole_from}
 use Rattle.shell_printing.specs.Zeroed.{zeroed, zeroed_part}
 use Rattle.shell_printing.specs.PrintedTokens.{phrase, raw_of, word_raws, assign_raws, script_tokens}
@@ -49,29 +49,10 @@ use Rattle.shell_printing.proofs.Levels.{Good, Placeable, good_of}
 use Rattle.shell_printing.proofs.Nodes.{AllOf, WordOk, AWordOk, AssignOk, FirstWords, Begins, with_assign, with_name, with_other, looks_so}
 use Rattle.shell_printing.proofs.Phrases.{simple_good, simple_redirectable, compound_redirectable, redirected_good, pipe_good, not_good, LinkOk, chain_good, seq_good, sub_good, while_good, NameOk, WordsOk, for_good, Scripted, script_read, CaseArmOk, case_good, IfArmOk, OtherwiseOk, if_good, define_good}
 use Rattle.shell_printing.proofs.Words.{plain_of, back, Alike, alike_none, alike_more, look_alike, single, assigns, assign_same, word_text_plain, not_plain, not_plain_alike, word_looks_so, longest_word, longest_behind}
+use Rattle.shell_grammar.proofs.FromTable.{named_look, item_assignment, no_assignment, keyword_not_simple}
+use Rattle.shell_printing.proofs.Ends.{higher}
 
 -- ---- forms
-
--- a reserved word begins a compound command or none
-keyword_form : (which : Reserved) → (command_form (Keyword which) ≡ Some command.Compound) ⊎ (command_form (Keyword which) ≡ None)
-keyword_form Open = inl refl
-keyword_form If = inl refl
-keyword_form While = inl refl
-keyword_form Until = inl refl
-keyword_form For = inl refl
-keyword_form Case = inl refl
-keyword_form _ = inr refl
-
-keyword_not_named : (which : Reserved) → command_form (Keyword which) ≡ Some command.Named → ⊥
-keyword_not_named which e = elim (keyword_form which) as (λ _. ⊥) [ inl h ↦ cc (sym e ∙ h) | inr h ↦ cc (sym e ∙ h) ]
-
-keyword_not_simple : (which : Reserved) → command_form (Keyword which) ≡ Some command.Simple → ⊥
-keyword_not_simple which e = elim (keyword_form which) as (λ _. ⊥) [ inl h ↦ cc (sym e ∙ h) | inr h ↦ cc (sym e ∙ h) ]
-
-named_look : (l : Look) → command_form l ≡ Some command.Named → l ≡ Name
-named_look Name e = refl
-named_look (Keyword which) e = absurd (keyword_not_named which e)
-named_look _ e = absurd (cc e)
 
 -- a simple command that begins with a word that is no assignment begins with one that is no name either
 other_look : (l : Look) → command_form l ≡ Some command.Simple → item false l ≡ Some an.Word → l ≡ Other
@@ -88,22 +69,9 @@ not_empty Assignment e i = cc i
 not_empty (Keyword which) e i = keyword_not_simple which e
 not_empty _ e i = cc e
 
-item_assignment : (b : Bool) (l : Look) → item b l ≡ Some an.Assignment → (b ≡ false) × (l ≡ Assignment)
-item_assignment false Assignment e = (refl, refl)
-item_assignment true Assignment e = absurd (cc e)
-item_assignment _ _ e = absurd (cc e)
-
-no_assignment : (b : Bool) (l : Look) → item b l ≡ Some an.Word → b ≡ false → l ≡ Assignment → ⊥
-no_assignment false Assignment e f h = cc e
-no_assignment true l e f h = clash f refl
-no_assignment _ _ e f h = cc h
-
 abbrev NonEmpty : {A : Type 0} → List A → Type 0
 NonEmpty [] = ⊥
 NonEmpty (x ∷ xs) = Unit {0}
-
-higher : (n a b : ℕ) → nat_le a b ≡ true → nat_le n a ≡ true → nat_le n b ≡ true
-higher n a b e f = let g = leb-true a b e in let h = leb-true n a f in le-leb n b (omega arith)
 
 faultless_from : (p : Part) (q : Judged) (ps : List Part) → after p q ≡ Faultless ps → (more : List Part) × (q ≡ Faultless more) × (ps ≡ p ∷ more)
 faultless_from p (Faultless more) ps e = (more, refl, sym (same_faultless e))

@@ -32,9 +32,7 @@ use Rattle.shell_printing.specs.Laws.{PrintedTextsAreTokens}
 use Rattle.shell_printing.specs.PrintedTokens.{Phrase, word_token, plain_token, operator, line, redirect_token, braced, placed, between, redirected_tokens, link_token, in_tokens, do_tokens, loop_token, assign_seen, assign_parts, phrase, raw_of, assign_raws, arm_tokens, condition_tokens, further_tokens, word_raws}
 use Rattle.shell_printing.specs.TokenTexts.{raw_layer, kind_layer, token_layer, raw_text, kind_text, token_text, tokens_text}
 use Rattle.shell_printing.proofs.PhraseLayers.{phrase_simple, phrase_redirected, phrase_pipe, phrase_not, phrase_chain, phrase_seq, phrase_if, phrase_if_else, phrase_for, phrase_for_in, phrase_while, phrase_case, phrase_sub, phrase_define, phrase_plain, phrase_quoted, phrase_param, phrase_all, phrase_run, phrase_the_assign, phrase_the_case_arm, phrase_the_if_arm, phrase_the_link, phrase_the_word}
-
-both : {A B C : Type 0} (f : A → B → C) {a a2 : A} {b b2 : B} → a ≡ a2 → b ≡ b2 → f a b ≡ f a2 b2
-both f {a2 = a2} {b = b} e g = ap (λ a. f a b) e ∙ ap (f a2) g
+use Rattle.shell_printing.proofs.Offsets.{both}
 
 joins : {a a2 b b2 : Text} → a ≡ a2 → b ≡ b2 → a ++ b ≡ a2 ++ b2
 joins e f = both (λ (a b : Text). a ++ b) e f

@@ -14,9 +14,7 @@ use Rattle.shell_syntax.specs.declared.syntax.Word.{Word, roll-Word}
 use Rattle.shell_grammar.specs.Look.{Text}
 use Rattle.shell_printing.specs.Zeroed.{zeroed, zeroed_part, zeroed_assign, zeroed_case_arm, zeroed_if_arm, zeroed_link, zeroed_word}
 use Rattle.shell_printing.proofs.ZeroedLayers.{zeroed_simple, zeroed_redirected, zeroed_pipe, zeroed_not, zeroed_chain, zeroed_seq, zeroed_if, zeroed_if_else, zeroed_for, zeroed_for_in, zeroed_while, zeroed_case, zeroed_sub, zeroed_define, zeroed_plain, zeroed_quoted, zeroed_param, zeroed_all, zeroed_run, zeroed_the_assign, zeroed_the_case_arm, zeroed_the_if_arm, zeroed_the_link, zeroed_the_word}
-
-both : {A B C : Type 0} (f : A → B → C) {a a2 : A} {b b2 : B} → a ≡ a2 → b ≡ b2 → f a b ≡ f a2 b2
-both f {a2 = a2} {b = b} e g = ap (λ a. f a b) e ∙ ap (f a2) g
+use Rattle.shell_printing.proofs.Offsets.{both}
 
 abbrev P : Command → Type 0
 P x = zeroed (zeroed x) ≡ zeroed x

@@ -5,10 +5,7 @@ use Rattle.shell_lexer.specs.Operators.{Word, numbered, numbered_by}
 use Rattle.shell_lexer.specs.Parts.{Look, Byte, look, look_at, look_by, dollar, dollar_by, braced, escaped, has_quote}
 use Rattle.shell_lexer.specs.Text.{Bytes, kind, is_blank, is_digit, is_letter, is_special, skip, place, head_is, cells, behind_run}
 use Rattle.shell_printing.proofs.CutDollars.{either, IsDollar, in_braces}
-
-tested : {A : Type 0} (Q : A → Type 0) (b : Bool) {x y : A} → (b ≡ true → Q x) → (b ≡ false → Q y) → Q (if b then x else y)
-tested Q true h g = h refl
-tested Q false h g = g refl
+use Rattle.shell_printing.proofs.Ends.{if_case as tested}
 
 pub eq_of : (a b : ℕ) → nat_eq a b ≡ true → a ≡ b
 eq_of a b e = grind (arith, common_steps)

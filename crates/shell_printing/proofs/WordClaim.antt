@@ -9,8 +9,8 @@ use Rattle.shell_lexer.specs.declared.token.RawPart.{RawPart, out-RawPart}
 use Rattle.shell_lexer.specs.declared.token.RawPart.TheVariants as raw
 use Rattle.shell_lexer.specs.Laws.{PartsAreSpelled, AllArgsAreSpelled, SubstitutionsAreSpelled, DoubleQuotesAreSpelled}
 use Rattle.shell_lexer.specs.Operators.{Word, sight}
-use Rattle.shell_lexer.specs.Parts.{Look, Ends, Byte, Piece, AllArgs, DoubleQuote, Substitution, look, inner}
-use Rattle.shell_lexer.specs.PrintedLaws.{QuotedIsOnePart, ParamIsOnePart, AllIsOnePart, SubstitutionsClose, is_last, ends_in_backslash, is_apart}
+use Rattle.shell_lexer.specs.Parts.{Ends, Byte, Piece, AllArgs, DoubleQuote, Substitution, look, inner}
+use Rattle.shell_lexer.specs.PrintedLaws.{QuotedIsOnePart, ParamIsOnePart, AllIsOnePart, SubstitutionsClose, ends_in_backslash, is_apart}
 use Rattle.shell_lexer.specs.Reading.{Out, Whole, Stop, Read, plain_run, quoted_run, last_run, IsWord, word_ends, word_byte, word_piece, word_all, word_double, word_run, word_wrong, word_bad_double, word_bad_run, IsInner, inner_open, inner_ends, inner_byte, inner_piece, inner_all, inner_run, inner_wrong, inner_bad_run}
 use Rattle.shell_lexer.specs.SpelledParts.{IsParam, name as by_name, name_braced, name_default, number as by_number, number_braced, number_default, count as by_count, count_braced, IsQuoted, single, escaped as by_backslash, IsPiece}
 use Rattle.shell_lexer.specs.Text.{Bytes, skip}
@@ -24,58 +24,20 @@ use Rattle.shell_printing.proofs.Texts.{plain_raw}
 use Rattle.shell_printing.proofs.ZeroedTokens.{seen_plain, seen_quoted, seen_param, seen_all, seen_run}
 use Rattle.shell_printing.proofs.WordBegins.{word_front, begins_none, ends_here, apart_follows, apart_steady}
 use Rattle.shell_printing.proofs.WordBytes.{Follow, After, Steady, printed, eq_of}
-use Rattle.shell_printing.proofs.WordNotes.{some_part, inner_some}
+use Rattle.shell_printing.proofs.WordNotes.{inner_some}
+use Rattle.shell_lexer.proofs.PrintedWords.{some_part, no_joined, ends_right, run_ends, not_end}
 use Rattle.shell_printing.proofs.WordParts.{back_kept, one_byte_text, likes_split, One, quoted_one, param_one, all_one, run_one}
 use Rattle.shell_printing.proofs.WordShape.{Shape, shape_none, shape_of, shape_append}
-
-two : {A B C : Type 0} (f : A → B → C) {a a2 : A} {b b2 : B} → a ≡ a2 → b ≡ b2 → f a b ≡ f a2 b2
-two f {a2 = a2} {b = b} e g = ap (λ a. f a b) e ∙ ap (f a2) g
+use Rattle.shell_printing.proofs.Offsets.{both as two, zeroed_raws as zeroes}
 
 abbrev flat : List RawPart → Bytes
 flat ps = flat_map raw_text ps
 
-abbrev zeroes : List RawPart → List RawPart
-zeroes ps = map zeroed_raw ps
-
 -- ---- lists of parts
-
-ends_more : (x : RawPart) (zs : List RawPart) → ends_in_backslash zs ≡ true → ends_in_backslash (x ∷ zs) ≡ true
-ends_more x [] e = absurd (false_true e)
-ends_more (raw.Plain w) (z ∷ zs) e = e
-ends_more _ (z ∷ zs) e = e
-
-ends_right : (xs ys : List RawPart) → ends_in_backslash ys ≡ true → ends_in_backslash (xs ++ ys) ≡ true
-ends_right [] ys e = e
-ends_right (x ∷ xs) ys e = ends_more x (xs ++ ys) (ends_right xs ys e)
 
 plain_flat : (run : Bytes) → flat (plain_run run) ≡ run
 plain_flat [] = refl
 plain_flat (b ∷ run) = append-nil (raw_text (raw.Plain (b ∷ run))) ∙ plain_raw (b ∷ run)
-
-last_of : (run : Bytes) → is_last 92 (run ++ 92 ∷ []) ≡ true
-last_of [] = refl
-last_of (a ∷ []) = refl
-last_of (a ∷ c ∷ run) = last_of (c ∷ run)
-
-run_ends : (run : Bytes) → ends_in_backslash (plain_run (run ++ 92 ∷ [])) ≡ true
-run_ends [] = refl
-run_ends (a ∷ run) = last_of (a ∷ run)
-
--- what is no end of a word stands before no end of the text
-not_end : (len : ℕ) (text : Bytes) (l : Look) → look len text ≡ l → (Ends ≡ l → ⊥) → text ≡ [] → ⊥
-not_end len text l h g e = g (ap (look len) (sym e) ∙ h)
-
--- no joined line is left before bytes that count
-no_joined : (text : Bytes) (b : ℕ) (r : Bytes) → skip text ≡ 92 ∷ b ∷ r → nat_eq b 10 ≡ false
-no_joined [] b r e = absurd (cc e)
-no_joined (a ∷ []) b r e = absurd (cc e)
-no_joined (a ∷ c ∷ t) b r e = by (nat_eq a 92 && nat_eq c 10) refl e (no_joined t b r) where
-  by : (it : Bool) → (nat_eq a 92 && nat_eq c 10) ≡ it → (if it then skip t else a ∷ c ∷ t) ≡ 92 ∷ b ∷ r → (skip t ≡ 92 ∷ b ∷ r → nat_eq b 10 ≡ false) → nat_eq b 10 ≡ false
-  by true g f more = more f
-  by false g f more =
-      let first : a ≡ 92 = cc in
-      let second : c ≡ b = cc in
-      subst (λ x. nat_eq x 10 ≡ false) second (ap (λ x. nat_eq x 92 && nat_eq c 10) (sym first) ∙ g)
 
 -- ---- what stands at the front of a part
 

@@ -5,11 +5,12 @@ use Rattle.shell_syntax.specs.declared.form.Form.TheVariants as form
 use Rattle.shell_lexer.specs.declared.token.RawPart.{RawPart}
 use Rattle.shell_lexer.specs.Laws.{PartsAreSpelled}
 use Rattle.shell_lexer.specs.Parts.{look, inner}
-use Rattle.shell_lexer.specs.Late.{late, all_args, first_all, is_all_word, tilde, brace, is_plainly, subst_case, found, sooner, as_fault}
+use Rattle.shell_lexer.specs.Late.{late, all_args, first_all, is_all_word, tilde, brace, is_plainly, subst_case, found, sooner}
 use Rattle.shell_lexer.specs.PrintedLaws.{holds_no_all}
 use Rattle.shell_lexer.specs.Reading.{Read}
 use Rattle.shell_printing.proofs.Backs.{true_false}
-use Rattle.shell_printing.proofs.WordNotes.{is_none, no_tilde, no_brace, are_plainly, Says}
+use Rattle.shell_printing.proofs.WordNotes.{no_tilde, no_brace, are_plainly, Says}
+use Rattle.shell_lexer.proofs.PrintedNotes.{is_none, nothing_found, no_fault, if_none}
 
 none_of : {A : Type 0} (o : Option A) → is_none o ≡ true → o ≡ None
 none_of None e = refl
@@ -29,14 +30,6 @@ sooner_second (Some a) b e = absurd (none_of_some (sooner_first (Some a) b e)) w
   none_of_some : Some a ≡ None → ⊥
   none_of_some e = cc e
 
-nothing_found : (which : Form) (o : Option ℕ) → found which o ≡ None → o ≡ None
-nothing_found which None e = refl
-nothing_found which (Some at) e = absurd (cc e)
-
-no_fault : (o : Option (ℕ × Form)) → as_fault o ≡ None → o ≡ None
-no_fault None e = refl
-no_fault (Some a) e = absurd (cc e)
-
 case_same : (depth at two : ℕ) (ns ms : _) → is_plainly (codes "case") ns ≡ is_plainly (codes "case") ms → subst_case depth at ns ≡ None → subst_case depth two ms ≡ None
 case_same zero at two ns ms e h = refl
 case_same (suc depth) at two ns ms e h = by (is_plainly (codes "case") ns) (is_plainly (codes "case") ms) e h where
@@ -44,10 +37,6 @@ case_same (suc depth) at two ns ms e h = by (is_plainly (codes "case") ns) (is_p
   by true y e h = absurd (cc h)
   by false true e h = absurd (true_false (sym e))
   by false false e h = refl
-
-if_none : (t : Bool) (o : Option ℕ) → o ≡ None → (if t then None else o) ≡ None
-if_none true o e = refl
-if_none false o e = e
 
 module _ (outside : PartsAreSpelled look false) (inside : PartsAreSpelled inner true) where
   -- nothing is found in one text of a word where nothing is found in another

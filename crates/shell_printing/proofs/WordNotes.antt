@@ -7,52 +7,28 @@ use Rattle.shell_lexer.specs.Late.{first_all, tilde, has_list, brace, is_plainly
 use Rattle.shell_lexer.specs.Parts.{look, inner}
 use Rattle.shell_lexer.specs.PrintedLaws.{holds_no_all}
 use Rattle.shell_lexer.specs.Reading.{Out, Whole, Stop, Read, plain_run, quoted_run, last_run, IsWord, word_ends, word_byte, word_piece, word_all, word_double, word_run, word_wrong, word_bad_double, word_bad_run, IsInner, inner_open, inner_ends, inner_byte, inner_piece, inner_all, inner_run, inner_wrong, inner_bad_run}
-use Rattle.shell_lexer.specs.SpelledParts.{IsPiece}
 use Rattle.shell_lexer.specs.Text.{Bytes, offset}
 use Rattle.shell_printing.proofs.Backs.{false_true}
+use Rattle.shell_printing.proofs.CutEnds.{no_plain_last, no_plain, piece_not_plain, quoted_so as not_plain_behind}
+use Rattle.shell_lexer.proofs.PrintedNotes.{run_is, is_none, tilde_run, list_run, brace_run, is_nil}
+use Rattle.shell_lexer.proofs.PrintedWords.{some_part, some_behind}
 
 -- ---- what is looked for, by the parts
-
-abbrev pub is_none : {A : Type 0} → Option A → Bool
-is_none None = true
-is_none (Some x) = false
-
--- a run of plain bytes without a tilde, and what follows it
-abbrev pub tilde_run : Bool → Bytes → (Bool → Bool) → Bool
-tilde_run may [] goes = goes may
-tilde_run may (b ∷ w) goes = if may && nat_eq b 126 then false else tilde_run (nat_eq b 61 || nat_eq b 58) w goes
 
 abbrev pub no_tilde : List RawPart → Bool → Bool
 no_tilde [] may = true
 no_tilde (raw.Plain w ∷ ps) may = tilde_run may w (no_tilde ps)
 no_tilde (_ ∷ ps) may = no_tilde ps false
 
-abbrev pub list_run : Bool → Bytes → (Bool → Bool) → Bool
-list_run dot [] goes = goes dot
-list_run dot (b ∷ w) goes = (nat_eq b 44 || (dot && nat_eq b 46)) || list_run (nat_eq b 46) w goes
-
 abbrev pub list_in : List RawPart → Bool → Bool
 list_in [] dot = false
 list_in (raw.Plain w ∷ ps) dot = list_run dot w (list_in ps)
 list_in (_ ∷ ps) dot = list_in ps false
 
-abbrev pub brace_run : Bytes → Bool → (Bool → Bool) → Bool
-brace_run [] goes lists = goes
-brace_run (b ∷ w) goes lists = if nat_eq b 123 then not (list_run false w lists) else brace_run w goes lists
-
 abbrev pub no_brace : List RawPart → Bool
 no_brace [] = true
 no_brace (raw.Plain w ∷ ps) = brace_run w (no_brace ps) (list_in ps)
 no_brace (_ ∷ ps) = no_brace ps
-
-abbrev pub is_nil : {A : Type 0} → List A → Bool
-is_nil [] = true
-is_nil (x ∷ xs) = false
-
-abbrev pub run_is : Bytes → Bytes → (Bytes → Bool) → Bool
-run_is cs [] goes = goes cs
-run_is [] (b ∷ w) goes = false
-run_is (c ∷ cs) (b ∷ w) goes = nat_eq b c && run_is cs w goes
 
 abbrev pub are_plainly : List RawPart → Bytes → Bool
 are_plainly [] cs = is_nil cs
@@ -60,39 +36,6 @@ are_plainly (raw.Plain w ∷ ps) cs = run_is cs w (are_plainly ps)
 are_plainly (_ ∷ ps) cs = false
 
 -- ---- parts that are not plain
-
-abbrev no_plain : List RawPart → Bool
-no_plain [] = true
-no_plain (raw.Plain w ∷ ps) = false
-no_plain (_ ∷ ps) = no_plain ps
-
-no_plain_append : (xs ys : List RawPart) → no_plain xs ≡ true → no_plain ys ≡ true → no_plain (xs ++ ys) ≡ true
-no_plain_append [] ys e f = f
-no_plain_append (raw.Plain w ∷ xs) ys e f = absurd (false_true e)
-no_plain_append (_ ∷ xs) ys e f = no_plain_append xs ys e f
-
-no_plain_run : (run : Bytes) → no_plain (quoted_run run) ≡ true
-no_plain_run [] = refl
-no_plain_run (b ∷ run) = refl
-
-no_plain_last : (fresh : Bool) (run : Bytes) → no_plain (last_run fresh run) ≡ true
-no_plain_last true [] = refl
-no_plain_last true (b ∷ run) = refl
-no_plain_last false [] = refl
-no_plain_last false (b ∷ run) = refl
-
-piece_not_plain : (inside : Bool) (p : RawPart) (text rest : Bytes) → IsPiece inside p text rest → no_plain (p ∷ []) ≡ true
-piece_not_plain inside (raw.Param key default quoted) text rest h = refl
-piece_not_plain inside (raw.Quoted bytes) text rest h = refl
-piece_not_plain inside _ text rest h = absurd h
-
-abbrev pub some_part : List RawPart → Bool
-some_part [] = false
-some_part (p ∷ ps) = true
-
-some_behind : (run : Bytes) (p : RawPart) (ps : List RawPart) → some_part ((quoted_run run ++ p ∷ []) ++ ps) ≡ true
-some_behind [] p ps = refl
-some_behind (b ∷ run) p ps = refl
 
 some_last : (run : Bytes) → some_part (last_run true run) ≡ true
 some_last [] = refl
@@ -149,9 +92,6 @@ InnerSays (Stop f) = Unit {0}
 abbrev pub InnerSome : Bool → Out Read → Type 0
 InnerSome fresh (Whole v rest) = fresh ≡ true → some_part v.0 ≡ true
 InnerSome fresh (Stop f) = Unit {0}
-
-not_plain_behind : (run : Bytes) (p : RawPart) (ps : List RawPart) → no_plain (p ∷ []) ≡ true → no_plain ps ≡ true → no_plain ((quoted_run run ++ p ∷ []) ++ ps) ≡ true
-not_plain_behind run p ps n x = no_plain_append (quoted_run run ++ p ∷ []) ps (no_plain_append (quoted_run run) (p ∷ []) (no_plain_run run) n) x
 
 module _ (outside : PartsAreSpelled look false) (inside : PartsAreSpelled inner true) where
   pub inner_some : {deep : ℕ → Bool} {len depth begun : ℕ} {fresh : Bool} {run text : Bytes} {q : Out Read} → IsInner deep len depth begun fresh run text q → InnerSome fresh q

@@ -7,7 +7,7 @@ use Rattle.shell_syntax.specs.PrintedParts.{is_one_byte, escaped as escape, quot
 use Rattle.shell_syntax.specs.declared.key.Key.{Key}
 use Rattle.shell_lexer.specs.declared.token.Token.{Token}
 use Rattle.shell_lexer.specs.declared.token.TokenKind.{TokenKind}
-use Rattle.shell_lexer.specs.declared.token.RawPart.{RawPart, roll-RawPart, out-RawPart, roll-out-RawPart}
+use Rattle.shell_lexer.specs.declared.token.RawPart.{RawPart, out-RawPart}
 use Rattle.shell_lexer.specs.declared.token.RawPart.TheVariants as raw
 use Rattle.shell_lexer.specs.declared.token.RawPart.TheOpen as o
 use Rattle.shell_lexer.specs.declared.token.RawPart.TheFolds.{fold-roll-RawPart}
@@ -23,10 +23,10 @@ use Rattle.shell_grammar.specs.Look.{Tokens}
 use Rattle.shell_printing.specs.TokenTexts.{raw_layer as raw_text_layer, kind_layer as kind_text_layer, token_layer as token_text_layer, raw_text, token_text, tokens_text}
 use Rattle.shell_printing.specs.Zeroed.{raw_layer, kind_layer, token_layer, zeroed_raw, zeroed_tokens}
 use Rattle.shell_printing.proofs.Backs.{false_true, true_false, ReadsBack, quoted_raw, param_raw, all_raw}
-use Rattle.shell_printing.proofs.ZeroedTokens.{SeenPart}
-use Rattle.shell_printing.proofs.Sources.{Likes, likes_none, likes_same, likes_run}
+use Rattle.shell_printing.proofs.Sources.{Likes, likes_none, likes_same, likes_run, rolled}
 use Rattle.shell_printing.proofs.WordBytes.{Steady, NoAngle, skip_first, cells_first, eq_of}
 use Rattle.shell_printing.proofs.WordShape.{Shape, shape_none, shape_same, shape_run}
+use Rattle.shell_lexer.proofs.PrintedRuns.{grouped}
 
 -- ---- texts with which a word may begin
 
@@ -94,9 +94,6 @@ run_head body false = dollar_head (codes "(" ++ body ++ codes " )" ++ [])
 
 -- ---- substitutions, as they are printed
 
-grouped : (q a k b r rest : Bytes) → ((((q ++ a) ++ k) ++ b) ++ r) ++ rest ≡ q ++ (a ++ (k ++ (b ++ (r ++ rest))))
-grouped q a k b r rest = simp append_assoc refl
-
 run_texts : (body : Bytes) (quoted : Bool) (rest : Bytes) → run_text body quoted ++ rest ≡ double_quote quoted ++ (codes "$(" ++ (body ++ (codes " )" ++ (double_quote quoted ++ rest))))
 unfolding run_text
 run_texts body quoted rest = grouped (double_quote quoted) (codes "$(") body (codes " )") (double_quote quoted) rest
@@ -122,9 +119,6 @@ opens : (t : Bytes) → is_apart t ≡ true → IsSubstitution (36 ∷ 40 ∷ t)
 opens t e = record { stands = (40 ∷ t, refl, (t, skip_first 40 t refl, refl)); single = single_here t e }
 
 -- ---- lists of parts that are alike
-
-pub rolled : (p : RawPart) (r : SeenPart) → out-RawPart p ≡ r → p ≡ roll-RawPart r
-rolled p r e = sym (roll-out-RawPart p) ∙ ap roll-RawPart e
 
 module _ (deep : ℕ → Bool) where
   pub record Split (d : ℕ) (xs ys qs : List RawPart) : Type 0 where

@@ -5,7 +5,8 @@ use Rattle.shell_lexer.specs.declared.token.RawPart.TheVariants as raw
 use Rattle.shell_lexer.specs.PrintedLaws.{holds_no_all}
 use Rattle.shell_lexer.specs.Text.{Bytes}
 use Rattle.shell_grammar.specs.Look.{Tokens}
-use Rattle.shell_printing.proofs.WordNotes.{tilde_run, no_tilde, list_run, list_in, brace_run, no_brace, run_is, are_plainly}
+use Rattle.shell_printing.proofs.WordNotes.{no_tilde, list_in, no_brace, are_plainly}
+use Rattle.shell_lexer.proofs.PrintedNotes.{brace_run, list_run, tilde_run, run_is}
 
 -- the same parts, but for the tokens of substitutions
 pub data Shape : List RawPart → List RawPart → Type 0 where

@@ -20,14 +20,14 @@ use Rattle.shell_printing.specs.PrintedTokens.{word_token}
 use Rattle.shell_printing.specs.TokenTexts.{raw_text, token_text, tokens_text}
 use Rattle.shell_printing.proofs.CleanTexts.{IsClean}
 use Rattle.shell_printing.proofs.Texts.{word_is}
-use Rattle.shell_printing.proofs.ZeroedTokens.{SeenPart}
+use Rattle.shell_grammar.proofs.RunsLeftOut.{Seen as SeenPart}
 use Rattle.shell_printing.proofs.Backs.{clean_append, same_words, word_text}
 use Rattle.shell_printing.proofs.CutClean.{AllClean, parts_clean}
-use Rattle.shell_printing.proofs.Sources.{Likes, likes_none, likes_same, likes_run, WordBack}
+use Rattle.shell_printing.proofs.Sources.{Likes, likes_none, likes_same, likes_run, WordBack, rolled}
 use Rattle.shell_printing.proofs.WordBytes.{skip_first}
 use Rattle.shell_printing.proofs.WordNotes.{says}
 use Rattle.shell_printing.proofs.WordLate.{late_same}
-use Rattle.shell_printing.proofs.WordParts.{rolled, run_raw}
+use Rattle.shell_printing.proofs.WordParts.{run_raw}
 use Rattle.shell_printing.proofs.WordShape.{tilde_shape, brace_shape, plainly_shape, no_all_shape}
 use Rattle.shell_printing.proofs.WordClaim.{word_claim}
 

@@ -16,12 +16,14 @@ use Rattle.shell_grammar.specs.Forms.{is_name_word}
 use Rattle.shell_grammar.specs.Look.{Text, Tokens, look, word, behind, kind_look, kind_word, word_look, seen_look, begun_look, whole_look, reserved, assigns_from, is_name, is_name_byte, none_left}
 use Rattle.shell_grammar.specs.Reading.{plainly}
 use Rattle.shell_grammar.specs.Trees.{word_at, word_text, plain_text, up_to_equals, behind_equals, plain_part_of, assigned}
-use Rattle.shell_grammar.proofs.Unique.{clash, somes}
+use Rattle.shell_grammar.proofs.Unique.{somes}
+use Rattle.shell_lexer.proofs.PrintedBytes.{clash}
 use Rattle.shell_printing.specs.Zeroed.{zeroed_part}
 use Rattle.shell_printing.specs.PrintedTokens.{raw_of, word_raws, assign_raws, assign_seen, assign_parts}
 use Rattle.shell_printing.proofs.PhraseLayers.{phrase_plain, phrase_quoted, phrase_param, phrase_all, phrase_the_assign, phrase_the_word}
 use Rattle.shell_printing.proofs.ZeroedLayers.{zeroed_plain, zeroed_quoted, zeroed_param, zeroed_all}
-use Rattle.shell_printing.proofs.ZeroedTokens.{SeenPart, SeenKind, seen_plain, seen_quoted, seen_param, seen_all}
+use Rattle.shell_printing.proofs.ZeroedTokens.{SeenKind, seen_plain, seen_quoted, seen_param, seen_all}
+use Rattle.shell_grammar.proofs.RunsLeftOut.{Seen as SeenPart}
 use Rattle.shell_printing.specs.Runs.{RunsAreLongest, other_token, word_token, PartsAreLongest}
 use Rattle.shell_printing.proofs.Nodes.{looks_so}
 

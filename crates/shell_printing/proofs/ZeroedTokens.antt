@@ -10,9 +10,7 @@ use Rattle.shell_lexer.specs.declared.token.RawPart.TheFolds.{fold-roll-RawPart,
 use Rattle.shell_grammar.specs.Look.{Tokens, look, word, behind, kind_look, kind_word, word_look, first_look}
 use Rattle.shell_grammar.specs.Reading.{plainly}
 use Rattle.shell_printing.specs.Zeroed.{raw_layer, kind_layer, token_layer, zeroed_raw, zeroed_kind, zeroed_token, zeroed_tokens}
-
-abbrev pub SeenPart : Type 0
-SeenPart = o.RawPart-F RawPart TokenKind Token
+use Rattle.shell_grammar.proofs.RunsLeftOut.{Seen as SeenPart}
 
 abbrev pub SeenKind : Type 0
 SeenKind = o.TokenKind-F RawPart TokenKind Token

@@ -1,12 +1,12 @@
 mod Each
-mod Statics
+pub mod Statics
 mod Steps
-mod Passes
+pub mod Passes
 mod InPlace
 mod WellFormed
-mod Nodes
+pub mod Nodes
 mod Same
-mod SameScript
-mod Made
+pub mod SameScript
+pub mod Made
 mod DefNames
 pub mod TextSets

@@ -11,7 +11,7 @@ use Rattle.shell_to_colis.specs.Translated.{defs_to, body_statements, seq_to, pr
 use Rattle.shell_to_colis.proofs.WellFormed.{are_parts, is_program}
 use Rattle.shell_to_colis.proofs.SameScript.{script_same}
 
-abbrev or_this : Option ProgramParts → ProgramParts → ProgramParts
+abbrev pub or_this : Option ProgramParts → ProgramParts → ProgramParts
 or_this None d = d
 or_this (Some x) d = x
 

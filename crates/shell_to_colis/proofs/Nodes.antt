@@ -53,7 +53,7 @@ str_does x = co.str_layer (map-Str Fields Stmt Str StrPiece ChainPart PatArm Set
 pub str_at : (x : StrLayer) (q : Str) (f : Funs) → roll-Str x ≡ q → co_str q f ≡ str_does x f
 str_at x q f e = ap (λ q. co_str q f) (sym e) ∙ ap (λ (d : StrDoes). d f) (fold-roll-Str FieldsDo Does StrDoes PieceDoes co.LinkDoes co.CaseArmDoes SetDoes ArmDoes co.fields_layer co.stmt_layer co.str_layer co.piece_layer co.link_layer co.case_arm_layer co.set_layer co.arm_layer x)
 
-abbrev PieceLayer : Type 0
+abbrev pub PieceLayer : Type 0
 PieceLayer = c.StrPiece-F Fields Stmt Str StrPiece ChainPart PatArm SetTo StmtArm
 
 abbrev piece_does : PieceLayer → PieceDoes
@@ -62,7 +62,7 @@ piece_does x = co.piece_layer (map-StrPiece Fields Stmt Str StrPiece ChainPart P
 piece_at : (x : PieceLayer) (q : StrPiece) (f : Funs) → roll-StrPiece x ≡ q → co_piece q f ≡ piece_does x f
 piece_at x q f e = ap (λ q. co_piece q f) (sym e) ∙ ap (λ (d : PieceDoes). d f) (fold-roll-StrPiece FieldsDo Does StrDoes PieceDoes co.LinkDoes co.CaseArmDoes SetDoes ArmDoes co.fields_layer co.stmt_layer co.str_layer co.piece_layer co.link_layer co.case_arm_layer co.set_layer co.arm_layer x)
 
-abbrev FieldsLayer : Type 0
+abbrev pub FieldsLayer : Type 0
 FieldsLayer = c.Fields-F Fields Stmt Str StrPiece ChainPart PatArm SetTo StmtArm
 
 abbrev fields_do : FieldsLayer → FieldsDo

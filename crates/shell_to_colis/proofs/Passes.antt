@@ -31,6 +31,7 @@ use Rattle.shell_to_colis.specs.declared.kinds.Kind.TheVariants as kind
 use Rattle.shell_to_colis.specs.declared.words.Quoting.{Quoting}
 use Rattle.shell_to_colis.specs.declared.words.Quoting.TheVariants as quoting
 use Rattle.shell_to_colis.specs.Translated.{To, PartTo, WordTo, each, piece_of, pieces_to, joined_to, is_all_alone, field_to, fields_to, rest_of, parameter_to, default_to, flag_kind, kind_of, assigned_to, simple_to, redirect_to, redirected_to, seq_to, chain_to, if_to, condition_to, body_to}
+use Rattle.shell_to_colis.proofs.Nodes.{StmtLayer, StrLayer, PieceLayer, FieldsLayer}
 
 -- ---- lists without items
 
@@ -54,17 +55,11 @@ has_two x y xs = le-leb 2 (length (x ∷ y ∷ xs)) (omega arith)
 
 -- ---- what may stand in a scope, construct by construct
 
-abbrev pub StmtLayer : Type 0
-StmtLayer = c.Stmt-F Fields Stmt Str StrPiece ChainPart PatArm SetTo StmtArm
-
 abbrev pub stmt_test : StmtLayer → Test
 stmt_test x = stmt_layer (map-Stmt Fields Stmt Str StrPiece ChainPart PatArm SetTo StmtArm _ _ _ _ _ _ _ _ field_passes stmt_passes str_passes piece_passes part_passes pat_arm_passes set_passes arm_passes x)
 
 pub stmt_at : (x : StmtLayer) (q : Stmt) (s : Scope) → roll-Stmt x ≡ q → stmt_passes q s ≡ stmt_test x s
 stmt_at x q s e = ap (λ q. stmt_passes q s) (sym e) ∙ ap (λ (t : Test). t s) (fold-roll-Stmt Test Test Test Test Test Test Test Test fields_layer stmt_layer str_layer piece_layer part_layer pat_arm_layer set_layer arm_layer x)
-
-abbrev pub StrLayer : Type 0
-StrLayer = c.Str-F Fields Stmt Str StrPiece ChainPart PatArm SetTo StmtArm
 
 abbrev pub str_test : StrLayer → Test
 str_test x = str_layer (map-Str Fields Stmt Str StrPiece ChainPart PatArm SetTo StmtArm _ _ _ _ _ _ _ _ field_passes stmt_passes str_passes piece_passes part_passes pat_arm_passes set_passes arm_passes x)
@@ -72,17 +67,11 @@ str_test x = str_layer (map-Str Fields Stmt Str StrPiece ChainPart PatArm SetTo 
 pub str_at : (x : StrLayer) (q : Str) (s : Scope) → roll-Str x ≡ q → str_passes q s ≡ str_test x s
 str_at x q s e = ap (λ q. str_passes q s) (sym e) ∙ ap (λ (t : Test). t s) (fold-roll-Str Test Test Test Test Test Test Test Test fields_layer stmt_layer str_layer piece_layer part_layer pat_arm_layer set_layer arm_layer x)
 
-abbrev PieceLayer : Type 0
-PieceLayer = c.StrPiece-F Fields Stmt Str StrPiece ChainPart PatArm SetTo StmtArm
-
 abbrev piece_test : PieceLayer → Test
 piece_test x = piece_layer (map-StrPiece Fields Stmt Str StrPiece ChainPart PatArm SetTo StmtArm _ _ _ _ _ _ _ _ field_passes stmt_passes str_passes piece_passes part_passes pat_arm_passes set_passes arm_passes x)
 
 piece_at : (x : PieceLayer) (q : StrPiece) (s : Scope) → roll-StrPiece x ≡ q → piece_passes q s ≡ piece_test x s
 piece_at x q s e = ap (λ q. piece_passes q s) (sym e) ∙ ap (λ (t : Test). t s) (fold-roll-StrPiece Test Test Test Test Test Test Test Test fields_layer stmt_layer str_layer piece_layer part_layer pat_arm_layer set_layer arm_layer x)
-
-abbrev FieldsLayer : Type 0
-FieldsLayer = c.Fields-F Fields Stmt Str StrPiece ChainPart PatArm SetTo StmtArm
 
 abbrev field_test : FieldsLayer → Test
 field_test x = fields_layer (map-Fields Fields Stmt Str StrPiece ChainPart PatArm SetTo StmtArm _ _ _ _ _ _ _ _ field_passes stmt_passes str_passes piece_passes part_passes pat_arm_passes set_passes arm_passes x)

@@ -37,7 +37,7 @@ one_found true c d None a e = e
 one_found true c d (Some x) a e = e
 one_found false c d o a e = e
 
-or_no : (b : Bool) → b ≡ (b || false)
+pub or_no : (b : Bool) → b ≡ (b || false)
 or_no true = refl
 or_no false = refl
 
@@ -66,11 +66,11 @@ kept : (o : Option (Text × Command)) (x : Text) (defs : List Def) → is_def x 
 kept None x defs e = ap (λ ds. calls.found x (funs ds)) (append-nil defs)
 kept (Some d) x defs e = def_kept (is_def d.0 defs) x d.0 (record { name = d.0; body = translated d.1 defs }) defs refl refl e
 
-or_more : (b c d : Bool) → (c ≡ true → d ≡ true) → (b || c) ≡ true → (b || d) ≡ true
+pub or_more : (b c d : Bool) → (c ≡ true → d ≡ true) → (b || c) ≡ true → (b || d) ≡ true
 or_more true c d h e = refl
 or_more false c d h e = h e
 
-any_more : (f : Def → Bool) (xs ys : List Def) → list_any f xs ≡ true → list_any f (xs ++ ys) ≡ true
+pub any_more : (f : Def → Bool) (xs ys : List Def) → list_any f xs ≡ true → list_any f (xs ++ ys) ≡ true
 any_more f [] ys e = absurd (cc e)
 any_more f (x ∷ xs) ys e = or_more (f x) (list_any f xs) (list_any f (xs ++ ys)) (any_more f xs ys) e
 

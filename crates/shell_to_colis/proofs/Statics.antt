@@ -21,7 +21,7 @@ use Rattle.colis_syntax.specs.declared.def.Def.{Def}
 use Rattle.shell_to_colis.specs.declared.kinds.Kind.{Kind}
 use Rattle.shell_to_colis.specs.Translated.{To, PartTo, WordTo, static, static_word, kind_of, simple_to, arm_of, translated, part_to, assign_to, case_arm_to, word_to, command_layer, part_layer, assign_layer, case_arm_layer, if_arm_layer, link_layer, word_layer}
 
-abbrev Layer : Type 0
+abbrev pub Layer : Type 0
 Layer = o.Part-F Command Part Assign CaseArm IfArm Link Word
 
 bytes_layer : (x : Layer) → (part_to (roll-Part x)).bytes ≡ layer_bytes x

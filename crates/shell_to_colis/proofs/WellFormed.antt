@@ -1,6 +1,5 @@
 -- The program of a script without unsupported forms is well formed.
 use Rattle.std.proofs.Common.{◌≡◌, ℕ, Bool, true, false, not, ◌||◌, List, [], ◌∷◌, ◌++◌, map, Option, Some, None, refl, sym, ap, ◌∙◌, subst, if◌then◌else◌, append_assoc, append-nil}
-use Rattle.std.specs.List.{list_any}
 use Rattle.std.proofs.lemmas.Bool.{and_from, and_parts}
 use Rattle.shell_syntax.specs.declared.script.Script.{Script}
 use Rattle.shell_syntax.specs.declared.syntax.Command.{Command, roll-Command, out-Command, roll-out-Command}
@@ -25,16 +24,9 @@ use Rattle.shell_to_colis.specs.Members.{layer_defines, defined_by, layer_member
 use Rattle.shell_to_colis.specs.Translated.{translated, def_to, defs_behind, defs_to, body_statements, seq_to, program_of}
 use Rattle.shell_to_colis.proofs.Passes.{no_front, no_back, all_stmts, seq_passes, scope, Known}
 use Rattle.shell_to_colis.proofs.InPlace.{command_passes}
+use Rattle.shell_to_colis.proofs.SameScript.{any_more}
 
 -- ---- functions
-
-or_more : (b c d : Bool) → (c ≡ true → d ≡ true) → (b || c) ≡ true → (b || d) ≡ true
-or_more true c d h e = refl
-or_more false c d h e = h e
-
-any_more : (f : Def → Bool) (xs ys : List Def) → list_any f xs ≡ true → list_any f (xs ++ ys) ≡ true
-any_more f [] ys e = absurd (cc e)
-any_more f (x ∷ xs) ys e = or_more (f x) (list_any f xs) (list_any f (xs ++ ys)) (any_more f xs ys) e
 
 known_more : (xs ys : List Def) → Known xs (xs ++ ys)
 known_more xs ys x e = any_more _ xs ys e

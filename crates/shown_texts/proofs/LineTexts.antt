@@ -36,7 +36,7 @@ but_last_more (l ∷ m ∷ ls) last = ap (option_map (λ x. l ∷ x)) (but_last_
 pub lines_read : (ls : List (List ℕ)) → list_all is_line ls ≡ true → lines_of (lines_text ls) ≡ Some ls
 lines_read ls h = ap lines_of (lines_joined ls) ∙ ap but_last (closed_cut ls h) ∙ but_last_more ls []
 
-some_same : {X : Type 0} (x y : X) → Some x ≡ Some y → x ≡ y
+pub some_same : {X : Type 0} (x y : X) → Some x ≡ Some y → x ≡ y
 some_same x y e = cc
 
 last_alone : (p : List ℕ) (ls : List (List ℕ)) → but_last (p ∷ []) ≡ Some ls → closed ls ≡ p ∷ []

@@ -16,9 +16,7 @@ use Rattle.shown_texts.specs.Numbers.{u8_max, u16_max, u32_max, number_of}
 use Rattle.shown_texts.specs.Marks.{site_text, mark_text, site_from, site_of_parts, site_of, mark_from, mark_of_parts, mark_of, is_site, is_mark, reason_name, reason_among, all_reasons, reason_of}
 use Rattle.shown_texts.proofs.Cuts.{joined_cut}
 use Rattle.shown_texts.proofs.Numerals.{number_read, number_spelled, decimal_lacks}
-
-some_same : {X : Type 0} (x y : X) → Some x ≡ Some y → x ≡ y
-some_same x y e = cc
+use Rattle.shown_texts.proofs.LineTexts.{some_same}
 
 -- a number that fits has no colon
 fitting_lacks : (most n : ℕ) → most < 2 ^ 64 → nat_le n most ≡ true → lacks 58 (decimal n) ≡ true

@@ -9,6 +9,7 @@ use Rattle.std.proofs.lemmas.Fmt.{digits_decimal, digits_value-decimal, decimal-
 use Rattle.shown_texts.specs.Numbers.{is_digit, is_numeral, number_of}
 use Rattle.shown_texts.specs.Parts.{lacks}
 use Rattle.shown_texts.proofs.Lists.{all_weaker}
+use Rattle.shown_texts.proofs.LineTexts.{some_same}
 
 -- digits, as the test tells them
 abbrev AreDigits : List ℕ → Type 0
@@ -58,9 +59,6 @@ led_alone text h e = step (nat_eq (length text) 1) refl h
     step : (t : Bool) → nat_eq (length text) 1 ≡ t → (t || not (slice_index text 0 == 48)) ≡ true → length text ≡ 1
     step true d h = eqb-true (length text) 1 d
     step false d h = let z = eq-eqb (get_or text 0 0) 48 e in cc
-
-some_same : {X : Type 0} (x y : X) → Some x ≡ Some y → x ≡ y
-some_same x y e = cc
 
 pub number_spelled : (most : ℕ) (text : List ℕ) (n : ℕ) → most < 2 ^ 64 → number_of most text ≡ Some n → decimal n ≡ text
 number_spelled most text n fits e = step (is_numeral text && nat_le (digits_value 10 text) most) refl e

@@ -13,6 +13,7 @@ use Rattle.shown_texts.specs.Paths.{after_slash, path_text, if_name, name_of, na
 use Rattle.shown_texts.proofs.Lists.{all_both}
 use Rattle.shown_texts.proofs.Cuts.{joined_cut}
 use Rattle.shown_texts.proofs.Spelled.{show_read, show_spelled, show_filled}
+use Rattle.shown_texts.proofs.LineTexts.{some_same}
 
 -- each name after a slash
 pub slashes_joined : (name : List ℕ) (names : List (List ℕ)) → flat_map after_slash (name ∷ names) ≡ path_text (name ∷ names)
@@ -78,9 +79,6 @@ names_read done (name ∷ names) h =
     let k = and_parts (is_representable_name name) (list_all is_representable_name names) h in
     ap (option_and_then (λ n. names_onto (done ++ n ∷ []) (map show names))) (name_read name k.0)
     ∙ names_read (done ++ name ∷ []) names k.1 ∙ ap Some (append_assoc done (name ∷ []) names)
-
-some_same : {X : Type 0} (x y : X) → Some x ≡ Some y → x ≡ y
-some_same x y e = cc
 
 if_name_same : (bytes name : List ℕ) → if_name bytes ≡ Some name → bytes ≡ name
 if_name_same bytes name e = step (is_name bytes) e

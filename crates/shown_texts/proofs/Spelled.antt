@@ -9,6 +9,7 @@ use Rattle.script_names.specs.Paths.{is_filled}
 use Rattle.shown_texts.specs.Show.{is_shown, is_literal, hex_digit, hex_value, shown_byte, show, escaped, bytes_after, if_spelled, shown_of}
 use Rattle.shown_texts.proofs.Apart.{shown_apart}
 use Rattle.shown_texts.proofs.Lists.{all_both}
+use Rattle.shown_texts.proofs.LineTexts.{some_same}
 
 abbrev pub is_byte : ℕ → Bool
 is_byte b = nat_lt b 256
@@ -25,7 +26,7 @@ hex_back d small = step (nat_lt d 10) refl
         let same : (d + 87 - 87) % 16 ≡ d = omega arith in
         ap (λ t. (if t then d + 87 - 48 else d + 87 - 87) % 16) l ∙ same
 
-no_backslash : (b : ℕ) → is_literal b ≡ true → (b == 92) ≡ false
+pub no_backslash : (b : ℕ) → is_literal b ≡ true → (b == 92) ≡ false
 no_backslash b h = step (b == 92) refl
   where
     step : (t : Bool) → (b == 92) ≡ t → t ≡ false
@@ -54,9 +55,6 @@ same_bytes xs = (bytes_eq-Decides xs xs).1 refl
 
 equal_bytes : (xs ys : List ℕ) → bytes_eq xs ys ≡ true → xs ≡ ys
 equal_bytes xs ys e = (bytes_eq-Decides xs ys).0 e
-
-some_same : {X : Type 0} (x y : X) → Some x ≡ Some y → x ≡ y
-some_same x y e = cc
 
 -- the spelling of bytes is read as the bytes
 pub show_read : (bs : List ℕ) → list_all is_byte bs ≡ true → shown_of (show bs) ≡ Some bs

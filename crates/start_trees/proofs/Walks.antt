@@ -13,6 +13,7 @@ use Rattle.clause_solver.specs.Pairs.{HasPair}
 use Rattle.start_trees.specs.declared.need.Wanted.{Wanted}
 use Rattle.start_trees.specs.declared.need.Wanted.TheVariants as wanted
 use Rattle.start_trees.specs.Needs.{IsWanted, Leaves}
+use Rattle.feature_trees.proofs.Laws.{at-append}
 
 -- values of the first variables
 
@@ -44,10 +45,6 @@ current_known : (s : Seen) (t : Value) (g : Valuation) → Stands s t g → s.cu
 current_known s t g st =
     let inside : s.current < length g = below s.current (length g) (λ le. not_dir _ (absent_past g s.current le) st.ends) in
     omega (arith, inside, st.counted)
-
-at-append : (v : Value) (p q : List (List ℕ)) → at v (p ++ q) ≡ at (at v p) q
-at-append v [] q = refl
-at-append v (f ∷ p) q = at-append (entry v f) p q
 
 take_counted : (g : Valuation) (n : ℕ) → length g ≡ n → take n g ≡ g
 take_counted g n e = grind (arith, common_steps)

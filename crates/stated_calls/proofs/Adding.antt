@@ -7,12 +7,13 @@ use Rattle.shell_forms.specs.Names.{Text}
 use Rattle.stated_calls.specs.declared.stated_call.StatedCall.{StatedCall}
 use Rattle.stated_calls.specs.Names.{can_be_stated}
 use Rattle.stated_calls.specs.Calls.{is_stated, are_stated}
+use Rattle.stated_calls.proofs.Commutes.{no_left, no_right}
 
 or_nothing : (b : Bool) → (b || false) ≡ b
 or_nothing true = refl
 or_nothing false = refl
 
-or_apart : (a b d : Bool) → (a || (b || d)) ≡ ((a || b) || d)
+pub or_apart : (a b d : Bool) → (a || (b || d)) ≡ ((a || b) || d)
 or_apart true b d = refl
 or_apart false b d = refl
 
@@ -24,14 +25,6 @@ stated_end x (call ∷ calls) new =
 other_way : (b : Bool) (x y : Text) → bytes_eq x y ≡ false → bytes_eq y x ≡ b → b ≡ false
 other_way true x y e h = absurd (cc (sym ((bytes_eq-Decides x y).1 (sym ((bytes_eq-Decides y x).0 h))) ∙ e))
 other_way false x y e h = refl
-
-no_left : (b d : Bool) → (b || d) ≡ false → b ≡ false
-no_left true d e = absurd (cc e)
-no_left false d e = refl
-
-no_right : (b d : Bool) → (b || d) ≡ false → d ≡ false
-no_right true d e = absurd (cc e)
-no_right false d e = e
 
 neither : (b d : Bool) → not b ≡ true → d ≡ false → not (b || d) ≡ true
 neither true d h e = absurd (cc h)

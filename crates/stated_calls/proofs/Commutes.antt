@@ -42,7 +42,9 @@ use Rattle.stated_calls.specs.Scripts.{renamed, static_read_as, command_read, pa
 use Rattle.stated_calls.specs.Scripts as read
 use Rattle.stated_calls.specs.Programs.{str_bytes, piece_bytes, static_pieces, static_fields, stmt_read, str_read, piece_read, fields_read, set_read, link_read as part_of_chain_read, arm_read, case_arm_read as pat_read, def_read}
 use Rattle.stated_calls.specs.Programs as co
-use Rattle.stated_calls.proofs.Nodes.{cong2, cong_cons, stmt_at, str_at, set_at, link_at, arm_at, case_arm_at, skip_read, seq_read, chain_read, if_read, assigned_read, redirected_read, not_read, condition_read, body_read, literal_read, join_read, output_read, plain_read, quoted_read, expansion_read, if_word_read}
+use Rattle.stated_calls.proofs.Nodes.{stmt_at, str_at, set_at, link_at, arm_at, case_arm_at, skip_read, seq_read, chain_read, if_read, assigned_read, redirected_read, not_read, condition_read, body_read, literal_read, join_read, output_read, plain_read, quoted_read, expansion_read, if_word_read}
+use Rattle.shell_to_colis.proofs.Nodes.{cong_cons, cong2}
+use Rattle.shell_to_colis.proofs.Statics.{Layer}
 
 -- ---- what a static word becomes
 
@@ -92,9 +94,6 @@ parameter_bytes key.Count = count_bytes
 default_bytes : (d : Option Text) (k : Key) → str_bytes (default_to d (parameter_to k)) ≡ None
 default_bytes None k = parameter_bytes k
 default_bytes (Some b) k = or_bytes (parameter_to k) b
-
-abbrev Layer : Type 0
-Layer = o.Part-F Command Part Assign CaseArm IfArm Link Word
 
 record Stands (t : PartTo) : Type 0 where
   bytes : (defs : List Def) → piece_bytes (piece_of t.quoting (t.value defs)) ≡ t.bytes

@@ -16,7 +16,7 @@ use Rattle.stated_calls.specs.declared.stated_call.StatedCall.{StatedCall}
 use Rattle.stated_calls.specs.Calls.{read_as}
 use Rattle.stated_calls.specs.Scripts.{renamed, static_read_as, command_read, part_read, assign_read, case_arm_read, if_arm_read, link_read, word_read}
 use Rattle.stated_calls.specs.Scripts as read
-use Rattle.stated_calls.proofs.Nodes.{cong2, cong_cons}
+use Rattle.shell_to_colis.proofs.Nodes.{cong_cons, cong2}
 use Rattle.stated_calls.proofs.Commutes.{named_layer, read_layer, read_at, read_part_layer, part_read_at}
 
 module _ (calls : List StatedCall) (CA PA AA KA IA LA WA : Type 0)

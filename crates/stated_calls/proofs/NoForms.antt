@@ -27,14 +27,12 @@ use Rattle.stated_calls.specs.declared.stated_call.StatedCall.{StatedCall}
 use Rattle.stated_calls.specs.Calls.{are_stated, read_as}
 use Rattle.stated_calls.specs.Defined.{in_script}
 use Rattle.stated_calls.specs.Scripts.{renamed, static_read_as, command_read, stated_script}
-use Rattle.stated_calls.proofs.Nodes.{cong2}
+use Rattle.shell_to_colis.proofs.Nodes.{cong2}
 use Rattle.stated_calls.proofs.Commutes.{Sound, is_special, no_left, no_right, Named, named_so}
 use Rattle.stated_calls.proofs.FoldsKept.{Same, fold_kept}
 use Rattle.stated_calls.proofs.Within.{no_other}
 use Rattle.stated_calls.proofs.WholeScript.{fresh, sound_left}
-
-abbrev Layer : Type 0
-Layer = o.Part-F Command Part Assign CaseArm IfArm Link Word
+use Rattle.shell_to_colis.proofs.Statics.{Layer}
 
 -- both of two texts
 both_there : (a b : Option Text) (n : Text) → both_bytes a b ≡ Some n → ((m : Text) × (a ≡ Some m)) × ((m : Text) × (b ≡ Some m))

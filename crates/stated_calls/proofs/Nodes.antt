@@ -22,12 +22,6 @@ use Rattle.shell_to_colis.specs.Translated.{piece_of, expansion, assigned_to, re
 use Rattle.stated_calls.specs.declared.stated_call.StatedCall.{StatedCall}
 use Rattle.stated_calls.specs.Programs.{named, fields_layer, stmt_layer, str_layer, piece_layer, link_layer, case_arm_layer, set_layer, arm_layer, fields_read, stmt_read, str_read, piece_read, link_read, case_arm_read, set_read, arm_read}
 
-pub cong2 : {A B C : Type 0} (h : A → B → C) {a a' : A} {b b' : B} → a ≡ a' → b ≡ b' → h a b ≡ h a' b'
-cong2 h p q = λ i. h (p i) (q i)
-
-pub cong_cons : {A : Type 0} {a a' : A} {b b' : List A} → a ≡ a' → b ≡ b' → (a ∷ b) ≡ (a' ∷ b')
-cong_cons p q = λ i. p i ∷ q i
-
 module _ (calls : List StatedCall) where
   pub stmt_at : (x : c.Stmt-F Fields Stmt Str StrPiece ChainPart PatArm SetTo StmtArm) (q : Stmt) → roll-Stmt x ≡ q
       → stmt_read calls q ≡ stmt_layer calls (map-Stmt Fields Stmt Str StrPiece ChainPart PatArm SetTo StmtArm Fields Stmt Str StrPiece ChainPart PatArm SetTo StmtArm (fields_read calls) (stmt_read calls) (str_read calls) (piece_read calls) (link_read calls) (case_arm_read calls) (set_read calls) (arm_read calls) x)

@@ -1,11 +1,12 @@
 -- The bytes of a static word, piece by piece.
-use Rattle.std.proofs.Common.{◌≡◌, ℕ, suc, ◌+◌, ◌<◌, ◌≤◌, List, [], ◌∷◌, ◌++◌, length, drop, get_or, Option, Some, None, refl, sym, ap, ◌∙◌, add-one}
+use Rattle.std.proofs.Common.{◌≡◌, ℕ, suc, ◌+◌, ◌<◌, ◌≤◌, List, [], ◌∷◌, ◌++◌, length, drop, get_or, Option, Some, None, sym, ap, ◌∙◌, add-one}
 use Rattle.std.proofs.Math.Seq.{drop-cons}
-use Rattle.std.proofs.lemmas.List.{append_assoc, append-nil, drop_all}
+use Rattle.std.proofs.lemmas.List.{append-nil, drop_all}
 use Rattle.colis_syntax.specs.declared.syntax.StrPiece.{StrPiece}
 use Rattle.shell_forms.specs.Names.{Text}
 use Rattle.shell_forms.specs.Words.{both_bytes}
 use Rattle.stated_calls.specs.Programs.{piece_bytes, static_pieces}
+use Rattle.shell_forms.proofs.Static.{both_both}
 
 -- one piece further on
 at_piece : (pieces : List StrPiece) (i : ℕ) (piece : StrPiece) → i < length pieces → piece ≡ get_or pieces i piece
@@ -13,10 +14,6 @@ at_piece : (pieces : List StrPiece) (i : ℕ) (piece : StrPiece) → i < length 
 at_piece pieces i piece lt is =
     ap static_pieces (drop-cons pieces i piece lt) ∙ ap (λ p. both_bytes (piece_bytes p) (static_pieces (drop (suc i) pieces))) (sym is)
     ∙ ap (λ n. both_bytes (piece_bytes piece) (static_pieces (drop n pieces))) (sym (add-one i))
-
-both_both : (text bytes : Text) (rest : Option Text) → both_bytes (Some text) (both_bytes (Some bytes) rest) ≡ both_bytes (Some (text ++ bytes)) rest
-both_both text bytes None = refl
-both_both text bytes (Some more) = ap Some (sym (append_assoc text bytes more))
 
 -- a piece that stands for bytes
 pub static_more : (all : Option Text) (pieces : List StrPiece) (i : ℕ) (piece : StrPiece) (text bytes : Text) → i < length pieces → piece ≡ get_or pieces i piece
@@ -39,8 +36,3 @@ pub static_end : (all : Option Text) (pieces : List StrPiece) (i : ℕ) (text : 
     → both_bytes (Some text) (static_pieces (drop i pieces)) ≡ all → Some text ≡ all
 static_end all pieces i text end so_far =
     ap Some (sym (append-nil text)) ∙ ap (λ ps. both_bytes (Some text) (static_pieces ps)) (sym (drop_all i pieces end)) ∙ so_far
-
--- at the beginning
-pub static_start : (whole : Option Text) → both_bytes (Some []) whole ≡ whole
-static_start None = refl
-static_start (Some bytes) = refl

@@ -26,19 +26,12 @@ use Rattle.stated_calls.specs.Calls.{read_as}
 use Rattle.stated_calls.specs.Scripts.{static_read_as}
 use Rattle.stated_calls.specs.Programs.{str_bytes, piece_bytes, static_pieces, static_fields, renamed, named, fields_read, stmt_read, str_read, piece_read, link_read, case_arm_read, set_read, arm_read, def_read, in_program, stated_program}
 use Rattle.stated_calls.specs.Programs as co
-use Rattle.stated_calls.proofs.Nodes.{cong2, fields_at, str_at, piece_at}
+use Rattle.stated_calls.proofs.Nodes.{fields_at, str_at, piece_at}
+use Rattle.shell_to_colis.proofs.Nodes.{cong2, StrLayer, PieceLayer, FieldsLayer}
 use Rattle.stated_calls.proofs.Commutes.{names_kept}
+use Rattle.shell_to_colis.proofs.Made.{or_this}
 
 -- ---- a static word passes everywhere
-
-abbrev FieldsLayer : Type 0
-FieldsLayer = c.Fields-F Fields Stmt Str StrPiece ChainPart PatArm SetTo StmtArm
-
-abbrev PieceLayer : Type 0
-PieceLayer = c.StrPiece-F Fields Stmt Str StrPiece ChainPart PatArm SetTo StmtArm
-
-abbrev StrLayer : Type 0
-StrLayer = c.Str-F Fields Stmt Str StrPiece ChainPart PatArm SetTo StmtArm
 
 fields_passes_at : (x : FieldsLayer) (s : Scope) → field_passes (roll-Fields x) s ≡ wf.fields_layer (map-Fields Fields Stmt Str StrPiece ChainPart PatArm SetTo StmtArm _ _ _ _ _ _ _ _ field_passes stmt_passes str_passes piece_passes part_passes pat_arm_passes set_passes arm_passes x) s
 fields_passes_at x s = ap (λ (t : Test). t s) (fold-roll-Fields Test Test Test Test Test Test Test Test wf.fields_layer wf.stmt_layer wf.str_layer wf.piece_layer wf.part_layer wf.pat_arm_layer wf.set_layer wf.arm_layer x)
@@ -397,10 +390,6 @@ module _ (calls : List StatedCall) where
   is_made r strict defs made body whole new d b e =
       new ∙ cong2 (program_of strict) d b
       ∙ ap (λ (w : Bool). if w then Some (record { strict = strict; defs = behind defs; body = stmt_read calls body }) else None) (well_formed_kept defs body ∙ e)
-
-abbrev or_this : Option ProgramParts → ProgramParts → ProgramParts
-or_this None d = d
-or_this (Some x) d = x
 
 -- a program under stated calls is made of what was read, and is well formed
 module _ (calls : List StatedCall) (program : ProgramParts) (left : List StatedCall) (made : List Def) (whole : Stmt) (r : Option ProgramParts)

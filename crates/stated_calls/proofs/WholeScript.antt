@@ -38,8 +38,11 @@ use Rattle.stated_calls.specs.Defined.{is_function, defines, in_script}
 use Rattle.stated_calls.specs.Scripts.{command_read, stated_script}
 use Rattle.stated_calls.specs.Scripts as read
 use Rattle.stated_calls.specs.Programs.{stmt_read, def_read, in_program, stated_program}
-use Rattle.stated_calls.proofs.Nodes.{cong2, cong_cons, seq_read}
+use Rattle.stated_calls.proofs.Nodes.{seq_read}
+use Rattle.shell_to_colis.proofs.Nodes.{cong_cons, cong2}
 use Rattle.stated_calls.proofs.Commutes.{Sound, Clear, is_special, names_kept, no_left, no_right, named_layer, read_layer, read_at, translated_same}
+use Rattle.shell_to_colis.proofs.SameScript.{or_no as or_nothing}
+use Rattle.stated_calls.proofs.Adding.{or_apart as or_more}
 
 abbrev X : Type 0
 X = o.Command-F Command Part Assign CaseArm IfArm Link Word
@@ -92,14 +95,6 @@ module _ (calls : List StatedCall) where
   members_read m = ap (layer_members (command_read calls m)) (out_read m) ∙ layer_members_read m (out-Command m)
 
 -- ---- which functions a program has
-
-or_nothing : (b : Bool) → b ≡ (b || false)
-or_nothing true = refl
-or_nothing false = refl
-
-or_more : (a b d : Bool) → (a || (b || d)) ≡ ((a || b) || d)
-or_more true b d = refl
-or_more false b d = refl
 
 def_end : (x : Text) (defs : List Def) (d : Def) → is_def x (defs ++ d ∷ []) ≡ (is_def x defs || bytes_eq d.name x)
 def_end x [] d = sym (or_nothing (bytes_eq d.name x))

@@ -24,21 +24,11 @@ use Rattle.shell_forms.specs.declared.place.Standing.{Standing}
 use Rattle.shell_forms.specs.declared.place.Standing.TheVariants.{Whole, Member, Within}
 use Rattle.shell_to_colis.specs.Members.{layer_defines, defined_by, layer_members, members_of}
 use Rattle.stated_calls.specs.Defined.{is_function, defines}
-use Rattle.stated_calls.proofs.Nodes.{cong2}
+use Rattle.shell_to_colis.proofs.Nodes.{cong2}
+use Rattle.shell_to_colis.proofs.Passes.{no_front, no_back, not_when as no_when}
+use Rattle.stated_calls.proofs.Commutes.{no_left, no_right}
 
 -- ---- lists without items
-
-no_front : {A : Type 0} (xs ys : List A) → xs ++ ys ≡ [] → xs ≡ []
-no_front [] ys e = refl
-no_front (x ∷ xs) ys e = absurd (cc e)
-
-no_back : {A : Type 0} (xs ys : List A) → xs ++ ys ≡ [] → ys ≡ []
-no_back [] ys e = e
-no_back (x ∷ xs) ys e = absurd (cc e)
-
-no_when : (b : Bool) (f : _) (at : ℕ) → when b f at ≡ [] → b ≡ false
-no_when true f at e = absurd (cc e)
-no_when false f at e = refl
 
 -- where what each item gives is nothing, so is what all give
 none_of : {A S : Type 0} (Q : A → Type 0) (g : A → S) (h : S → List Found) (d : A → Definitions) (known : (x : A) → Q x → h (g x) ≡ [] → d x ≡ [])
@@ -61,14 +51,6 @@ first_none (d ∷ ds) es x h k =
     let own = if bytes_eq d.0 x then Some d.1 else None in
     let t = both_none own (first_of ds x) h in
     cong2 lesser t.0 (first_none ds es x t.1 k)
-
-no_left : (b d : Bool) → (b || d) ≡ false → b ≡ false
-no_left true d e = absurd (cc e)
-no_left false d e = refl
-
-no_right : (b d : Bool) → (b || d) ≡ false → d ≡ false
-no_right true d e = absurd (cc e)
-no_right false d e = e
 
 -- ---- commands by where they stand
 

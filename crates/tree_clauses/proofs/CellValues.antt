@@ -9,12 +9,11 @@ use Rattle.feature_trees.specs.declared.value.Value.{Value}
 use Rattle.feature_trees.specs.declared.value.Value.TheVariants as value
 use Rattle.feature_trees.specs.Sound.{sound, sound_all}
 use Rattle.feature_trees.specs.Tree.{update, entries_of}
-use Rattle.feature_trees.proofs.Kept.{sound-update}
+use Rattle.feature_trees.proofs.Kept.{sound-update, sound_entries}
 use Rattle.tree_clauses.specs.declared.cell.Edit.{Edit}
 use Rattle.tree_clauses.specs.declared.cell.Cell.{Cell}
 use Rattle.tree_clauses.specs.declared.cell.Cell.TheVariants as cell
 use Rattle.tree_clauses.specs.Cells.{value_at, edited, cell_value, values_onto, values_of, AreBelow, IsBelow, AreInOrder, AreSound, AreCells, IsSeenSound, IsPlaced}
-use Rattle.tree_clauses.proofs.Values.{sound_entries}
 use Rattle.tree_clauses.proofs.Valuations.{sound_at}
 
 -- as many values as cells

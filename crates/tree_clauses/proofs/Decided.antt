@@ -54,7 +54,7 @@ fenced_by v names left n s e l =
       λ h. same_yes n 0 (l ∙ ap length (e ∙ both.1 h)),
     )
 
-dir_from : (v : Value) → is_dir v ≡ true → kind_of v ≡ kind.Dir
+pub dir_from : (v : Value) → is_dir v ≡ true → kind_of v ≡ kind.Dir
 dir_from Absent e = cc
 dir_from Reg e = cc
 dir_from (Link b) e = cc

@@ -5,7 +5,6 @@ use Rattle.std.specs.Prelude.{◌&&◌}
 use Rattle.std.specs.Option.{option_map}
 use Rattle.std.proofs.lemmas.Bool.{and_parts, and_from}
 use Rattle.feature_trees.specs.declared.value.Value.{Value}
-use Rattle.feature_trees.specs.declared.value.Value.TheVariants.{Absent, Reg, Link, Other, Dir}
 use Rattle.feature_trees.specs.declared.kind.Kind.TheVariants as kind
 use Rattle.feature_trees.specs.Tree.{kind_of, is_dir}
 use Rattle.feature_trees.specs.Sound.{sound}
@@ -19,6 +18,8 @@ use Rattle.tree_clauses.specs.Steps.{Known, IsThere, AreKnown, Agrees, CanBe, Gi
 use Rattle.tree_clauses.proofs.Names.{nat_cases}
 use Rattle.tree_clauses.proofs.Orders.{contains_head, contains_tail, contains_cases, contains_nothing}
 use Rattle.tree_clauses.proofs.Valuations.{put_value, put_same, put_other, put_sound, none_sound}
+use Rattle.feature_trees.proofs.FirstFaults.{kind_dir as dir_to}
+use Rattle.tree_clauses.proofs.Decided.{dir_from}
 
 -- the subject of a literal whose variables are known is known
 pub subject_known : (numbers : List ℕ) (literal : Literal) → AllKnown numbers literal → Contains numbers (subject literal)
@@ -203,20 +204,6 @@ ends_unknown start tree all known holds now h e k =
     let same : h.numbers ≡ left.0 = opened left.1 in
     is_not known now e ((h.are now).0 (subst (λ ns. Contains ns now) (sym same) left.2))
 
-dir_from : (v : Value) → is_dir v ≡ true → kind_of v ≡ kind.Dir
-dir_from Absent e = cc
-dir_from Reg e = cc
-dir_from (Link b) e = cc
-dir_from Other e = cc
-dir_from (Dir es) e = refl
-
-dir_to : (v : Value) → kind_of v ≡ kind.Dir → is_dir v ≡ true
-dir_to Absent e = cc
-dir_to Reg e = cc
-dir_to (Link b) e = cc
-dir_to Other e = cc
-dir_to (Dir es) e = refl
-
 pub ends_known : (clause : Clause) (tree : Value) (known : Known) (holds : Bool) (v : Value) → Going clause.start.0 tree clause.literals known [] holds → known clause.now.0 ≡ Some v → Decides clause tree (Some (holds && is_dir v))
 ends_known clause tree known holds v h e =
     let now = clause.now.0 in
@@ -283,7 +270,7 @@ stops_at start tree all known new (l ∷ ls) n literal holds now same w is h p =
     let p'' : StepIs known new l ls None = subst (λ x. StepIs known new x ls None) is p' in
     stops start tree all known new l ls holds now h p''
 
-nothing_left : (left : List Literal) → length left < 1 → left ≡ []
+pub nothing_left : (left : List Literal) → length left < 1 → left ≡ []
 nothing_left [] w = refl
 nothing_left (l ∷ ls) w = absurd (omega arith)
 

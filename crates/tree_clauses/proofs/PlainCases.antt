@@ -10,10 +10,10 @@ use Rattle.tree_clauses.specs.Plain.{PlainOrder, done, entry, absent, reg, link,
 use Rattle.tree_clauses.proofs.Orders.{contains_head, contains_tail}
 
 -- a set of no name, or of one, is in order
-none_in_order : IsInOrder [] []
+pub none_in_order : IsInOrder [] []
 none_in_order = record { rises = tt; same = λ f. (λ c. c, λ c. c) }
 
-one_in_order : (f : List ℕ) → IsInOrder (f ∷ []) (f ∷ [])
+pub one_in_order : (f : List ℕ) → IsInOrder (f ∷ []) (f ∷ [])
 one_in_order f = record { rises = tt; same = λ g. (λ c. c, λ c. c) }
 
 solves : {before literals : List Literal} {known after : List ℕ} → PlainOrder before known literals after → Solves known literals after

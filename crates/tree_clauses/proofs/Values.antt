@@ -8,7 +8,7 @@ use Rattle.feature_trees.specs.declared.value.Value.TheVariants.{Absent, Reg, Li
 use Rattle.feature_trees.specs.Tree.{entry, kind_of, find, update, entries_of}
 use Rattle.feature_trees.specs.Sound.{sound, sound_all}
 use Rattle.feature_trees.proofs.Laws.{Rises, rises_of, find-update_same, find-update_other}
-use Rattle.feature_trees.proofs.Kept.{sound-update, same_finds}
+use Rattle.feature_trees.proofs.Kept.{sound-update, same_finds, sound_entries}
 use Rattle.tree_clauses.specs.Literals.{AgreesOutside}
 use Rattle.tree_clauses.proofs.Names.{name_cases}
 
@@ -74,13 +74,6 @@ entry_is Reg f = refl
 entry_is (Link b) f = refl
 entry_is Other f = refl
 entry_is (Dir es) f = refl
-
-pub sound_entries : (v : Value) → IsTrue (sound v) → IsTrue (sound_all (entries_of v))
-sound_entries Absent s = refl
-sound_entries Reg s = refl
-sound_entries (Link b) s = refl
-sound_entries Other s = refl
-sound_entries (Dir es) s = s
 
 pub rises_entries : (v : Value) → IsTrue (sound v) → Rises (entries_of v)
 rises_entries v s = rises_of (entries_of v) (sound_entries v s)

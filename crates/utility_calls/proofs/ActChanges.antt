@@ -28,7 +28,7 @@ abbrev all_rules : (Row → Bool) → List Rule → Bool
 all_rules p [] = true
 all_rules p (r ∷ rs) = p (row_of r) && all_rules p rs
 
-both_true : (a b : Bool) → (a && b) ≡ true → (a ≡ true) × (b ≡ true)
+pub both_true : (a b : Bool) → (a && b) ≡ true → (a ≡ true) × (b ≡ true)
 both_true true b e = (refl, e)
 both_true false b e = absurd (cc)
 
@@ -205,7 +205,7 @@ dir_stays act tree performed t = effect_dir (row act tree).effect act tree (name
 
 -- ---- a sound tree stays sound
 
-at_sound : (names : List (List ℕ)) (v : Value) → IsTrue (sound v) → IsTrue (sound (at v names))
+pub at_sound : (names : List (List ℕ)) (v : Value) → IsTrue (sound v) → IsTrue (sound (at v names))
 at_sound [] v s = s
 at_sound (f ∷ rest) v s = at_sound rest (entry v f) (sound-entry v f s)
 

@@ -17,6 +17,7 @@ use Rattle.utility_calls.specs.Table.{Rule, rules, rule_holds, row_of, first_row
 use Rattle.utility_calls.specs.Acts.{path_of, place_of, inner_of, source_of, is_prefix, is_below, is_there, second_link, by_way, by_slash, slash_row, sight_on, own_row, row, IsPerformed}
 use Rattle.utility_calls.specs.ActRows.{IsAmong, FitsSlash, Reaches, LooksAtWay, Applies, on_way, at_slash, on_second_way, own}
 use Rattle.utility_calls.proofs.Ways.{Found, IsFirstLink, found, counted}
+use Rattle.utility_calls.proofs.ActChanges.{both_true}
 
 -- ---- how many rows of a table hold
 
@@ -84,10 +85,6 @@ all_bools f = f false && f true
 
 abbrev pub all_kinds : (Kind → Bool) → Bool
 all_kinds f = f Absent && (f Reg && (f Link && (f Other && f Dir)))
-
-both_true : (a b : Bool) → (a && b) ≡ true → (a ≡ true) × (b ≡ true)
-both_true true b e = (refl, e)
-both_true false b e = absurd (cc)
 
 pub each_bool : (f : Bool → Bool) → all_bools f ≡ true → (b : Bool) → f b ≡ true
 each_bool f h false = (both_true (f false) (f true) h).0
@@ -246,7 +243,7 @@ slash_is true Link r h na nd = refl
 slash_is true Other r h na nd = refl
 slash_is true Dir r h na nd = absurd (nd refl)
 
-no_slash_is : (s : Bool) (k : Kind) (r : Row) → (IsTrue s → (k ≡ Absent) ⊎ (k ≡ Dir)) → by_slash s k r ≡ r
+pub no_slash_is : (s : Bool) (k : Kind) (r : Row) → (IsTrue s → (k ≡ Absent) ⊎ (k ≡ Dir)) → by_slash s k r ≡ r
 no_slash_is false k r h = refl
 no_slash_is true k r h = elim (h refl) [ inl e ↦ ap (λ x. by_slash true x r) e | inr e ↦ ap (λ x. by_slash true x r) e ]
 

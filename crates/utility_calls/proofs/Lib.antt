@@ -1,5 +1,4 @@
 pub mod Ways
-pub mod Lasts
 pub mod Plans
 pub mod ActRow
 pub mod ActChanges

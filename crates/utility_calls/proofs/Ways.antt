@@ -84,7 +84,7 @@ found (f ∷ g ∷ rest) v c = elim (link_or_not (kind_of (entry v f))) [
 
 -- ---- directories above a path
 
-nothing_within : (p : List (List ℕ)) → in_dir value.Absent p ≡ false
+pub nothing_within : (p : List (List ℕ)) → in_dir value.Absent p ≡ false
 nothing_within [] = refl
 nothing_within (f ∷ []) = refl
 nothing_within (f ∷ g ∷ rest) = nothing_within (g ∷ rest)

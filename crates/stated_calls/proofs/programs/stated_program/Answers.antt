@@ -1,7 +1,7 @@
 use Rattle.std.proofs.Common.{◌≡◌, sym, ap, ◌∙◌, map}
 use Rattle.colis_syntax.specs.WellFormed.{program_of}
 use Rattle.stated_calls.specs.Programs.{in_program, def_read, stmt_read}
-use Rattle.stated_calls.proofs.Nodes.{cong2}
+use Rattle.shell_to_colis.proofs.Nodes.{cong2}
 use Rattle.stated_calls.proofs.WellFormed.{never, same}
 use Rattle.stated_calls.proofs.programs.stated_program.Goals as goal
 

@@ -1,7 +1,8 @@
 use Rattle.std.proofs.Common.{◌≡◌, Some, ap, sym, ◌∙◌, arith, drop, ◌++◌, ◌+◌}
 use Rattle.shell_forms.specs.Words.{both_bytes}
 use Rattle.stated_calls.specs.Programs.{static_pieces, piece_bytes}
-use Rattle.stated_calls.proofs.StaticPieces.{static_more, static_not, static_end, static_start}
+use Rattle.stated_calls.proofs.StaticPieces.{static_more, static_not, static_end}
+use Rattle.shell_forms.proofs.Static.{static_start}
 use Rattle.stated_calls.proofs.programs.static_pieces.Goals as goal
 
 pub loop-piece-init : goal.loop-piece-init

@@ -3,7 +3,7 @@ use Rattle.std.specs.Option.{option_map, option_map_or}
 use Rattle.std.proofs.lemmas.Iterator.Consumers.{YieldsList-at, YieldsList-from_filter}
 use Rattle.std.proofs.lemmas.Iterator.Splits.{YieldsList-from_slice_split}
 use Rattle.script_names.specs.Paths.{is_filled, is_slash}
-use Rattle.utility_calls.proofs.Lasts.{last_from_yields}
+use Rattle.script_names.proofs.Parts.{last_from_yields}
 use Rattle.utility_calls.proofs.pairs.last_component.Goals as goal
 
 pub returns-in-Some : goal.returns-in-Some
