@@ -12,7 +12,7 @@ use Rattle.std.proofs.lemmas.Map.Text.{is_eq-slice_cmp}
 use Rattle.std.proofs.lemmas.Slice.Eq.{bytes_eq-Decides}
 use Rattle.std.proofs.lemmas.Bool.{false_from_ne_true}
 use Rattle.shell_forms.proofs.Added.{equal, differ}
-use Rattle.shell_words.proofs.Named.{names as texts}
+pub use Rattle.shell_words.proofs.Named.{names as texts}
 
 same_text : (q text : List ℕ) → eq_by_cmp texts q text ≡ true → q ≡ text
 same_text q text e = slice_cmp-IsAntisymmetric nat_cmp-IsAntisymmetric q text (equal _ e)
