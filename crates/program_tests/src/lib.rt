@@ -4,6 +4,10 @@
 #![tactic(auto)]
 
 #[cfg(test)]
+mod pages;
+#[cfg(test)]
+mod programs;
+#[cfg(test)]
 mod runs;
 #[cfg(test)]
 mod texts;

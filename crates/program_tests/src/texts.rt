@@ -1,10 +1,8 @@
 //! Programs as text, and texts that are no program, by hand.
 
-use colis_reader::{ProgramFault, read_program};
-use colis_syntax::print_program;
-use script_names::{Bytes, Memory};
+use crate::pages::line;
+use crate::programs::{is_none_in, prints, program_in};
 use std::alloc::Global;
-use std::test::Fail;
 
 // A program a line, without its newline.
 const PROGRAMS: &str = r#"(program lax (skip))
@@ -210,52 +208,41 @@ const WRONG_ENDS: &[(&[u8], &str)] = &[
     (b"(program lax (skip)\0)\n", "a byte of value 0"),
 ];
 
-// A line, with its newline.
-fn line(alloc: Global, row: &str) -> Result<Bytes, Memory> {
-    let mut text = Bytes::from_slice(alloc, row.as_bytes())?;
-    text.push(b'\n')?;
-    Ok(text)
+// Whether there is a program with the text of a line, and it is printed with the same text.
+fn is_again(alloc: Global, row: &str) -> bool {
+    let text = line(alloc, row);
+    let found = program_in(alloc, text.text.as_slice());
+    prints(alloc, found.get(), &text)
 }
 
-// Whether the program with this text is printed with the same text; None where there is no such program.
-fn is_again(alloc: Global, text: &[u8]) -> Result<Option<bool>, ProgramFault> {
-    match read_program(alloc, text) {
-        Ok(program) => {
-            let again = print_program(alloc, &program)?;
-            Ok(Some(again.as_slice() == text))
+// Whether the line behind the reason is no program.
+fn is_wrong(alloc: Global, row: &str) -> bool {
+    match row.split_once(": ") {
+        None => false,
+        Some((_why, wrong)) => {
+            let text = line(alloc, wrong);
+            text.whole && is_none_in(alloc, text.text.as_slice())
         }
-        Err(ProgramFault::Bad) => Ok(None),
-        Err(ProgramFault::Memory) => Err(ProgramFault::Memory),
     }
 }
 
 #[test]
-fn programs_are_read_and_printed_again(rt: HostRuntime) -> Result<(), Fail> {
-    let alloc = rt.alloc();
+fn programs_are_read_and_printed_again(rt: HostRuntime) {
     for row in PROGRAMS.lines() {
-        let text = line(alloc, row)?;
-        assert_eq!(rt; is_again(alloc, text.as_slice())?, Some(true), "{row}");
+        assert!(rt; is_again(rt.alloc(), row), "{row}");
     }
-    Ok(())
 }
 
 #[test]
-fn other_texts_are_no_program(rt: HostRuntime) -> Result<(), Fail> {
-    let alloc = rt.alloc();
+fn other_texts_are_no_program(rt: HostRuntime) {
     for row in WRONG.lines() {
-        let (_why, wrong) = row.split_once(": ").ok_or("a row without a text")?;
-        let text = line(alloc, wrong)?;
-        assert_eq!(rt; is_again(alloc, text.as_slice())?, None, "{row}");
+        assert!(rt; is_wrong(rt.alloc(), row), "{row}");
     }
-    Ok(())
 }
 
 #[test]
-fn a_program_is_one_line(rt: HostRuntime) -> Result<(), Fail> {
-    let alloc = rt.alloc();
+fn a_program_is_one_line(rt: HostRuntime) {
     for row in WRONG_ENDS {
-        let why = row.1;
-        assert_eq!(rt; is_again(alloc, row.0)?, None, "{why}");
+        assert!(rt; is_none_in(rt.alloc(), row.0), "{}", row.1);
     }
-    Ok(())
 }

@@ -1,8 +1,7 @@
 //! A script in which each form of command and of part stands, copied and compared.
 
+use crate::readings::read;
 use script_names::{Boxed, Bytes, Copied, List, Memory};
-use shell_lexer::lex;
-use shell_parser::parse;
 use shell_syntax::{Command, Form, Key, Redirect, Script, Word};
 use std::alloc::Global;
 use std::test::Fail;
@@ -27,42 +26,43 @@ const LAST: &[u8] = b"last\n";
 // The same one byte further.
 const LATER: &[u8] = b" last\n";
 
-// The script of the text with this end.
-fn script(alloc: Global, end: &[u8]) -> Result<Option<Boxed<Script>>, Memory> {
+// The text with this end.
+fn text(alloc: Global, end: &[u8]) -> Result<Bytes, Memory> {
     let mut text = Bytes::from_slice(alloc, FORMS)?;
     text.extend(end)?;
-    match lex(alloc, text.as_slice()) {
-        Ok(lexed) => match parse(alloc, &lexed) {
-            Ok(script) => Ok(Some(Boxed::new(alloc, script)?)),
-            Err(_) => Ok(None),
-        },
-        Err(_) => Ok(None),
-    }
+    Ok(text)
+}
+
+// The script of the text with this end.
+fn script(alloc: Global, end: &[u8]) -> Result<Boxed<Script>, Fail> {
+    let text = text(alloc, end)?;
+    let script = read(alloc, text.as_slice())?;
+    Ok(script)
+}
+
+// A copy of the script, behind a pointer.
+fn copy(alloc: Global, script: &Script) -> Result<Boxed<Script>, Memory> {
+    let twin = script.copy(alloc)?;
+    Boxed::new(alloc, twin)
+}
+
+// Whether a copy of a script is another one.
+fn is_copy(alloc: Global, script: &Script, other: &Script) -> Result<bool, Memory> {
+    let twin = copy(alloc, script)?;
+    Ok(twin.get().equal(other))
 }
 
 // Whether a copy of the script is the script of the text with this end.
-fn copy_is(alloc: Global, script_here: &Script, end: &[u8]) -> Result<bool, Memory> {
+fn copy_is(alloc: Global, here: &Script, end: &[u8]) -> Result<bool, Fail> {
     let other = script(alloc, end)?;
-    match other {
-        None => Ok(false),
-        Some(other) => {
-            let copy = script_here.copy(alloc)?;
-            Ok(copy.equal(other.get()))
-        }
-    }
+    let is = is_copy(alloc, here, other.get())?;
+    Ok(is)
 }
 
-// Whether a copy of the script is the script, and whether it is the one whose last command stands elsewhere.
-fn same_and_later(alloc: Global) -> Result<(bool, bool), Memory> {
-    let whole = script(alloc, LAST)?;
-    match whole {
-        None => Ok((false, false)),
-        Some(whole) => {
-            let same = copy_is(alloc, whole.get(), LAST)?;
-            let later = copy_is(alloc, whole.get(), LATER)?;
-            Ok((same, later))
-        }
-    }
+// Whether a copy of the script with the one end is the script with the other one.
+fn copy_of_is(alloc: Global, here: &[u8], end: &[u8]) -> Result<bool, Fail> {
+    let whole = script(alloc, here)?;
+    copy_is(alloc, whole.get(), end)
 }
 
 // Whether there is a first item, and it can be copied.
@@ -117,34 +117,39 @@ fn is_member_copied(alloc: Global, script: &Script, place: usize) -> bool {
     }
 }
 
-// Whether what stands in the lists of the commands at these places can be copied.
-fn are_copied(alloc: Global, places: &[usize]) -> Result<bool, Memory> {
+// Whether what stands in the list of the command at a place can be copied.
+fn is_place_copied(alloc: Global, place: usize) -> Result<bool, Fail> {
     let whole = script(alloc, LAST)?;
-    match whole {
-        None => Ok(false),
-        Some(whole) => Ok(
-            places
-                .iter()
-                .all(|place| is_member_copied(alloc, whole.get(), *place)),
-        ),
-    }
+    Ok(is_member_copied(alloc, whole.get(), place))
 }
+
+// The ends of two scripts, and whether a copy of the first is the second.
+const COPIES: &[(&[u8], &[u8], bool)] = &[(LAST, LAST, true), (LAST, LATER, false)];
 
 #[test]
 fn each_form_is_copied_and_compared(rt: HostRuntime) -> Result<(), Fail> {
-    let alloc = rt.alloc();
-    assert!(rt; script(alloc, LATER)?.is_some());
-    assert!(rt; same_and_later(alloc)? == (true, false));
+    for (here, end, is) in COPIES {
+        assert!(rt; copy_of_is(rt.alloc(), here, end)? == *is, "{is}");
+    }
     Ok(())
+}
+
+// The places of commands, and whether what stands in their lists can be copied: the command at place 1 has none.
+const PLACES: &[(usize, bool)] = &[(0, true), (1, false), (2, true), (3, true), (9, true)];
+
+// Whether a copy of each value without a list is the value.
+fn are_small_ones_copied(alloc: Global) -> Result<bool, Memory> {
+    let form = Form::CallOrder.copy(alloc)?;
+    let redirect = Redirect::ErrToOut.copy(alloc)?;
+    let key = Key::Arg(3).copy(alloc)?;
+    Ok(form == Form::CallOrder && redirect == Redirect::ErrToOut && matches!(key, Key::Arg(3)))
 }
 
 #[test]
 fn each_type_is_copied(rt: HostRuntime) -> Result<(), Fail> {
-    let alloc = rt.alloc();
-    assert!(rt; are_copied(alloc, &[0, 2, 3, 9])?);
-    assert!(rt; !are_copied(alloc, &[1])?);
-    assert!(rt; Form::CallOrder.copy(alloc)? == Form::CallOrder);
-    assert!(rt; Redirect::ErrToOut.copy(alloc)? == Redirect::ErrToOut);
-    assert!(rt; matches!(Key::Arg(3).copy(alloc)?, Key::Arg(3)));
+    for (place, is) in PLACES {
+        assert!(rt; is_place_copied(rt.alloc(), *place)? == *is, "{place}");
+    }
+    assert!(rt; are_small_ones_copied(rt.alloc())?);
     Ok(())
 }

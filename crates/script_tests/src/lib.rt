@@ -9,4 +9,6 @@ mod forms;
 #[cfg(test)]
 mod printed;
 #[cfg(test)]
+mod readings;
+#[cfg(test)]
 mod scripts;

@@ -7,26 +7,39 @@ mod nests;
 mod rows;
 mod show;
 
-use crate::printed::printed;
+use crate::readings::{ReadFault, printed, read};
 use rows::TABLES;
 use shell_grammar::ParseFault;
-use shell_lexer::lex;
-use shell_parser::parse;
+use shell_syntax::Script;
 use show::{Page, show_command};
 use std::alloc::Global;
 use std::test::Fail;
 
-fn show_fault(page: &mut Page, fault: ParseFault) {
+fn show_place(page: &mut Page, word: &str, at: u32) {
+    page.put(word.as_bytes());
+    page.number(at);
+}
+
+fn show_fault(page: &mut Page, fault: ReadFault) {
     match fault {
-        ParseFault::Syntax { at } => {
-            page.put(b"syntax");
-            page.number(at);
-        }
-        ParseFault::Deep { at } => {
-            page.put(b"deep");
-            page.number(at);
-        }
-        ParseFault::Memory => page.whole = false,
+        ReadFault::Cut(_) => page.put(b"lex"),
+        ReadFault::Tokens(ParseFault::Syntax { at }) => show_place(page, "syntax", at),
+        ReadFault::Tokens(ParseFault::Deep { at }) => show_place(page, "deep", at),
+        ReadFault::Tokens(ParseFault::Memory) | ReadFault::Memory => page.whole = false,
+    }
+}
+
+fn show_script(page: &mut Page, script: &Script) {
+    if script.strict {
+        page.put(b"strict");
+    }
+    show_command(page, &script.body);
+}
+
+fn show_text(alloc: Global, page: &mut Page, text: &[u8]) {
+    match read(alloc, text) {
+        Ok(script) => show_script(page, script.get()),
+        Err(fault) => show_fault(page, fault),
     }
 }
 
@@ -34,18 +47,7 @@ fn show_fault(page: &mut Page, fault: ParseFault) {
 fn shown(alloc: Global, text: &[u8], with_offsets: bool) -> Page {
     let mut page = Page::new(alloc);
     page.with_offsets = with_offsets;
-    match lex(alloc, text) {
-        Ok(lexed) => match parse(alloc, &lexed) {
-            Ok(script) => {
-                if script.strict {
-                    page.put(b"strict");
-                }
-                show_command(&mut page, &script.body);
-            }
-            Err(fault) => show_fault(&mut page, fault),
-        },
-        Err(_) => page.put(b"lex"),
-    }
+    show_text(alloc, &mut page, text);
     page
 }
 
@@ -67,28 +69,54 @@ fn spelled(alloc: Global, text: &str) -> Page {
     page
 }
 
+// Whether what was read is a form, but for a blank before it.
+fn is_form(read: &[u8], form: &[u8]) -> bool {
+    match read {
+        [b' ', tree @ ..] => tree == form,
+        read => read == form,
+    }
+}
+
+// Whether a text is read as a form.
+fn is_read_as(alloc: Global, text: &[u8], form: &str) -> bool {
+    let page = shown(alloc, text, true);
+    page.whole && is_form(page.text.as_slice(), form.as_bytes())
+}
+
 // Whether a row's text is read as the row says.
 fn holds(alloc: Global, row: &str) -> bool {
     match row.split_once(" -> ") {
         Some((text, form)) => {
             let text = spelled(alloc, text);
-            let page = shown(alloc, text.text.as_slice(), true);
-            let got = match page.text.as_slice() {
-                [b' ', tree @ ..] => tree,
-                got => got,
-            };
-            text.whole && page.whole && got == form.as_bytes()
+            text.whole && is_read_as(alloc, text.text.as_slice(), form)
         }
         None => false,
     }
 }
 
+// Whether a page is whole, and a text is read as what stands on it, but for the offsets.
+fn is_shown(alloc: Global, page: &Page, text: &[u8]) -> bool {
+    let other = shown(alloc, text, false);
+    page.whole && other.whole && page.text.equal(&other.text)
+}
+
+// Whether two texts are read as the same script, but for its offsets.
+fn are_same(alloc: Global, text: &[u8], other: &[u8]) -> bool {
+    let page = shown(alloc, text, false);
+    is_shown(alloc, &page, other)
+}
+
 // Whether a text's script is printed as a text that is read as the same script but for its offsets.
 fn is_read_again(alloc: Global, text: &[u8]) -> Result<bool, Fail> {
     let again = printed(alloc, text)?;
-    let first = shown(alloc, text, false);
-    let second = shown(alloc, again.as_slice(), false);
-    Ok(first.whole && second.whole && first.text.equal(&second.text))
+    Ok(are_same(alloc, text, again.as_slice()))
+}
+
+// Whether a spelled text is whole, and its script is printed and read again.
+fn is_whole_and_again(alloc: Global, text: &str) -> Result<bool, Fail> {
+    let text = spelled(alloc, text);
+    let is_read = is_read_again(alloc, text.text.as_slice())?;
+    Ok(text.whole && is_read)
 }
 
 // Whether a row's script, if it has one, is printed and read again.
@@ -98,9 +126,7 @@ fn holds_printed(alloc: Global, row: &str) -> Result<bool, Fail> {
             if form.starts_with("syntax ") || form.starts_with("deep ") {
                 return Ok(true);
             }
-            let text = spelled(alloc, text);
-            let is_read = is_read_again(alloc, text.text.as_slice())?;
-            Ok(text.whole && is_read)
+            is_whole_and_again(alloc, text)
         }
         None => Ok(false),
     }
@@ -108,10 +134,9 @@ fn holds_printed(alloc: Global, row: &str) -> Result<bool, Fail> {
 
 #[test]
 fn texts_have_their_trees_or_faults(rt: HostRuntime) -> Result<(), Fail> {
-    let alloc = rt.alloc();
     for table in TABLES {
         for row in table.lines() {
-            assert!(rt; holds(alloc, row), "{row}");
+            assert!(rt; holds(rt.alloc(), row), "{row}");
         }
     }
     Ok(())
@@ -119,10 +144,9 @@ fn texts_have_their_trees_or_faults(rt: HostRuntime) -> Result<(), Fail> {
 
 #[test]
 fn printed_scripts_have_the_same_trees(rt: HostRuntime) -> Result<(), Fail> {
-    let alloc = rt.alloc();
     for table in TABLES {
         for row in table.lines() {
-            assert!(rt; holds_printed(alloc, row)?, "{row}");
+            assert!(rt; holds_printed(rt.alloc(), row)?, "{row}");
         }
     }
     Ok(())

@@ -1,10 +1,8 @@
 //! The scripts of worked packages, and the texts of their programs, by hand.
 
-use super::{spelled, translated};
-use colis_syntax::print_program;
-use script_names::{Bytes, Memory};
+use crate::pages::Page;
+use crate::programs::{prints, translated};
 use std::alloc::Global;
-use std::test::Fail;
 
 // A script behind `#!/bin/sh`, in which `%` is a newline and `@` stands for 64 letters, and its program, of which what
 // stands between `(program lax ` and the last `)` is written.
@@ -117,35 +115,42 @@ const PROGRAMS: &[(&str, &str)] = &[
 ];
 
 // A text as a row has it.
-fn lengthened(alloc: Global, first: &str, text: &str) -> Result<Bytes, Memory> {
-    let spelled = spelled(alloc, first, text)?;
-    let mut whole = Bytes::new(alloc);
-    for byte in spelled.as_slice() {
-        if *byte == b'@' {
-            whole.extend(&[b'a'; 64])?;
-        } else {
-            whole.push(*byte)?;
+fn lengthened(alloc: Global, first: &str, text: &str) -> Page {
+    let mut page = Page::new(alloc);
+    page.put(first.as_bytes());
+    for byte in text.as_bytes() {
+        match *byte {
+            b'%' => page.byte(b'\n'),
+            b'@' => page.put(&[b'a'; 64]),
+            other => page.byte(other),
         }
     }
-    Ok(whole)
+    page
 }
 
-// The text of the program of a script.
-fn program_text(alloc: Global, script: &str) -> Result<Bytes, Fail> {
-    let script = lengthened(alloc, "#!/bin/sh\n", script)?;
-    let program = translated(alloc, script.as_slice())?;
-    let text = print_program(alloc, &program)?;
-    Ok(text)
+// The text of the program of a row.
+fn program_text(alloc: Global, row: &str) -> Page {
+    let mut text = lengthened(alloc, "(program lax ", row);
+    text.put(b")\n");
+    text
+}
+
+// Whether a script becomes the program of a row.
+fn becomes(alloc: Global, script: &[u8], row: &str) -> bool {
+    let found = translated(alloc, script);
+    let wanted = program_text(alloc, row);
+    prints(alloc, found.get(), &wanted)
+}
+
+// Whether a row's script becomes the program of the row.
+fn holds(alloc: Global, script: &str, row: &str) -> bool {
+    let script = lengthened(alloc, "#!/bin/sh\n", script);
+    script.whole && becomes(alloc, script.text.as_slice(), row)
 }
 
 #[test]
-fn worked_scripts_become_programs(rt: HostRuntime) -> Result<(), Fail> {
-    let alloc = rt.alloc();
+fn worked_scripts_become_programs(rt: HostRuntime) {
     for row in PROGRAMS {
-        let text = program_text(alloc, row.0)?;
-        let mut wanted = lengthened(alloc, "(program lax ", row.1)?;
-        wanted.extend(b")\n")?;
-        assert!(rt; text.equal(&wanted), "{}", row.0);
+        assert!(rt; holds(rt.alloc(), row.0, row.1), "{}", row.0);
     }
-    Ok(())
 }

@@ -1,18 +1,16 @@
 //! Programs of written.rt, read from their text, and run from a given state, trace and tree, in step 3.
 
+use super::answers::{bare, put_all};
+use super::is_said;
 use super::written::TABLES;
-use super::{run_on, spelled};
-use colis_reader::read_program;
+use crate::pages::{Page, program_text};
+use crate::programs::program_in;
 use colis_syntax::Program;
-use script_names::{Bytes, List, Mark, Memory, Site};
-use shell_rules::Conc;
+use script_names::{Bytes, List, Mark, Site};
+use shell_rules::{Conc, Trace};
 use shell_words::Env;
-use shown_texts::{push_number, push_shown, read_shown};
+use shown_texts::read_shown;
 use std::alloc::Global;
-use std::test::Fail;
-
-// The variables that a row tells.
-const NAMES: [&str; 4] = ["i", "x", "y", "z"];
 
 // The mark of an earlier act.
 const EARLIER: Mark = Mark {
@@ -21,123 +19,130 @@ const EARLIER: Mark = Mark {
 };
 
 // Bytes as a row spells them.
-fn unshown(alloc: Global, text: &str) -> Result<Bytes, Fail> {
-    let bytes = read_shown(alloc, text.as_bytes())?.ok_or("a word that spells no bytes")?;
-    Ok(bytes)
+fn unshown(alloc: Global, text: &str) -> Option<Bytes> {
+    match read_shown(alloc, text.as_bytes()) {
+        Ok(found) => found,
+        Err(_) => None,
+    }
+}
+
+// What is captured so far.
+fn capture(alloc: Global, page: &mut Page, text: &str, conc: &mut Conc) {
+    conc.captured = unshown(alloc, text);
+    if conc.captured.is_none() {
+        page.whole = false;
+    }
+}
+
+// A variable with its value.
+fn set_variable(alloc: Global, page: &mut Page, name: &str, value: &str, vars: &mut Env) {
+    match unshown(alloc, value) {
+        Some(value) => {
+            let done = vars.set(name.as_bytes(), value);
+            page.note(done);
+        }
+        None => page.whole = false,
+    }
+}
+
+// An argument.
+fn add_argument(alloc: Global, page: &mut Page, word: &str, args: &mut List<Bytes>) {
+    match unshown(alloc, word) {
+        Some(word) => {
+            let done = args.add(word);
+            page.note(done);
+        }
+        None => page.whole = false,
+    }
 }
 
 // A word of a state: what is captured so far behind `>`, a variable with its value, or an argument.
-fn take_word(alloc: Global, word: &str, conc: &mut Conc) -> Result<(), Fail> {
-    if let Some(text) = word.strip_prefix(">") {
-        conc.captured = Some(unshown(alloc, text)?);
-        return Ok(());
+fn take_word(alloc: Global, page: &mut Page, word: &str, conc: &mut Conc) {
+    match word.strip_prefix(">") {
+        Some(text) => capture(alloc, page, text, conc),
+        None => match word.split_once("=") {
+            Some((name, value)) => set_variable(alloc, page, name, value, &mut conc.vars),
+            None => add_argument(alloc, page, word, &mut conc.args),
+        },
     }
-    match word.split_once("=") {
-        Some((name, value)) => {
-            let value = unshown(alloc, value)?;
-            conc.vars.set(name.as_bytes(), value)?;
-        }
-        None => conc.args.add(unshown(alloc, word)?)?,
-    }
-    Ok(())
 }
 
-// A state as a row has it: the strict flag, the status, the turns, and further words.
-fn state_of(alloc: Global, text: &str) -> Result<Conc, Fail> {
-    let mut words = text.split(" ");
+// The words of a state behind its strict flag, its status and its turns.
+fn take_words(alloc: Global, page: &mut Page, state: &str, conc: &mut Conc) {
+    for word in state.split(" ").skip(3) {
+        take_word(alloc, page, word, conc);
+    }
+}
+
+// The turns of a state.
+fn turns_of(page: &mut Page, word: &str) -> u32 {
+    match word.parse::<u32>() {
+        Ok(turns) => turns,
+        Err(_) => {
+            page.whole = false;
+            0
+        }
+    }
+}
+
+// A state as a row has it, without its words: the strict flag, the status, and the turns.
+fn state_of(alloc: Global, page: &mut Page, state: &str) -> Conc {
+    let mut words = state.split(" ");
     let strict = words.next() == Some("strict");
     let status = words.next() == Some("success");
-    let turns = words.next().unwrap_or("").parse::<u32>()?;
-    let mut conc = Conc {
-        vars: Env::new(alloc),
-        args: List::new(alloc),
-        strict,
-        status,
-        captured: None,
-        turns,
-    };
-    for word in words {
-        take_word(alloc, word, &mut conc)?;
-    }
-    Ok(conc)
+    let turns = turns_of(page, words.next().unwrap_or(""));
+    bare(alloc, strict, status, turns)
 }
 
-fn put_arguments(text: &mut Bytes, args: &[Bytes]) -> Result<(), Memory> {
-    for arg in args {
-        text.push(b' ')?;
-        push_shown(text, arg.as_slice())?;
-    }
-    Ok(())
-}
-
-fn put_variables(text: &mut Bytes, vars: &Env) -> Result<(), Memory> {
-    for name in &NAMES {
-        if let Some(value) = vars.get(name.as_bytes()) {
-            text.push(b' ')?;
-            text.extend(name.as_bytes())?;
-            text.push(b'=')?;
-            push_shown(text, value.as_slice())?;
-        }
-    }
-    Ok(())
-}
-
-fn put_state(text: &mut Bytes, conc: &Conc) -> Result<(), Memory> {
-    let strict = if conc.strict { "strict" } else { "lax" };
-    let status = if conc.status { "success" } else { "failure" };
-    text.extend(b"state ")?;
-    text.extend(strict.as_bytes())?;
-    text.push(b' ')?;
-    text.extend(status.as_bytes())?;
-    text.push(b' ')?;
-    push_number(text, conc.turns as u64)?;
-    if let Some(captured) = &conc.captured {
-        text.extend(b" >")?;
-        push_shown(text, captured.as_slice())?;
-    }
-    put_arguments(text, conc.args.as_slice())?;
-    put_variables(text, &conc.vars)?;
-    text.push(b'\n')
-}
-
-// The program with these definitions and this body.
-fn program_of(alloc: Global, text: &str) -> Result<Program, Fail> {
-    let text = format!(in alloc; "(program lax {text})\n")?;
-    let program = read_program(alloc, text.as_str().as_bytes())?;
-    Ok(program)
+// The trace of an earlier act.
+fn put_earlier(page: &mut Page, trace: &mut Trace) {
+    let done = trace.add(EARLIER);
+    page.note(done);
 }
 
 // What a program comes to: the end, the trace, the state, and the tree after.
-fn whole_answer(alloc: Global, before: &str, program: &Program) -> Result<Bytes, Fail> {
-    let (state, tree) = before.split_once(" | ").ok_or("a row without a tree")?;
-    let mut conc = state_of(alloc, state)?;
-    let tree = spelled(alloc, "", tree)?;
-    let mut marks = List::new(alloc);
-    marks.add(EARLIER)?;
-    let (mut text, after) = run_on(alloc, tree.as_slice(), program, &mut conc, marks)?;
-    put_state(&mut text, &conc)?;
-    text.extend(b"after\n")?;
-    text.extend(after.as_slice())?;
-    Ok(text)
+fn whole_answer(alloc: Global, state: &str, tree: &str, program: &Program) -> Page {
+    let mut page = Page::new(alloc);
+    let mut conc = state_of(alloc, &mut page, state);
+    let mut trace = List::new(alloc);
+    take_words(alloc, &mut page, state, &mut conc);
+    put_earlier(&mut page, &mut trace);
+    put_all(alloc, &mut page, tree, program, &mut conc, &mut trace, true);
+    page
 }
 
 // Whether a program comes to what its row says.
-fn holds(alloc: Global, row: &str) -> Result<bool, Fail> {
-    let (before, rest) = row.split_once("\n").ok_or("a row without a program")?;
-    let (program, wanted) = rest.split_once("\n").ok_or("a row without an end")?;
-    let program = program_of(alloc, program)?;
-    let found = whole_answer(alloc, before, &program)?;
-    let wanted = spelled(alloc, "", wanted)?;
-    Ok(found.equal(&wanted))
+fn comes_to(alloc: Global, before: &str, program: &Program, said: &str) -> bool {
+    match before.split_once(" | ") {
+        Some((state, tree)) => is_said(&whole_answer(alloc, state, tree, program), said),
+        None => false,
+    }
+}
+
+// Whether the program of a text comes to what its row says.
+fn text_comes_to(alloc: Global, before: &str, text: &str, said: &str) -> bool {
+    let text = program_text(alloc, "(program lax ", text);
+    let found = program_in(alloc, text.text.as_slice());
+    match found.get() {
+        Some(program) => comes_to(alloc, before, program, said),
+        None => false,
+    }
+}
+
+// Whether a program comes to what its row says, by the row's three lines.
+fn holds(alloc: Global, row: &str) -> bool {
+    let (before, rest) = row.split_once("\n").unwrap_or(("", ""));
+    match rest.split_once("\n") {
+        Some((text, said)) => text_comes_to(alloc, before, text, said),
+        None => false,
+    }
 }
 
 #[test]
-fn programs_come_to_what_their_rows_say(rt: HostRuntime) -> Result<(), Fail> {
+fn programs_come_to_what_their_rows_say(rt: HostRuntime) {
     for table in TABLES {
         for row in table.split("\n\n") {
-            let right = holds(rt.alloc(), row)?;
-            assert!(rt; right, "{row}");
+            assert!(rt; holds(rt.alloc(), row), "{row}");
         }
     }
-    Ok(())
 }

@@ -1,15 +1,19 @@
 //! Scripts whose wrong translations do something else: each script's program and a wrong one, run on one tree.
 
-use super::{answer, spelled, translated};
-use colis_reader::read_program;
-use script_names::{Bytes, Memory};
+use super::answers::answer;
+use super::{is_said, script_program};
+use crate::pages::{Page, line};
+use crate::programs::program_in;
+use colis_syntax::Program;
+use script_names::Bytes;
 use std::alloc::Global;
-use std::test::Fail;
 
 // A script behind `#!/bin/sh`, a program that it does not become, what the script comes to, and what that program
 // comes to, by the rules of POSIX.1-2017, XCU 2; `%` is a newline. The tree has one directory, `/srv`, and there are
 // 100 turns.
-const WRONG: &[(&str, &str, &str, &str)] = &[
+type Wrong = (&'static str, &'static str, &'static str, &'static str);
+
+const WRONG: &[Wrong] = &[
     (
         "f%f() { touch /srv/a; }%",
         "(program lax (def f (call 18 (word (p =touch)) (word (p =/srv/a)))) (seq (fun 10 f) (skip)))",
@@ -116,37 +120,45 @@ const WRONG: &[(&str, &str, &str, &str)] = &[
     ),
 ];
 
+// What a program comes to, on a page that is not whole where there is none.
+fn by_program(alloc: Global, program: Option<&Program>) -> Page {
+    match program {
+        Some(program) => answer(alloc, 100, "d /srv%", program),
+        None => Page {
+            text: Bytes::new(alloc),
+            whole: false,
+        },
+    }
+}
+
 // What a script comes to.
-fn by_script(alloc: Global, script: &str) -> Result<Bytes, Fail> {
-    let script = spelled(alloc, "#!/bin/sh\n", script)?;
-    let program = translated(alloc, script.as_slice())?;
-    answer(alloc, 100, b"d /srv\n", &program)
+fn by_script(alloc: Global, script: &str) -> Page {
+    let found = script_program(alloc, script);
+    by_program(alloc, found.get())
 }
 
-// What a program comes to, by its text.
-fn by_program(alloc: Global, text: &str) -> Result<Bytes, Fail> {
-    let text = format!(in alloc; "{text}\n")?;
-    let program = read_program(alloc, text.as_str().as_bytes())?;
-    answer(alloc, 100, b"d /srv\n", &program)
+// What a program comes to, by its line.
+fn by_line(alloc: Global, row: &str) -> Page {
+    let text = line(alloc, row);
+    let found = program_in(alloc, text.text.as_slice());
+    by_program(alloc, found.get())
 }
 
-// Whether what was found is what a row says.
-fn is_said(alloc: Global, found: &Bytes, said: &str) -> Result<bool, Memory> {
-    let said = spelled(alloc, "", said)?;
-    Ok(found.equal(&said))
+// Whether what was found is what a row says of its script and of its program, and not the same.
+fn are_said(right: &Page, wrong: &Page, row: &Wrong) -> bool {
+    is_said(right, row.2) && is_said(wrong, row.3) && !right.text.equal(&wrong.text)
+}
+
+// Whether a row's script and its wrong program come to what the row says.
+fn holds(alloc: Global, row: &Wrong) -> bool {
+    let right = by_script(alloc, row.0);
+    let wrong = by_line(alloc, row.1);
+    are_said(&right, &wrong, row)
 }
 
 #[test]
-fn wrong_translations_do_something_else(rt: HostRuntime) -> Result<(), Fail> {
-    let alloc = rt.alloc();
+fn wrong_translations_do_something_else(rt: HostRuntime) {
     for row in WRONG {
-        let right = by_script(alloc, row.0)?;
-        let is_right = is_said(alloc, &right, row.2)?;
-        assert!(rt; is_right, "{}", row.0);
-        let wrong = by_program(alloc, row.1)?;
-        let is_wrong = is_said(alloc, &wrong, row.3)?;
-        assert!(rt; is_wrong, "{}", row.0);
-        assert!(rt; !right.equal(&wrong), "{}", row.0);
+        assert!(rt; holds(rt.alloc(), row), "{}", row.0);
     }
-    Ok(())
 }

@@ -1,8 +1,7 @@
 //! The usual template of a maintainer script, cut off behind each of its bytes, with what is answered by hand.
 
+use crate::readings::{ReadFault, read};
 use shell_grammar::ParseFault;
-use shell_lexer::lex;
-use shell_parser::parse;
 use std::alloc::Global;
 use std::test::Fail;
 
@@ -46,26 +45,28 @@ fn wanted(count: u32) -> Answer {
 }
 
 fn answered(alloc: Global, text: &[u8]) -> Answer {
-    match lex(alloc, text) {
-        Ok(lexed) => match parse(alloc, &lexed) {
-            Ok(_) => Answer::Script,
-            Err(ParseFault::Syntax { at }) => Answer::Syntax(at),
-            Err(_) => Answer::Other,
-        },
-        Err(_) => Answer::NoTokens,
+    match read(alloc, text) {
+        Ok(_) => Answer::Script,
+        Err(ReadFault::Cut(_)) => Answer::NoTokens,
+        Err(ReadFault::Tokens(ParseFault::Syntax { at })) => Answer::Syntax(at),
+        Err(_) => Answer::Other,
     }
+}
+
+// Whether so many bytes are read as they should.
+fn holds(alloc: Global, count: u32) -> bool {
+    let got = match TEMPLATE.as_bytes().get(..count as usize) {
+        Some(front) => answered(alloc, front),
+        None => Answer::Other,
+    };
+    got == wanted(count)
 }
 
 #[test]
 fn beginnings_have_their_places(rt: HostRuntime) -> Result<(), Fail> {
-    let text = TEMPLATE.as_bytes();
-    assert!(rt; text.len() == 219);
+    assert!(rt; TEMPLATE.len() == 219);
     for count in 0u32..220 {
-        let got = match text.get(..count as usize) {
-            Some(front) => answered(rt.alloc(), front),
-            None => Answer::Other,
-        };
-        assert!(rt; got == wanted(count), "{count}");
+        assert!(rt; holds(rt.alloc(), count), "{count}");
     }
     Ok(())
 }
