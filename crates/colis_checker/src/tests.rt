@@ -50,8 +50,8 @@ const INSTALL: &[&str] = &["check", "p", "--scenario", "install", "--brief"];
 // A package of nothing.
 const NOTHING: &[File] = &[("p/list", b"/.\n")];
 
-// A call: its words; the files that it finds, and besides them a script under a name; what fails in it; and what has to
-// come of it.
+// A call: its words; the files that it finds, and besides them a script under a name; what fails in it; and what has
+// to come of it.
 #[derive(Clone, Copy)]
 struct Case {
     words: &'static [&'static str],

@@ -38,7 +38,7 @@ impl Counting {
     }
 }
 
-// A report with success, and with nothing on standard error.
+// A report with success. What it says is taken from another call.
 const BRIEF: Called = Called(&["check", "p", "--brief"], NOTHING, (0, b"", b""));
 
 fn are_same(bytes: &[u8], others: &[u8]) -> bool {
