@@ -5,23 +5,27 @@ mod limits;
 mod loops;
 mod most_outcomes;
 mod scripts;
+mod scripts_made;
+mod seen;
 mod translations;
 mod workers;
 
 use crate::top::run_words;
 use case_pool::{Gate, Open};
 use checker_io::{MemShelf, MemSink};
-use script_names::{Bytes, List, Memory, Text};
+use script_names::{List, Memory, Text};
+use scripts_made::{Script, put_made};
+use seen::{Seen, is_seen};
 use std::alloc::Global;
 use std::process::Abort;
 use std::test::Fail;
 use std::thread::Threads;
 
 // A file: its name, and its bytes.
-type File<'a> = (&'a str, &'a [u8]);
+type File = (&'static str, &'static [u8]);
 
 // What has to come of a call: the status, and what standard output and standard error took.
-type Wanted<'a> = (u8, &'a [u8], &'a [u8]);
+type Wanted = (u8, &'static [u8], &'static [u8]);
 
 // What is to fail in a call: the read and the writes of these numbers, from 1 on, and how much of a failing write is
 // taken.
@@ -40,108 +44,178 @@ const QUIET: Failing = Failing {
     taken: 0,
 };
 
-// A script behind its first two lines, `#!/bin/sh` and `set -e`; the status; and the report, from the number of
-// outcomes on.
-type Strict<'a> = (&'a [u8], u8, &'a [u8]);
-
 // The words that report an installation.
 const INSTALL: &[&str] = &["check", "p", "--scenario", "install", "--brief"];
+
+// A package of nothing.
+const NOTHING: &[File] = &[("p/list", b"/.\n")];
+
+// A call: its words; the files that it finds, and besides them a script under a name; what fails in it; and what has
+// to come of it.
+#[derive(Clone, Copy)]
+struct Case {
+    words: &'static [&'static str],
+    files: &'static [File],
+    script: Option<(&'static str, Script)>,
+    failing: Failing,
+    status: u8,
+    seen: Seen,
+}
+
+// A row of a table.
+trait Row {
+    // The call that it stands for.
+    fn case(&self) -> Case;
+}
+
+// The words, the files, and what has to come of the call.
+struct Called(&'static [&'static str], &'static [File], Wanted);
+
+impl Row for Called {
+    fn case(&self) -> Case {
+        Case {
+            words: self.0,
+            files: self.1,
+            script: None,
+            failing: QUIET,
+            status: self.2.0,
+            seen: Seen::Whole(self.2.1, self.2.2),
+        }
+    }
+}
+
+// The installation, as these words report it, of a package that lists nothing and has this postinst.
+fn installation(words: &'static [&'static str], script: Script, status: u8, seen: Seen) -> Case {
+    Case {
+        words,
+        files: NOTHING,
+        script: Some(("p/postinst", script)),
+        failing: QUIET,
+        status,
+        seen,
+    }
+}
 
 // What came of a call.
 #[derive(Drop)]
 struct Ended {
     status: u8,
-    out: Vec<u8>,
-    err: Vec<u8>,
+    out: MemSink,
+    err: MemSink,
+}
+
+fn add_word(spelled: &mut List<Text>, alloc: Global, word: &str) -> Result<(), Memory> {
+    let word = Text::from_text(alloc, word)?;
+    spelled.add(word)?;
+    Ok(())
 }
 
 // The words of a command line.
 fn spelled(alloc: Global, words: &[&str]) -> Result<List<Text>, Memory> {
     let mut spelled = List::new(alloc);
     for word in words {
-        let word = Text::from_text(alloc, word)?;
-        spelled.add(word)?;
+        add_word(&mut spelled, alloc, word)?;
     }
     Ok(spelled)
 }
 
-// A shelf with these files, of which one read fails.
-fn shelf_of(alloc: Global, files: &[File<'_>], failing: u32) -> Result<MemShelf, Memory> {
-    let mut shelf = MemShelf::new(alloc);
-    for file in files {
+// Puts what a call finds on a shelf, of which one read fails.
+fn put_all(shelf: &mut MemShelf, alloc: Global, case: &Case) -> Result<(), Memory> {
+    for file in case.files {
         shelf.put(file.0, file.1)?;
     }
-    shelf.fail_at(failing)?;
+    if let Some((name, script)) = &case.script {
+        put_made(shelf, alloc, name, script)?;
+    }
+    shelf.fail_at(case.failing.read)
+}
+
+fn shelf_of(alloc: Global, case: &Case) -> Result<MemShelf, Memory> {
+    let mut shelf = MemShelf::new(alloc);
+    put_all(&mut shelf, alloc, case)?;
     Ok(shelf)
 }
 
-// A sink of which one write fails, after so many bytes.
-fn sink_of(alloc: Global, failing: u32, taken: u32) -> Result<MemSink, Memory> {
-    let mut sink = MemSink::new(alloc);
-    sink.fail_at(failing, taken)?;
-    Ok(sink)
+// The sinks of a call, each with the write that fails in it.
+fn to_end(alloc: Global, failing: Failing) -> Result<Ended, Memory> {
+    let mut ended = Ended {
+        status: 0,
+        out: MemSink::new(alloc),
+        err: MemSink::new(alloc),
+    };
+    ended.out.fail_at(failing.write, failing.taken)?;
+    ended.err.fail_at(failing.line, failing.taken)?;
+    Ok(ended)
 }
 
-// Calls the program with these words, over these files; its workers enter the gate.
-fn call_by<R: AllocGlobal + Threads + Sync, G: Gate>(
+// Runs the program with these words, over this shelf.
+fn run<R: Threads + Sync, G: Gate>(
     rt: &R,
+    alloc: Global,
     gate: &G,
-    words: &[&str],
-    files: &[File<'_>],
-    failing: Failing,
-) -> Result<Ended, Memory> {
-    let alloc = rt.alloc();
-    let words = spelled(alloc, words)?;
-    let mut shelf = shelf_of(alloc, files, failing.read)?;
-    let mut out = sink_of(alloc, failing.write, failing.taken)?;
-    let mut err = sink_of(alloc, failing.line, failing.taken)?;
-    let status = run_words(rt, alloc, gate, &words, &mut shelf, &mut out, &mut err);
-    Ok(Ended {
-        status,
-        out: out.bytes().to_vec(alloc)?,
-        err: err.bytes().to_vec(alloc)?,
-    })
+    words: &List<Text>,
+    shelf: &mut MemShelf,
+    ended: &mut Ended,
+) {
+    ended.status = run_words(
+        rt,
+        alloc,
+        gate,
+        words,
+        shelf,
+        &mut ended.out,
+        &mut ended.err,
+    );
 }
 
-// Calls the program with these words, over these files.
-fn call<R: AllocGlobal + Threads + Sync>(
+// Runs the program with these words, over the shelf of a call.
+fn run_over<R: Threads + Sync, G: Gate>(
     rt: &R,
-    words: &[&str],
-    files: &[File<'_>],
-    failing: Failing,
+    alloc: Global,
+    gate: &G,
+    words: &List<Text>,
+    case: &Case,
 ) -> Result<Ended, Memory> {
-    call_by(rt, &Open::new(), words, files, failing)
+    let mut shelf = shelf_of(alloc, case)?;
+    let mut ended = to_end(alloc, case.failing)?;
+    run(rt, alloc, gate, words, &mut shelf, &mut ended);
+    Ok(ended)
 }
 
-// The call ended as it had to.
-fn see<R: Abort + AllocGlobal>(rt: &R, ended: &Ended, wanted: Wanted<'_>) -> Result<(), Fail> {
-    assert_eq!(rt; ended.out.as_slice(), wanted.1);
-    assert_eq!(rt; ended.err.as_slice(), wanted.2);
-    assert_eq!(rt; ended.status, wanted.0);
+// Makes the call; the program's workers enter the gate.
+fn call_by<R: Threads + Sync, G: Gate>(
+    rt: &R,
+    alloc: Global,
+    gate: &G,
+    case: &Case,
+) -> Result<Ended, Memory> {
+    let words = spelled(alloc, case.words)?;
+    run_over(rt, alloc, gate, &words, case)
+}
+
+// Whether the call ends as it has to.
+fn ends<R: Threads + Sync>(rt: &R, alloc: Global, case: &Case) -> Result<bool, Memory> {
+    let ended = call_by(rt, alloc, &Open::new(), case)?;
+    Ok(ended.status == case.status && is_seen(&ended, &case.seen))
+}
+
+// The call of this row ends as it has to.
+fn see<R: Abort + AllocGlobal + Threads + Sync, T: Row>(
+    rt: &R,
+    row: &T,
+    number: usize,
+) -> Result<(), Fail> {
+    assert!(rt; ends(rt, rt.alloc(), &row.case())?, "row {number}");
     Ok(())
 }
 
-// Two texts, one behind the other.
-fn joined(alloc: Global, first: &[u8], second: &[u8]) -> Result<Bytes, Memory> {
-    let mut text = Bytes::new(alloc);
-    text.extend(first)?;
-    text.extend(second)?;
-    Ok(text)
-}
-
-// Each script is the postinst of a package that lists nothing, and the words report its installation as they have to.
-fn see_scripts<R: Abort + AllocGlobal + Threads + Sync>(
+// The calls of these rows end as they have to; the rows count from 0.
+fn see_all<R: Abort + AllocGlobal + Threads + Sync, T: Row>(
     rt: &R,
-    words: &[&str],
-    rows: &[Strict<'_>],
+    rows: &[T],
 ) -> Result<(), Fail> {
-    let alloc = rt.alloc();
-    for row in rows {
-        let script = joined(alloc, b"#!/bin/sh\nset -e\n", row.0)?;
-        let out = joined(alloc, b"colis brief 1\nscenario install outcomes ", row.2)?;
-        let files: [File<'_>; 2] = [("p/list", b"/.\n"), ("p/postinst", script.as_slice())];
-        let ended = call(rt, words, &files, QUIET)?;
-        see(rt, &ended, (row.1, out.as_slice(), b""))?;
+    for (number, row) in rows.iter().enumerate() {
+        see(rt, row, number)?;
     }
     Ok(())
 }

@@ -1,12 +1,11 @@
 //! Whole calls: reports on packages, the summary of one, runs, and a program.
 
-use super::{File, QUIET, Wanted, call, see};
-use script_names::{Bytes, Memory};
-use std::alloc::Global;
+use super::seen::Seen;
+use super::{Called, Case, File, NOTHING, QUIET, Row, see_all};
 use std::test::Fail;
 
 // A package that asks one question, and a base that says nothing.
-const QUESTION: &[File<'static>] = &[
+const QUESTION: &[File] = &[
     ("p/list", b"/.\n"),
     ("p/postinst", b"#!/bin/sh\nset -e\n[ -d /a ]\n"),
     ("b", b""),
@@ -72,9 +71,9 @@ const REPORT_AS_JSON: &[u8] = b"{\"colis\":1,\"scenarios\":[{\"name\":\"install\
     \"trace\":\"3:17:67\"}]}],\"verdict\":1}\n";
 
 // The words, the files, and what has to come of the call.
-const CALLS: &[(&[&str], &[File<'static>], Wanted<'static>)] = &[
+const CALLS: &[Called] = &[
     // A package of nothing.
-    (
+    Called(
         &["check", "p", "--brief"],
         &[("p/list", b"/.\n")],
         (
@@ -104,12 +103,12 @@ verdict 0
         ),
     ),
     // A whole report, for people and for programs.
-    (
+    Called(
         &["check", "p", "--base", "b", "--scenario", "install"],
         QUESTION,
         (1, REPORT, b""),
     ),
-    (
+    Called(
         &[
             "check",
             "p",
@@ -123,7 +122,7 @@ verdict 0
         (1, REPORT_AS_JSON, b""),
     ),
     // A word that is split (POSIX.1-2017, XCU 2.6.5), and one that is quoted.
-    (
+    Called(
         &["run", "p", "--scenario", "install", "--tree", "t"],
         &[
             ("p/list", b"/.\n"),
@@ -148,7 +147,7 @@ f /srv/b
         ),
     ),
     // A loop that is left with the last turn.
-    (
+    Called(
         &[
             "check",
             "p",
@@ -181,7 +180,7 @@ verdict 2
         ),
     ),
     // An upgrade in which the old prerm fails and the new one goes on in its place (Debian Policy, 6.6).
-    (
+    Called(
         &[
             "run",
             "p",
@@ -213,7 +212,7 @@ after
         ),
     ),
     // It fails, and so does the old postinst behind it.
-    (
+    Called(
         &[
             "run",
             "p",
@@ -247,7 +246,7 @@ after
         ),
     ),
     // A directory goes with the last of its files.
-    (
+    Called(
         &["check", "p", "--scenario", "purge", "--brief"],
         &[
             ("p/list", b"/.\n/etc\n/etc/foo\n/etc/foo/a.conf\n"),
@@ -269,7 +268,7 @@ verdict 0
         ),
     ),
     // Files are placed; the usual base has it that they fit.
-    (
+    Called(
         &["check", "p", "--scenario", "install", "--brief"],
         &[
             ("p/list", b"/.\n/etc\n/etc/foo\n/etc/foo/a.conf\n"),
@@ -287,7 +286,7 @@ verdict 0
         ),
     ),
     // Another base does not.
-    (
+    Called(
         &[
             "check",
             "p",
@@ -322,7 +321,7 @@ verdict 2
         ),
     ),
     // A subshell leaves the tree changed, and the variables as they were (POSIX.1-2017, XCU 2.12).
-    (
+    Called(
         &["run", "p", "--scenario=install", "--tree=t"],
         &[
             ("p/list", b"/.\n"),
@@ -345,7 +344,7 @@ f /srv/a
         ),
     ),
     // `&&` and `||` from left to right (POSIX.1-2017, XCU 2.9.3).
-    (
+    Called(
         &["run", "p", "--scenario", "install", "--tree", "t"],
         &[
             ("p/list", b"/.\n"),
@@ -365,7 +364,7 @@ f /srv/b
         ),
     ),
     // A made package of two commands: at each a link stands, or what is no directory; and both directories are made.
-    (
+    Called(
         &["load", "2"],
         &[],
         (
@@ -379,7 +378,7 @@ f /srv/b
             b"",
         ),
     ),
-    (
+    Called(
         &["translate", "s"],
         &[("s", b"#!/bin/sh\nset -e\ntest -d /etc || mkdir /etc\n")],
         (
@@ -393,48 +392,72 @@ f /srv/b
 
 #[test]
 fn calls_that_are_answered(rt: HostRuntime) -> Result<(), Fail> {
-    for row in CALLS {
-        let ended = call(&rt, row.0, row.1, QUIET)?;
-        see(&rt, &ended, row.2)?;
-    }
-    Ok(())
+    see_all(&rt, CALLS)
 }
+
+// The words, and the first bytes of the report on a package of nothing.
+struct Layout(&'static [&'static str], &'static [u8]);
+
+impl Row for Layout {
+    fn case(&self) -> Case {
+        Case {
+            words: self.0,
+            files: NOTHING,
+            script: None,
+            failing: QUIET,
+            status: 0,
+            seen: Seen::Begun(self.1, b""),
+        }
+    }
+}
+
+const LAYOUTS: &[Layout] = &[
+    Layout(
+        &["check", "p"],
+        b"colis report 1\nscenario install outcomes 1\n",
+    ),
+    Layout(
+        &["check", "p", "--brief"],
+        b"colis brief 1\nscenario install outcomes 1\n",
+    ),
+    Layout(
+        &["check", "--json", "p"],
+        b"{\"colis\":1,\"scenarios\":[{\"name\":\"install\",",
+    ),
+];
 
 // The first bytes of a report in each layout.
 #[test]
 fn layouts(rt: HostRuntime) -> Result<(), Fail> {
-    let rows: [(&[&str], &[u8]); 3] = [
-        (
-            &["check", "p"],
-            b"colis report 1\nscenario install outcomes 1\n",
-        ),
-        (
-            &["check", "p", "--brief"],
-            b"colis brief 1\nscenario install outcomes 1\n",
-        ),
-        (
-            &["check", "--json", "p"],
-            b"{\"colis\":1,\"scenarios\":[{\"name\":\"install\",",
-        ),
-    ];
-    for row in rows {
-        let ended = call(&rt, row.0, &[("p/list", b"/.\n")], QUIET)?;
-        assert!(rt; ended.status == 0 && ended.out.as_slice().starts_with(row.1));
-    }
-    Ok(())
+    see_all(&rt, LAYOUTS)
 }
 
 // A package with one configuration file, and a base that says little.
-const CONFIGURED: &[File<'static>] = &[
+const CONFIGURED: &[File] = &[
     ("p/list", b"/.\n/etc\n/etc/foo\n/etc/foo/a.conf\n"),
     ("p/conffiles", b"/etc/foo/a.conf\n"),
     ("b", b"dir /etc\n"),
 ];
 
-// The words, the status, and the lines of the report that `stated` keeps.
-const STATED: &[(&[&str], u8, &[u8])] = &[
+// The words, the status, and the lines of the report without the clauses and the trees.
+struct Stated(&'static [&'static str], u8, &'static [u8]);
+
+impl Row for Stated {
+    fn case(&self) -> Case {
+        Case {
+            words: self.0,
+            files: CONFIGURED,
+            script: None,
+            failing: QUIET,
+            status: self.1,
+            seen: Seen::Stated(self.2),
+        }
+    }
+}
+
+const STATED: &[Stated] = &[
     // A foreign file keeps the directory; it goes with the configuration file; it was empty.
-    (
+    Stated(
         &["check", "p", "--scenario", "purge"],
         0,
         b"colis report 1
@@ -451,7 +474,7 @@ confirmed yes
 verdict 0
 ",
     ),
-    (
+    Stated(
         &["check", "p", "--scenario", "install"],
         0,
         b"colis report 1
@@ -462,7 +485,7 @@ confirmed yes
 verdict 0
 ",
     ),
-    (
+    Stated(
         &["check", "p", "--scenario", "install", "--base", "b"],
         2,
         b"colis report 1
@@ -489,35 +512,8 @@ verdict 2
     ),
 ];
 
-// The lines of a report without the clauses, and without the trees, which are not promised.
-fn stated(alloc: Global, report: &[u8]) -> Result<Bytes, Memory> {
-    let mut lines = Bytes::new(alloc);
-    for line in report.split(|b| *b == b'\n') {
-        if line.starts_with(b"colis ")
-            || line.starts_with(b"scenario ")
-            || line.starts_with(b"outcome ")
-            || line.starts_with(b"trace")
-            || line.starts_with(b"confirmed ")
-            || line.starts_with(b"call ")
-            || line.starts_with(b"place ")
-            || line.starts_with(b"verdict ")
-        {
-            lines.extend(line)?;
-            lines.push(b'\n')?;
-        }
-    }
-    Ok(lines)
-}
-
 // Reports that are not brief.
 #[test]
 fn reports_without_scripts(rt: HostRuntime) -> Result<(), Fail> {
-    let alloc = rt.alloc();
-    for row in STATED {
-        let ended = call(&rt, row.0, CONFIGURED, QUIET)?;
-        let lines = stated(alloc, ended.out.as_slice())?;
-        assert_eq!(rt; lines.as_slice(), row.2);
-        assert!(rt; ended.status == row.1 && ended.err.is_empty());
-    }
-    Ok(())
+    see_all(&rt, STATED)
 }

@@ -1,7 +1,9 @@
 //! Files that are cut short, behind each of their bytes.
 
 use super::scripts::TEMPLATE;
-use super::{File, INSTALL, QUIET, call, joined, see};
+use super::scripts_made::{STRICT, Script};
+use super::seen::Seen;
+use super::{Case, File, INSTALL, QUIET, Row, installation, see};
 use std::test::Fail;
 
 // The status of the template's report, or its refusal, where so many bytes are left, by hand: the first line is cut off
@@ -16,32 +18,27 @@ fn wanted_status(count: usize) -> u8 {
     }
 }
 
-// The number at the end of a line; 0 where there is none.
-fn last_number(line: &[u8]) -> usize {
-    let mut number = 0usize;
-    for byte in line {
-        if byte.is_ascii_digit() {
-            number = number
-                .saturating_mul(10)
-                .saturating_add(usize::from(byte.saturating_sub(b'0')));
-        } else if *byte != b'\n' {
-            number = 0;
-        }
+// How many bytes of the template are left. A refusal names no byte behind them.
+#[derive(Clone, Copy)]
+struct Template(usize);
+
+impl Row for Template {
+    fn case(&self) -> Case {
+        installation(
+            INSTALL,
+            Script::Cut(STRICT, TEMPLATE, self.0),
+            wanted_status(self.0),
+            Seen::AtMost(self.0),
+        )
     }
-    number
 }
 
+// The template has 219 bytes.
 #[test]
 fn templates(rt: HostRuntime) -> Result<(), Fail> {
-    let alloc = rt.alloc();
-    let script = joined(alloc, b"#!/bin/sh\nset -e\n", TEMPLATE)?;
-    assert_eq!(rt; script.as_slice().len(), 219);
+    assert_eq!(rt; (STRICT.len(), TEMPLATE.len()), (17, 202));
     for count in 0..220usize {
-        let front = script.as_slice().get(..count).ok_or("no bytes")?;
-        let files: [File<'_>; 2] = [("p/list", b"/.\n"), ("p/postinst", front)];
-        let ended = call(&rt, INSTALL, &files, QUIET)?;
-        assert_eq!(rt; ended.status, wanted_status(count), "{count}");
-        assert!(rt; last_number(ended.err.as_slice()) <= count, "{count}");
+        see(&rt, &Template(count), count)?;
     }
     Ok(())
 }
@@ -63,20 +60,31 @@ fn wanted_line(count: usize) -> &'static [u8] {
     }
 }
 
+const CONFIGURED: &[File] = &[("p/conffiles", b"/etc/foo/a.conf\n")];
+
+// How many bytes of the list are left.
+#[derive(Clone, Copy)]
+struct Listed(usize);
+
+impl Row for Listed {
+    fn case(&self) -> Case {
+        let line = wanted_line(self.0);
+        Case {
+            words: &["check", "p", "--scenario", "purge", "--brief"],
+            files: CONFIGURED,
+            script: Some(("p/list", Script::Cut(LIST, b"", self.0))),
+            failing: QUIET,
+            status: if line.is_empty() { 0 } else { 3 },
+            seen: Seen::Line(line),
+        }
+    }
+}
+
 #[test]
 fn lists(rt: HostRuntime) -> Result<(), Fail> {
     assert_eq!(rt; LIST.len(), 33);
     for count in 0..34usize {
-        let front = LIST.get(..count).ok_or("no bytes")?;
-        let files: [File<'_>; 2] = [("p/list", front), ("p/conffiles", b"/etc/foo/a.conf\n")];
-        let words = ["check", "p", "--scenario", "purge", "--brief"];
-        let ended = call(&rt, &words, &files, QUIET)?;
-        let line = wanted_line(count);
-        assert_eq!(rt; ended.err.as_slice(), line, "{count}");
-        assert!(rt;
-            ended.status == if line.is_empty() { 0 } else { 3 },
-            "{count}"
-        );
+        see(&rt, &Listed(count), count)?;
     }
     Ok(())
 }

@@ -1,54 +1,71 @@
 //! Calls that are refused, and reads and writes that fail.
 
-use super::{Failing, File, QUIET, Wanted, call, see};
+use super::scripts_made::Script;
+use super::seen::Seen;
+use super::{Case, Failing, File, NOTHING, QUIET, Row, Wanted, installation, see, see_all};
 use std::test::Fail;
 
 // A package that is on no system of the base, and whose script has four outcomes.
-const UNFIT: &[File<'static>] = &[
+const UNFIT: &[File] = &[
     ("p/list", b"/.\n/usr\n/usr/bin\n/usr/bin/x\n"),
     ("p/postrm", b"#!/bin/sh\n[ -e /srv/a ]\n"),
     ("b", b"file /usr\n"),
 ];
 
 // The words, the files, and the one line on standard error; the status is 3.
-const REFUSED: &[(&[&str], &[File<'static>], &[u8])] = &[
-    (&[], &[], b"colis: usage: word 1\n"),
-    (&["check"], &[], b"colis: usage: word 2\n"),
-    (
+struct Refused(&'static [&'static str], &'static [File], &'static [u8]);
+
+impl Row for Refused {
+    fn case(&self) -> Case {
+        Case {
+            words: self.0,
+            files: self.1,
+            script: None,
+            failing: QUIET,
+            status: 3,
+            seen: Seen::Whole(b"", self.2),
+        }
+    }
+}
+
+const REFUSED: &[Refused] = &[
+    Refused(&[], &[], b"colis: usage: word 1\n"),
+    Refused(&["check"], &[], b"colis: usage: word 2\n"),
+    Refused(
         &["check", "p", "--turns", "10001"],
         &[],
         b"colis: usage: word 4\n",
     ),
-    (&["check", "p"], &[], b"colis: p/list: missing\n"),
-    (&["check", "p", "--base", "b"], &[], b"colis: b: missing\n"),
-    (
+    Refused(&["check", "p"], &[], b"colis: p/list: missing\n"),
+    Refused(&["check", "p", "--base", "b"], &[], b"colis: b: missing\n"),
+    Refused(
         &["check", "p", "--old", "o"],
         &[("p/list", b"/.\n")],
         b"colis: o/list: missing\n",
     ),
-    (
+    Refused(
         &["run", "p", "--scenario", "purge", "--tree", "t"],
         &[("p/list", b"/.\n")],
         b"colis: t: missing\n",
     ),
-    (&["translate", "s"], &[], b"colis: s: missing\n"),
-    (&["load", "501"], &[], b"colis: usage: word 2\n"),
-    (
+    Refused(&["translate", "s"], &[], b"colis: s: missing\n"),
+    Refused(&["load", "501"], &[], b"colis: usage: word 2\n"),
+    Refused(
         &["load", "2", "--limit", "4"],
         &[],
         b"colis: more than 4 outcomes in install\n",
     ),
-    (
+    Refused(
         &["check", "p"],
         &[("p/control", b"Package: p\nVersion: \n")],
         b"colis: p/control: bad version in line 2\n",
     ),
-    (
+    Refused(
         &["check", "p"],
         &[("p/list", b"/.\n/a\n/a\n")],
         b"colis: p/list: line 3: fault 2\n",
     ),
-    (
+    Refused(
         &["check", "p"],
         &[
             ("p/list", b"/.\n/a\n"),
@@ -56,17 +73,17 @@ const REFUSED: &[(&[&str], &[File<'static>], &[u8])] = &[
         ],
         b"colis: p/conffiles: line 2: fault 4\n",
     ),
-    (
+    Refused(
         &["check", "p", "--base", "b"],
         &[("b", b"dir /a\ndirectory /b\n")],
         b"colis: b: line 2: fault 1\n",
     ),
-    (
+    Refused(
         &["run", "p", "--scenario", "purge", "--tree", "t"],
         &[("p/list", b"/.\n"), ("t", b"d /a\nf /b/c\n")],
         b"colis: t: line 2: fault 3\n",
     ),
-    (
+    Refused(
         &["check", "p", "--base", "b", "--scenario", "upgrade"],
         &[
             ("p/list", b"/.\n/usr\n/usr/bin\n/usr/bin/x\n"),
@@ -75,7 +92,7 @@ const REFUSED: &[(&[&str], &[File<'static>], &[u8])] = &[
         b"colis: no start tree for upgrade\n",
     ),
     // All scenarios: the first that has no start tree.
-    (
+    Refused(
         &["check", "p", "--base", "b"],
         &[
             ("p/list", b"/.\n/usr\n/usr/bin\n/usr/bin/x\n"),
@@ -83,7 +100,7 @@ const REFUSED: &[(&[&str], &[File<'static>], &[u8])] = &[
         ],
         b"colis: no start tree for upgrade\n",
     ),
-    (
+    Refused(
         &["check", "p", "--limit", "2"],
         &[
             ("p/list", b"/.\n"),
@@ -95,7 +112,7 @@ const REFUSED: &[(&[&str], &[File<'static>], &[u8])] = &[
         b"colis: more than 2 outcomes in upgrade\n",
     ),
     // One scenario has no start tree, a later one too many outcomes, and what is told is the former.
-    (
+    Refused(
         &[
             "check",
             "p",
@@ -109,13 +126,13 @@ const REFUSED: &[(&[&str], &[File<'static>], &[u8])] = &[
         UNFIT,
         b"colis: more than 2 outcomes in purge-later\n",
     ),
-    (
+    Refused(
         &["check", "p", "--base", "b", "--limit", "2"],
         UNFIT,
         b"colis: no start tree for upgrade\n",
     ),
     // And the other way round.
-    (
+    Refused(
         &["check", "p", "--base", "b", "--limit", "2"],
         &[
             ("p/list", b"/.\n/usr\n/usr/bin\n/usr/bin/x\n"),
@@ -128,17 +145,20 @@ const REFUSED: &[(&[&str], &[File<'static>], &[u8])] = &[
 
 #[test]
 fn calls_that_are_refused(rt: HostRuntime) -> Result<(), Fail> {
-    for row in REFUSED {
-        let ended = call(&rt, row.0, row.1, QUIET)?;
-        see(&rt, &ended, (3, b"", row.2))?;
-    }
-    Ok(())
+    see_all(&rt, REFUSED)
 }
 
-// The limit itself is not passed.
-#[test]
-fn as_many_outcomes_as_the_limit(rt: HostRuntime) -> Result<(), Fail> {
-    let words = [
+// The words of a report that may have as many outcomes as this script has, and the status.
+struct Limited(&'static [&'static str], &'static [u8], u8);
+
+impl Row for Limited {
+    fn case(&self) -> Case {
+        installation(self.0, Script::Joined(self.1, b""), self.2, Seen::Any)
+    }
+}
+
+const LIMITED: Limited = Limited(
+    &[
         "check",
         "p",
         "--scenario",
@@ -146,25 +166,43 @@ fn as_many_outcomes_as_the_limit(rt: HostRuntime) -> Result<(), Fail> {
         "--limit",
         "3",
         "--brief",
-    ];
-    let files: [File<'_>; 2] = [
-        ("p/list", b"/.\n"),
-        (
-            "p/postinst",
-            b"#!/bin/sh\nset -e\n[ -e /srv/a ] || mkdir /srv/a\n",
-        ),
-    ];
-    let ended = call(&rt, &words, &files, QUIET)?;
-    assert_eq!(rt; ended.status, 2);
-    Ok(())
+    ],
+    b"#!/bin/sh\nset -e\n[ -e /srv/a ] || mkdir /srv/a\n",
+    2,
+);
+
+// The limit itself is not passed.
+#[test]
+fn as_many_outcomes_as_the_limit(rt: HostRuntime) -> Result<(), Fail> {
+    see(&rt, &LIMITED, 0)
 }
 
 const CHECK: &[&str] = &["check", "p"];
 
 // The words, what fails (the read, the write and the line, by their numbers, and how much of that write is taken), and
 // what has to come of the call.
-const FAILING: &[(&[&str], u32, u32, u32, u32, Wanted<'static>)] = &[
-    (
+struct Fails(&'static [&'static str], u32, u32, u32, u32, Wanted);
+
+impl Row for Fails {
+    fn case(&self) -> Case {
+        Case {
+            words: self.0,
+            files: NOTHING,
+            script: None,
+            failing: Failing {
+                read: self.1,
+                write: self.2,
+                line: self.3,
+                taken: self.4,
+            },
+            status: self.5.0,
+            seen: Seen::Whole(self.5.1, self.5.2),
+        }
+    }
+}
+
+const FAILING: &[Fails] = &[
+    Fails(
         CHECK,
         1,
         0,
@@ -172,7 +210,7 @@ const FAILING: &[(&[&str], u32, u32, u32, u32, Wanted<'static>)] = &[
         0,
         (4, b"", b"colis: p/control: read failed\n"),
     ),
-    (
+    Fails(
         CHECK,
         3,
         0,
@@ -180,7 +218,7 @@ const FAILING: &[(&[&str], u32, u32, u32, u32, Wanted<'static>)] = &[
         0,
         (4, b"", b"colis: p/conffiles: read failed\n"),
     ),
-    (
+    Fails(
         CHECK,
         7,
         0,
@@ -188,8 +226,8 @@ const FAILING: &[(&[&str], u32, u32, u32, u32, Wanted<'static>)] = &[
         0,
         (4, b"", b"colis: p/postrm: read failed\n"),
     ),
-    (CHECK, 3, 0, 1, 7, (5, b"", b"colis: ")),
-    (
+    Fails(CHECK, 3, 0, 1, 7, (5, b"", b"colis: ")),
+    Fails(
         CHECK,
         0,
         1,
@@ -197,23 +235,13 @@ const FAILING: &[(&[&str], u32, u32, u32, u32, Wanted<'static>)] = &[
         10,
         (5, b"colis repo", b"colis: write failed\n"),
     ),
-    (CHECK, 0, 1, 0, 1, (5, b"c", b"colis: write failed\n")),
-    (CHECK, 0, 1, 0, 0, (5, b"", b"colis: write failed\n")),
-    (CHECK, 0, 1, 1, 10, (5, b"colis repo", b"colis: wri")),
-    (&["check"], 0, 0, 1, 7, (5, b"", b"colis: ")),
+    Fails(CHECK, 0, 1, 0, 1, (5, b"c", b"colis: write failed\n")),
+    Fails(CHECK, 0, 1, 0, 0, (5, b"", b"colis: write failed\n")),
+    Fails(CHECK, 0, 1, 1, 10, (5, b"colis repo", b"colis: wri")),
+    Fails(&["check"], 0, 0, 1, 7, (5, b"", b"colis: ")),
 ];
 
 #[test]
 fn reads_and_writes_that_fail(rt: HostRuntime) -> Result<(), Fail> {
-    for row in FAILING {
-        let failing = Failing {
-            read: row.1,
-            write: row.2,
-            line: row.3,
-            taken: row.4,
-        };
-        let ended = call(&rt, row.0, &[("p/list", b"/.\n")], failing)?;
-        see(&rt, &ended, row.5)?;
-    }
-    Ok(())
+    see_all(&rt, FAILING)
 }

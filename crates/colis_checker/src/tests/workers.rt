@@ -1,9 +1,12 @@
 //! Scenarios that workers answer, at once and in their order.
 
-use super::{File, QUIET, call, call_by, see};
-use case_pool::Gate;
+use super::{Called, Case, Ended, NOTHING, Row, call_by, see};
+use case_pool::{Gate, Open};
+use script_names::Memory;
+use std::alloc::Global;
 use std::sync::atomic::{AtomicBool, AtomicU64, Ordering};
 use std::test::Fail;
+use std::thread::Threads;
 
 // A gate that counts who has entered. The first to enter looks for a second one, and notes whether it saw one.
 #[derive(Drop)]
@@ -26,31 +29,71 @@ impl Gate for Counting {
     }
 }
 
+impl Counting {
+    fn new() -> Counting {
+        Counting {
+            entered: AtomicU64::new(0),
+            saw_another: AtomicBool::new(false),
+        }
+    }
+}
+
+// A report with success. What it says is taken from another call.
+const BRIEF: Called = Called(&["check", "p", "--brief"], NOTHING, (0, b"", b""));
+
+fn are_same(bytes: &[u8], others: &[u8]) -> bool {
+    bytes == others
+}
+
+// Whether both calls wrote the same report, and the first ended as it has to.
+fn is_same_report(first: &Ended, second: &Ended, case: &Case) -> bool {
+    first.status == case.status
+        && are_same(first.out.bytes(), second.out.bytes())
+        && first.err.bytes().is_empty()
+}
+
+// Whether the report of workers that enter the gate is that of workers that enter an open one.
+fn reports_the_same<R: Threads + Sync>(
+    rt: &R,
+    alloc: Global,
+    gate: &Counting,
+    case: &Case,
+) -> Result<bool, Memory> {
+    let ended = call_by(rt, alloc, gate, case)?;
+    let alone = call_by(rt, alloc, &Open::new(), case)?;
+    Ok(is_same_report(&ended, &alone, case))
+}
+
+// Whether the report is the same, whether two workers were at work at once, and how many scenarios entered.
+fn six_scenarios<R: Threads + Sync>(rt: &R, alloc: Global) -> Result<(bool, bool, u64), Memory> {
+    let gate = Counting::new();
+    let same = reports_the_same(rt, alloc, &gate, &BRIEF.case())?;
+    Ok((
+        same,
+        gate.saw_another.load(Ordering::SeqCst),
+        gate.entered.load(Ordering::SeqCst),
+    ))
+}
+
 // All six scenarios enter, two of them at once, and the report is the same.
 #[test]
 fn six_scenarios_at_once(rt: HostRuntime) -> Result<(), Fail> {
-    let gate = Counting {
-        entered: AtomicU64::new(0),
-        saw_another: AtomicBool::new(false),
-    };
-    let words = ["check", "p", "--brief"];
-    let files: [File<'_>; 1] = [("p/list", b"/.\n")];
-    let ended = call_by(&rt, &gate, &words, &files, QUIET)?;
-    let alone = call(&rt, &words, &files, QUIET)?;
-    assert!(rt; gate.saw_another.load(Ordering::SeqCst));
-    assert_eq!(rt; gate.entered.load(Ordering::SeqCst), 6);
-    see(&rt, &ended, (0, alone.out.as_slice(), b""))
+    assert_eq!(rt; six_scenarios(&rt, rt.alloc())?, (true, true, 6));
+    Ok(())
 }
+
+const UNFIT: Called = Called(
+    &["check", "p", "--base", "b"],
+    &[
+        ("p/list", b"/.\n/usr\n/usr/bin\n/usr/bin/x\n"),
+        ("b", b"file /usr\n"),
+    ],
+    (3, b"", b"colis: no start tree for upgrade\n"),
+);
 
 // A directory of the package is a file on the system: in no tree is the package installed, so that upgrade, remove and
 // purge have no start tree. The first of them is named.
 #[test]
 fn the_first_of_scenarios_that_are_refused(rt: HostRuntime) -> Result<(), Fail> {
-    let words = ["check", "p", "--base", "b"];
-    let files: [File<'_>; 2] = [
-        ("p/list", b"/.\n/usr\n/usr/bin\n/usr/bin/x\n"),
-        ("b", b"file /usr\n"),
-    ];
-    let ended = call(&rt, &words, &files, QUIET)?;
-    see(&rt, &ended, (3, b"", b"colis: no start tree for upgrade\n"))
+    see(&rt, &UNFIT, 0)
 }
