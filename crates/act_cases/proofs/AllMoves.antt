@@ -1,12 +1,11 @@
 -- The cases of a move: one for each row, and on each tree one that leads on.
-use Rattle.std.proofs.Common.{◌≡◌, ◌≢◌, ℕ, zero, suc, ◌+◌, ◌-◌, ◌<◌, ◌≤◌, ◌⊎◌, inl, inr, Bool, true, false, IsTrue, List, [], ◌∷◌, ◌++◌, length, map, take, refl, sym, ap, subst, ◌∙◌, arith}
-use Rattle.std.specs.List.{Contains, All}
+use Rattle.std.proofs.Common.{◌≡◌, ℕ, zero, suc, ◌+◌, ◌-◌, ◌<◌, ◌≤◌, ◌⊎◌, inl, inr, true, List, [], ◌∷◌, ◌++◌, length, map, take, refl, sym, ap, subst, ◌∙◌, arith}
+use Rattle.std.specs.List.{Contains}
 use Rattle.script_names.specs.Paths.{PathParts}
 use Rattle.feature_trees.specs.declared.value.Value.{Value}
 use Rattle.feature_trees.specs.Sound.{IsTree}
 use Rattle.utility_calls.specs.declared.acts.Act.{Act}
 use Rattle.utility_calls.specs.declared.acts.Act.TheVariants.{Exists, IsReg, IsDir, IsLink, CanRun, MakeDir, EnsureDir, RemoveDir, Remove, Touch, Symlink, Move, PlaceFile, PlaceLink, PlaceConf, Discard, DiscardDir}
-use Rattle.utility_calls.specs.declared.sights.Row.{Row}
 use Rattle.utility_calls.specs.Table.{Rule, rules, row_of, move_by}
 use Rattle.utility_calls.specs.Acts.{path_of, place_of, inner_name, moved, is_prefix, is_below, last_name, with_name, row, IsPerformed}
 use Rattle.utility_calls.specs.ActRows.{IsAmong}
@@ -15,12 +14,12 @@ use Rattle.act_cases.specs.Plans.{case_of}
 use Rattle.act_cases.specs.Tables.{link_plan, slash_plan}
 use Rattle.tree_clauses.specs.Plain.{IsPlain}
 use Rattle.act_cases.specs.Moves.{second_plan, move_rule_case, move_case, second_cases, move_cases}
-use Rattle.act_cases.specs.Cases.{HasSource, link_row, link_rows, slash_rows, second_rows, rows_of, IsExact, AnswersAs, case_answer, row_answer, AreCases, link_cases, slash_cases}
+use Rattle.act_cases.specs.Cases.{HasSource, link_row, link_rows, slash_rows, rows_of, IsExact, AnswersAs, case_answer, row_answer, AreCases, link_cases, slash_cases}
 use Rattle.act_cases.proofs.Meets.{AreNames}
 use Rattle.act_cases.proofs.AnyRow.{Tells, way, slash, second, table, row_tells}
 use Rattle.act_cases.proofs.EachCase.{IsOne}
 use Rattle.act_cases.proofs.PlainCases.{link_plain, slash_plain}
-use Rattle.act_cases.proofs.AllCases.{Every, every_all, every_join, every_map, every_link, every_slash, answers_join, rows_join, link_answers, slash_answers, rows_answers, In, in_contains, HasRow, row_left, row_right, row_later, has_link, has_slash, same_or_above}
+use Rattle.act_cases.proofs.AllCases.{Every, every_all, every_join, every_map, every_link, every_slash, answers_join, rows_join, link_answers, slash_answers, rows_answers, in_contains, HasRow, row_left, row_right, row_later, has_link, has_slash, same_or_above}
 use Rattle.act_cases.proofs.MoveTabled.{move_well, moves_apart}
 use Rattle.act_cases.proofs.RisingRows.{moves_rise}
 use Rattle.act_cases.proofs.MoveCases.{move_link_one, move_slash_one, move_second_one, move_rule_one}

@@ -1,11 +1,10 @@
 -- Each case of an act on one path leads where its row is taken, and to the tree that the act leaves.
-use Rattle.std.proofs.Common.{◌≡◌, ◌≢◌, ℕ, zero, suc, ◌+◌, ◌<◌, ◌≤◌, ◌⊎◌, inl, inr, ◌↔◌, Bool, true, false, IsTrue, Option, Some, None, List, [], ◌∷◌, ◌++◌, length, take, refl, sym, ap, subst, ◌∙◌, arith}
-use Rattle.std.specs.Prelude.{slice_index_or}
+use Rattle.std.proofs.Common.{◌≡◌, ◌≢◌, ℕ, zero, suc, ◌<◌, ◌≤◌, Bool, true, false, IsTrue, List, [], ◌∷◌, length, take, refl, sym, ap, subst, ◌∙◌, arith}
 use Rattle.feature_trees.specs.declared.kind.Kind.{Kind}
 use Rattle.feature_trees.specs.declared.kind.Kind.TheVariants.{Absent, Reg, Link, Other, Dir}
 use Rattle.feature_trees.specs.declared.value.Value.{Value}
 use Rattle.feature_trees.specs.Kinds.{has, of}
-use Rattle.feature_trees.specs.Tree.{at, kind_of, put}
+use Rattle.feature_trees.specs.Tree.{at, kind_of}
 use Rattle.feature_trees.specs.Sound.{IsTree}
 use Rattle.utility_calls.specs.declared.acts.Act.{Act}
 use Rattle.utility_calls.specs.declared.sights.Row.{Row}
@@ -14,13 +13,11 @@ use Rattle.utility_calls.specs.declared.sights.Effect.TheVariants.{Nothing, Make
 use Rattle.utility_calls.specs.Ways.{kind_at, NoLinkOnWay}
 use Rattle.utility_calls.specs.Sights.{three}
 use Rattle.utility_calls.specs.Table.{Rule, rules, row_of}
-use Rattle.utility_calls.specs.Acts.{path_of, place_of, inner_name, target_of, with_name, slash_row, row, effect_on, tree_after, is_question, IsPerformed}
+use Rattle.utility_calls.specs.Acts.{path_of, inner_name, target_of, with_name, slash_row, row, effect_on, is_question, IsPerformed}
 use Rattle.utility_calls.specs.ActRows.{IsAmong, Reaches}
 use Rattle.tree_clauses.specs.declared.case.Case.{Case}
-use Rattle.act_cases.specs.declared.plans.Plan.{Plan}
-use Rattle.act_cases.specs.Looks.{Sees}
 use Rattle.act_cases.specs.Plans.{put_by, case_of}
-use Rattle.act_cases.specs.Tables.{through, plan_of, link_plan, slash_plan, names_at, is_inner}
+use Rattle.act_cases.specs.Tables.{plan_of, link_plan, slash_plan, names_at, is_inner}
 use Rattle.act_cases.specs.Cases.{IsOnOnePath, link_row, IsExact, AnswersAs, rule_case}
 use Rattle.tree_clauses.specs.Leads.{Leads}
 use Rattle.act_cases.proofs.Meets.{AreNames, first_name, later_names}
@@ -28,7 +25,7 @@ use Rattle.act_cases.proofs.Leading.{leads_from, leads_to}
 use Rattle.utility_calls.proofs.Above.{there_parents}
 use Rattle.act_cases.proofs.Seeing.{through_from, through_to, parents_clear}
 use Rattle.act_cases.proofs.RuleSees.{some_name, needs_name, rule_from, rule_to}
-use Rattle.act_cases.proofs.Tabled.{Suits, suits_is, suits, all_of, apart, test_of, same_rule, tabled, effect_fits}
+use Rattle.act_cases.proofs.Tabled.{Suits, suits_is, suits, test_of, same_rule, tabled, effect_fits}
 use Rattle.act_cases.proofs.AnyRow.{link_taken, slash_taken}
 use Rattle.act_cases.proofs.OneRowTaken.{own_taken, Holds, Says, way, slash, table, row_says}
 

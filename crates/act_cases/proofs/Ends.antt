@@ -1,11 +1,9 @@
 -- Values with and without entries.
-use Rattle.std.proofs.Common.{◌≡◌, ◌≢◌, ℕ, Bool, true, false, IsTrue, List, [], ◌∷◌, refl, sym, ap, subst, ◌∙◌}
-use Rattle.std.specs.List.{Contains}
-use Rattle.feature_trees.specs.declared.kind.Kind.TheVariants as kind
+use Rattle.std.proofs.Common.{◌≡◌, ◌≢◌, ℕ, true, false, List, [], ◌∷◌, refl, sym, subst, ◌∙◌}
 use Rattle.feature_trees.specs.declared.shape.Entry.{Entry}
 use Rattle.feature_trees.specs.declared.value.Value.{Value}
 use Rattle.feature_trees.specs.declared.value.Value.TheVariants.{Absent, Reg, Link, Other, Dir}
-use Rattle.feature_trees.specs.View.{IsThere, value_of}
+use Rattle.feature_trees.specs.View.{IsThere}
 use Rattle.feature_trees.specs.Tree.{entry, find}
 use Rattle.feature_trees.proofs.Kept.{value_there, find_first}
 use Rattle.utility_calls.specs.Sights.{has_entry}

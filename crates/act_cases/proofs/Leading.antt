@@ -1,17 +1,15 @@
 -- Where a case leads: it looks along names, and puts something there.
 use Rattle.std.proofs.Common.{◌≡◌, ℕ, ◌+◌, Bool, true, false, IsTrue, List, [], ◌∷◌, ◌++◌, length, refl, sym, ap, subst, ◌∙◌, arith, append_assoc, length-append, if◌then◌else◌}
 use Rattle.feature_trees.specs.declared.value.Value.{Value}
-use Rattle.feature_trees.specs.declared.value.Value.TheVariants as value
 use Rattle.feature_trees.specs.Kinds.{has}
-use Rattle.feature_trees.specs.Tree.{at, kind_of, put, entries_of}
+use Rattle.feature_trees.specs.Tree.{at, kind_of, put}
 use Rattle.feature_trees.specs.Sound.{sound, IsTree}
 use Rattle.feature_trees.proofs.Kept.{sound_entries}
 use Rattle.tree_clauses.specs.Literals.{Valuation, value_of_variable, IsSound, MeetsAll}
 use Rattle.utility_calls.specs.declared.sights.Effect.{Effect}
 use Rattle.utility_calls.specs.declared.sights.Effect.TheVariants.{Nothing, MakesDir, KeepsDir, MakesFile, MakesLink, LinksInside, TakesAway, Moves, MovesInside}
 use Rattle.act_cases.specs.declared.plans.Plan.{Plan}
-use Rattle.act_cases.specs.Looks.{kinds_from, Sees, way_literals, look_literals}
-use Rattle.act_cases.specs.Puts.{put_literals, root_of}
+use Rattle.act_cases.specs.Looks.{kinds_from, Sees, look_literals}
 use Rattle.act_cases.specs.Plans.{EndMet, end_literals, is_put, made_value, made_literals, put_by, changes, root_by, case_of}
 use Rattle.tree_clauses.specs.Leads.{Leads}
 use Rattle.act_cases.proofs.Meets.{meets_split, meets_join, Along, Outwards, AreNames, first_seen, way_from, way_to, along_end, end_length, end_from, end_to, made_from, made_to, put_from, put_to, outwards_root}

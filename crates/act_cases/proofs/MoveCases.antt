@@ -1,16 +1,14 @@
 -- Each case of a move leads where its row is taken, and to the tree that the move leaves.
-use Rattle.std.proofs.Common.{◌≡◌, ◌≢◌, ℕ, zero, suc, ◌+◌, ◌-◌, ◌<◌, ◌≤◌, ◌⊎◌, inl, inr, ◌↔◌, Bool, true, false, ◌&&◌, ◌||◌, IsTrue, Option, Some, None, List, [], ◌∷◌, ◌++◌, length, take, get_or, refl, sym, ap, subst, ◌∙◌, arith}
-use Rattle.std.specs.Prelude.{slice_get}
+use Rattle.std.proofs.Common.{◌≡◌, ◌≢◌, ℕ, ◌+◌, ◌-◌, ◌<◌, ◌≤◌, Bool, true, false, ◌||◌, IsTrue, Option, Some, None, List, [], ◌∷◌, length, take, refl, sym, ap, subst, ◌∙◌, arith}
 use Rattle.std.proofs.lemmas.Option.{slice_get-get_or}
 use Rattle.script_names.specs.Paths.{PathParts}
-use Rattle.feature_trees.specs.declared.kind.Kind.{Kind}
 use Rattle.feature_trees.specs.declared.kind.Kind.TheVariants.{Absent, Reg, Link, Other, Dir}
 use Rattle.feature_trees.specs.declared.kind.Kinds.{Kinds}
 use Rattle.feature_trees.specs.declared.value.Value.{Value}
 use Rattle.feature_trees.specs.declared.value.Value.TheVariants as value
-use Rattle.feature_trees.specs.Kinds.{has, of, all}
+use Rattle.feature_trees.specs.Kinds.{has, of}
 use Rattle.feature_trees.specs.Tree.{at, kind_of, put, has_parents}
-use Rattle.feature_trees.specs.Sound.{sound, IsTree}
+use Rattle.feature_trees.specs.Sound.{sound}
 use Rattle.feature_trees.proofs.Laws.{and_parts, and_made}
 use Rattle.utility_calls.specs.declared.acts.Act.{Act}
 use Rattle.utility_calls.specs.declared.acts.Act.TheVariants.{Move}
@@ -18,29 +16,26 @@ use Rattle.utility_calls.specs.declared.sights.Row.{Row}
 use Rattle.utility_calls.specs.declared.sights.Sight.{Sight}
 use Rattle.utility_calls.specs.declared.sights.Effect.{Effect}
 use Rattle.utility_calls.specs.declared.sights.Effect.TheVariants.{Nothing, MakesDir, KeepsDir, MakesFile, MakesLink, LinksInside, TakesAway, Moves, MovesInside}
-use Rattle.utility_calls.specs.Ways.{in_dir}
 use Rattle.utility_calls.specs.Ways.{kind_at, NoLinkOnWay}
-use Rattle.utility_calls.specs.Sights.{Where, anything, is as of_kinds, within, inside, outside, empty, full, into, into_empty, into_full, holds, sight_of, three, but}
-use Rattle.utility_calls.specs.Table.{Rule, rules, is_source, rule_holds, row_of, move_by}
-use Rattle.utility_calls.specs.Acts.{path_of, place_of, inner_name, inner_at, last_name, with_name, is_prefix, is_there, slash_row, source_of, sight_on, row, effect_on, IsPerformed}
+use Rattle.utility_calls.specs.Sights.{Where, anything, is as of_kinds, within, inside, outside, empty, full, into, into_empty, into_full, holds, three, but}
+use Rattle.utility_calls.specs.Table.{Rule, is_source, rule_holds, row_of, move_by}
+use Rattle.utility_calls.specs.Acts.{last_name, with_name, is_prefix, is_there, slash_row, row, effect_on, IsPerformed}
 use Rattle.utility_calls.specs.ActRows.{IsAmong, Reaches, LooksAtWay}
-use Rattle.tree_clauses.specs.declared.case.Case.{Case}
 use Rattle.act_cases.specs.Looks.{Sees}
 use Rattle.act_cases.specs.Plans.{EndMet, case_of}
-use Rattle.act_cases.specs.Tables.{through, ways_of, end_of_place, is_inner, names_at, link_plan, slash_plan}
+use Rattle.act_cases.specs.Tables.{ways_of, end_of_place, is_inner, link_plan, slash_plan}
 use Rattle.act_cases.specs.Moves.{moved_by, source_where, is_anything, second_names, is_move, move_plan, looked, second_plan, move_rule_case, move_case}
 use Rattle.act_cases.specs.Cases.{link_row}
-use Rattle.tree_clauses.specs.Leads.{Leads}
 use Rattle.act_cases.proofs.Meets.{AreNames}
 use Rattle.act_cases.proofs.Leading.{leads_from, leads_to}
 use Rattle.act_cases.proofs.Seeing.{has_all, through_from, through_to, parents_clear}
-use Rattle.act_cases.proofs.RuleSees.{some_name, needs_name, Reached, seen, rule_from, rule_to}
+use Rattle.act_cases.proofs.RuleSees.{some_name, Reached, seen, rule_from, rule_to}
 use Rattle.act_cases.proofs.Tabled.{same_rule}
 use Rattle.act_cases.proofs.EachCase.{IsOne, one_of, some_names, is_link, thing, is_thing, link_there}
 use Rattle.act_cases.proofs.PlainCases.{through_ways}
 use Rattle.act_cases.proofs.AnyRow.{link_taken, slash_taken, second_taken, table_taken, Tells, way, slash, second, table, row_tells}
 use Rattle.act_cases.proofs.Moving.{moves_from, moves_to}
-use Rattle.act_cases.proofs.MoveTabled.{MovesWell, move_well, moves_apart, move_fits, looks_where, looks_not}
+use Rattle.act_cases.proofs.MoveTabled.{move_well, moves_apart, move_fits, looks_where, looks_not}
 use Rattle.utility_calls.proofs.Above.{there_parents, Clear, kept_parents, clear_below, clear_place}
 
 -- ---- what a row says of what is moved

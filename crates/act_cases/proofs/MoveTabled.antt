@@ -1,5 +1,5 @@
 -- What holds of each row of the tables of a move.
-use Rattle.std.proofs.Common.{◌≡◌, ◌≢◌, ℕ, ◌+◌, ◌<◌, ◌≤◌, ◌⊎◌, inl, inr, Bool, true, false, not, ◌&&◌, ◌||◌, nat_lt, IsTrue, if◌then◌else◌, Option, Some, None, List, [], ◌∷◌, refl, sym, ap, subst, ◌∙◌, arith}
+use Rattle.std.proofs.Common.{◌≡◌, ◌≢◌, ◌<◌, Bool, true, false, not, ◌&&◌, ◌||◌, nat_lt, Option, Some, None, refl, sym, ap, ◌∙◌}
 use Rattle.std.proofs.lemmas.Bool.{ltb-true, not-true}
 use Rattle.feature_trees.specs.declared.kind.Kind.{Kind}
 use Rattle.feature_trees.specs.declared.kind.Kind.TheVariants.{Absent, Reg, Link, Other, Dir}
@@ -8,7 +8,6 @@ use Rattle.feature_trees.specs.Kinds.{has}
 use Rattle.feature_trees.proofs.Laws.{and_parts}
 use Rattle.utility_calls.specs.declared.sights.Effect.{Effect}
 use Rattle.utility_calls.specs.declared.sights.Effect.TheVariants.{Nothing, MakesDir, KeepsDir, MakesFile, MakesLink, LinksInside, TakesAway, Moves, MovesInside}
-use Rattle.utility_calls.specs.Sights.{Where}
 use Rattle.utility_calls.specs.Table.{Rule, move_by, is_source}
 use Rattle.utility_calls.specs.Acts.{is_there}
 use Rattle.utility_calls.specs.ActRows.{IsAmong}

@@ -1,6 +1,6 @@
 -- Where a case of a move leads: it looks along both paths, takes away what stands at the first, and puts it at the
 -- second.
-use Rattle.std.proofs.Common.{◌≡◌, ℕ, suc, ◌+◌, ◌≤◌, Bool, true, false, IsTrue, List, [], ◌∷◌, ◌++◌, length, refl, sym, ap, subst, ◌∙◌, arith, append_assoc, length-append}
+use Rattle.std.proofs.Common.{◌≡◌, ℕ, ◌+◌, Bool, true, false, IsTrue, List, [], ◌∷◌, ◌++◌, length, refl, sym, ap, subst, ◌∙◌, arith, append_assoc, length-append}
 use Rattle.feature_trees.specs.declared.value.Value.{Value}
 use Rattle.feature_trees.specs.declared.value.Value.TheVariants as value
 use Rattle.feature_trees.specs.declared.kind.Kind.TheVariants.{Absent}
@@ -13,11 +13,11 @@ use Rattle.tree_clauses.proofs.KindSets.{of_absent}
 use Rattle.tree_clauses.proofs.Values.{absent_kind}
 use Rattle.act_cases.specs.declared.looks.Ways.{Ways}
 use Rattle.act_cases.specs.declared.moves.MovePlan.{MovePlan}
-use Rattle.act_cases.specs.Looks.{kinds_from, Sees, way_literals, look_literals, end_of}
-use Rattle.act_cases.specs.Puts.{put_literals, root_of}
+use Rattle.act_cases.specs.Looks.{kinds_from, Sees, look_literals, end_of}
+use Rattle.act_cases.specs.Puts.{put_literals}
 use Rattle.act_cases.specs.Plans.{EndMet, end_literals}
 use Rattle.act_cases.specs.Tables.{through}
-use Rattle.act_cases.specs.Moves.{spare, freed, onward, outward, placed, moved_literals, moves_by, move_root, moved_by, move_case}
+use Rattle.act_cases.specs.Moves.{spare, freed, onward, outward, moves_by, move_root, moved_by, move_case}
 use Rattle.tree_clauses.specs.Leads.{Leads}
 use Rattle.act_cases.proofs.Meets.{meets_split, meets_join, Along, Outwards, AreNames, first_seen, way_from, way_to, along_end, end_length, end_from, end_to, put_from, put_to, outwards_root}
 use Rattle.act_cases.proofs.Valued.{line, rings, line_length, rings_length, value_at, along_at, outwards_at, Each, each_sound, each_join, line_sound, rings_sound}

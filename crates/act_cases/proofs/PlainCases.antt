@@ -1,15 +1,14 @@
 -- Each case of an act on one path is plain.
-use Rattle.std.proofs.Common.{◌≡◌, ◌≢◌, ℕ, zero, suc, ◌+◌, ◌<◌, ◌≤◌, ◌⊎◌, inl, inr, ◌↔◌, Bool, true, false, not, ◌&&◌, ◌||◌, IsTrue, if◌then◌else◌, Option, Some, None, List, [], ◌∷◌, ◌++◌, length, take, refl, sym, ap, subst, ◌∙◌, arith, append-nil}
+use Rattle.std.proofs.Common.{◌≡◌, ◌≢◌, ℕ, suc, ◌+◌, ◌<◌, ◌≤◌, inl, inr, ◌↔◌, Bool, true, false, not, ◌&&◌, IsTrue, if◌then◌else◌, Option, Some, None, List, [], ◌∷◌, ◌++◌, length, take, refl, subst, arith, append-nil}
 use Rattle.std.proofs.lemmas.Bool.{not-true}
 use Rattle.std.specs.List.{Contains}
-use Rattle.feature_trees.specs.declared.kind.Kind.{Kind as AnyKind}
 use Rattle.feature_trees.specs.declared.kind.Kind.TheVariants as kind
 use Rattle.feature_trees.specs.declared.kind.Kinds.{Kinds}
 use Rattle.feature_trees.specs.Kinds.{has, of}
 use Rattle.feature_trees.specs.Tree.{kind_of}
 use Rattle.feature_trees.proofs.Laws.{and_parts}
 use Rattle.tree_clauses.specs.declared.clause.Literal.{Literal}
-use Rattle.tree_clauses.specs.declared.clause.Literal.TheVariants.{Entry, Kind, Fence, NotEmpty, Similar, Target}
+use Rattle.tree_clauses.specs.declared.clause.Literal.TheVariants.{Kind}
 use Rattle.tree_clauses.specs.Literals.{Valuation, value_of_variable, MeetsAll}
 use Rattle.utility_calls.specs.declared.acts.Act.{Act}
 use Rattle.utility_calls.specs.declared.acts.Act.TheVariants.{Exists, IsReg, IsDir, IsLink, CanRun, MakeDir, EnsureDir, RemoveDir, Remove, Touch, Symlink, Move, PlaceFile, PlaceLink, PlaceConf, Discard, DiscardDir}
@@ -17,23 +16,22 @@ use Rattle.utility_calls.specs.declared.sights.Effect.{Effect}
 use Rattle.utility_calls.specs.declared.sights.Effect.TheVariants.{Nothing, MakesDir, KeepsDir, MakesFile, MakesLink, LinksInside, TakesAway, Moves, MovesInside}
 use Rattle.utility_calls.specs.Sights.{Where, anything, is, within, inside, outside, empty, full, into, into_empty, into_full}
 use Rattle.utility_calls.specs.Table.{Rule, rules, remove_by, symlink_by}
-use Rattle.utility_calls.specs.Acts.{path_of, inner_name, target_of, with_name, is_question, IsPerformed}
+use Rattle.utility_calls.specs.Acts.{path_of, inner_name, target_of, is_question, IsPerformed}
 use Rattle.utility_calls.specs.ActRows.{IsAmong}
-use Rattle.tree_clauses.specs.declared.case.Case.{Case}
 use Rattle.act_cases.specs.declared.looks.Ways.{Ways}
 use Rattle.act_cases.specs.declared.plans.Plan.{Plan}
 use Rattle.act_cases.specs.declared.plans.End.{End}
 use Rattle.act_cases.specs.declared.plans.End.TheVariants.{Any, Empty, Full}
-use Rattle.act_cases.specs.Looks.{var, kinds_from, look_literals, way_literals, end_of}
+use Rattle.act_cases.specs.Looks.{var, kinds_from, look_literals, end_of}
 use Rattle.act_cases.specs.Puts.{put_literals, root_of}
 use Rattle.act_cases.specs.Plans.{end_literals, is_put, made_literals, changes, locals_by, root_by, case_of}
 use Rattle.act_cases.specs.Tables.{fitting, free, through, ways_of, is_inner, names_at, plan_of, link_plan, slash_plan}
 use Rattle.tree_clauses.specs.Plain.{IsOneOf, AreNoneOrDir, IsLimited, PlainOrder, done, absent, reg, link, dir, same, kinds, empty as empty_fact, filled, IsPlain}
-use Rattle.act_cases.specs.Cases.{IsOnOnePath, rule_case, cases_of}
+use Rattle.act_cases.specs.Cases.{IsOnOnePath, rule_case}
 use Rattle.tree_clauses.proofs.KindSets.{of_dir}
 use Rattle.act_cases.proofs.Meets.{meets_split, end_length}
 use Rattle.act_cases.proofs.Tabled.{all_of, test_of, implies}
-use Rattle.act_cases.proofs.Ordered.{firsts, below_contains, contains_below, not_yet, Within, AllLimited, limited_within, AllKinds, through_limited, way_order, all_below, put_order}
+use Rattle.act_cases.proofs.Ordered.{firsts, below_contains, contains_below, not_yet, Within, limited_within, AllKinds, through_limited, way_order, all_below, put_order}
 
 pub end_order : (e : End) (x m : ℕ) (b rest : List Literal) (after : List ℕ) → x < m → ((b' : List Literal) → Within b b' → PlainOrder b' (firsts m) rest after)
     → PlainOrder b (firsts m) (end_literals e x ++ rest) after

@@ -1,32 +1,31 @@
 -- Each case of a move is plain.
-use Rattle.std.proofs.Common.{◌≡◌, ◌≢◌, ℕ, zero, suc, ◌+◌, ◌<◌, ◌≤◌, ◌⊎◌, inl, inr, ◌↔◌, Bool, true, false, not, ◌&&◌, IsTrue, Option, Some, None, List, [], ◌∷◌, ◌++◌, length, take, refl, sym, ap, subst, ◌∙◌, arith, append-nil, append_assoc}
+use Rattle.std.proofs.Common.{◌≡◌, ◌≢◌, ℕ, suc, ◌+◌, ◌<◌, ◌≤◌, inl, inr, ◌↔◌, Bool, true, false, Option, Some, None, List, [], ◌∷◌, ◌++◌, length, refl, subst, arith, append-nil}
 use Rattle.std.specs.List.{Contains}
 use Rattle.script_names.specs.Paths.{PathParts}
 use Rattle.feature_trees.specs.declared.kind.Kind.TheVariants as kind
 use Rattle.feature_trees.specs.declared.kind.Kinds.{Kinds}
-use Rattle.feature_trees.specs.Kinds.{has, of, all}
+use Rattle.feature_trees.specs.Kinds.{of, all}
 use Rattle.feature_trees.specs.Tree.{kind_of}
 use Rattle.tree_clauses.specs.declared.clause.Literal.{Literal}
 use Rattle.tree_clauses.specs.declared.clause.Literal.TheVariants.{Kind}
 use Rattle.tree_clauses.specs.Literals.{Valuation, value_of_variable, MeetsAll}
-use Rattle.utility_calls.specs.declared.acts.Act.{Act}
 use Rattle.utility_calls.specs.declared.acts.Act.TheVariants.{Move}
 use Rattle.utility_calls.specs.Table.{Rule, move_by}
-use Rattle.utility_calls.specs.Acts.{path_of, place_of, last_name, with_name, is_prefix, IsPerformed}
+use Rattle.utility_calls.specs.Acts.{last_name, is_prefix, IsPerformed}
 use Rattle.utility_calls.specs.ActRows.{IsAmong}
 use Rattle.act_cases.specs.declared.looks.Ways.{Ways}
 use Rattle.act_cases.specs.declared.moves.MovePlan.{MovePlan}
-use Rattle.act_cases.specs.Looks.{var, kinds_from, way_literals, look_literals, end_of}
+use Rattle.act_cases.specs.Looks.{var, kinds_from, look_literals, end_of}
 use Rattle.act_cases.specs.Puts.{put_literals, root_of}
 use Rattle.act_cases.specs.Plans.{end_literals}
-use Rattle.act_cases.specs.Tables.{through, ways_of, end_of_place, is_inner, names_at}
-use Rattle.act_cases.specs.Moves.{spare, freed, onward, outward, placed, moved_literals, moves_by, move_locals, move_root, move_case, source_where, is_anything, second_names, is_move, move_plan, second_plan, move_rule_case}
-use Rattle.tree_clauses.specs.Plain.{IsOneOf, IsLimited, PlainOrder, done, absent, kinds, IsPlain}
+use Rattle.act_cases.specs.Tables.{through, ways_of, is_inner}
+use Rattle.act_cases.specs.Moves.{spare, freed, onward, outward, moves_by, move_locals, move_root, move_case, source_where, is_anything, second_names, move_plan, second_plan, move_rule_case}
+use Rattle.tree_clauses.specs.Plain.{PlainOrder, done, absent, kinds, IsPlain}
 use Rattle.tree_clauses.proofs.KindSets.{of_dir}
 use Rattle.act_cases.proofs.Meets.{meets_split}
-use Rattle.act_cases.proofs.Ordered.{firsts, below_contains, contains_below, not_yet, Within, AllLimited, limited_within, AllKinds, through_limited, way_order, AllBelow, all_below, put_order}
-use Rattle.act_cases.proofs.PlainCases.{is_through, through_ways, end_order}
-use Rattle.act_cases.proofs.MoveTabled.{there_only, MovesWell, move_well}
+use Rattle.act_cases.proofs.Ordered.{firsts, below_contains, contains_below, not_yet, Within, AllLimited, limited_within, AllKinds, through_limited, way_order, all_below, put_order}
+use Rattle.act_cases.proofs.PlainCases.{through_ways, end_order}
+use Rattle.act_cases.proofs.MoveTabled.{there_only, move_well}
 
 -- a look from a known variable
 look_order : (w : Ways) (x y n : ℕ) (names : List (List ℕ)) (b rest : List Literal) (after : List ℕ) → n ≡ y → x < n

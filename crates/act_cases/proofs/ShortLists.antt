@@ -1,5 +1,5 @@
 -- Lists of no name or of one.
-use Rattle.std.proofs.Common.{◌≡◌, ℕ, ◌<◌, List, [], ◌∷◌, arith}
+use Rattle.std.proofs.Common.{◌≡◌, ℕ, List, [], ◌∷◌, arith}
 use Rattle.std.specs.List.{Contains}
 
 pub none_contained : (f : List ℕ) → ¬ (Contains [] f)

@@ -1,5 +1,5 @@
 -- What holds of each row of the tables of the acts on one path.
-use Rattle.std.proofs.Common.{◌≡◌, ◌≢◌, ℕ, ◌<◌, ◌≤◌, ◌⊎◌, inl, inr, Bool, true, false, not, ◌&&◌, ◌||◌, nat_lt, IsTrue, Option, Some, None, List, [], ◌∷◌, refl, sym, ap, subst, ◌∙◌, arith}
+use Rattle.std.proofs.Common.{◌≡◌, ℕ, ◌<◌, inl, inr, Bool, true, false, not, ◌&&◌, ◌||◌, nat_lt, IsTrue, Option, Some, None, List, [], ◌∷◌, refl, sym, ap, ◌∙◌, arith}
 use Rattle.std.proofs.lemmas.Bool.{ltb-true, not-true}
 use Rattle.feature_trees.specs.declared.kind.Kinds.{Kinds}
 use Rattle.feature_trees.proofs.Laws.{and_parts}
@@ -7,9 +7,8 @@ use Rattle.utility_calls.specs.declared.acts.Act.{Act}
 use Rattle.utility_calls.specs.declared.acts.Act.TheVariants.{Exists, IsReg, IsDir, IsLink, CanRun, MakeDir, EnsureDir, RemoveDir, Remove, Touch, Symlink, Move, PlaceFile, PlaceLink, PlaceConf, Discard, DiscardDir}
 use Rattle.utility_calls.specs.declared.sights.Effect.{Effect}
 use Rattle.utility_calls.specs.declared.sights.Effect.TheVariants.{Nothing, MakesDir, KeepsDir, MakesFile, MakesLink, LinksInside, TakesAway, Moves, MovesInside}
-use Rattle.utility_calls.specs.Sights.{Where}
 use Rattle.utility_calls.specs.Table.{Rule, rules, remove_by, symlink_by}
-use Rattle.utility_calls.specs.Acts.{path_of, place_of, inner_name, moved, is_question}
+use Rattle.utility_calls.specs.Acts.{path_of, place_of, inner_name, is_question}
 use Rattle.utility_calls.specs.ActRows.{IsAmong}
 use Rattle.act_cases.specs.Tables.{is_inner}
 use Rattle.act_cases.specs.Cases.{IsOnOnePath}

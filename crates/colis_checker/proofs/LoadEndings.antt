@@ -1,5 +1,5 @@
 -- The endings of a load are those of a report on it.
-use Rattle.std.proofs.Common.{◌≡◌, ℕ, List, [], ◌∷◌, map, None, Result, Ok, Err, refl, sym, ap, ◌∙◌, subst}
+use Rattle.std.proofs.Common.{◌≡◌, ℕ, List, [], ◌∷◌, map, None, Result, Ok, Err, refl, ap, ◌∙◌}
 use Rattle.std.specs.Prelude.{◌↔◌}
 use Rattle.std.specs.List.{AllZip}
 use Rattle.feature_trees.specs.declared.value.Value.{Value}
@@ -12,7 +12,6 @@ use Rattle.start_trees.specs.declared.need.Need.{Need}
 use Rattle.start_trees.specs.Needs.{IsStart}
 use Rattle.package_jobs.specs.Written.{written_run}
 use Rattle.package_jobs.specs.StartTrees.{IsStartTree}
-use Rattle.scenario_outcomes.specs.declared.outcome.Outcome.{Outcome}
 use Rattle.scenario_outcomes.specs.Endings.{endings_of as outcome_endings, AreEndings}
 use Rattle.scenario_outcomes.proofs.Carrying.{answers_carry_over}
 use Rattle.outcome_report.specs.declared.outcome_report.ReportEntry.{ReportEntry}
@@ -20,13 +19,12 @@ use Rattle.outcome_report.specs.declared.outcome_report.ReportPart.{ReportPart}
 use Rattle.outcome_report.proofs.PartOf.{part_of}
 use Rattle.load_summary.specs.declared.endings.ScenarioEndings.{ScenarioEndings}
 use Rattle.load_summary.specs.Endings.{ending_of, endings_of}
-use Rattle.colis_checker.specs.declared.faults.Refusal.{Refusal}
 use Rattle.colis_checker.specs.declared.faults.TaskFault.{TaskFault}
 use Rattle.colis_checker.specs.declared.faults.TaskFault.TheVariants.{Refused, Memory}
 use Rattle.colis_checker.specs.declared.loads.TheConstants.{TURNS}
 use Rattle.colis_checker.specs.Settled.{settled}
 use Rattle.colis_checker.specs.Reports.{chosen, CanReport, AreParts}
-use Rattle.colis_checker.specs.LoadEndings.{AreEndingsOf, AreAllEndings, EndingsGive, AllEndingsGive}
+use Rattle.colis_checker.specs.LoadEndings.{AreEndingsOf, EndingsGive, AllEndingsGive}
 use Rattle.colis_checker.proofs.Settled.{Give, settles}
 
 -- ---- a scenario

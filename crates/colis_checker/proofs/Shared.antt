@@ -6,7 +6,6 @@ use Rattle.script_names.proofs.list.List.TheSendSync as list
 use Rattle.script_names.proofs.bytes.Bytes.TheSendSync as bytes
 use Rattle.script_names.proofs.slot.Slot.TheSendSync as slot
 use Rattle.shell_syntax.proofs.syntax.Command.TheLaws.TheKnot as knot
-use Rattle.shell_syntax.specs.contracts.syntax.Command as Command
 use Rattle.shell_syntax.specs.contracts.script.Script as Script
 use Rattle.shell_syntax.proofs.key.Key.TheSendSync as key
 use Rattle.shell_syntax.proofs.redirect.Redirect.TheSendSync as redirect

@@ -1,5 +1,5 @@
 -- The map of a directory in the making, beside the entries that it stands for.
-use Rattle.std.proofs.Common.{◌≡◌, ◌++◌, ℕ, ◌≤◌, false, IsTrue, List, [], ◌∷◌, length, Ordering, Less, Equal, Greater, Option, Some, None, Result, Ok, Err, option_map, is_eq, cond, nat_cmp, refl, sym, ap, subst, ◌∙◌, OnOk, arith}
+use Rattle.std.proofs.Common.{◌≡◌, ◌++◌, ℕ, ◌≤◌, false, IsTrue, List, [], ◌∷◌, length, Ordering, Less, Equal, Greater, Option, Some, None, Result, Ok, Err, option_map, is_eq, cond, refl, sym, ap, subst, ◌∙◌, OnOk, arith}
 use Rattle.std.specs.BTreeMap.{insert_entry, is_at}
 use Rattle.std.specs.Global.{Vec}
 use Rattle.std.specs.Map.{lookup, set_value}

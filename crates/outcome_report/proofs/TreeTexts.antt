@@ -15,7 +15,6 @@ use Rattle.shown_texts.proofs.Lists.{all_both}
 use Rattle.shown_texts.proofs.PathTexts.{slashes_joined, path_read}
 use Rattle.shown_texts.proofs.Spelled.{show_read, show_shown}
 use Rattle.feature_trees.specs.declared.shape.Entry.{Entry}
-use Rattle.feature_trees.specs.declared.shape.Node.TheOpen as Open
 use Rattle.feature_trees.specs.declared.value.Value.{Value}
 use Rattle.feature_trees.specs.declared.value.Value.TheVariants.{Absent, Reg, Link, Other, Dir}
 use Rattle.feature_trees.specs.Readable.{node_bytes, entries_bytes, of_bytes}

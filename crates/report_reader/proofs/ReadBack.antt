@@ -1,5 +1,5 @@
 -- The JSON text of a readable report is read as the report.
-use Rattle.std.proofs.Common.{◌≡◌, Ok, Err, sym, ap, ◌∙◌}
+use Rattle.std.proofs.Common.{Ok, Err, sym, ap, ◌∙◌}
 use Rattle.serde_json.specs.Read.{read}
 use Rattle.report_json.specs.ReportJson.{json_of, json_text}
 use Rattle.report_reader.specs.declared.read.JsonFault.TheVariants as fault

@@ -1,6 +1,6 @@
 -- The text of a readable report is read as its value.
 use Rattle.std.proofs.Common.{◌≡◌, ℕ, ◌-◌, ◌^◌, ◌<◌, ◌≤◌, Bool, true, false, List, [], ◌∷◌, map, Some, refl, sym, ap, subst, arith, IsUtf8}
-use Rattle.std.specs.Prelude.{◌&&◌, if◌then◌else◌, nat_lt, codes}
+use Rattle.std.specs.Prelude.{◌&&◌, nat_lt, codes}
 use Rattle.std.specs.List.{flat_map, list_all, join_with_byte}
 use Rattle.std.specs.Option.{option_map, option_and_then}
 use Rattle.std.proofs.lemmas.Bool.{and_parts, and_from, leb-true}

@@ -1,5 +1,5 @@
 -- The map of functions after one more definition.
-use Rattle.std.proofs.Common.{◌≡◌, ℕ, ◌≤◌, ◌<◌, Bool, true, false, if◌then◌else◌, cond, List, [], ◌∷◌, Option, Some, None, Vec, min, refl, sym, ap, subst, ◌∙◌, arith}
+use Rattle.std.proofs.Common.{◌≡◌, ℕ, Bool, true, false, if◌then◌else◌, [], ◌∷◌, Option, Some, None, Vec, refl, sym, ap, subst, ◌∙◌, arith}
 use Rattle.std.specs.BTreeMap.{BTreeMap, UpdatesBy}
 use Rattle.std.specs.Map.{lookup, KeepsOthers, IsKeyTest, AreApart}
 use Rattle.std.specs.Ordering.{nat_cmp, is_eq, eq_by_cmp}
@@ -12,9 +12,9 @@ use Rattle.std.proofs.lemmas.Map.Text.{is_eq-slice_cmp}
 use Rattle.std.proofs.lemmas.Slice.Eq.{bytes_eq-Decides}
 use Rattle.std.proofs.lemmas.Bool.{leb-true, leb-false, false_from_ne_true}
 use Rattle.shell_forms.specs.Names.{Text}
-use Rattle.shell_forms.specs.Functions.{first_of, lesser}
+use Rattle.shell_forms.specs.Functions.{lesser}
 use Rattle.shell_forms.specs.Known.{has_name, is_at_most}
-use Rattle.shell_forms.proofs.Known.{Adds, lesser-none, lesser-swap}
+use Rattle.shell_forms.proofs.Known.{Adds, lesser-none}
 
 abbrev pub names : Text → Text → Ordering
 names = slice_cmp nat_cmp

@@ -4,7 +4,6 @@ use Rattle.shell_syntax.specs.declared.redirect.Redirect.{Redirect}
 use Rattle.shell_syntax.specs.declared.key.Key.{Key}
 use Rattle.shell_syntax.specs.declared.syntax.Command.{Command}
 use Rattle.shell_syntax.specs.declared.syntax.Command.TheVariants as v
-use Rattle.shell_syntax.specs.declared.syntax.Part.{Part}
 use Rattle.shell_syntax.specs.declared.syntax.Part.TheVariants as part
 use Rattle.shell_syntax.specs.declared.syntax.Assign.{Assign}
 use Rattle.shell_syntax.specs.declared.syntax.CaseArm.{CaseArm, out-CaseArm}
@@ -14,7 +13,7 @@ use Rattle.shell_syntax.specs.declared.syntax.Word.{Word}
 use Rattle.shell_syntax.specs.declared.syntax.Command.TheOpen as o
 use Rattle.shell_syntax.specs.declared.syntax.Command.TheFolds.{fold-roll-Command, fold-roll-Part, fold_out-Assign, fold_out-CaseArm, fold_out-IfArm, fold_out-Link, fold_out-Word}
 use Rattle.shell_forms.specs.Names.{Text}
-use Rattle.shell_forms.specs.Functions.{Definitions, command_layer, part_layer, assign_layer, case_arm_layer, if_arm_layer, link_layer, word_layer, of_all, of_some, definitions, part_definitions, assign_definitions, case_arm_definitions, if_arm_definitions, link_definitions, word_definitions}
+use Rattle.shell_forms.specs.Functions.{Definitions, command_layer, part_layer, assign_layer, case_arm_layer, if_arm_layer, link_layer, word_layer, of_all, definitions, part_definitions, assign_definitions, case_arm_definitions, if_arm_definitions, link_definitions, word_definitions}
 
 pub in_simple : (at : ℕ) (assigns : List Assign) (words : List Word) → definitions (v.Simple at assigns words) ≡ of_all (map assign_definitions assigns) ++ of_all (map word_definitions words)
 in_simple at assigns words = ap definitions (sym (v.rolls-Simple at assigns words)) ∙ fold-roll-Command Definitions Definitions Definitions Definitions Definitions Definitions Definitions command_layer part_layer assign_layer case_arm_layer if_arm_layer link_layer word_layer (o.Simple at assigns words)

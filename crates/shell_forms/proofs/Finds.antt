@@ -1,7 +1,7 @@
 -- The forms of each command, as those of its parts.
-use Rattle.std.proofs.Common.{◌≡◌, ℕ, ◌+◌, ◌<◌, ◌≤◌, Bool, not, ◌&&◌, ◌||◌, List, [], ◌∷◌, ◌++◌, length, map, take, get_or, Option, Some, None, codes, refl, sym, ap, ◌∙◌, add-one}
+use Rattle.std.proofs.Common.{◌≡◌, ℕ, ◌+◌, ◌<◌, Bool, not, ◌&&◌, ◌||◌, List, [], ◌∷◌, ◌++◌, length, map, take, get_or, Option, Some, None, codes, refl, sym, ap, ◌∙◌, add-one}
 use Rattle.std.proofs.Math.Seq.{take-suc}
-use Rattle.std.proofs.lemmas.List.{append-nil, map-append, take_all}
+use Rattle.std.proofs.lemmas.List.{append-nil, map-append}
 use Rattle.std.proofs.lemmas.Grind.{flat_map-append}
 use Rattle.std.specs.List.{flat_map}
 use Rattle.std.specs.Str.{bytes_eq}
@@ -23,7 +23,7 @@ use Rattle.shell_syntax.specs.declared.syntax.Command.TheFolds.{fold-roll-Comman
 use Rattle.shell_forms.specs.declared.place.Place.{Place}
 use Rattle.shell_forms.specs.Names.{Text}
 use Rattle.shell_forms.specs.Words.{PartSays, WordSays, AssignSays, command_of, commands_of}
-use Rattle.shell_forms.specs.Forms.{Found, Forms, command_layer, part_layer, assign_layer, case_arm_layer, if_arm_layer, link_layer, word_layer, forms_of, part_says, assign_says, case_arm_says, if_arm_says, link_says, word_says, within, member, looped, apart, function_body, when, in_word, in_words, in_assigns, in_pattern, in_patterns, in_list, in_arms, in_case_arms, all_of, if_there, simple_forms, define_forms, is_name, is_named, static_name, operands, is_one_flag, sets_ifs, is_prefix, some_unquoted, are_any, calls_later}
+use Rattle.shell_forms.specs.Forms.{Found, Forms, command_layer, part_layer, assign_layer, case_arm_layer, if_arm_layer, link_layer, word_layer, forms_of, part_says, assign_says, case_arm_says, if_arm_says, link_says, word_says, within, member, looped, apart, function_body, when, in_word, in_words, in_assigns, in_pattern, in_arms, in_case_arms, all_of, simple_forms, define_forms, is_name, is_named, static_name, operands, is_one_flag, sets_ifs, is_prefix, some_unquoted, are_any, calls_later}
 use Rattle.shell_forms.specs.Seen.{in_part}
 use Rattle.shell_forms.specs.Soonest.{soonest, sooner}
 

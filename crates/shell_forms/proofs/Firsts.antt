@@ -1,11 +1,10 @@
 -- The first of some forms, found one after another, is the first of them all.
-use Rattle.std.proofs.Common.{◌≡◌, ℕ, zero, suc, ◌+◌, ◌<◌, ◌≤◌, ◌⊎◌, inl, inr, Bool, true, false, ◌&&◌, ◌||◌, ◌==◌, nat_eq, nat_lt, if◌then◌else◌, List, [], ◌∷◌, length, All, Option, Some, None, slice_index_or, refl, sym, ap, subst, ◌∙◌, arith}
+use Rattle.std.proofs.Common.{◌≡◌, zero, suc, ◌≤◌, ◌⊎◌, inl, inr, Bool, true, false, ◌&&◌, ◌||◌, ◌==◌, nat_lt, if◌then◌else◌, List, [], ◌∷◌, All, Option, Some, None, refl, sym, ap, subst, ◌∙◌, arith}
 use Rattle.std.proofs.lemmas.Bool.{ltb-true, ltb-false, eqb-true, eqb-false}
 use Rattle.std.specs.List.{Contains}
-use Rattle.shell_syntax.specs.declared.form.Form.TheVariants as form
 use Rattle.shell_forms.specs.Forms.{Found}
 use Rattle.shell_forms.specs.First.{rank, NotBehind, IsFirst}
-use Rattle.shell_forms.specs.Soonest.{is_sooner, sooner, soonest}
+use Rattle.shell_forms.specs.Soonest.{is_sooner, soonest}
 use Rattle.shell_forms.proofs.Added.{differ}
 
 -- ---- the order of forms

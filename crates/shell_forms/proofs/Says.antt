@@ -1,16 +1,15 @@
 -- What words say, by the fold over a script, is what is read off their syntax.
-use Rattle.std.proofs.Common.{◌≡◌, ℕ, Bool, true, false, not, ◌&&◌, ◌||◌, List, [], ◌∷◌, ◌++◌, map, Option, Some, None, codes, refl, sym, ap, ◌∙◌}
+use Rattle.std.proofs.Common.{◌≡◌, ℕ, ◌||◌, List, [], ◌∷◌, ◌++◌, map, Option, Some, None, codes, refl, sym, ap, ◌∙◌}
 use Rattle.std.specs.List.{list_any}
 use Rattle.std.specs.Str.{bytes_eq}
-use Rattle.shell_syntax.specs.declared.syntax.Command.{Command}
 use Rattle.shell_syntax.specs.declared.syntax.Part.{Part, out-Part, roll-Part, roll-out-Part}
 use Rattle.shell_syntax.specs.declared.syntax.Assign.{Assign}
 use Rattle.shell_syntax.specs.declared.syntax.Word.{Word}
 use Rattle.shell_syntax.specs.declared.syntax.Command.TheOpen as o
 use Rattle.shell_syntax.specs.declared.syntax.Command.TheFolds.{fold-roll-Part}
-use Rattle.shell_forms.specs.Names.{Text, special_names}
+use Rattle.shell_forms.specs.Names.{Text}
 use Rattle.shell_forms.specs.Words.{PartSays, WordSays, AssignSays, both_bytes, static, has_unquoted, command_of, commands_of, is_all_alone}
-use Rattle.shell_forms.specs.Forms.{Forms, command_layer, part_layer, assign_layer, case_arm_layer, if_arm_layer, link_layer, word_layer, part_says, assign_says, word_says, is_there, are_any, is_named, is_function, static_name, operands, is_one_flag, sets_ifs, some_runs, some_unquoted, is_prefix}
+use Rattle.shell_forms.specs.Forms.{Forms, command_layer, part_layer, assign_layer, case_arm_layer, if_arm_layer, link_layer, word_layer, part_says, assign_says, word_says, is_there, are_any, is_named, static_name, operands, is_one_flag, sets_ifs, some_runs, some_unquoted, is_prefix}
 use Rattle.shell_forms.specs.Seen.{Layer, layer_bytes, bytes_of, static_of, static_name_of, is_one_flag_in, layer_unquoted, is_unquoted, some_unquoted_in, layer_runs, is_run, some_runs_in, sets_ifs_in, layer_all, is_all, is_all_alone_in, operands_of, is_prefix_in}
 use Rattle.shell_forms.proofs.Finds.{says_word, says_assign}
 

@@ -1,5 +1,5 @@
 -- What a word says before any expansion, read off its syntax.
-use Rattle.std.specs.Prelude.{ℕ, Bool, true, false, not, ◌&&◌, ◌||◌, List, [], ◌∷◌, map, Option, Some, None, codes}
+use Rattle.std.specs.Prelude.{ℕ, Bool, true, false, not, ◌&&◌, ◌||◌, List, [], ◌∷◌, Option, Some, None, codes}
 use Rattle.std.specs.List.{list_any}
 use Rattle.std.specs.Str.{bytes_eq}
 use Rattle.shell_syntax.specs.declared.syntax.Command.{Command}
@@ -11,7 +11,7 @@ use Rattle.shell_syntax.specs.declared.syntax.Link.{Link}
 use Rattle.shell_syntax.specs.declared.syntax.Word.{Word}
 use Rattle.shell_syntax.specs.declared.syntax.Command.TheOpen as o
 use Rattle.shell_forms.specs.Words.{both_bytes, command_of}
-use Rattle.shell_forms.specs.Names.{Text, is_one_of, special_names}
+use Rattle.shell_forms.specs.Names.{Text, special_names}
 use Rattle.shell_forms.specs.Forms.{Forms, is_named, is_there, are_any, is_function, part_says, apart, all_of}
 
 -- one layer of a part

@@ -1,5 +1,5 @@
 -- Quoted bytes, as they are printed, are one part.
-use Rattle.std.proofs.Common.{◌≡◌, ℕ, ◌+◌, Bool, true, false, ◌||◌, nat_eq, List, [], ◌∷◌, ◌++◌, append_assoc, append-nil, map, codes, refl, sym, ap, ◌∙◌, subst}
+use Rattle.std.proofs.Common.{◌≡◌, ℕ, Bool, true, false, ◌||◌, nat_eq, List, [], ◌∷◌, ◌++◌, append_assoc, append-nil, map, codes, refl, sym, ap, ◌∙◌, subst}
 use Rattle.std.specs.List.{flat_map}
 use Rattle.shell_syntax.specs.PrintedParts.{is_active, escaped, is_one_byte, quoted_text}
 use Rattle.shell_lexer.specs.declared.byte_kind.ByteKind.{ByteKind}

@@ -12,7 +12,6 @@ use Rattle.shell_lexer.specs.declared.token.RawPart.TheVariants as raw
 use Rattle.shell_lexer.specs.declared.token.RawPart.TheOpen as o
 use Rattle.shell_grammar.specs.declared.form.CommandForm.TheVariants as command
 use Rattle.shell_grammar.specs.declared.form.CompoundForm.TheVariants as compound
-use Rattle.shell_grammar.specs.declared.form.Item.TheVariants as an
 use Rattle.shell_grammar.specs.declared.items.Items.{Items}
 use Rattle.shell_grammar.specs.declared.look.Look.{Look}
 use Rattle.shell_grammar.specs.declared.look.Look.TheVariants.{AtEnd, Newline, DoubleSemi, AndAnd, OrOr, Bar, LeftParen, RightParen, Redirection, Keyword, Name, Assignment, Other}

@@ -1,5 +1,5 @@
 -- What is seen as an operator or a redirection is no word: by the tests of its first byte, one after another.
-use Rattle.std.proofs.Common.{◌≡◌, ℕ, if◌then◌else◌, nat_eq, [], ◌∷◌, Option, Some, None, ap}
+use Rattle.std.proofs.Common.{◌≡◌, ℕ, nat_eq, [], ◌∷◌, Option, Some, None, ap}
 use Rattle.shell_syntax.specs.declared.redirect.Redirect.{Redirect}
 use Rattle.shell_lexer.specs.declared.token.TokenKind.{out-TokenKind}
 use Rattle.shell_lexer.specs.declared.token.RawPart.TheOpen as o

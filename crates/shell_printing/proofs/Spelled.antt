@@ -1,6 +1,6 @@
 -- Where tokens spell a script, the tokens of the printed script spell it with every offset 0: by one induction over how
 -- the table reads, with a clause for each row.
-use Rattle.std.proofs.Common.{◌≡◌, ℕ, suc, Bool, true, false, nat_le, leb, List, [], ◌∷◌, map, ◌⊎◌, inl, inr, Option, Some, None, refl, sym, ap, ◌∙◌, subst, arith}
+use Rattle.std.proofs.Common.{◌≡◌, ℕ, suc, Bool, true, false, nat_le, leb, List, [], ◌∷◌, map, inl, inr, Option, Some, None, refl, sym, ap, ◌∙◌, subst, arith}
 use Rattle.std.proofs.lemmas.Bool.{leb-true, le-leb}
 use Rattle.shell_syntax.specs.declared.level.Level.{Level}
 use Rattle.shell_syntax.specs.declared.level.Level.TheVariants as level
@@ -26,7 +26,7 @@ use Rattle.shell_grammar.specs.declared.form.Item.TheVariants as an
 use Rattle.shell_grammar.specs.declared.items.Items.{Items}
 use Rattle.shell_grammar.specs.declared.look.Look.{Look}
 use Rattle.shell_grammar.specs.declared.look.Look.TheVariants.{AtEnd, Semi, DoubleSemi, Bar, LeftParen, Redirection, Keyword, Name, Assignment, Other}
-use Rattle.shell_grammar.specs.declared.look.Reserved.TheVariants.{Bang, If, Elif, Else, For, In, Case, Esac}
+use Rattle.shell_grammar.specs.declared.look.Reserved.TheVariants.{Bang, Elif, Else, In, Esac}
 use Rattle.shell_grammar.specs.Forms.{command_form, compound_form, item, starts, is_name_word, is_word, is_separator, link_and, ends_arm}
 use Rattle.shell_grammar.specs.Grammar.{Rule, Script, Body, Newlines, Block, Members, More, Behind, AndOr, Links, Pipeline, Piped, Bars, ACommand, Compound, Clause, Arms, Loop, ForRest, ForName, ForWords, Each, Apart, CaseRest, CaseArms, CaseMore, OneArm, ArmRest, Patterns, MorePatterns, ArmBody, Braces, Named, SimpleItems, Redirects, Sign, Is, Opens, AWord, Here, Never, Of, Inside, Tree, Value, Values, production, production_more, production_behind, production_links, production_command, production_compound, production_name, production_each, production_arm_body, production_items}
 use Rattle.shell_grammar.specs.Look.{Tokens, look, place, word_look}

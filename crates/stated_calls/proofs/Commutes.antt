@@ -1,6 +1,6 @@
 -- The translation of a command that is read under stated calls is its translation, so read: by induction on the command.
 use Rattle.std.proofs.Common.{◌≡◌, ℕ, Bool, true, false, ◌||◌, List, [], ◌∷◌, ◌++◌, map, Option, Some, None, refl, sym, ap, ◌∙◌, subst, if◌then◌else◌, codes, append-nil}
-use Rattle.std.specs.List.{flat_map, list_any}
+use Rattle.std.specs.List.{flat_map}
 use Rattle.std.specs.Str.{bytes_eq}
 use Rattle.script_names.specs.declared.reason.Reason.TheVariants as reason
 use Rattle.shell_syntax.specs.declared.key.Key.{Key}

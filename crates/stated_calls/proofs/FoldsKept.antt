@@ -13,7 +13,6 @@ use Rattle.shell_syntax.specs.declared.syntax.Command.TheFolds.{fold-Command, fo
 use Rattle.shell_forms.specs.Names.{Text}
 use Rattle.shell_forms.specs.Seen.{static_of}
 use Rattle.stated_calls.specs.declared.stated_call.StatedCall.{StatedCall}
-use Rattle.stated_calls.specs.Calls.{read_as}
 use Rattle.stated_calls.specs.Scripts.{renamed, static_read_as, command_read, part_read, assign_read, case_arm_read, if_arm_read, link_read, word_read}
 use Rattle.stated_calls.specs.Scripts as read
 use Rattle.shell_to_colis.proofs.Nodes.{cong_cons, cong2}

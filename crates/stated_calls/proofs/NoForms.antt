@@ -1,11 +1,10 @@
 -- No unsupported form stands in an accepted script that is read under stated calls.
-use Rattle.std.proofs.Common.{◌≡◌, ℕ, Bool, true, false, not, ◌&&◌, ◌||◌, List, [], ◌∷◌, ◌++◌, map, Option, Some, None, refl, sym, ap, ◌∙◌, subst, codes, append-nil}
-use Rattle.std.specs.List.{flat_map}
+use Rattle.std.proofs.Common.{◌≡◌, ℕ, Bool, true, false, not, ◌&&◌, ◌||◌, List, [], ◌∷◌, ◌++◌, map, Option, Some, None, refl, sym, ap, ◌∙◌, codes, append-nil}
 use Rattle.std.specs.Str.{bytes_eq}
 use Rattle.shell_syntax.specs.declared.form.Form.TheVariants as forms
 use Rattle.shell_syntax.specs.declared.script.Script.{Script}
 use Rattle.shell_syntax.specs.declared.syntax.Command.{Command}
-use Rattle.shell_syntax.specs.declared.syntax.Part.{Part, roll-Part, out-Part, roll-out-Part, out-roll-Part}
+use Rattle.shell_syntax.specs.declared.syntax.Part.{Part, out-Part, roll-out-Part, out-roll-Part}
 use Rattle.shell_syntax.specs.declared.syntax.Part.TheVariants as part
 use Rattle.shell_syntax.specs.declared.syntax.Assign.{Assign}
 use Rattle.shell_syntax.specs.declared.syntax.CaseArm.{CaseArm}
@@ -26,9 +25,9 @@ use Rattle.shell_forms.specs.declared.place.Place.{Place}
 use Rattle.stated_calls.specs.declared.stated_call.StatedCall.{StatedCall}
 use Rattle.stated_calls.specs.Calls.{are_stated, read_as}
 use Rattle.stated_calls.specs.Defined.{in_script}
-use Rattle.stated_calls.specs.Scripts.{renamed, static_read_as, command_read, stated_script}
+use Rattle.stated_calls.specs.Scripts.{renamed, command_read, stated_script}
 use Rattle.shell_to_colis.proofs.Nodes.{cong2}
-use Rattle.stated_calls.proofs.Commutes.{Sound, is_special, no_left, no_right, Named, named_so}
+use Rattle.stated_calls.proofs.Commutes.{is_special, no_left, no_right, named_so}
 use Rattle.stated_calls.proofs.FoldsKept.{Same, fold_kept}
 use Rattle.stated_calls.proofs.Within.{no_other}
 use Rattle.stated_calls.proofs.WholeScript.{fresh, sound_left}

@@ -1,6 +1,5 @@
 -- What reading under stated calls does at each node of a program.
-use Rattle.std.proofs.Common.{◌≡◌, ℕ, Bool, true, false, List, [], ◌∷◌, ◌++◌, map, Option, Some, None, refl, sym, ap, ◌∙◌, if◌then◌else◌}
-use Rattle.script_names.specs.declared.reason.Reason.{Reason}
+use Rattle.std.proofs.Common.{◌≡◌, ℕ, Bool, true, false, List, [], ◌∷◌, map, refl, sym, ap, ◌∙◌, if◌then◌else◌}
 use Rattle.shell_syntax.specs.declared.redirect.Redirect.{Redirect}
 use Rattle.shell_syntax.specs.declared.redirect.Redirect.TheVariants as redirect
 use Rattle.colis_syntax.specs.declared.syntax.Stmt.{Stmt, roll-Stmt}
@@ -20,7 +19,7 @@ use Rattle.colis_syntax.specs.declared.syntax.PatArm.{PatArm, roll-PatArm}
 use Rattle.shell_forms.specs.Names.{Text}
 use Rattle.shell_to_colis.specs.Translated.{piece_of, expansion, assigned_to, redirect_to, redirected_to, seq_to, chain_to, if_to, condition_to, body_to}
 use Rattle.stated_calls.specs.declared.stated_call.StatedCall.{StatedCall}
-use Rattle.stated_calls.specs.Programs.{named, fields_layer, stmt_layer, str_layer, piece_layer, link_layer, case_arm_layer, set_layer, arm_layer, fields_read, stmt_read, str_read, piece_read, link_read, case_arm_read, set_read, arm_read}
+use Rattle.stated_calls.specs.Programs.{fields_layer, stmt_layer, str_layer, piece_layer, link_layer, case_arm_layer, set_layer, arm_layer, fields_read, stmt_read, str_read, piece_read, link_read, case_arm_read, set_read, arm_read}
 
 module _ (calls : List StatedCall) where
   pub stmt_at : (x : c.Stmt-F Fields Stmt Str StrPiece ChainPart PatArm SetTo StmtArm) (q : Stmt) → roll-Stmt x ≡ q

@@ -1,7 +1,6 @@
 -- A well formed program is well formed under stated calls.
-use Rattle.std.proofs.Common.{◌≡◌, ℕ, suc, Bool, true, false, not, ◌&&◌, List, [], ◌∷◌, ◌++◌, length, map, Option, Some, None, refl, sym, ap, ◌∙◌, subst, if◌then◌else◌, nat_le}
+use Rattle.std.proofs.Common.{◌≡◌, suc, Bool, true, not, ◌&&◌, List, [], ◌∷◌, ◌++◌, length, map, Option, Some, None, refl, sym, ap, ◌∙◌, subst, if◌then◌else◌, nat_le}
 use Rattle.std.specs.List.{list_all}
-use Rattle.script_names.specs.declared.reason.Reason.{Reason}
 use Rattle.colis_syntax.specs.declared.syntax.Stmt.{Stmt, roll-Stmt}
 use Rattle.colis_syntax.specs.declared.syntax.Stmt.TheVariants as stmt
 use Rattle.colis_syntax.specs.declared.syntax.Str.{Str, roll-Str, out-Str, roll-out-Str}
@@ -22,11 +21,9 @@ use Rattle.colis_syntax.specs.WellFormed as wf
 use Rattle.shell_forms.specs.Names.{Text}
 use Rattle.shell_forms.specs.Words.{both_bytes}
 use Rattle.stated_calls.specs.declared.stated_call.StatedCall.{StatedCall}
-use Rattle.stated_calls.specs.Calls.{read_as}
 use Rattle.stated_calls.specs.Scripts.{static_read_as}
 use Rattle.stated_calls.specs.Programs.{str_bytes, piece_bytes, static_pieces, static_fields, renamed, named, fields_read, stmt_read, str_read, piece_read, link_read, case_arm_read, set_read, arm_read, def_read, in_program, stated_program}
 use Rattle.stated_calls.specs.Programs as co
-use Rattle.stated_calls.proofs.Nodes.{fields_at, str_at, piece_at}
 use Rattle.shell_to_colis.proofs.Nodes.{cong2, StrLayer, PieceLayer, FieldsLayer}
 use Rattle.stated_calls.proofs.Commutes.{names_kept}
 use Rattle.shell_to_colis.proofs.Made.{or_this}

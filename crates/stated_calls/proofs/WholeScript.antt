@@ -1,6 +1,6 @@
 -- The program of a script that is read under stated calls is the script's program, so read.
-use Rattle.std.proofs.Common.{◌≡◌, ℕ, Bool, true, false, not, ◌||◌, ◌&&◌, List, [], ◌∷◌, ◌++◌, map, filter, length, nat_le, nat_lt, Option, Some, None, refl, sym, ap, ◌∙◌, subst, if◌then◌else◌, codes, append-nil}
-use Rattle.std.specs.List.{list_any, list_all, find}
+use Rattle.std.proofs.Common.{◌≡◌, ℕ, Bool, true, false, not, ◌||◌, ◌&&◌, List, [], ◌∷◌, ◌++◌, map, filter, length, nat_le, nat_lt, Option, Some, None, refl, sym, ap, ◌∙◌, subst, if◌then◌else◌, append-nil}
+use Rattle.std.specs.List.{list_all, find}
 use Rattle.std.specs.Option.{option_map}
 use Rattle.std.specs.Str.{bytes_eq}
 use Rattle.std.proofs.lemmas.Slice.Eq.{bytes_eq-Decides}
@@ -15,7 +15,7 @@ use Rattle.shell_syntax.specs.declared.syntax.IfArm.{IfArm}
 use Rattle.shell_syntax.specs.declared.syntax.Link.{Link}
 use Rattle.shell_syntax.specs.declared.syntax.Word.{Word}
 use Rattle.shell_syntax.specs.declared.syntax.Command.TheOpen as o
-use Rattle.shell_syntax.specs.declared.syntax.Command.TheFolds.{fold-roll-Command, map-Command}
+use Rattle.shell_syntax.specs.declared.syntax.Command.TheFolds.{fold-roll-Command}
 use Rattle.shell_syntax.specs.declared.form.Form.TheVariants as forms
 use Rattle.shell_forms.specs.Names.{Text, is_one_of, utility_names, special_names, is_kept_name}
 use Rattle.shell_forms.specs.Words.{PartSays, WordSays, AssignSays}
@@ -36,7 +36,6 @@ use Rattle.stated_calls.specs.Names.{can_be_stated, is_name_byte}
 use Rattle.stated_calls.specs.Calls.{has_name, is_stated, are_stated, name_of, read_as}
 use Rattle.stated_calls.specs.Defined.{is_function, defines, in_script}
 use Rattle.stated_calls.specs.Scripts.{command_read, stated_script}
-use Rattle.stated_calls.specs.Scripts as read
 use Rattle.stated_calls.specs.Programs.{stmt_read, def_read, in_program, stated_program}
 use Rattle.stated_calls.proofs.Nodes.{seq_read}
 use Rattle.shell_to_colis.proofs.Nodes.{cong_cons, cong2}

@@ -1,9 +1,9 @@
 -- In a script without unsupported forms a function is defined by a member of the script's list alone.
 use Rattle.std.proofs.Common.{◌≡◌, ℕ, Bool, true, false, not, ◌||◌, List, [], ◌∷◌, ◌++◌, map, Option, Some, None, refl, sym, ap, ◌∙◌, subst, if◌then◌else◌, codes}
-use Rattle.std.specs.List.{flat_map, list_any}
+use Rattle.std.specs.List.{flat_map}
 use Rattle.std.specs.Str.{bytes_eq}
 use Rattle.shell_syntax.specs.declared.form.Form.TheVariants as forms
-use Rattle.shell_syntax.specs.declared.syntax.Command.{Command, roll-Command, out-Command, out-roll-Command, roll-out-Command}
+use Rattle.shell_syntax.specs.declared.syntax.Command.{Command, roll-Command, out-roll-Command}
 use Rattle.shell_syntax.specs.declared.syntax.Part.{Part, roll-Part}
 use Rattle.shell_syntax.specs.declared.syntax.Assign.{Assign, roll-Assign}
 use Rattle.shell_syntax.specs.declared.syntax.CaseArm.{CaseArm, roll-CaseArm}

@@ -2,7 +2,6 @@
 use Rattle.std.specs.Prelude.{◌≡◌, List, []}
 use Rattle.shell_syntax.specs.declared.script.Script.{Script}
 use Rattle.shell_forms.specs.First.{script_forms}
-use Rattle.colis_syntax.specs.WellFormed.{ProgramParts}
 use Rattle.shell_to_colis.specs.Laws.{DoesTheSame}
 use Rattle.shell_to_colis.specs.Translated.{program_of}
 use Rattle.stated_calls.specs.declared.stated_call.StatedCall.{StatedCall}

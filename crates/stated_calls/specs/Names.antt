@@ -1,5 +1,5 @@
 -- Which names of commands can be stated.
-use Rattle.std.specs.Prelude.{ℕ, Bool, not, ◌&&◌, ◌||◌, ◌==◌, nat_lt, nat_le, length}
+use Rattle.std.specs.Prelude.{ℕ, Bool, not, ◌&&◌, ◌==◌, nat_lt, nat_le, length}
 use Rattle.std.specs.List.{list_all}
 use Rattle.script_names.specs.declared.name.TheConstants.{NAME_MAX}
 use Rattle.shell_forms.specs.Names.{Text, is_kept_name}

@@ -1,4 +1,4 @@
-use Rattle.std.proofs.Common.{◌≡◌, ℕ, ◌+◌, ◌<◌, List, length, get_or, IsTrue, subst, sym, ◌∙◌, arith, below_more}
+use Rattle.std.proofs.Common.{get_or, IsTrue, subst, ◌∙◌, below_more}
 use Rattle.std.proofs.lemmas.List.{get_or_default}
 use Rattle.script_names.specs.Names.{is_name}
 use Rattle.act_cases.proofs.making.are_names.Goals as goal

@@ -1,4 +1,4 @@
-use Rattle.std.proofs.Common.{◌≡◌, ℕ, ◌<◌, List, get_or, IsTrue}
+use Rattle.std.proofs.Common.{ℕ, ◌<◌, List, get_or, IsTrue}
 use Rattle.script_names.specs.Names.{is_name}
 use Rattle.act_cases.proofs.making.are_names.Given as goal
 

@@ -1,6 +1,5 @@
 use Rattle.std.proofs.Common.{◌≡◌, ℕ, ◌≤◌, List, length, sym, ap, subst, ◌∙◌}
 use Rattle.script_names.specs.Paths.{PathParts}
-use Rattle.utility_calls.specs.declared.acts.Act.{Act}
 use Rattle.utility_calls.specs.Acts.{path_of, place_of, inner_name, with_name}
 use Rattle.act_cases.specs.Cases.{AreCases}
 use Rattle.act_cases.proofs.Meets.{AreNames}

@@ -1,4 +1,4 @@
-use Rattle.std.proofs.Common.{◌≡◌, ◌≢◌, ℕ, ◌+◌, ◌-◌, List, [], ◌∷◌, length, refl, sym, ap, ◌∙◌, arith}
+use Rattle.std.proofs.Common.{◌≡◌, ◌≢◌, ℕ, ◌+◌, ◌-◌, List, [], ◌∷◌, length, refl, sym, ◌∙◌, arith}
 use Rattle.act_cases.specs.Looks.{end_of}
 use Rattle.act_cases.proofs.Meets.{end_more}
 use Rattle.act_cases.proofs.moves.end_of.Goals as goal

@@ -1,4 +1,4 @@
-use Rattle.std.proofs.Common.{◌≡◌, Some, ap, sym, ◌∙◌}
+use Rattle.std.proofs.Common.{sym, ◌∙◌}
 use Rattle.shell_forms.specs.First.{script_forms}
 use Rattle.shell_forms.proofs.Firsts.{is_first, there_is_none}
 use Rattle.shell_forms.proofs.accepted.accept.Goals as goal

@@ -1,4 +1,4 @@
-use Rattle.std.proofs.Common.{◌≡◌, ℕ, List, ◌++◌, map, take, refl, ap, sym, ◌∙◌, arith, None, Some, codes}
+use Rattle.std.proofs.Common.{List, ◌++◌, map, refl, ap, ◌∙◌, arith, codes}
 use Rattle.std.specs.List.{flat_map}
 use Rattle.std.specs.Str.{bytes_eq}
 use Rattle.shell_syntax.specs.declared.form.Form.TheVariants as form
@@ -7,7 +7,7 @@ use Rattle.std.proofs.lemmas.List.{take_all}
 use Rattle.shell_syntax.specs.declared.syntax.CaseArm.{out-CaseArm}
 use Rattle.shell_syntax.specs.declared.syntax.Command.TheVariants as v
 use Rattle.shell_forms.specs.Words.{WordSays, AssignSays}
-use Rattle.shell_forms.specs.Forms.{Forms, forms_of, word_says, assign_says, case_arm_says, if_arm_says, link_says, in_word, in_pattern, in_patterns, in_arm, in_case_arm, in_words, in_assigns, all_of, in_arms, in_case_arms, when, define_forms, simple_forms, within, member, looped, apart, function_body}
+use Rattle.shell_forms.specs.Forms.{Forms, forms_of, word_says, assign_says, case_arm_says, if_arm_says, link_says, in_word, in_pattern, in_patterns, in_arm, in_case_arm, in_words, in_assigns, all_of, in_arms, in_case_arms, when, define_forms, simple_forms, within, looped, function_body}
 use Rattle.shell_forms.specs.Known.{first_in}
 use Rattle.shell_forms.specs.Seen.{in_part}
 use Rattle.shell_forms.specs.Soonest.{soonest}

@@ -1,4 +1,4 @@
-use Rattle.std.proofs.Common.{◌≡◌, ℕ, map, take}
+use Rattle.std.proofs.Common.{◌≡◌, map, take}
 use Rattle.std.specs.List.{flat_map}
 use Rattle.shell_forms.specs.Forms.{forms_of, word_says, assign_says, case_arm_says, if_arm_says, link_says, in_words, in_assigns, in_patterns, in_arms, in_case_arms, all_of}
 use Rattle.shell_forms.specs.Known.{first_in}

@@ -1,4 +1,4 @@
-use Rattle.std.proofs.Common.{◌≡◌, ℕ, Option, None, ap, ◌∙◌}
+use Rattle.std.proofs.Common.{ℕ, Option, None, ap, ◌∙◌}
 use Rattle.std.proofs.lemmas.Result.{IfOk-weaker}
 use Rattle.shell_forms.specs.Names.{Text}
 use Rattle.shell_forms.specs.Forms.{forms_of, script_place}

@@ -1,8 +1,8 @@
-use Rattle.std.proofs.Common.{◌≡◌, not, ◌&&◌, ◌||◌, [], ◌∷◌, codes, map, sym, ap, ◌∙◌}
+use Rattle.std.proofs.Common.{not, ◌&&◌, ◌||◌, [], ◌∷◌, codes, map, sym, ap, ◌∙◌}
 use Rattle.shell_syntax.specs.declared.form.Form.TheVariants as form
-use Rattle.shell_forms.specs.Forms.{word_says, assign_says, static_name, when, is_name, is_named, is_one_flag, some_unquoted, are_any, calls_later, operands}
+use Rattle.shell_forms.specs.Forms.{word_says, assign_says, static_name, is_name, is_named, is_one_flag, some_unquoted, are_any, calls_later}
 use Rattle.shell_forms.specs.Known.{first_in}
-use Rattle.shell_forms.specs.Seen.{static_name_of, operands_of, is_one_flag_in, some_unquoted_in}
+use Rattle.shell_forms.specs.Seen.{operands_of, is_one_flag_in, some_unquoted_in}
 use Rattle.shell_forms.proofs.Finds.{simple_found, found_when}
 use Rattle.shell_forms.proofs.Says.{static_says, operands_say, flag_says, some_unquoted_say, sets_ifs_say, prefix_says, any_says}
 use Rattle.shell_forms.proofs.finding.simple_forms.Goals as goal

@@ -1,10 +1,10 @@
-use Rattle.std.proofs.Common.{◌≡◌, map, refl, subst, ap, sym, ◌∙◌, arith}
+use Rattle.std.proofs.Common.{ap, sym, ◌∙◌, arith}
 use Rattle.std.proofs.lemmas.Result.{on_ok_weaker}
 use Rattle.shell_syntax.specs.declared.syntax.Command.TheVariants as v
-use Rattle.shell_forms.specs.Functions.{definitions, part_definitions, assign_definitions, case_arm_definitions, if_arm_definitions, link_definitions, word_definitions, of_all}
+use Rattle.shell_forms.specs.Functions.{definitions, part_definitions, assign_definitions, case_arm_definitions, if_arm_definitions, link_definitions, word_definitions}
 use Rattle.shell_forms.specs.Known.{first_in}
-use Rattle.shell_forms.proofs.Known.{adds_none, adds_both, adds_more, adds_all, adds_same, adds_of}
-use Rattle.shell_forms.proofs.Definitions.{in_simple, in_chain, in_if, in_for, in_while, in_case, in_define, in_plain, in_quoted, in_param, in_all, in_assign, in_case_arm, in_if_arm, in_link, in_word}
+use Rattle.shell_forms.proofs.Known.{adds_both, adds_more, adds_all, adds_same, adds_of}
+use Rattle.shell_forms.proofs.Definitions.{in_simple, in_chain, in_if, in_for, in_while, in_case, in_assign, in_case_arm, in_if_arm, in_link, in_word}
 use Rattle.shell_forms.proofs.functions.+collecting.Goals as goal
 
 pub add_word-loop-part-preserved : goal.add_word-loop-part-preserved

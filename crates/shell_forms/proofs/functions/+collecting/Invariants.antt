@@ -1,4 +1,4 @@
-use Rattle.std.proofs.Common.{ℕ, ◌+◌, ◌*◌, map, take}
+use Rattle.std.proofs.Common.{map, take}
 use Rattle.shell_forms.specs.Functions.{definitions, part_definitions, assign_definitions, case_arm_definitions, if_arm_definitions, link_definitions, word_definitions, of_all}
 use Rattle.shell_forms.specs.Known.{Adds}
 use Rattle.shell_forms.proofs.functions.+collecting.Given as goal

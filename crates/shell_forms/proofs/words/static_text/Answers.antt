@@ -1,6 +1,6 @@
-use Rattle.std.proofs.Common.{◌≡◌, Some, ap, sym, ◌∙◌, arith, drop, ◌++◌, ◌+◌}
+use Rattle.std.proofs.Common.{Some, ap, sym, ◌∙◌, arith, drop, ◌++◌, ◌+◌}
 use Rattle.shell_forms.specs.Words.{both_bytes}
-use Rattle.shell_forms.specs.Seen.{static_of, bytes_of}
+use Rattle.shell_forms.specs.Seen.{static_of}
 use Rattle.shell_forms.proofs.Static.{static_more, static_not, static_end, static_start}
 use Rattle.shell_forms.proofs.words.static_text.Goals as goal
 

@@ -1,7 +1,7 @@
-use Rattle.std.proofs.Common.{◌≡◌, ◌+◌, ◌*◌, ◌++◌, [], map, take}
+use Rattle.std.proofs.Common.{◌≡◌, ◌+◌, ◌*◌, ◌++◌, map, take}
 use Rattle.colis_syntax.specs.declared.syntax.Stmt.{size-Stmt}
 use Rattle.colis_syntax.specs.declared.syntax.Stmt.TheVariants.{Fun, Chain, If, For, While, Case}
-use Rattle.stated_calls.specs.Programs.{named, stmt_read, str_read, piece_read, fields_read, set_read, link_read, arm_read, case_arm_read}
+use Rattle.stated_calls.specs.Programs.{stmt_read, str_read, piece_read, fields_read, set_read, link_read, arm_read, case_arm_read}
 use Rattle.stated_calls.proofs.programs.+reading_programs.Given as goal
 
 abbrev pub invariant-read_named-loop-operand : goal.invariant-read_named-loop-operand

@@ -1,4 +1,4 @@
-use Rattle.std.proofs.Common.{◌≡◌, sym, ap, ◌∙◌, map}
+use Rattle.std.proofs.Common.{ap, ◌∙◌, map}
 use Rattle.colis_syntax.specs.WellFormed.{program_of}
 use Rattle.stated_calls.specs.Programs.{in_program, def_read, stmt_read}
 use Rattle.shell_to_colis.proofs.Nodes.{cong2}

@@ -1,6 +1,6 @@
-use Rattle.std.proofs.Common.{◌≡◌, Some, ap, sym, ◌∙◌, arith, drop, ◌++◌, ◌+◌}
+use Rattle.std.proofs.Common.{Some, ap, sym, ◌∙◌, arith, drop, ◌++◌, ◌+◌}
 use Rattle.shell_forms.specs.Words.{both_bytes}
-use Rattle.stated_calls.specs.Programs.{static_pieces, piece_bytes}
+use Rattle.stated_calls.specs.Programs.{static_pieces}
 use Rattle.stated_calls.proofs.StaticPieces.{static_more, static_not, static_end}
 use Rattle.shell_forms.proofs.Static.{static_start}
 use Rattle.stated_calls.proofs.programs.static_pieces.Goals as goal

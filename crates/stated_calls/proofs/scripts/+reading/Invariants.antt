@@ -1,7 +1,7 @@
-use Rattle.std.proofs.Common.{◌≡◌, ◌+◌, ◌*◌, ◌++◌, [], map, take}
+use Rattle.std.proofs.Common.{◌≡◌, ◌+◌, ◌*◌, ◌++◌, map, take}
 use Rattle.shell_syntax.specs.declared.syntax.Command.{size-Command}
 use Rattle.shell_syntax.specs.declared.syntax.Command.TheVariants.{Simple, Redirected, Pipe, Not, Chain, If, For, While, Case, Sub, Define}
-use Rattle.stated_calls.specs.Scripts.{named, command_read, part_read, assign_read, case_arm_read, if_arm_read, link_read, word_read}
+use Rattle.stated_calls.specs.Scripts.{command_read, part_read, assign_read, case_arm_read, if_arm_read, link_read, word_read}
 use Rattle.stated_calls.proofs.scripts.+reading.Given as goal
 
 abbrev pub invariant-read_word-loop-part : goal.invariant-read_word-loop-part

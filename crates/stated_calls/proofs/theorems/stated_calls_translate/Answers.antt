@@ -1,6 +1,5 @@
-use Rattle.std.proofs.Common.{◌≡◌, subst, sym, ap, ◌∙◌}
+use Rattle.std.proofs.Common.{subst}
 use Rattle.shell_to_colis.specs.Laws.{DoesTheSame}
-use Rattle.shell_to_colis.specs.Translated.{program_of}
 use Rattle.stated_calls.specs.Scripts.{stated_script}
 use Rattle.stated_calls.proofs.WholeScript.{program_read}
 use Rattle.stated_calls.proofs.NoForms.{no_forms}
