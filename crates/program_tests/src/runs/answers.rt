@@ -213,7 +213,7 @@ pub(super) fn put_all(
 }
 
 /// A state without variables and arguments, and with nothing captured.
-pub(super) fn bare(alloc: Global, strict: bool, status: bool, turns: u32) -> Conc {
+pub(super) fn empty_state(alloc: Global, strict: bool, status: bool, turns: u32) -> Conc {
     Conc {
         vars: Env::new(alloc),
         args: List::new(alloc),
@@ -254,7 +254,7 @@ fn begin(alloc: Global, page: &mut Page, conc: &mut Conc) {
 /// and the tree after.
 pub(super) fn answer(alloc: Global, turns: u32, tree: &str, program: &Program) -> Page {
     let mut page = Page::new(alloc);
-    let mut conc = bare(alloc, program.strict(), true, turns);
+    let mut conc = empty_state(alloc, program.strict(), true, turns);
     let mut trace = List::new(alloc);
     begin(alloc, &mut page, &mut conc);
     put_all(

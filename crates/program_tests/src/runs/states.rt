@@ -1,6 +1,6 @@
 //! Programs of written.rt, read from their text, and run from a given state, trace and tree, in step 3.
 
-use super::answers::{bare, put_all};
+use super::answers::{empty_state, put_all};
 use super::is_said;
 use super::written::TABLES;
 use crate::pages::{Page, program_text};
@@ -91,7 +91,7 @@ fn state_of(alloc: Global, page: &mut Page, state: &str) -> Conc {
     let strict = words.next() == Some("strict");
     let status = words.next() == Some("success");
     let turns = turns_of(page, words.next().unwrap_or(""));
-    bare(alloc, strict, status, turns)
+    empty_state(alloc, strict, status, turns)
 }
 
 // The trace of an earlier act.
