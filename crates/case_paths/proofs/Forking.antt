@@ -16,7 +16,7 @@ use Rattle.utility_calls.specs.Acts.{row, tree_after}
 use Rattle.act_cases.specs.Cases.{AreCases, IsExact, AnswersAs, case_row, Rising as RisingRows}
 use Rattle.clause_solver.specs.Pairs.{HasPair}
 use Rattle.clause_solver.specs.Adds.{AddsCase, LeadsNowhere}
-use Rattle.act_decisions.specs.Decisions.{Decision, Asks, play, mark_at}
+use Rattle.utility_calls.specs.Decisions.{Decision, Asks, play, mark_at}
 use Rattle.case_paths.specs.declared.state.PathState.{PathState}
 use Rattle.case_paths.specs.Traces.{Before, AllBegin, AllAfter, Rising}
 use Rattle.case_paths.specs.Paths.{traces, AllAlive}

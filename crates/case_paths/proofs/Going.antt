@@ -12,7 +12,7 @@ use Rattle.act_cases.specs.Cases.{AreCases}
 use Rattle.tree_clauses.specs.Literals.{Valuation, value_of_variable}
 use Rattle.clause_solver.specs.Stands.{Stands, Alive}
 use Rattle.clause_solver.specs.Pairs.{HasPair}
-use Rattle.act_decisions.specs.Decisions.{Decision, Decided, Asks, Played, play, mark_at}
+use Rattle.utility_calls.specs.Decisions.{Decision, Decided, Asks, Played, play, mark_at}
 use Rattle.case_paths.specs.declared.state.PathState.{PathState}
 use Rattle.case_paths.specs.declared.state.Ran.{Ran}
 use Rattle.case_paths.specs.declared.fork.Forks.{Forks}

@@ -11,7 +11,7 @@ use Rattle.feature_trees.specs.Tree.{kind_of}
 use Rattle.tree_clauses.specs.Literals.{Valuation, value_of_variable}
 use Rattle.clause_solver.specs.Stands.{Seen, Stands, Alive}
 use Rattle.clause_solver.specs.Pairs.{HasPair}
-use Rattle.act_decisions.specs.Decisions.{Decision, play, AllPerformed}
+use Rattle.utility_calls.specs.Decisions.{Decision, play, AllPerformed}
 use Rattle.case_paths.specs.declared.state.PathState.{PathState}
 use Rattle.case_paths.specs.declared.state.Found.{Found}
 use Rattle.case_paths.specs.declared.state.PathsFault.{PathsFault}

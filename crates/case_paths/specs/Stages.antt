@@ -8,7 +8,7 @@ use Rattle.utility_calls.specs.declared.acts.Act.{Act}
 use Rattle.tree_clauses.specs.declared.case.Case.{Case}
 use Rattle.clause_solver.specs.Pairs.{HasPair}
 use Rattle.clause_solver.specs.Adds.{AddsCase, LeadsNowhere}
-use Rattle.act_decisions.specs.Decisions.{Decision, play, AllPerformed}
+use Rattle.utility_calls.specs.Decisions.{Decision, play, AllPerformed}
 use Rattle.case_paths.specs.declared.state.PathState.{PathState}
 use Rattle.case_paths.specs.declared.state.Found.{Found}
 use Rattle.case_paths.specs.declared.state.PathsFault.{PathsFault}

@@ -1,7 +1,7 @@
 ghost use Rattle.std.specs.Prelude.{[], IfOk};
 ghost use Rattle.feature_trees.specs.declared.value.Value.{Value as Tree};
 ghost use Rattle.feature_trees.specs.Sound.{IsTree};
-ghost use Rattle.act_decisions.specs.Decisions.{Decision, play, AllPerformed};
+ghost use Rattle.utility_calls.specs.Decisions.{Decision, play, AllPerformed};
 ghost use Rattle.case_paths.specs.Paths.{Gives};
 
 use crate::state::Ran;

@@ -5,8 +5,7 @@ ghost use Rattle.outcome_report.specs.declared.outcome_report.Report.{Report};
 ghost use Rattle.outcome_report.specs.OutcomeReport.{verdict_of};
 ghost use Rattle.load_summary.specs.Endings.{HasEndings, ends_so, some_ends_so, endings_verdict};
 
-use dpkg_scenarios::{Ending, Scenario};
-use outcome_report::{ending_verdict, joint_verdict};
+use dpkg_scenarios::{Ending, Scenario, ending_verdict, joint_verdict};
 use script_names::List;
 
 /// The endings of the outcomes of one scenario, in the outcomes' order.

@@ -5,7 +5,7 @@ use Rattle.feature_trees.specs.declared.value.Value.{Value}
 use Rattle.tree_clauses.specs.Literals.{Covers}
 use Rattle.clause_solver.specs.Stands.{Seen}
 use Rattle.clause_solver.specs.Pairs.{HasPair}
-use Rattle.act_decisions.specs.Decisions.{Decision, Played, play}
+use Rattle.utility_calls.specs.Decisions.{Decision, Played, play}
 use Rattle.case_paths.specs.Traces as order
 use Rattle.case_paths.specs.Paths as paths_of
 use Rattle.case_paths.specs.Paths.{IsAt, AreThePaths, AllAlive, states, traces, AllPlayed}

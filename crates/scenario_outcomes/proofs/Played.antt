@@ -2,7 +2,7 @@
 use Rattle.std.proofs.Common.{◌≡◌, List, [], ◌++◌, Some, sym, ap, ◌∙◌}
 use Rattle.script_names.specs.declared.mark.Mark.{Mark}
 use Rattle.feature_trees.specs.declared.value.Value.{Value}
-use Rattle.act_decisions.specs.Decisions.{Played, play, behind, PlaysBehind}
+use Rattle.utility_calls.specs.Decisions.{Played, play, behind, PlaysBehind}
 use Rattle.case_paths.specs.Paths.{Gives}
 use Rattle.dpkg_scenarios.specs.declared.scenario.Ending.{Ending}
 use Rattle.scenario_runs.specs.declared.job.Job.{Job}

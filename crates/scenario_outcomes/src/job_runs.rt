@@ -5,7 +5,6 @@ ghost use Rattle.scenario_runs.specs.Performed.{ArePerformed};
 ghost use Rattle.scenario_outcomes.specs.PerformedOnce.{files_once};
 ghost use Rattle.scenario_runs.specs.Deciding.{decision_of, decision_performed};
 
-use act_decisions::theorems::decisions_play_behind;
 use case_paths::{Machine, Ran};
 use dpkg_scenarios::Ending;
 use feature_trees::Value;
@@ -13,6 +12,7 @@ use scenario_runs::theorems::scenario_runs_are_decided;
 use scenario_runs::{Job, Replayed, ScriptCall, run};
 use script_names::{Copied, List, Mark, Memory};
 use std::alloc::Global;
+use utility_calls::theorems::decisions_play_behind;
 
 /// The runs of a job, which one decision plays.
 #[derive(Drop)]

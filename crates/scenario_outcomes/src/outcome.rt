@@ -6,12 +6,12 @@ ghost use Rattle.case_paths.specs.Paths.{AllAlive, states};
 ghost use Rattle.scenario_outcomes.specs.OutcomeOf.{IsOutcomeOf, AreOutcomes};
 
 use case_paths::{Found, PathState, PathsFault};
-use clause_solver::Clause;
 use dpkg_scenarios::Ending;
 use feature_trees::Value;
 use scenario_runs::ScriptCall;
 use script_names::{List, Mark, Memory};
 use std::alloc::Global;
+use tree_clauses::Clause;
 
 /// One way in which a scenario can end: its number from 1, the ending of its runs and the marks of their acts, the
 /// clause that says which start trees they begin from and which trees they leave, and one such start tree.

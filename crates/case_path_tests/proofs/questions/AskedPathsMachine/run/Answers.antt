@@ -1,5 +1,5 @@
 use Rattle.case_path_tests.specs.Questions.{asked_from}
-use Rattle.act_decisions.specs.Decisions.{play}
+use Rattle.utility_calls.specs.Decisions.{play}
 use Rattle.case_path_tests.proofs.Asking.{asked_next, asked_all}
 use Rattle.case_path_tests.proofs.questions.AskedPathsMachine.run.Goals as goal
 
