@@ -9,7 +9,7 @@ use case_paths::{Found, PathState, PathsFault};
 use dpkg_scenarios::Ending;
 use feature_trees::Value;
 use scenario_runs::ScriptCall;
-use script_names::{List, Mark, Memory};
+use script_names::{Copied, List, Mark, Memory};
 use std::alloc::Global;
 use tree_clauses::Clause;
 
@@ -24,6 +24,21 @@ pub struct Outcome {
     pub shown: Value,
 }
 
+impl Copied for Outcome {
+    fn copy(&self, alloc: Global) -> Result<Outcome, Memory> {
+        let trace = self.trace.copy(alloc)?;
+        let clause = self.clause.copy(alloc)?;
+        let shown = self.shown.copy(alloc)?;
+        Ok(Outcome {
+            number: self.number,
+            ending: self.ending,
+            trace,
+            clause,
+            shown,
+        })
+    }
+}
+
 /// Why there is no list of outcomes: no tree has what is needed, or the runs from those that do have more different
 /// traces than the limit, or want of memory.
 #[derive(Clone, Copy, Debug, PartialEq, Eq)]
@@ -31,6 +46,12 @@ pub enum OutcomesFault {
     NoStart,
     Over,
     Memory,
+}
+
+impl Copied for OutcomesFault {
+    fn copy(&self, _alloc: Global) -> Result<OutcomesFault, Memory> {
+        Ok(*self)
+    }
 }
 
 impl From<Memory> for OutcomesFault {
