@@ -9,7 +9,7 @@ use Rattle.feature_trees.specs.declared.value.Value.{Value}
 use Rattle.utility_calls.specs.declared.acts.Act.{Act}
 use Rattle.utility_calls.specs.declared.acts.Act.TheVariants.{Exists}
 use Rattle.utility_calls.specs.Acts.{row, tree_after}
-use Rattle.act_decisions.specs.Decisions.{Played, play, mark_at}
+use Rattle.utility_calls.specs.Decisions.{Played, play, mark_at}
 use Rattle.case_paths.specs.declared.state.Ran.{Ran}
 use Rattle.case_paths.specs.Paths.{Gives}
 use Rattle.case_path_tests.specs.TwoActs.{site_of}

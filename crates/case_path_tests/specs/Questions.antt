@@ -5,7 +5,7 @@ use Rattle.script_names.specs.declared.reason.Done.{Done}
 use Rattle.script_names.specs.declared.reason.Done.TheVariants as done
 use Rattle.script_names.specs.Paths.{PathParts}
 use Rattle.utility_calls.specs.declared.acts.Act.TheVariants.{Exists}
-use Rattle.act_decisions.specs.Decisions.{Decision, Decided, Asks, AllPerformed}
+use Rattle.utility_calls.specs.Decisions.{Decision, Decided, Asks, AllPerformed}
 use Rattle.case_path_tests.specs.declared.asked_path.AskedPaths.{AskedPaths}
 use Rattle.case_path_tests.specs.TwoActs.{site_of}
 

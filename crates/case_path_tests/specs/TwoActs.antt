@@ -3,7 +3,7 @@ use Rattle.std.specs.Prelude.{ℕ}
 use Rattle.script_names.specs.declared.mark.Site.{Site}
 use Rattle.script_names.specs.declared.reason.Done.{Done}
 use Rattle.utility_calls.specs.declared.acts.Act.TheVariants.{Exists, MakeDir}
-use Rattle.act_decisions.specs.Decisions.{Decision, Decided, Asks}
+use Rattle.utility_calls.specs.Decisions.{Decision, Decided, Asks}
 use Rattle.case_path_tests.specs.declared.asked_path.AskedPath.{AskedPath}
 
 -- the place of an act

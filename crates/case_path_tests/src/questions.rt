@@ -15,11 +15,9 @@ impl Machine for AskedPaths {
 
     ghost decision = { all_asked };
 
-    ghost first = { λ _ tree. tree };
-
-    fn run(&self, alloc: Global, start: &Value, trace: &List<Mark>) -> Result<Ran<Done>, Memory> {
+    fn run(&self, alloc: Global, start: &Value) -> Result<Ran<Done>, Memory> {
         let mut tree = start.copy(alloc)?;
-        let mut marks = trace.copy(alloc)?;
+        let mut marks = List::new(alloc);
         let mut acts = List::new(alloc);
         let paths = self.paths.as_slice();
         for path in paths {
@@ -51,6 +49,6 @@ pub(crate) fn answered(
     ensures { IfOk result (λ xs. length xs ≤ room) }
 {
     let store = Store::start(alloc)?;
-    let found = explore(alloc, machine, store, &List::new(alloc), room)?;
+    let found = explore(alloc, machine, store, room)?;
     Ok(found)
 }

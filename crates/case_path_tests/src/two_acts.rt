@@ -15,15 +15,13 @@ impl Machine for AskedPath {
 
     ghost decision = { asked_and_made };
 
-    ghost first = { λ _ tree. tree };
-
-    fn run(&self, alloc: Global, start: &Value, trace: &List<Mark>) -> Result<Ran<Done>, Memory> {
+    fn run(&self, alloc: Global, start: &Value) -> Result<Ran<Done>, Memory> {
         let mut tree = start.copy(alloc)?;
         let ask = Act::Exists(self.path.copy(alloc)?);
         let make = Act::MakeDir(self.path.copy(alloc)?);
         let asked = act(alloc, &ask, &mut tree)?;
         let made = act(alloc, &make, &mut tree)?;
-        let mut marks = trace.copy(alloc)?;
+        let mut marks = List::new(alloc);
         marks.add(Mark {
             site: Site { step: 0, at: 0 },
             row: asked.0,
@@ -54,6 +52,6 @@ pub(crate) fn all_paths(
     ensures { IfOk result (λ xs. length xs ≤ room) }
 {
     let store = Store::start(alloc)?;
-    let found = explore(alloc, machine, store, &List::new(alloc), room)?;
+    let found = explore(alloc, machine, store, room)?;
     Ok(found)
 }

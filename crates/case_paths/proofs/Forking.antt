@@ -16,7 +16,7 @@ use Rattle.utility_calls.specs.Acts.{row, tree_after}
 use Rattle.act_cases.specs.Cases.{AreCases, IsExact, AnswersAs, case_row, Rising as RisingRows}
 use Rattle.clause_solver.specs.Pairs.{HasPair}
 use Rattle.clause_solver.specs.Adds.{AddsCase, LeadsNowhere}
-use Rattle.act_decisions.specs.Decisions.{Decision, Asks, play, mark_at}
+use Rattle.utility_calls.specs.Decisions.{Decision, Asks, play, mark_at}
 use Rattle.case_paths.specs.declared.state.PathState.{PathState}
 use Rattle.case_paths.specs.Traces.{Before, AllBegin, AllAfter, Rising}
 use Rattle.case_paths.specs.Paths.{traces, AllAlive}
@@ -107,14 +107,14 @@ module _ (site : Site) (x : PathState) where
 -- ---- what is played from a fork
 
 -- the fork by a row of the next act is a stage
-fork_is_stage : {A : Type 0} (d : Decision A) (first : Value → Value) (trace : List Mark) (site : Site) (act : Act) (next : Done → Decision A) (acts : List Act) (x y : PathState) (made : Case) → IsStageOf d first trace x (Asks site act next) acts → IsExact act made → AnswersAs act made → AddsCase x.store made y.store → y.trace ≡ marked x.trace site made.row → IsStageOf d first trace y (next made.done) (acts ++ act ∷ [])
-fork_is_stage {A} d first trace site act next acts x y made s exact answers adds e = record {
+fork_is_stage : {A : Type 0} (d : Decision A) (site : Site) (act : Act) (next : Done → Decision A) (acts : List Act) (x y : PathState) (made : Case) → IsStageOf d x (Asks site act next) acts → IsExact act made → AnswersAs act made → AddsCase x.store made y.store → y.trace ≡ marked x.trace site made.row → IsStageOf d y (next made.done) (acts ++ act ∷ [])
+fork_is_stage {A} d site act next acts x y made s exact answers adds e = record {
   count = (let l = ap length e ∙ length-append x.trace (record { site = site; row = made.row } ∷ []) in let k = length-append acts (act ∷ []) in let c = s.count in omega (arith, l, k, c));
   performed = s.performed.1 made.done;
   plays = λ t w p. plays t w p;
 }
   where
-    plays : (t w : Value) → HasPair y.store t w → play (next made.done) w y.trace (acts ++ act ∷ []) ≡ play d (first t) trace []
+    plays : (t w : Value) → HasPair y.store t w → play (next made.done) w y.trace (acts ++ act ∷ []) ≡ play d t [] []
     plays t w p =
         let step = (adds.pairs t w).0 p in
         let u = step.0 in
@@ -124,12 +124,12 @@ fork_is_stage {A} d first trace site act next acts x y made s exact answers adds
         let mark : y.trace ≡ x.trace ++ mark_at site act u ∷ [] = e ∙ ap (λ n. marked x.trace site n) (sym led.0) in
         (λ i. play (next (answer i)) (led.1 i) (mark i) (acts ++ act ∷ [])) ∙ s.plays t u step.1
 
-module _ {A : Type 0} (d : Decision A) (first : Value → Value) (trace : List Mark) (site : Site) (act : Act) (next : Done → Decision A) (acts : List Act) (x : PathState) (s : IsStageOf d first trace x (Asks site act next) acts) where
-  forks_are_stages : (cases : List Case) (ys : List PathState) → Forked site x cases ys → All (IsExact act) cases → All (AnswersAs act) cases → AllStages d first trace ys
+module _ {A : Type 0} (d : Decision A) (site : Site) (act : Act) (next : Done → Decision A) (acts : List Act) (x : PathState) (s : IsStageOf d x (Asks site act next) acts) where
+  forks_are_stages : (cases : List Case) (ys : List PathState) → Forked site x cases ys → All (IsExact act) cases → All (AnswersAs act) cases → AllStages d ys
   forks_are_stages cases ys none exact answers = tt
   forks_are_stages cases ys (left_out {made = made} {cases = rest} nowhere f) exact answers = forks_are_stages rest ys f (all_later (IsExact act) made rest exact) (all_later (AnswersAs act) made rest answers)
   forks_are_stages cases ys (taken {made = made} {cases = rest} {y = y} {ys = zs} adds e f) exact answers = (
-    (next made.done, acts ++ act ∷ [], fork_is_stage d first trace site act next acts x y made s (all_first (IsExact act) made rest exact) (all_first (AnswersAs act) made rest answers) adds e),
+    (next made.done, acts ++ act ∷ [], fork_is_stage d site act next acts x y made s (all_first (IsExact act) made rest exact) (all_first (AnswersAs act) made rest answers) adds e),
     forks_are_stages rest zs f (all_later (IsExact act) made rest exact) (all_later (AnswersAs act) made rest answers),
   )
 
@@ -164,8 +164,8 @@ forks_part site act x cases ys are f = record {
   under = forks_under site x cases ys f;
 }
 
-pub forks_stages : {A : Type 0} (d : Decision A) (first : Value → Value) (trace : List Mark) (site : Site) (act : Act) (next : Done → Decision A) (acts : List Act) (x : PathState) (cases : List Case) (ys : List PathState) → IsStageOf d first trace x (Asks site act next) acts → AreCases act cases → Forked site x cases ys → AllStages d first trace ys
-forks_stages d first trace site act next acts x cases ys s are f = forks_are_stages d first trace site act next acts x s cases ys f are.exact are.answers
+pub forks_stages : {A : Type 0} (d : Decision A) (site : Site) (act : Act) (next : Done → Decision A) (acts : List Act) (x : PathState) (cases : List Case) (ys : List PathState) → IsStageOf d x (Asks site act next) acts → AreCases act cases → Forked site x cases ys → AllStages d ys
+forks_stages d site act next acts x cases ys s are f = forks_are_stages d site act next acts x s cases ys f are.exact are.answers
 
 -- ---- one case after the other
 

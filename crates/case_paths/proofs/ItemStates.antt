@@ -2,7 +2,7 @@
 use Rattle.std.proofs.Common.{◌≡◌, suc, ◌≤◌, ◌+◌, List, [], ◌∷◌, ◌++◌, length, refl, ap, ◌∙◌, arith}
 use Rattle.script_names.specs.declared.mark.Mark.{Mark}
 use Rattle.feature_trees.specs.declared.value.Value.{Value}
-use Rattle.act_decisions.specs.Decisions.{Decision}
+use Rattle.utility_calls.specs.Decisions.{Decision}
 use Rattle.case_paths.specs.declared.state.PathState.{PathState}
 use Rattle.case_paths.specs.declared.state.Found.{Found}
 use Rattle.case_paths.specs.declared.pursuit.Pursued.{Pursued}
@@ -34,26 +34,26 @@ ended_behind [] ys = omega arith
 ended_behind (Waiting x ∷ xs) ys = ended_behind xs ys
 ended_behind (Ended path ∷ xs) ys = let h = ended_behind xs ys in omega (arith, h)
 
-module _ {A : Type 0} (d : Decision A) (first : Value → Value) (trace : List Mark) where
-  pub all_behind : (xs ys : List (Item A)) → AllItems d first trace xs → AllItems d first trace ys → AllItems d first trace (xs ++ ys)
+module _ {A : Type 0} (d : Decision A) where
+  pub all_behind : (xs ys : List (Item A)) → AllItems d xs → AllItems d ys → AllItems d (xs ++ ys)
   all_behind [] ys h k = k
   all_behind (Waiting x ∷ xs) ys h k = (h.0, all_behind xs ys h.1 k)
   all_behind (Ended path ∷ xs) ys h k = (h.0, all_behind xs ys h.1 k)
 
-  pub all_apart : (xs ys : List (Item A)) → AllItems d first trace (xs ++ ys) → AllItems d first trace xs × AllItems d first trace ys
+  pub all_apart : (xs ys : List (Item A)) → AllItems d (xs ++ ys) → AllItems d xs × AllItems d ys
   all_apart [] ys h = (tt, h)
   all_apart (Waiting x ∷ xs) ys h = let k = all_apart xs ys h.1 in ((h.0, k.0), k.1)
   all_apart (Ended path ∷ xs) ys h = let k = all_apart xs ys h.1 in ((h.0, k.0), k.1)
 
-  pub stages_all : (xs : List PathState) → AllStages d first trace xs → AllItems d first trace (stage_items xs)
+  pub stages_all : (xs : List PathState) → AllStages d xs → AllItems d (stage_items xs)
   stages_all [] h = tt
   stages_all (x ∷ xs) h = (h.0, stages_all xs h.1)
 
-  pub paths_ended : (xs : List (Found A)) → AllItems d first trace (path_items xs) → AllEnded d first trace xs
+  pub paths_ended : (xs : List (Found A)) → AllItems d (path_items xs) → AllEnded d xs
   paths_ended [] h = tt
   paths_ended (x ∷ xs) h = (h.0, paths_ended xs h.1)
 
-  pub found_all : (x : PathState) (found : Pursued A) → Comes d first trace x found → AllItems d first trace (found_items found)
+  pub found_all : (x : PathState) (found : Pursued A) → Comes d x found → AllItems d (found_items found)
   found_all x found c = all_behind (stage_items found.lower) (Ended found.path ∷ stage_items found.higher) (stages_all found.lower c.lower) (c.ended, stages_all found.higher c.higher)
 
 -- ---- stages, paths, and what comes of a stage, as items

@@ -5,7 +5,7 @@ use Rattle.script_names.specs.declared.mark.Mark.{Mark}
 use Rattle.feature_trees.specs.declared.value.Value.{Value}
 use Rattle.clause_solver.specs.Pairs.{HasPair}
 use Rattle.clause_solver.specs.Stands.{Alive}
-use Rattle.act_decisions.specs.Decisions.{Decision}
+use Rattle.utility_calls.specs.Decisions.{Decision}
 use Rattle.case_paths.specs.declared.state.PathState.{PathState}
 use Rattle.case_paths.specs.declared.state.Found.{Found}
 use Rattle.case_paths.specs.Traces.{AllBegin, Rising}
@@ -104,14 +104,14 @@ parts_replace x y ds zs bs h k = record {
 
 -- ---- stages, and paths that have ended
 
-pub stages_append : {A : Type 0} (d : Decision A) (first : Value → Value) (trace : List Mark) (xs ys : List PathState) → AllStages d first trace xs → AllStages d first trace ys → AllStages d first trace (xs ++ ys)
-stages_append d first trace [] ys h k = k
-stages_append d first trace (x ∷ xs) ys h k = (h.0, stages_append d first trace xs ys h.1 k)
+pub stages_append : {A : Type 0} (d : Decision A) (xs ys : List PathState) → AllStages d xs → AllStages d ys → AllStages d (xs ++ ys)
+stages_append d [] ys h k = k
+stages_append d (x ∷ xs) ys h k = (h.0, stages_append d xs ys h.1 k)
 
-pub stages_between : {A : Type 0} (d : Decision A) (first : Value → Value) (trace : List Mark) (xs : List PathState) (y : PathState) (zs : List PathState) → AllStages d first trace (xs ++ y ∷ zs) → AllStages d first trace xs × IsStage d first trace y × AllStages d first trace zs
-stages_between d first trace [] y zs h = (tt, h.0, h.1)
-stages_between d first trace (x ∷ xs) y zs h = let k = stages_between d first trace xs y zs h.1 in ((h.0, k.0), k.1, k.2)
+pub stages_between : {A : Type 0} (d : Decision A) (xs : List PathState) (y : PathState) (zs : List PathState) → AllStages d (xs ++ y ∷ zs) → AllStages d xs × IsStage d y × AllStages d zs
+stages_between d [] y zs h = (tt, h.0, h.1)
+stages_between d (x ∷ xs) y zs h = let k = stages_between d xs y zs h.1 in ((h.0, k.0), k.1, k.2)
 
-pub ended_push : {A : Type 0} (d : Decision A) (first : Value → Value) (trace : List Mark) (xs : List (Found A)) (x : Found A) → AllEnded d first trace xs → HasEnded d first trace x → AllEnded d first trace (xs ++ x ∷ [])
-ended_push d first trace [] x h k = (k, tt)
-ended_push d first trace (y ∷ xs) x h k = (h.0, ended_push d first trace xs x h.1 k)
+pub ended_push : {A : Type 0} (d : Decision A) (xs : List (Found A)) (x : Found A) → AllEnded d xs → HasEnded d x → AllEnded d (xs ++ x ∷ [])
+ended_push d [] x h k = (k, tt)
+ended_push d (y ∷ xs) x h k = (h.0, ended_push d xs x h.1 k)

@@ -12,7 +12,7 @@ use Rattle.utility_calls.specs.declared.acts.Act.{Act}
 use Rattle.utility_calls.specs.Acts.{row, tree_after}
 use Rattle.clause_solver.specs.Stands.{Seen, Stands, Alive}
 use Rattle.clause_solver.specs.Pairs.{HasPair}
-use Rattle.act_decisions.specs.Decisions.{Decision, Decided, Asks, Played, play, mark_at}
+use Rattle.utility_calls.specs.Decisions.{Decision, Decided, Asks, Played, play, mark_at}
 use Rattle.case_paths.proofs.Orders.{nil_right}
 
 -- ---- pairs

@@ -5,7 +5,7 @@ use Rattle.script_names.specs.declared.mark.Mark.{Mark}
 use Rattle.feature_trees.specs.declared.value.Value.{Value}
 use Rattle.clause_solver.specs.Stands.{Alive}
 use Rattle.clause_solver.specs.Pairs.{HasPair}
-use Rattle.act_decisions.specs.Decisions.{Decision, Played, play}
+use Rattle.utility_calls.specs.Decisions.{Decision, Played, play}
 use Rattle.case_paths.specs.declared.state.PathState.{PathState}
 use Rattle.case_paths.specs.declared.state.Found.{Found}
 use Rattle.case_paths.specs.Traces.{Begins, Before, AllBegin, AllAfter, Rising}
@@ -52,10 +52,10 @@ holds_at [] k x t v a h = absurd a
 holds_at {A} (z ∷ zs) zero x t v a h = inl (v, subst (λ (y : Found A). HasPair y.state.store t v) (sym a) h)
 holds_at (z ∷ zs) (suc k) x t v a h = inr (holds_at zs k x t v a h)
 
-ended_at : {A : Type 0} (d : Decision A) (first : Value → Value) (trace : List Mark) (xs : List (Found A)) (k : ℕ) (x : Found A) → AllEnded d first trace xs → IsAt xs k x → HasEnded d first trace x
-ended_at d first trace [] k x h a = absurd a
-ended_at d first trace (z ∷ zs) zero x h a = subst (HasEnded d first trace) a h.0
-ended_at d first trace (z ∷ zs) (suc k) x h a = ended_at d first trace zs k x h.1 a
+ended_at : {A : Type 0} (d : Decision A) (xs : List (Found A)) (k : ℕ) (x : Found A) → AllEnded d xs → IsAt xs k x → HasEnded d x
+ended_at d [] k x h a = absurd a
+ended_at d (z ∷ zs) zero x h a = subst (HasEnded d) a h.0
+ended_at d (z ∷ zs) (suc k) x h a = ended_at d zs k x h.1 a
 
 -- ---- traces in a list
 
@@ -103,50 +103,49 @@ trace_in (z ∷ zs) (suc k) x a = inr (trace_in zs k x a)
 
 -- ---- paths that part a state, and have ended
 
-module _ {A : Type 0} (d : Decision A) (first : Value → Value) (trace : List Mark) (root : PathState) (known : (t u : Value) → HasPair root.store t u → u ≡ first t) where
+module _ {A : Type 0} (d : Decision A) (root : PathState) (known : (t u : Value) → HasPair root.store t u → u ≡ t) where
   -- what is played for the start tree is played from the tree now
   abbrev from : Value → Played A
-  from u = play d u trace []
+  from u = play d u [] []
 
-  pub the_paths : (xs : List (Found A)) → root.trace ≡ trace → AllEnded d first trace xs → Parts root (states xs) → AreThePaths d root.store trace xs
-  the_paths xs begins ended parts = record {
+  pub the_paths : (xs : List (Found A)) → AllEnded d xs → Parts root (states xs) → AreThePaths d root.store xs
+  the_paths xs ended parts = record {
     once = λ t u p. once t u p;
     none_else = λ k x t v a p. none k x t v a p;
     alive = parts.alive;
     rising = parts.rising;
-    under = subst (λ (l : List Mark). AllBegin l (traces (states xs))) begins parts.under;
   }
     where
       none : (k : ℕ) (x : Found A) (t v : Value) → IsAt xs k x → HasPair x.state.store t v → (u : Value) × HasPair root.store t u × EndsAs (from u) x v
       none k x t v a p =
           let h = parts.none_else t (holds_at xs k x t v a p) in
-          (h.0, h.1, subst (λ u. EndsAs (from u) x v) (sym (known t h.0 h.1)) (ended_at d first trace xs k x ended a t v p))
+          (h.0, h.1, subst (λ u. EndsAs (from u) x v) (sym (known t h.0 h.1)) (ended_at d xs k x ended a t v p))
 
       once : (t u : Value) → HasPair root.store t u → Once (from u) xs t
       once t u p =
           let e = sym (known t u p) in
           let f = placed xs t (parts.all t u p) in
-          let ends = subst (λ u. EndsAs (from u) f.path f.after) e (ended_at d first trace xs f.place f.path ended f.is_there t f.after f.has) in
+          let ends = subst (λ u. EndsAs (from u) f.path f.after) e (ended_at d xs f.place f.path ended f.is_there t f.after f.has) in
           record {
             place = f.place;
             path = f.path;
             is_there = f.is_there;
             has = subst (λ v. HasPair f.path.state.store t v) ends.tree f.has;
             ends = record { value = ends.value; trace = ends.trace; tree = refl };
-            alone = λ j y v a b. (let other = subst (λ u. EndsAs (from u) y v) e (ended_at d first trace xs j y ended a t v b) in
+            alone = λ j y v a b. (let other = subst (λ u. EndsAs (from u) y v) e (ended_at d xs j y ended a t v b) in
                 one_place xs j f.place y f.path parts.rising a f.is_there (other.trace ∙ sym ends.trace));
           }
 
-  played_in : (xs : List (Found A)) → AllEnded d first trace xs → Parts root (states xs) → (ts : List (List Mark)) → AllPlayed d root.store trace ts → AllIn ts (traces (states xs))
+  played_in : (xs : List (Found A)) → AllEnded d xs → Parts root (states xs) → (ts : List (List Mark)) → AllPlayed d root.store ts → AllIn ts (traces (states xs))
   played_in xs ended parts [] h = tt
   played_in xs ended parts (t ∷ ts) h =
       let p = h.0 in
       let e = sym (known p.0 p.1 p.2) in
       let f = placed xs p.0 (parts.all p.0 p.1 p.2) in
-      let ends = subst (λ u. EndsAs (from u) f.path f.after) e (ended_at d first trace xs f.place f.path ended f.is_there p.0 f.after f.has) in
+      let ends = subst (λ u. EndsAs (from u) f.path f.after) e (ended_at d xs f.place f.path ended f.is_there p.0 f.after f.has) in
       (subst (λ l. In l (traces (states xs))) (ends.trace ∙ p.3) (trace_in xs f.place f.path f.is_there), played_in xs ended parts ts h.1)
 
-  pub are_few : (xs : List (Found A)) (room : ℕ) → AllEnded d first trace xs → Parts root (states xs) → length xs ≤ room → AreFew d root.store trace room
+  pub are_few : (xs : List (Found A)) (room : ℕ) → AllEnded d xs → Parts root (states xs) → length xs ≤ room → AreFew d root.store room
   are_few xs room ended parts c ts r h =
       let n = few ts (traces (states xs)) r (played_in xs ended parts ts h) in
       let k = traces_length (states xs) in let l = states_length xs in omega (arith, n, k, l, c)
@@ -161,25 +160,25 @@ module _ {A : Type 0} (d : Decision A) (first : Value → Value) (trace : List M
   AllMet [] = Unit {0}
   AllMet (f ∷ fs) = Met f × AllMet fs
 
-  stage_met : (x : PathState) → IsStage d first trace x → Alive x.store → ((t : Value) → (v : Value) × HasPair x.store t v → (u : Value) × HasPair root.store t u) → Met x.trace
+  stage_met : (x : PathState) → IsStage d x → Alive x.store → ((t : Value) → (v : Value) × HasPair x.store t v → (u : Value) × HasPair root.store t u) → Met x.trace
   stage_met x s a back =
       let p = some_pair x.store a in
       let q = back p.0 (p.1, p.2) in
       let h = extends s.0 p.1 x.trace s.1 in
       (p.0, q.0, q.1, record { more = h.marks; is = ap (λ u. (from u).trace) (known p.0 q.0 q.1) ∙ ap (λ (r : Played A). r.trace) (sym (s.2.plays p.0 p.1 p.2)) ∙ h.trace_is })
 
-  ended_met : (x : Found A) → HasEnded d first trace x → Alive x.state.store → ((t : Value) → (v : Value) × HasPair x.state.store t v → (u : Value) × HasPair root.store t u) → Met x.state.trace
+  ended_met : (x : Found A) → HasEnded d x → Alive x.state.store → ((t : Value) → (v : Value) × HasPair x.state.store t v → (u : Value) × HasPair root.store t u) → Met x.state.trace
   ended_met x ended a back =
       let p = some_pair x.state.store a in
       let q = back p.0 (p.1, p.2) in
       (p.0, q.0, q.1, record { more = []; is = ap (λ u. (from u).trace) (known p.0 q.0 q.1) ∙ sym (ended p.0 p.1 p.2).trace ∙ sym (nil_right x.state.trace) })
 
-  items_met : (items : List (Item A)) → AllItems d first trace items → AllAlive (item_states items) → ((t : Value) → Holds (item_states items) t → (u : Value) × HasPair root.store t u) → AllMet (traces (item_states items))
+  items_met : (items : List (Item A)) → AllItems d items → AllAlive (item_states items) → ((t : Value) → Holds (item_states items) t → (u : Value) × HasPair root.store t u) → AllMet (traces (item_states items))
   items_met [] s a back = tt
   items_met (Waiting x ∷ items) s a back = (stage_met x s.0 a.0 (λ t p. back t (inl p)), items_met items s.1 a.1 (λ t h. back t (inr h)))
   items_met (Ended path ∷ items) s a back = (ended_met path s.0 a.0 (λ t p. back t (inl p)), items_met items s.1 a.1 (λ t h. back t (inr h)))
 
-  pub all_met : (xs : List (Found A)) (items : List (Item A)) → AllEnded d first trace xs → AllItems d first trace items → AllAlive (states xs ++ item_states items) → ((t : Value) → Holds (states xs ++ item_states items) t → (u : Value) × HasPair root.store t u) → AllMet (traces (states xs ++ item_states items))
+  pub all_met : (xs : List (Found A)) (items : List (Item A)) → AllEnded d xs → AllItems d items → AllAlive (states xs ++ item_states items) → ((t : Value) → Holds (states xs ++ item_states items) t → (u : Value) × HasPair root.store t u) → AllMet (traces (states xs ++ item_states items))
   all_met [] items e s a back = items_met items s a back
   all_met (x ∷ xs) items e s a back = (ended_met x e.0 a.0 (λ t p. back t (inl p)), all_met xs items e.1 s a.1 (λ t h. back t (inr h)))
 
@@ -197,7 +196,7 @@ module _ {A : Type 0} (d : Decision A) (first : Value → Value) (trace : List M
   ends_rise [] h r = tt
   ends_rise (f ∷ fs) h r = (ends_after f (from h.0.1).trace fs h.1 r.0 h.0.3, ends_rise fs h.1 r.1)
 
-  ends_played : (fs : List (List Mark)) (h : AllMet fs) → AllPlayed d root.store trace (ends_of fs h)
+  ends_played : (fs : List (List Mark)) (h : AllMet fs) → AllPlayed d root.store (ends_of fs h)
   unfolding ends_of
   ends_played [] h = tt
   ends_played (f ∷ fs) h = ((h.0.0, h.0.1, h.0.2, refl), ends_played fs h.1)
@@ -207,7 +206,7 @@ module _ {A : Type 0} (d : Decision A) (first : Value → Value) (trace : List M
   ends_length [] h = refl
   ends_length (f ∷ fs) h = ap suc (ends_length fs h.1)
 
-  pub too_many : (xs : List (Found A)) (items : List (Item A)) (room : ℕ) → AllEnded d first trace xs → AllItems d first trace items → Parts root (states xs ++ item_states items) → room < length xs + length items → AreTooMany d root.store trace room
+  pub too_many : (xs : List (Found A)) (items : List (Item A)) (room : ℕ) → AllEnded d xs → AllItems d items → Parts root (states xs ++ item_states items) → room < length xs + length items → AreTooMany d root.store room
   too_many xs items room e s parts lt =
       let ys = item_states items in
       let met = all_met xs items e s parts.alive parts.none_else in

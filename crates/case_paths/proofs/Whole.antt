@@ -11,7 +11,7 @@ use Rattle.feature_trees.specs.Tree.{kind_of}
 use Rattle.tree_clauses.specs.Literals.{Valuation, value_of_variable}
 use Rattle.clause_solver.specs.Stands.{Seen, Stands, Alive}
 use Rattle.clause_solver.specs.Pairs.{HasPair}
-use Rattle.act_decisions.specs.Decisions.{Decision, play, AllPerformed}
+use Rattle.utility_calls.specs.Decisions.{Decision, play, AllPerformed}
 use Rattle.case_paths.specs.declared.state.PathState.{PathState}
 use Rattle.case_paths.specs.declared.state.Found.{Found}
 use Rattle.case_paths.specs.declared.state.PathsFault.{PathsFault}
@@ -27,12 +27,12 @@ use Rattle.case_paths.proofs.ItemStates.{ended_within, paths_ended, paths_states
 use Rattle.case_paths.proofs.Single.{the_paths, are_few, too_many}
 
 -- the items part the state
-pub record Whole {A : Type 0} (d : Decision A) (first : Value → Value) (trace : List Mark) (root : PathState) (items : List (Item A)) : Type 0 where
-  pub all : AllItems d first trace items
+pub record Whole {A : Type 0} (d : Decision A) (root : PathState) (items : List (Item A)) : Type 0 where
+  pub all : AllItems d items
   pub parts : Parts root (item_states items)
 
-pub whole_begin : {A : Type 0} (d : Decision A) (first : Value → Value) (trace : List Mark) (root : PathState) → AllPerformed d → ((t u : Value) → HasPair root.store t u → u ≡ first t) → root.trace ≡ trace → Alive root.store → Whole d first trace root (Waiting root ∷ [])
-whole_begin d first trace root performed known e a = record {
+pub whole_begin : {A : Type 0} (d : Decision A) (root : PathState) → AllPerformed d → ((t u : Value) → HasPair root.store t u → u ≡ t) → root.trace ≡ [] → Alive root.store → Whole d root (Waiting root ∷ [])
+whole_begin d root performed known e a = record {
   all = (
     (
       d,
@@ -48,15 +48,15 @@ whole_begin d first trace root performed known e a = record {
   parts = parts_alone root a;
 }
 
-module _ {A : Type 0} (d : Decision A) (first : Value → Value) (trace : List Mark) (root : PathState) where
-  pub all_found : (paths : List (Found A)) (room : ℕ) → ((t u : Value) → HasPair root.store t u → u ≡ first t) → root.trace ≡ trace → Whole d first trace root (path_items paths) → length paths ≤ room → Explored d root.store trace room (Ok paths)
-  all_found paths room known e w le =
-      let ended = paths_ended d first trace paths w.all in
+module _ {A : Type 0} (d : Decision A) (root : PathState) where
+  pub all_found : (paths : List (Found A)) (room : ℕ) → ((t u : Value) → HasPair root.store t u → u ≡ t) → Whole d root (path_items paths) → length paths ≤ room → Explored d root.store room (Ok paths)
+  all_found paths room known w le =
+      let ended = paths_ended d paths w.all in
       let parts = subst (Parts root) (paths_states paths) w.parts in
-      (the_paths d first trace root known paths e ended parts, le, are_few d first trace root known paths room ended parts le)
+      (the_paths d root known paths ended parts, le, are_few d root known paths room ended parts le)
 
-  pub too_many_found : (items : List (Item A)) (room : ℕ) → ((t u : Value) → HasPair root.store t u → u ≡ first t) → Whole d first trace root items → room < length items → Explored d root.store trace room (Err fault.Over)
-  too_many_found items room known w lt = too_many d first trace root known [] items room tt w.all w.parts (let w = lt in omega (arith, w))
+  pub too_many_found : (items : List (Item A)) (room : ℕ) → ((t u : Value) → HasPair root.store t u → u ≡ t) → Whole d root items → room < length items → Explored d root.store room (Err fault.Over)
+  too_many_found items room known w lt = too_many d root known [] items room tt w.all w.parts (let w = lt in omega (arith, w))
 
 -- ---- where a store is asked whether it has a pair
 
@@ -79,55 +79,53 @@ same_pairs old new x k f e h = record {
   back = λ t u p. (p.0, ((h t p.0).0 p.1).0, ap (λ y. value_of_variable p.0 y) (sym e) ∙ p.2);
 }
 
-played_on : {A : Type 0} (d : Decision A) (old new : Seen) (trace : List Mark) (ts : List (List Mark)) → SamePairs old new → AllPlayed d old trace ts → AllPlayed d new trace ts
-played_on d old new trace [] s h = tt
-played_on d old new trace (t ∷ ts) s h = ((h.0.0, h.0.1, s.on h.0.0 h.0.1 h.0.2, h.0.3), played_on d old new trace ts s h.1)
+played_on : {A : Type 0} (d : Decision A) (old new : Seen) (ts : List (List Mark)) → SamePairs old new → AllPlayed d old ts → AllPlayed d new ts
+played_on d old new [] s h = tt
+played_on d old new (t ∷ ts) s h = ((h.0.0, h.0.1, s.on h.0.0 h.0.1 h.0.2, h.0.3), played_on d old new ts s h.1)
 
 flipped : (old new : Seen) → SamePairs old new → SamePairs new old
 flipped old new s = record { on = s.back; back = s.on }
 
-pub explored_same : {A : Type 0} (d : Decision A) (old new : Seen) (trace : List Mark) (room : ℕ) (res : Result (List (Found A)) PathsFault) → SamePairs old new → Explored d new trace room res → Explored d old trace room res
-explored_same d old new trace room (Ok xs) s h = (
+pub explored_same : {A : Type 0} (d : Decision A) (old new : Seen) (room : ℕ) (res : Result (List (Found A)) PathsFault) → SamePairs old new → Explored d new room res → Explored d old room res
+explored_same d old new room (Ok xs) s h = (
   record {
     once = λ t u p. h.0.once t u (s.on t u p);
     none_else = λ k x t v a p. (let f = h.0.none_else k x t v a p in (f.0, s.back t f.0 f.1, f.2));
     alive = h.0.alive;
     rising = h.0.rising;
-    under = h.0.under;
   },
   h.1,
-  λ ts r p. h.2 ts r (played_on d old new trace ts s p),
+  λ ts r p. h.2 ts r (played_on d old new ts s p),
 )
-explored_same d old new trace room (Err fault.Over) s h = record {
+explored_same d old new room (Err fault.Over) s h = record {
   traces = h.traces;
   rising = h.rising;
-  played = played_on d new old trace h.traces (flipped old new s) h.played;
+  played = played_on d new old h.traces (flipped old new s) h.played;
   count = h.count;
 }
-explored_same d old new trace room (Err fault.Memory) s h = tt
+explored_same d old new room (Err fault.Memory) s h = tt
 
 -- no pair: no path
-pub none_found : {A : Type 0} (d : Decision A) (s : Seen) (trace : List Mark) (room : ℕ) (xs : List (Found A)) → (Alive s → ⊥) → xs ≡ [] → Explored d s trace room (Ok xs)
-none_found d s trace room xs n e = subst (λ l. Explored d s trace room (Ok l)) (sym e) (
+pub none_found : {A : Type 0} (d : Decision A) (s : Seen) (room : ℕ) (xs : List (Found A)) → (Alive s → ⊥) → xs ≡ [] → Explored d s room (Ok xs)
+none_found d s room xs n e = subst (λ l. Explored d s room (Ok l)) (sym e) (
   record {
     once = λ t u p. absurd (n (some_alive s t u p));
     none_else = λ k x t v a p. absurd a;
     alive = tt;
     rising = tt;
-    under = tt;
   },
   omega arith,
   λ ts r p. none ts p,
 )
   where
-    none : (ts : List (List Mark)) → AllPlayed d s trace ts → length ts ≤ room
+    none : (ts : List (List Mark)) → AllPlayed d s ts → length ts ≤ room
     none [] p = omega arith
     none (t ∷ ts) p = absurd (n (some_alive s p.0.0 p.0.1 p.0.2))
 
 -- a pair, and no room for its path
-pub no_room : {A : Type 0} (d : Decision A) (s : Seen) (trace : List Mark) → Alive s → Explored d s trace 0 (Err fault.Over)
-no_room d s trace a = (let p = some_pair s a in record {
-  traces = (play d p.1 trace []).trace ∷ [];
+pub no_room : {A : Type 0} (d : Decision A) (s : Seen) → Alive s → Explored d s 0 (Err fault.Over)
+no_room d s a = (let p = some_pair s a in record {
+  traces = (play d p.1 [] []).trace ∷ [];
   rising = (tt, tt);
   played = ((p.0, p.1, p.2, refl), tt);
   count = omega arith;
@@ -143,43 +141,40 @@ limited_none old new left s f no_left a =
 limited_some : (old new : Seen) (left : Bool) → SamePairs old new → (IsTrue left ↔ Alive new) → left ≡ true → Alive old
 limited_some old new left s f is_left = let p = some_pair new (f.0 is_left) in some_alive old p.0 p.1 (s.back p.0 p.1 p.2)
 
-pub no_path : {A : Type 0} (d : Decision A) (old new : Seen) (left : Bool) (trace : List Mark) (room : ℕ) (xs : List (Found A)) → SamePairs old new → (IsTrue left ↔ Alive new) → left ≡ false → xs ≡ [] → Explored d old trace room (Ok xs)
-no_path d old new left trace room xs s f e is = none_found d old trace room xs (limited_none old new left s f e) is
+pub no_path : {A : Type 0} (d : Decision A) (old new : Seen) (left : Bool) (room : ℕ) (xs : List (Found A)) → SamePairs old new → (IsTrue left ↔ Alive new) → left ≡ false → xs ≡ [] → Explored d old room (Ok xs)
+no_path d old new left room xs s f e is = none_found d old room xs (limited_none old new left s f e) is
 
-pub no_room_left : {A : Type 0} (d : Decision A) (old new : Seen) (left : Bool) (trace : List Mark) (room : ℕ) → SamePairs old new → (IsTrue left ↔ Alive new) → left ≡ true → room ≡ 0 → Explored d old trace room (Err fault.Over)
-no_room_left d old new left trace room s f e z = subst (λ n. Explored d old trace n (Err fault.Over)) (sym z) (no_room d old trace (limited_some old new left s f e))
+pub no_room_left : {A : Type 0} (d : Decision A) (old new : Seen) (left : Bool) (room : ℕ) → SamePairs old new → (IsTrue left ↔ Alive new) → left ≡ true → room ≡ 0 → Explored d old room (Err fault.Over)
+no_room_left d old new left room s f e z = subst (λ n. Explored d old n (Err fault.Over)) (sym z) (no_room d old (limited_some old new left s f e))
 
 -- the items are those of the store's pairs, and there is room for them
-pub record Exploring {A : Type 0} (d : Decision A) (first : Value → Value) (trace : List Mark) (s : Seen) (room : ℕ) (items : List (Item A)) : Type 0 where
+pub record Exploring {A : Type 0} (d : Decision A) (s : Seen) (room : ℕ) (items : List (Item A)) : Type 0 where
   pub root : PathState
-  pub begins : root.trace ≡ trace
-  pub known : (t u : Value) → HasPair root.store t u → u ≡ first t
+  pub known : (t u : Value) → HasPair root.store t u → u ≡ t
   pub same : SamePairs s root.store
   pub within : length items ≤ room
-  pub whole : Whole d first trace root items
+  pub whole : Whole d root items
 
-pub exploring_begin : {A : Type 0} (d : Decision A) (first : Value → Value) (trace : List Mark) (s new : Seen) (room : ℕ) (own : List Mark) (empty items : List (Item A)) → AllPerformed d → ((t u : Value) → HasPair s t u → u ≡ first t) → SamePairs s new → Alive new → own ≡ trace → room ≢ 0 → empty ≡ [] → items ≡ empty ++ Waiting (record { store = new; trace = own }) ∷ [] → Exploring d first trace s room items
-exploring_begin {A} d first trace s new room own empty items performed known same alive e nz no_item waits =
+pub exploring_begin : {A : Type 0} (d : Decision A) (s new : Seen) (room : ℕ) (own : List Mark) (empty items : List (Item A)) → AllPerformed d → ((t u : Value) → HasPair s t u → u ≡ t) → SamePairs s new → Alive new → own ≡ [] → room ≢ 0 → empty ≡ [] → items ≡ empty ++ Waiting (record { store = new; trace = own }) ∷ [] → Exploring d s room items
+exploring_begin {A} d s new room own empty items performed known same alive e nz no_item waits =
     let root : PathState = record { store = new; trace = own } in
-    let known_new : (t u : Value) → HasPair new t u → u ≡ first t = λ t u p. known t u (same.back t u p) in
+    let known_new : (t u : Value) → HasPair new t u → u ≡ t = λ t u p. known t u (same.back t u p) in
     let one : items ≡ Waiting root ∷ [] = waits ∙ ap (λ l. l ++ Waiting root ∷ []) no_item in
     record {
       root = root;
-      begins = e;
       known = known_new;
       same = same;
       within = (let a = ap length one in omega (arith, a, nz));
-      whole = subst (Whole d first trace root) (sym one) (whole_begin d first trace root performed known_new e alive);
+      whole = subst (Whole d root) (sym one) (whole_begin d root performed known_new e alive);
     }
 
-module _ {A : Type 0} (d : Decision A) (first : Value → Value) (trace : List Mark) (s : Seen) (room : ℕ) (items : List (Item A)) (e : Exploring d first trace s room items) where
-  refined : (ys : List (Item A)) → Refine d first trace items ys → Whole d first trace e.root ys
+module _ {A : Type 0} (d : Decision A) (s : Seen) (room : ℕ) (items : List (Item A)) (e : Exploring d s room items) where
+  refined : (ys : List (Item A)) → Refine d items ys → Whole d e.root ys
   refined ys r = record { all = r.items; parts = r.parts e.root e.whole.parts }
 
-  pub exploring_more : (next : List (Item A)) → Advanced d first trace items room (Ok next) → Exploring d first trace s room next
+  pub exploring_more : (next : List (Item A)) → Advanced d items room (Ok next) → Exploring d s room next
   exploring_more next a = record {
     root = e.root;
-    begins = e.begins;
     known = e.known;
     same = e.same;
     within = a.1;
@@ -187,24 +182,24 @@ module _ {A : Type 0} (d : Decision A) (first : Value → Value) (trace : List M
   }
 
   -- a round that gives no more items has left none that waits
-  pub all_ended : (next : List (Item A)) → Advanced d first trace items room (Ok next) → length next ≡ length items → ended_count next ≡ length next
+  pub all_ended : (next : List (Item A)) → Advanced d items room (Ok next) → length next ≡ length items → ended_count next ≡ length next
   all_ended next a same = let c = a.2 in omega (arith, c, same)
 
   -- another round has more items, of which there are at most `room`
-  pub fewer_left : (next : List (Item A)) → Advanced d first trace items room (Ok next) → length next ≢ length items → room - length next < room - length items
+  pub fewer_left : (next : List (Item A)) → Advanced d items room (Ok next) → length next ≢ length items → room - length next < room - length items
   fewer_left next a more = let c = a.2 in let w = a.1 in let k = ended_within next in omega (arith, c, w, k, more)
 
-  pub exploring_end : (next : List (Item A)) (paths : List (Found A)) → Advanced d first trace items room (Ok next) → next ≡ path_items paths → Explored d s trace room (Ok paths)
+  pub exploring_end : (next : List (Item A)) (paths : List (Found A)) → Advanced d items room (Ok next) → next ≡ path_items paths → Explored d s room (Ok paths)
   exploring_end next paths a is =
-      let w = subst (Whole d first trace e.root) is (refined next a.0) in
+      let w = subst (Whole d e.root) is (refined next a.0) in
       let k = ap length is ∙ paths_length paths in let le = a.1 in
-      explored_same d s e.root.store trace room (Ok paths) e.same (all_found d first trace e.root paths room e.known e.begins w (omega (arith, k, le)))
+      explored_same d s e.root.store room (Ok paths) e.same (all_found d e.root paths room e.known w (omega (arith, k, le)))
 
-  exploring_over : Advanced d first trace items room (Err fault.Over) → Explored d s trace room (Err fault.Over)
+  exploring_over : Advanced d items room (Err fault.Over) → Explored d s room (Err fault.Over)
   exploring_over a =
-      explored_same d s e.root.store trace room (Err fault.Over) e.same
-      (too_many_found d first trace e.root a.0 room e.known (refined a.0 a.1) a.2)
+      explored_same d s e.root.store room (Err fault.Over) e.same
+      (too_many_found d e.root a.0 room e.known (refined a.0 a.1) a.2)
 
-  pub exploring_fault : (f : PathsFault) → Advanced d first trace items room (Err f) → Explored d s trace room (Err f)
+  pub exploring_fault : (f : PathsFault) → Advanced d items room (Err f) → Explored d s room (Err f)
   exploring_fault fault.Over a = exploring_over a
   exploring_fault fault.Memory a = tt

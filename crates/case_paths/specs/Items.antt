@@ -2,7 +2,7 @@
 use Rattle.std.specs.Prelude.{◌≡◌, ℕ, zero, suc, ◌<◌, ◌≤◌, List, [], ◌∷◌, ◌++◌, length, Result, Ok, Err}
 use Rattle.script_names.specs.declared.mark.Mark.{Mark}
 use Rattle.feature_trees.specs.declared.value.Value.{Value}
-use Rattle.act_decisions.specs.Decisions.{Decision}
+use Rattle.utility_calls.specs.Decisions.{Decision}
 use Rattle.case_paths.specs.declared.state.PathState.{PathState}
 use Rattle.case_paths.specs.declared.state.Found.{Found}
 use Rattle.case_paths.specs.declared.state.PathsFault.{PathsFault}
@@ -34,10 +34,10 @@ item_states (Waiting x ∷ items) = x ∷ item_states items
 item_states (Ended path ∷ items) = path.state ∷ item_states items
 
 -- the items that wait are stages, and the others are paths that have ended
-abbrev pub AllItems : {A : Type 0} → Decision A → (Value → Value) → List Mark → List (Item A) → Type 0
-AllItems d first trace [] = Unit {0}
-AllItems d first trace (Waiting x ∷ items) = IsStage d first trace x × AllItems d first trace items
-AllItems d first trace (Ended path ∷ items) = HasEnded d first trace path × AllItems d first trace items
+abbrev pub AllItems : {A : Type 0} → Decision A → List (Item A) → Type 0
+AllItems d [] = Unit {0}
+AllItems d (Waiting x ∷ items) = IsStage d x × AllItems d items
+AllItems d (Ended path ∷ items) = HasEnded d path × AllItems d items
 
 -- how many of them have ended
 abbrev pub ended_count : {A : Type 0} → List (Item A) → ℕ
@@ -46,16 +46,16 @@ ended_count (Waiting x ∷ items) = ended_count items
 ended_count (Ended path ∷ items) = suc (ended_count items)
 
 -- items that come of others by runs of stages among these: they part whatever the others part
-pub record Refine {A : Type 0} (d : Decision A) (first : Value → Value) (trace : List Mark) (xs ys : List (Item A))
+pub record Refine {A : Type 0} (d : Decision A) (xs ys : List (Item A))
     : Type 0 where
-  pub items : AllItems d first trace ys
+  pub items : AllItems d ys
   pub alive : AllAlive (item_states ys)
   pub parts : (x : PathState) → Parts x (item_states xs) → Parts x (item_states ys)
 
 -- a round over items: what comes of them, with one path that has ended for each of them; or more items than room
-abbrev pub Advanced : {A : Type 0} → Decision A → (Value → Value) → List Mark → List (Item A) → ℕ
+abbrev pub Advanced : {A : Type 0} → Decision A → List (Item A) → ℕ
     → Result (List (Item A)) PathsFault → Type 0
-Advanced d first trace xs room (Ok ys) =
-    Refine d first trace xs ys × (length ys ≤ room) × (ended_count ys ≡ length xs)
-Advanced {A} d first trace xs room (Err Over) = (ys : List (Item A)) × Refine d first trace xs ys × (room < length ys)
-Advanced d first trace xs room (Err Memory) = Unit {0}
+Advanced d xs room (Ok ys) =
+    Refine d xs ys × (length ys ≤ room) × (ended_count ys ≡ length xs)
+Advanced {A} d xs room (Err Over) = (ys : List (Item A)) × Refine d xs ys × (room < length ys)
+Advanced d xs room (Err Memory) = Unit {0}

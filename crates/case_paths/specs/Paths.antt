@@ -4,13 +4,13 @@ use Rattle.script_names.specs.declared.mark.Mark.{Mark}
 use Rattle.feature_trees.specs.declared.value.Value.{Value}
 use Rattle.clause_solver.specs.Stands.{Seen, Alive}
 use Rattle.clause_solver.specs.Pairs.{HasPair}
-use Rattle.act_decisions.specs.Decisions.{Decision, Played, play}
+use Rattle.utility_calls.specs.Decisions.{Decision, Played, play}
 use Rattle.case_paths.specs.declared.state.PathState.{PathState}
 use Rattle.case_paths.specs.declared.state.Found.{Found}
 use Rattle.case_paths.specs.declared.state.Ran.{Ran}
 use Rattle.case_paths.specs.declared.state.PathsFault.{PathsFault}
 use Rattle.case_paths.specs.declared.state.PathsFault.TheVariants.{Over, Memory}
-use Rattle.case_paths.specs.Traces.{Rising, AllBegin}
+use Rattle.case_paths.specs.Traces.{Rising}
 
 -- a run gives what is played
 pub record Gives {A : Type 0} (p : Played A) (ran : Ran A) : Type 0 where
@@ -58,36 +58,35 @@ abbrev pub AllAlive : List PathState → Type 0
 AllAlive [] = Unit {0}
 AllAlive (x ∷ xs) = Alive x.store × AllAlive xs
 
--- these are the paths of a decision from the pairs of a store, behind a trace: each pair is on exactly one path, that
+-- these are the paths of a decision from the pairs of a store: each pair is on exactly one path, that
 -- of what is played from its tree now; a path has no other pairs, and at least one; the traces rise
-pub record AreThePaths {A : Type 0} (d : Decision A) (s : Seen) (trace : List Mark) (xs : List (Found A)) : Type 0
+pub record AreThePaths {A : Type 0} (d : Decision A) (s : Seen) (xs : List (Found A)) : Type 0
   where
-    pub once : (t u : Value) → HasPair s t u → Once (play d u trace []) xs t
+    pub once : (t u : Value) → HasPair s t u → Once (play d u [] []) xs t
     pub none_else : (k : ℕ) (x : Found A) (t v : Value) → IsAt xs k x → HasPair x.state.store t v
-        → (u : Value) × HasPair s t u × EndsAs (play d u trace []) x v
+        → (u : Value) × HasPair s t u × EndsAs (play d u [] []) x v
     pub alive : AllAlive (states xs)
     pub rising : Rising (traces (states xs))
-    pub under : AllBegin trace (traces (states xs))
 
 -- each of these is the trace of what is played from a pair
-abbrev pub AllPlayed : {A : Type 0} → Decision A → Seen → List Mark → List (List Mark) → Type 0
-AllPlayed d s trace [] = Unit {0}
-AllPlayed d s trace (f ∷ fs) =
-    ((t : Value) × (u : Value) × HasPair s t u × ((play d u trace []).trace ≡ f)) × AllPlayed d s trace fs
+abbrev pub AllPlayed : {A : Type 0} → Decision A → Seen → List (List Mark) → Type 0
+AllPlayed d s [] = Unit {0}
+AllPlayed d s (f ∷ fs) =
+    ((t : Value) × (u : Value) × HasPair s t u × ((play d u [] []).trace ≡ f)) × AllPlayed d s fs
 
 -- what is played from the pairs has more than `room` different traces
-pub record AreTooMany {A : Type 0} (d : Decision A) (s : Seen) (trace : List Mark) (room : ℕ) : Type 0 where
+pub record AreTooMany {A : Type 0} (d : Decision A) (s : Seen) (room : ℕ) : Type 0 where
   pub traces : List (List Mark)
   pub rising : Rising traces
-  pub played : AllPlayed d s trace traces
+  pub played : AllPlayed d s traces
   pub count : room < length traces
 
 -- what is played from the pairs has no more than `room` different traces
-abbrev pub AreFew : {A : Type 0} → Decision A → Seen → List Mark → ℕ → Type 0
-AreFew d s trace room = (ts : List (List Mark)) → Rising ts → AllPlayed d s trace ts → length ts ≤ room
+abbrev pub AreFew : {A : Type 0} → Decision A → Seen → ℕ → Type 0
+AreFew d s room = (ts : List (List Mark)) → Rising ts → AllPlayed d s ts → length ts ≤ room
 
 -- the answer: the paths, where there is room for their traces; `Over` where there is not; or there is no memory
-abbrev pub Explored : {A : Type 0} → Decision A → Seen → List Mark → ℕ → Result (List (Found A)) PathsFault → Type 0
-Explored d s trace room (Ok xs) = AreThePaths d s trace xs × (length xs ≤ room) × AreFew d s trace room
-Explored d s trace room (Err Over) = AreTooMany d s trace room
-Explored d s trace room (Err Memory) = Unit {0}
+abbrev pub Explored : {A : Type 0} → Decision A → Seen → ℕ → Result (List (Found A)) PathsFault → Type 0
+Explored d s room (Ok xs) = AreThePaths d s xs × (length xs ≤ room) × AreFew d s room
+Explored d s room (Err Over) = AreTooMany d s room
+Explored d s room (Err Memory) = Unit {0}

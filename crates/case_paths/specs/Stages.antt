@@ -8,7 +8,7 @@ use Rattle.utility_calls.specs.declared.acts.Act.{Act}
 use Rattle.tree_clauses.specs.declared.case.Case.{Case}
 use Rattle.clause_solver.specs.Pairs.{HasPair}
 use Rattle.clause_solver.specs.Adds.{AddsCase, LeadsNowhere}
-use Rattle.act_decisions.specs.Decisions.{Decision, play, AllPerformed}
+use Rattle.utility_calls.specs.Decisions.{Decision, play, AllPerformed}
 use Rattle.case_paths.specs.declared.state.PathState.{PathState}
 use Rattle.case_paths.specs.declared.state.Found.{Found}
 use Rattle.case_paths.specs.declared.state.PathsFault.{PathsFault}
@@ -63,54 +63,53 @@ pub record AreForks (mark : Mark) (x : PathState) (cases : List Case) (forks : F
   pub forked : Forked mark.site x cases (forks.lower ++ forks.followed ∷ forks.higher)
   pub followed : forks.followed.trace ≡ x.trace ++ mark ∷ []
 
--- A stage of a decision, which is played behind a trace from the tree that `first` gives for a start tree: what is
--- left of the decision, played from each pair of the state behind its trace and these acts, comes to what is played
--- for the pair's start tree.
-pub record IsStageOf {A : Type 0} (d : Decision A) (first : Value → Value) (trace : List Mark) (x : PathState)
+-- A stage of a decision: what is left of it, played from each pair of the state behind its trace and these acts, comes
+-- to what is played from the pair's start tree.
+pub record IsStageOf {A : Type 0} (d : Decision A) (x : PathState)
     (rest : Decision A) (acts : List Act) : Type 0 where
-  pub count : length x.trace ≡ length trace + length acts
+  pub count : length x.trace ≡ length acts
   pub performed : AllPerformed rest
-  pub plays : (t v : Value) → HasPair x.store t v → play rest v x.trace acts ≡ play d (first t) trace []
+  pub plays : (t v : Value) → HasPair x.store t v → play rest v x.trace acts ≡ play d t [] []
 
 -- the state is a stage, with something left of the decision
-abbrev pub IsStage : {A : Type 0} → Decision A → (Value → Value) → List Mark → PathState → Type 0
-IsStage {A} d first trace x = (rest : Decision A) × (acts : List Act) × IsStageOf d first trace x rest acts
+abbrev pub IsStage : {A : Type 0} → Decision A → PathState → Type 0
+IsStage {A} d x = (rest : Decision A) × (acts : List Act) × IsStageOf d x rest acts
 
 -- each of these is a stage
-abbrev pub AllStages : {A : Type 0} → Decision A → (Value → Value) → List Mark → List PathState → Type 0
-AllStages d first trace [] = Unit {0}
-AllStages d first trace (x ∷ xs) = IsStage d first trace x × AllStages d first trace xs
+abbrev pub AllStages : {A : Type 0} → Decision A → List PathState → Type 0
+AllStages d [] = Unit {0}
+AllStages d (x ∷ xs) = IsStage d x × AllStages d xs
 
 -- the path has ended: what is played from each of its pairs ends as it does
-abbrev pub HasEnded : {A : Type 0} → Decision A → (Value → Value) → List Mark → Found A → Type 0
-HasEnded d first trace x = (t v : Value) → HasPair x.state.store t v → EndsAs (play d (first t) trace []) x v
+abbrev pub HasEnded : {A : Type 0} → Decision A → Found A → Type 0
+HasEnded d x = (t v : Value) → HasPair x.state.store t v → EndsAs (play d t [] []) x v
 
 -- each of these has ended
-abbrev pub AllEnded : {A : Type 0} → Decision A → (Value → Value) → List Mark → List (Found A) → Type 0
-AllEnded d first trace [] = Unit {0}
-AllEnded d first trace (x ∷ xs) = HasEnded d first trace x × AllEnded d first trace xs
+abbrev pub AllEnded : {A : Type 0} → Decision A → List (Found A) → Type 0
+AllEnded d [] = Unit {0}
+AllEnded d (x ∷ xs) = HasEnded d x × AllEnded d xs
 
 -- the stage has parted into more stages than room
-pub record PartsBeyond {A : Type 0} (d : Decision A) (first : Value → Value) (trace : List Mark) (x : PathState)
+pub record PartsBeyond {A : Type 0} (d : Decision A) (x : PathState)
     (room : ℕ) : Type 0 where
   pub states : List PathState
-  pub stages : AllStages d first trace states
+  pub stages : AllStages d states
   pub parts : Parts x states
   pub count : room < length states
 
 -- what comes of a stage: a path that has ended, and the further stages that part from it
-pub record Comes {A : Type 0} (d : Decision A) (first : Value → Value) (trace : List Mark) (x : PathState)
+pub record Comes {A : Type 0} (d : Decision A) (x : PathState)
     (found : Pursued A) : Type 0 where
-  pub lower : AllStages d first trace found.lower
-  pub ended : HasEnded d first trace found.path
-  pub higher : AllStages d first trace found.higher
+  pub lower : AllStages d found.lower
+  pub ended : HasEnded d found.path
+  pub higher : AllStages d found.higher
   pub parts : Parts x (found.lower ++ found.path.state ∷ found.higher)
 
 -- the answer of a pursuit: what comes of the stage, where there is room for that; `Over` where there is not; or there
 -- is no memory
-abbrev pub IsPursued : {A : Type 0} → Decision A → (Value → Value) → List Mark → PathState → ℕ
+abbrev pub IsPursued : {A : Type 0} → Decision A → PathState → ℕ
     → Result (Pursued A) PathsFault → Type 0
-IsPursued d first trace x room (Ok found) =
-    Comes d first trace x found × (length found.lower + 1 + length found.higher ≤ room)
-IsPursued d first trace x room (Err Over) = PartsBeyond d first trace x room
-IsPursued d first trace x room (Err Memory) = Unit {0}
+IsPursued d x room (Ok found) =
+    Comes d x found × (length found.lower + 1 + length found.higher ≤ room)
+IsPursued d x room (Err Over) = PartsBeyond d x room
+IsPursued d x room (Err Memory) = Unit {0}

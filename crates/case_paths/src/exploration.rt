@@ -11,7 +11,7 @@ use crate::queue::Queue;
 use crate::state::{Found, PathState, PathsFault};
 use clause_solver::Store;
 use feature_trees::Kinds;
-use script_names::{Copied, List, Mark};
+use script_names::List;
 use std::alloc::Global;
 
 // One round over the items: each stage that waits is run once, and what comes of it takes its place. `Over` where there
@@ -19,14 +19,13 @@ use std::alloc::Global;
 fn round<V: Drop, M: Machine<End = V>>(
     alloc: Global,
     machine: &M,
-    trace: &List<Mark>,
     mut items: Queue<Item<V>>,
     room: usize,
 ) -> Result<Queue<Item<V>>, PathsFault>
-    requires items { AllItems (M.decision machine.now) (M.first machine.now) trace.now items }
+    requires items { AllItems (M.decision machine.now) items }
     requires alive { AllAlive (item_states items) }
     requires room { length items ≤ room }
-    ensures { Advanced (M.decision machine.now) (M.first machine.now) trace.now items room result }
+    ensures { Advanced (M.decision machine.now) items room result }
 {
     let mut seen = Queue::new(alloc);
     'items: loop {
@@ -35,7 +34,7 @@ fn round<V: Drop, M: Machine<End = V>>(
             Some(Item::Ended(path)) => seen.push(Item::Ended(path))?,
             Some(Item::Waiting(stage)) => {
                 let left = room - items.len() - seen.len();
-                let found = match pursue(alloc, machine, trace, stage, left) {
+                let found = match pursue(alloc, machine, stage, left) {
                     Ok(found) => found,
                     Err(fault) => return Err(fault),
                 };
@@ -45,17 +44,16 @@ fn round<V: Drop, M: Machine<End = V>>(
     }
 }
 
-/// All paths of a machine from a set of pairs of trees, behind a trace: each pair is on the path of its own run, and
-/// the traces of the paths rise. `Over` exactly where the runs have more than `room` different traces.
+/// All paths of a machine from a set of pairs of a tree and itself: each pair is on the path of its own run, and the
+/// traces of the paths rise. `Over` exactly where the runs have more than `room` different traces.
 pub fn explore<V: Drop, M: Machine<End = V>>(
     alloc: Global,
     machine: &M,
     store: Store,
-    trace: &List<Mark>,
     room: usize,
 ) -> Result<List<Found<V>>, PathsFault>
-    requires first { (t u : Tree) → HasPair store t u → u ≡ M.first machine.now t }
-    ensures { Explored (M.decision machine.now) store trace.now room result }
+    requires same { (t u : Tree) → HasPair store t u → u ≡ t }
+    ensures { Explored (M.decision machine.now) store room result }
 {
     let mut store = store;
     let now = store.now();
@@ -66,15 +64,12 @@ pub fn explore<V: Drop, M: Machine<End = V>>(
     if room == 0 {
         return Err(PathsFault::Over);
     }
-    let trace_copy = trace.copy(alloc)?;
+    let none = List::new(alloc);
     let mut items = Queue::new(alloc);
-    items.push(Item::Waiting(PathState {
-        store,
-        trace: trace_copy,
-    }))?;
+    items.push(Item::Waiting(PathState { store, trace: none }))?;
     'rounds: loop {
         let before = items.len();
-        let next = match round(alloc, machine, trace, items, room) {
+        let next = match round(alloc, machine, items, room) {
             Ok(next) => next,
             Err(fault) => return Err(fault),
         };

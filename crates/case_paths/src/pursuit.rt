@@ -9,7 +9,6 @@ use crate::machine::Machine;
 use crate::queue::Queue;
 use crate::state::{Found, PathState, PathsFault, Ran};
 use act_cases::cases;
-use script_names::{List, Mark};
 use std::alloc::Global;
 
 /// What comes of a stage: the path of one of its runs, and the stages that part from it, those with lower traces and
@@ -34,29 +33,27 @@ fn are_over(lower: usize, higher: usize, room: usize) -> bool
 pub fn pursue<V: Drop, M: Machine<End = V>>(
     alloc: Global,
     machine: &M,
-    trace: &List<Mark>,
     stage: PathState,
     room: usize,
 ) -> Result<Pursued<V>, PathsFault>
     requires alive { Alive stage.store }
-    requires stage { IsStage (M.decision machine.now) (M.first machine.now) trace.now stage }
+    requires stage { IsStage (M.decision machine.now) stage }
     requires room { 1 ≤ room }
-    ensures { IsPursued (M.decision machine.now) (M.first machine.now) trace.now stage room result }
+    ensures { IsPursued (M.decision machine.now) stage room result }
 {
     let start = stage.store.start_tree(alloc)?;
     let Ran {
         value,
         trace: all_marks,
         acts: all_acts,
-    } = machine.run(alloc, &start, trace)?;
+    } = machine.run(alloc, &start)?;
     let marks = all_marks.as_slice();
     let acts = all_acts.as_slice();
-    let before = trace.len();
     let mut lower = Queue::new(alloc);
     let mut state = stage;
     let mut higher = Queue::new(alloc);
     for at in state.trace.len()..marks.len() {
-        let act = &acts[at - before];
+        let act = &acts[at];
         let mark = marks[at];
         let rows = cases(alloc, act)?;
         let forks = fork(alloc, mark, state, rows.as_slice())?;

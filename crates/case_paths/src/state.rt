@@ -3,7 +3,8 @@
 ghost use Rattle.std.specs.Prelude.{◌≡◌};
 
 use clause_solver::Store;
-use script_names::{List, Mark, Memory};
+use script_names::{Copied, List, Mark, Memory};
+use std::alloc::Global;
 use utility_calls::acts::Act;
 
 /// Where a path stands: the pairs of trees that are on it, and the marks of its acts, in order.
@@ -33,6 +34,12 @@ pub struct Ran<V> {
 pub enum PathsFault {
     Over,
     Memory,
+}
+
+impl Copied for PathsFault {
+    fn copy(&self, _alloc: Global) -> Result<PathsFault, Memory> {
+        Ok(*self)
+    }
 }
 
 impl From<Memory> for PathsFault {

@@ -1,7 +1,9 @@
 use dpkg_scenarios::ScriptKind;
+use script_names::{Copied, Memory};
 use shell_grammar::ParseFault;
 use shell_lexer::LexFault;
 use shell_syntax::Form;
+use std::alloc::Global;
 
 /// A file of a package's folder.
 #[derive(Clone, Copy, Debug, PartialEq, Eq)]
@@ -12,11 +14,23 @@ pub enum PackageFile {
     Script(ScriptKind),
 }
 
+impl Copied for PackageFile {
+    fn copy(&self, _alloc: Global) -> Result<PackageFile, Memory> {
+        Ok(*self)
+    }
+}
+
 /// Whose a file is.
 #[derive(Clone, Copy, Debug, PartialEq, Eq)]
 pub enum Whose {
     Old,
     New,
+}
+
+impl Copied for Whose {
+    fn copy(&self, _alloc: Global) -> Result<Whose, Memory> {
+        Ok(*self)
+    }
 }
 
 /// A file that a request reads.
@@ -32,6 +46,12 @@ pub enum InputFile {
     Tree,
     /// The script that is translated.
     Script,
+}
+
+impl Copied for InputFile {
+    fn copy(&self, _alloc: Global) -> Result<InputFile, Memory> {
+        Ok(*self)
+    }
 }
 
 /// A file that is refused. Each offset is in bytes from the beginning of the file, lines are counted from 1.
@@ -90,4 +110,10 @@ pub enum InputRefusal {
         line: u32,
         why: u8,
     },
+}
+
+impl Copied for InputRefusal {
+    fn copy(&self, _alloc: Global) -> Result<InputRefusal, Memory> {
+        Ok(*self)
+    }
 }

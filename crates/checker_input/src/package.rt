@@ -1,6 +1,7 @@
 use package_lists::{Base, Entry};
-use script_names::{Bytes, List, Slot};
+use script_names::{Bytes, Copied, List, Memory, Slot};
 use shell_forms::Accepted;
+use std::alloc::Global;
 
 /// The maintainer scripts of a package, those that it has (Debian Policy, 6.1).
 #[derive(Drop)]
@@ -11,6 +12,21 @@ pub struct Scripts {
     pub postrm: Slot<Accepted>,
 }
 
+impl Copied for Scripts {
+    fn copy(&self, alloc: Global) -> Result<Scripts, Memory> {
+        let preinst = self.preinst.copy(alloc)?;
+        let postinst = self.postinst.copy(alloc)?;
+        let prerm = self.prerm.copy(alloc)?;
+        let postrm = self.postrm.copy(alloc)?;
+        Ok(Scripts {
+            preinst,
+            postinst,
+            prerm,
+            postrm,
+        })
+    }
+}
+
 /// A package: its version, what it lists, and its scripts.
 #[derive(Drop)]
 pub struct Package {
@@ -19,10 +35,36 @@ pub struct Package {
     pub scripts: Scripts,
 }
 
+impl Copied for Package {
+    fn copy(&self, alloc: Global) -> Result<Package, Memory> {
+        let version = self.version.copy(alloc)?;
+        let entries = self.entries.copy(alloc)?;
+        let scripts = self.scripts.copy(alloc)?;
+        Ok(Package {
+            version,
+            entries,
+            scripts,
+        })
+    }
+}
+
 /// What was read of a command line's folders: the new package, the old one, where it is another, and the base.
 #[derive(Drop)]
 pub struct Packages {
     pub new_package: Package,
     pub old_package: Option<Package>,
     pub base: Base,
+}
+
+impl Copied for Packages {
+    fn copy(&self, alloc: Global) -> Result<Packages, Memory> {
+        let new_package = self.new_package.copy(alloc)?;
+        let old_package = self.old_package.copy(alloc)?;
+        let base = self.base.copy(alloc)?;
+        Ok(Packages {
+            new_package,
+            old_package,
+            base,
+        })
+    }
 }

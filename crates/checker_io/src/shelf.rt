@@ -1,7 +1,7 @@
 ghost use Rattle.std.specs.Prelude.{◌≡◌, ◌≤◌, length, IfSome, IfOk};
 ghost use Rattle.checker_io.specs.Shelf.{ShelfState, ReadGives, ReadCause};
 
-use script_names::Bytes;
+use script_names::{Bytes, Copied, Memory};
 use std::alloc::Global;
 
 /// Why a file was not read.
@@ -14,6 +14,12 @@ pub enum ShelfFault {
     /// The file could not be read.
     Failed,
     Memory,
+}
+
+impl Copied for ShelfFault {
+    fn copy(&self, _alloc: Global) -> Result<ShelfFault, Memory> {
+        Ok(*self)
+    }
 }
 
 /// Where whole files are read, by name.

@@ -1,5 +1,8 @@
 ghost use Rattle.checker_io.specs.Sink.{SinkState, WriteTakes, WriteCause};
 
+use script_names::{Copied, Memory};
+use std::alloc::Global;
+
 /// Why a piece was not taken whole.
 #[derive(Clone, Copy, Debug, PartialEq, Eq)]
 pub enum SinkFault {
@@ -7,6 +10,12 @@ pub enum SinkFault {
     Failed,
     /// Want of memory: nothing of the piece was taken.
     Memory,
+}
+
+impl Copied for SinkFault {
+    fn copy(&self, _alloc: Global) -> Result<SinkFault, Memory> {
+        Ok(*self)
+    }
 }
 
 /// Where bytes are written.

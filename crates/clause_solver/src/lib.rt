@@ -25,4 +25,3 @@ mod store;
 mod variable;
 
 pub use store::Store;
-pub use tree_clauses::{Case, Clause, Literal, Var, print_clause, put_clause};

@@ -14,7 +14,8 @@ use Rattle.package_jobs.specs.Laws.{MoreTurnsSameRun}
 use Rattle.outcome_report.specs.declared.replay.Replay.{Replay}
 use Rattle.outcome_report.specs.declared.outcome_report.ReportEntry.{ReportEntry}
 use Rattle.outcome_report.specs.declared.outcome_report.ReportPart.{ReportPart}
-use Rattle.outcome_report.specs.OutcomeReport.{IsEntryOf, AllEntries, ending_verdict, part_has}
+use Rattle.outcome_report.specs.OutcomeReport.{IsEntryOf, AllEntries, part_has}
+use Rattle.dpkg_scenarios.specs.Verdicts.{ending_verdict}
 use Rattle.colis_checker.specs.Reports.{AreParts, IsPartOf}
 use Rattle.colis_checker.specs.Laws.{IsFailed, IsFailure, FailsSomewhere, FailedScenario, FailedReport}
 

@@ -5,7 +5,8 @@ use Rattle.checker_input.specs.declared.package.Package.{Package}
 use Rattle.checker_input.specs.declared.package.Packages.{Packages}
 use Rattle.load_maker.proofs.OnePackage.{one_package}
 use Rattle.outcome_report.specs.declared.outcome_report.Report.{Report}
-use Rattle.outcome_report.specs.OutcomeReport.{joint_verdict, report_has, verdict_of}
+use Rattle.outcome_report.specs.OutcomeReport.{report_has, verdict_of}
+use Rattle.dpkg_scenarios.specs.Verdicts.{joint_verdict}
 use Rattle.load_summary.specs.Summary.{summary_text}
 use Rattle.colis_checker.specs.declared.loads.TheConstants.{TURNS}
 use Rattle.colis_checker.specs.Reports.{chosen, AreParts}

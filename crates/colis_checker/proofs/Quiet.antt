@@ -11,7 +11,8 @@ use Rattle.package_jobs.specs.Laws.{MoreTurnsSameRun}
 use Rattle.scenario_outcomes.specs.declared.outcome.Outcome.{Outcome}
 use Rattle.outcome_report.specs.declared.outcome_report.ReportEntry.{ReportEntry}
 use Rattle.outcome_report.specs.declared.outcome_report.ReportPart.{ReportPart}
-use Rattle.outcome_report.specs.OutcomeReport.{ending_verdict, part_has}
+use Rattle.outcome_report.specs.OutcomeReport.{part_has}
+use Rattle.dpkg_scenarios.specs.Verdicts.{ending_verdict}
 use Rattle.colis_checker.specs.Reports.{AreParts}
 use Rattle.colis_checker.specs.Laws.{IsDone, FailsNowhere, QuietScenario, QuietReport}
 

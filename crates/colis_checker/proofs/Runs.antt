@@ -9,7 +9,7 @@ use Rattle.scenario_runs.specs.declared.job.Job.{Job}
 use Rattle.scenario_runs.specs.declared.replayed.Replayed.{Replayed}
 use Rattle.scenario_runs.specs.Runs.{scenario_run}
 use Rattle.package_jobs.specs.Written.{written_run}
-use Rattle.outcome_report.specs.OutcomeReport.{ending_verdict}
+use Rattle.dpkg_scenarios.specs.Verdicts.{ending_verdict}
 use Rattle.outcome_report.specs.RunText.{run_text}
 use Rattle.colis_checker.specs.Tasks.{IsRunOf}
 

@@ -16,7 +16,7 @@ use Rattle.shell_to_colis.specs.Laws.{DoesTheSame}
 use Rattle.shell_to_colis.specs.Translated.{program_of}
 use Rattle.scenario_runs.specs.declared.replayed.Replayed.{Replayed}
 use Rattle.package_jobs.specs.Written.{written_run}
-use Rattle.outcome_report.specs.OutcomeReport.{ending_verdict}
+use Rattle.dpkg_scenarios.specs.Verdicts.{ending_verdict}
 use Rattle.outcome_report.specs.RunText.{run_text}
 use Rattle.colis_checker.specs.declared.faults.Refusal.{Refusal}
 use Rattle.colis_checker.specs.declared.faults.TaskFault.{TaskFault}

@@ -1,4 +1,5 @@
-use script_names::Memory;
+use script_names::{Copied, Memory};
+use std::alloc::Global;
 
 /// Why a text is not read as a program.
 #[derive(Clone, Copy, Debug, PartialEq, Eq)]
@@ -7,6 +8,12 @@ pub enum ProgramFault {
     Bad,
     /// Want of memory.
     Memory,
+}
+
+impl Copied for ProgramFault {
+    fn copy(&self, _alloc: Global) -> Result<ProgramFault, Memory> {
+        Ok(*self)
+    }
 }
 
 impl From<Memory> for ProgramFault {

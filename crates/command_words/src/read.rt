@@ -11,7 +11,7 @@ use crate::request::Request;
 use crate::said::{is_given, request_of};
 use crate::setting::Setting;
 use crate::value::{is_name, is_value};
-use script_names::{List, Memory, Text};
+use script_names::{Copied, List, Memory, Text};
 use std::alloc::Global;
 
 /// Why there is no request.
@@ -22,6 +22,12 @@ pub enum WordsFault {
     Usage { word: u64 },
     /// Want of memory.
     Memory,
+}
+
+impl Copied for WordsFault {
+    fn copy(&self, _alloc: Global) -> Result<WordsFault, Memory> {
+        Ok(*self)
+    }
 }
 
 impl From<Memory> for WordsFault {

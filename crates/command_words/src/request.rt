@@ -1,5 +1,6 @@
 use dpkg_scenarios::Scenario;
-use script_names::Text;
+use script_names::{Copied, Memory, Text};
+use std::alloc::Global;
 
 /// The folders of the packages, and the file that says what is known of the system. Without an old folder the old
 /// package is the new one; without a base it is the usual one.
@@ -8,6 +9,15 @@ pub struct Folders {
     pub dir: Text,
     pub old: Option<Text>,
     pub base: Option<Text>,
+}
+
+impl Copied for Folders {
+    fn copy(&self, alloc: Global) -> Result<Folders, Memory> {
+        let dir = self.dir.copy(alloc)?;
+        let old = self.old.copy(alloc)?;
+        let base = self.base.copy(alloc)?;
+        Ok(Folders { dir, old, base })
+    }
 }
 
 /// How a report is written.
@@ -19,6 +29,12 @@ pub enum Layout {
     Brief,
     /// Whole, as JSON (RFC 8259).
     Json,
+}
+
+impl Copied for Layout {
+    fn copy(&self, _alloc: Global) -> Result<Layout, Memory> {
+        Ok(*self)
+    }
 }
 
 /// What the words of a command line ask for.
@@ -50,4 +66,50 @@ pub enum Request {
         number: u32,
         limit: u32,
     },
+}
+
+impl Copied for Request {
+    fn copy(&self, alloc: Global) -> Result<Request, Memory> {
+        match self {
+            Request::Check {
+                folders,
+                scenario,
+                turns,
+                limit,
+                layout,
+            } => {
+                let folders = folders.copy(alloc)?;
+                Ok(Request::Check {
+                    folders,
+                    scenario: *scenario,
+                    turns: *turns,
+                    limit: *limit,
+                    layout: *layout,
+                })
+            }
+            Request::Run {
+                folders,
+                tree,
+                scenario,
+                turns,
+            } => {
+                let folders = folders.copy(alloc)?;
+                let tree = tree.copy(alloc)?;
+                Ok(Request::Run {
+                    folders,
+                    tree,
+                    scenario: *scenario,
+                    turns: *turns,
+                })
+            }
+            Request::Translate { file } => {
+                let file = file.copy(alloc)?;
+                Ok(Request::Translate { file })
+            }
+            Request::Load { number, limit } => Ok(Request::Load {
+                number: *number,
+                limit: *limit,
+            }),
+        }
+    }
 }

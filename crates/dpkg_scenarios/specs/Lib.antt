@@ -3,3 +3,4 @@ pub mod Scenarios
 pub mod Steps
 pub mod Lines
 pub mod Laws
+pub mod Verdicts

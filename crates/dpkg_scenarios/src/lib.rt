@@ -10,8 +10,10 @@ mod scenario;
 mod steps;
 mod tables;
 pub mod theorems;
+mod verdicts;
 
 pub use call::call_words;
 pub use names::{scenario_name, scenario_named, script_name};
 pub use scenario::{Ending, Scenario, ScriptKind, State, StepNext, StepWork};
 pub use steps::{next, work};
+pub use verdicts::{ending_verdict, joint_verdict};

@@ -6,13 +6,20 @@ ghost use Rattle.feature_trees.specs.declared.put.PutFault.TheVariants.{NoParent
 ghost use Rattle.feature_trees.specs.declared.value.Value.TheVariants.{Dir};
 
 use crate::value::{NamedValue, Value, place, set_value};
-use script_names::{Memory, Name, Path};
+use script_names::{Copied, Memory, Name, Path};
+use std::alloc::Global;
 
 /// Why nothing was put: a name of the path but the last is no directory's, or want of memory.
 #[derive(Clone, Copy, Debug, PartialEq, Eq)]
 pub enum PutFault {
     NoParent,
     Memory,
+}
+
+impl Copied for PutFault {
+    fn copy(&self, _alloc: Global) -> Result<PutFault, Memory> {
+        Ok(*self)
+    }
 }
 
 impl From<Memory> for PutFault {

@@ -13,7 +13,7 @@ ghost use Rattle.feature_trees.specs.TreeLines.{with_line, with_lines, tree_of, 
 use crate::draft::{Draft, make_value, put_draft};
 use crate::put::PutFault;
 use crate::value::{Entries, Value};
-use script_names::{List, Memory, Name};
+use script_names::{Copied, List, Memory, Name};
 use shown_texts::{cut, read_path, read_shown};
 use std::alloc::Global;
 
@@ -27,6 +27,12 @@ pub enum TreeFault {
     /// names; 2, an earlier line names its path; 3, its parent is neither the root nor an earlier line's directory.
     Line { line: u32, why: u8 },
     Memory,
+}
+
+impl Copied for TreeFault {
+    fn copy(&self, _alloc: Global) -> Result<TreeFault, Memory> {
+        Ok(*self)
+    }
 }
 
 impl From<Memory> for TreeFault {

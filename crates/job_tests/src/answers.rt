@@ -8,8 +8,8 @@ use feature_trees::{Kind, Kinds, Value};
 use outcome_report::{Report, make_part, render_brief, render_run};
 use package_jobs::{job_of, needs_of};
 use scenario_outcomes::OutcomesFault;
-use scenario_runs::run;
-use script_names::{Bytes, List, Memory, Name, Path, Text};
+use scenario_runs::{Job, Replayed, run};
+use script_names::{Bytes, Copied, List, Memory, Name, Path, Text};
 use start_trees::{Need, Wanted};
 use std::alloc::Global;
 
@@ -124,6 +124,44 @@ fn ran(
     }
 }
 
+// The text of a copy of a run.
+fn copied_text(alloc: Global, replayed: &Replayed) -> Result<Bytes, Memory> {
+    let copy = replayed.copy(alloc)?;
+    render_run(alloc, &copy)
+}
+
+// The text of the run of a copy of a job.
+fn copied_run(alloc: Global, job: &Job, tree: &Value) -> Result<Bytes, Memory> {
+    let copy = job.copy(alloc)?;
+    let replayed = run(alloc, &copy, tree)?;
+    copied_text(alloc, &replayed)
+}
+
+// The same text, by copies of the packages, of the job and of the run.
+fn ran_by_copies(
+    alloc: Global,
+    scenario: Scenario,
+    packages: &Packages,
+    tree: &Value,
+) -> Result<Bytes, Memory> {
+    match tree {
+        Value::Dir(_) => {
+            let copy = packages.copy(alloc)?;
+            let job = job_of(alloc, scenario, &copy, 1)?;
+            copied_run(alloc, &job, tree)
+        }
+        _ => Err(Memory),
+    }
+}
+
+// The text of a task's run, by copies.
+fn copied_task_text(alloc: Global, scenario: Scenario, task: &Task) -> Result<Bytes, Memory> {
+    match task {
+        Task::Run(packages, tree) => ran_by_copies(alloc, scenario, packages, tree),
+        _ => Err(Memory),
+    }
+}
+
 // What is said of a scenario for a task: what it needs for packages, or its run from a tree.
 fn task_text(alloc: Global, scenario: Scenario, task: &Task) -> Result<Bytes, Memory> {
     match task {
@@ -161,6 +199,18 @@ pub(crate) fn answer(
 ) -> Result<Bytes, Memory> {
     let task = task(alloc, line, files, others)?;
     told(alloc, scenario, task)
+}
+
+/// The text of a run for the request of a line over these files, by copies of all that it goes through.
+pub(crate) fn answer_by_copies(
+    alloc: Global,
+    scenario: Scenario,
+    line: &str,
+    files: &[File],
+    others: &[File],
+) -> Result<Bytes, Memory> {
+    let task = task(alloc, line, files, others)?;
+    copied_task_text(alloc, scenario, &task)
 }
 
 // The brief report on a scenario, or why there is none.

@@ -15,3 +15,5 @@ mod runs;
 mod stated;
 #[cfg(test)]
 mod steps;
+#[cfg(test)]
+mod worked;

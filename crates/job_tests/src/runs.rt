@@ -1,7 +1,7 @@
 //! Runs of jobs whose scripts all succeed. Each script makes a file whose name tells whose script it is, its name and
 //! its first two words; the new package has version 2, the old one version 1.
 
-use crate::answers::{File, answer};
+use crate::answers::{File, answer, answer_by_copies};
 use dpkg_scenarios::Scenario;
 use std::test::Fail;
 
@@ -123,6 +123,15 @@ f /srv/n-postrm-purge-
 fn jobs_are_run(rt: HostRuntime) -> Result<(), Fail> {
     for row in RUNS {
         let text = answer(rt.alloc(), row.0, RUN, FILES, row.1)?;
+        assert!(rt; text.as_slice() == row.2.as_bytes(), "{}", row.2);
+    }
+    Ok(())
+}
+
+#[test]
+fn copies_are_run(rt: HostRuntime) -> Result<(), Fail> {
+    for row in RUNS {
+        let text = answer_by_copies(rt.alloc(), row.0, RUN, FILES, row.1)?;
         assert!(rt; text.as_slice() == row.2.as_bytes(), "{}", row.2);
     }
     Ok(())

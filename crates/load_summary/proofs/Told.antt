@@ -4,7 +4,8 @@ use Rattle.std.specs.Prelude.{◌||◌, ◌==◌}
 use Rattle.std.specs.List.{list_any}
 use Rattle.outcome_report.specs.declared.outcome_report.ReportPart.{ReportPart}
 use Rattle.outcome_report.specs.declared.outcome_report.Report.{Report}
-use Rattle.outcome_report.specs.OutcomeReport.{ending_verdict, part_has, report_has, verdict_of}
+use Rattle.outcome_report.specs.OutcomeReport.{part_has, report_has, verdict_of}
+use Rattle.dpkg_scenarios.specs.Verdicts.{ending_verdict}
 use Rattle.load_summary.specs.declared.endings.ScenarioEndings.{ScenarioEndings}
 use Rattle.load_summary.specs.Endings.{ending_of, endings_of, HasEndings, ends_so, some_ends_so, endings_verdict}
 use Rattle.load_summary.specs.Summary.{lines_text, summary_text}

@@ -5,7 +5,7 @@ use Rattle.dpkg_scenarios.specs.declared.scenario.Ending.{Ending}
 use Rattle.outcome_report.specs.declared.outcome_report.ReportEntry.{ReportEntry}
 use Rattle.outcome_report.specs.declared.outcome_report.ReportPart.{ReportPart}
 use Rattle.outcome_report.specs.declared.outcome_report.Report.{Report}
-use Rattle.outcome_report.specs.OutcomeReport.{ending_verdict, joint_verdict}
+use Rattle.dpkg_scenarios.specs.Verdicts.{ending_verdict, joint_verdict}
 use Rattle.load_summary.specs.declared.endings.ScenarioEndings.{ScenarioEndings}
 
 -- how an outcome ends

@@ -5,15 +5,25 @@ ghost use Rattle.outcome_report.specs.declared.outcome_report.Report.{Report};
 ghost use Rattle.outcome_report.specs.OutcomeReport.{verdict_of};
 ghost use Rattle.load_summary.specs.Endings.{HasEndings, ends_so, some_ends_so, endings_verdict};
 
-use dpkg_scenarios::{Ending, Scenario};
-use outcome_report::{ending_verdict, joint_verdict};
-use script_names::List;
+use dpkg_scenarios::{Ending, Scenario, ending_verdict, joint_verdict};
+use script_names::{Copied, List, Memory};
+use std::alloc::Global;
 
 /// The endings of the outcomes of one scenario, in the outcomes' order.
 #[derive(Drop)]
 pub struct ScenarioEndings {
     pub scenario: Scenario,
     pub endings: List<Ending>,
+}
+
+impl Copied for ScenarioEndings {
+    fn copy(&self, alloc: Global) -> Result<ScenarioEndings, Memory> {
+        let endings = self.endings.copy(alloc)?;
+        Ok(ScenarioEndings {
+            scenario: self.scenario,
+            endings,
+        })
+    }
 }
 
 // Whether an ending of the scenario has this verdict.

@@ -11,7 +11,8 @@ use Rattle.shown_texts.specs.Lines.{line}
 use Rattle.outcome_report.specs.declared.outcome_report.ReportEntry.{ReportEntry}
 use Rattle.outcome_report.specs.declared.outcome_report.ReportPart.{ReportPart}
 use Rattle.outcome_report.specs.declared.outcome_report.Report.{Report}
-use Rattle.outcome_report.specs.OutcomeReport.{ending_verdict, joint_verdict, part_has, report_has, verdict_of}
+use Rattle.outcome_report.specs.OutcomeReport.{part_has, report_has, verdict_of}
+use Rattle.dpkg_scenarios.specs.Verdicts.{ending_verdict, joint_verdict}
 use Rattle.dpkg_scenarios.specs.Names.{scenario_name}
 use Rattle.outcome_report.specs.ReportText.{result_text, outcome_line, trace_line, scenario_line, verdict_line}
 use Rattle.outcome_report.specs.BriefText.{brief_entry, brief_part, brief_text}

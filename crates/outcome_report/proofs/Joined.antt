@@ -5,7 +5,8 @@ use Rattle.std.specs.List.{flat_map, list_any}
 use Rattle.outcome_report.specs.declared.outcome_report.ReportPart.{ReportPart}
 use Rattle.outcome_report.specs.declared.outcome_report.Report.{Report}
 use Rattle.outcome_report.specs.declared.told_part.ToldPart.{ToldPart}
-use Rattle.outcome_report.specs.OutcomeReport.{joint_verdict, part_has, report_has, verdict_of}
+use Rattle.outcome_report.specs.OutcomeReport.{part_has, report_has, verdict_of}
+use Rattle.dpkg_scenarios.specs.Verdicts.{joint_verdict}
 use Rattle.outcome_report.specs.ReportText.{part_text, line_of_verdict, verdict_line, report_text}
 use Rattle.outcome_report.specs.Told.{first_line, AreTold, told_verdict, lines_behind, BeginsReport, AllBeginReports}
 use Rattle.outcome_report.specs.Whole.{AllPartsRepresentable}

@@ -16,7 +16,8 @@ use Rattle.outcome_report.specs.declared.outcome_report.ReportEntry.{ReportEntry
 use Rattle.outcome_report.specs.declared.places.EndPlace.{EndPlace}
 use Rattle.outcome_report.specs.declared.told_part.ToldPart.{ToldPart}
 use Rattle.outcome_report.specs.Counting.{as_list}
-use Rattle.outcome_report.specs.OutcomeReport.{AllEntries, ending_verdict}
+use Rattle.outcome_report.specs.OutcomeReport.{AllEntries}
+use Rattle.dpkg_scenarios.specs.Verdicts.{ending_verdict}
 use Rattle.outcome_report.specs.Places.{entry_place, end_places, place_counts}
 use Rattle.outcome_report.specs.PlaceText.{place_line}
 use Rattle.outcome_report.specs.ReportText.{heading, entry_text, scenario_line, part_text}

@@ -1,10 +1,9 @@
 -- What it is for a part of a report to be a scenario's, and the verdict of a report.
-use Rattle.std.specs.Prelude.{◌≡◌, ℕ, List, [], ◌∷◌, map, Bool, true, ◌==◌, if◌then◌else◌, Option, Some}
+use Rattle.std.specs.Prelude.{◌≡◌, ℕ, List, [], ◌∷◌, map, Bool, true, ◌==◌, Option, Some}
 use Rattle.std.specs.Prelude.{Result, Ok, Err}
 use Rattle.std.specs.List.{list_any}
 use Rattle.feature_trees.specs.declared.value.Value.{Value}
-use Rattle.dpkg_scenarios.specs.declared.scenario.Ending.{Ending}
-use Rattle.dpkg_scenarios.specs.declared.scenario.Ending.TheVariants.{Done, Failed, Incomplete, Bound}
+use Rattle.dpkg_scenarios.specs.Verdicts.{ending_verdict, joint_verdict}
 use Rattle.scenario_runs.specs.declared.replayed.Replayed.{Replayed}
 use Rattle.scenario_outcomes.specs.declared.outcome.Outcome.{Outcome}
 use Rattle.scenario_outcomes.specs.declared.outcome.OutcomesFault.{OutcomesFault}
@@ -55,13 +54,6 @@ PartAnswers run start limit (Err fault) = Answers run start limit (Err fault)
 
 -- ---- the verdict
 
--- the verdict on an ending alone: 1 where the scenario failed, 2 where it ended without a state, else 0
-abbrev pub ending_verdict : Ending → ℕ
-ending_verdict (Done state) = 0
-ending_verdict (Failed state) = 1
-ending_verdict (Incomplete reason site) = 2
-ending_verdict (Bound site) = 2
-
 -- some outcome of the part has this verdict
 abbrev pub part_has : ℕ → ReportPart → Bool
 part_has verdict part = list_any (λ entry. ending_verdict entry.outcome.ending == verdict) part.entries
@@ -69,10 +61,6 @@ part_has verdict part = list_any (λ entry. ending_verdict entry.outcome.ending 
 -- some outcome of the report has this verdict
 abbrev pub report_has : ℕ → Report → Bool
 report_has verdict report = list_any (part_has verdict) report.parts
-
--- the verdict on outcomes together: 1 where some failed, else 2 where some are incomplete or bound, else 0
-abbrev pub joint_verdict : Bool → Bool → ℕ
-joint_verdict failed unfinished = if failed then 1 else (if unfinished then 2 else 0)
 
 -- the verdict of a report
 abbrev pub verdict_of : Report → ℕ

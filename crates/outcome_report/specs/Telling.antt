@@ -9,7 +9,8 @@ use Rattle.outcome_report.specs.declared.outcome_report.ReportEntry.{ReportEntry
 use Rattle.outcome_report.specs.declared.places.EndPlace.{EndPlace}
 use Rattle.outcome_report.specs.declared.told_part.ToldPart.{ToldPart}
 use Rattle.outcome_report.specs.Counting.{as_list}
-use Rattle.outcome_report.specs.OutcomeReport.{IsEntryOf, AllEntries, ending_verdict}
+use Rattle.outcome_report.specs.OutcomeReport.{IsEntryOf, AllEntries}
+use Rattle.dpkg_scenarios.specs.Verdicts.{ending_verdict}
 use Rattle.outcome_report.specs.Places.{entry_place}
 use Rattle.outcome_report.specs.Replays.{Replays}
 use Rattle.outcome_report.specs.ReportText.{entry_text}

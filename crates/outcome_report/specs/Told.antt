@@ -9,7 +9,8 @@ use Rattle.scenario_outcomes.specs.declared.outcome.OutcomesFault.{OutcomesFault
 use Rattle.outcome_report.specs.declared.outcome_report.ReportPart.{ReportPart}
 use Rattle.outcome_report.specs.declared.told_part.ToldPart.{ToldPart}
 use Rattle.outcome_report.specs.declared.told_report.TheConstants.{FIRST_LINE}
-use Rattle.outcome_report.specs.OutcomeReport.{PartAnswers, joint_verdict, part_has}
+use Rattle.outcome_report.specs.OutcomeReport.{PartAnswers, part_has}
+use Rattle.dpkg_scenarios.specs.Verdicts.{joint_verdict}
 use Rattle.outcome_report.specs.ReportText.{part_text}
 use Rattle.outcome_report.specs.Whole.{AllRepresentable}
 

@@ -30,4 +30,4 @@ pub use representable_clauses::is_representable_clause;
 pub use run_text::render_run;
 pub use told_part::{ToldPart, tell_part};
 pub use told_report::{join_told, told_verdict};
-pub use verdicts::{ending_verdict, joint_verdict, run_status, verdict};
+pub use verdicts::{run_status, verdict};

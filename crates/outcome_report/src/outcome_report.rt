@@ -8,7 +8,7 @@ use crate::replay::{Replay, keep_replay};
 use dpkg_scenarios::{Ending, Scenario};
 use scenario_outcomes::{Outcome, OutcomesFault, outcomes};
 use scenario_runs::{Job, run};
-use script_names::{List, Mark, Memory};
+use script_names::{Copied, List, Mark, Memory};
 use start_trees::Need;
 use std::alloc::Global;
 
@@ -20,6 +20,18 @@ pub struct ReportEntry {
     pub confirmed: bool,
 }
 
+impl Copied for ReportEntry {
+    fn copy(&self, alloc: Global) -> Result<ReportEntry, Memory> {
+        let outcome = self.outcome.copy(alloc)?;
+        let replayed = self.replayed.copy(alloc)?;
+        Ok(ReportEntry {
+            outcome,
+            replayed,
+            confirmed: self.confirmed,
+        })
+    }
+}
+
 /// The outcomes of one scenario.
 #[derive(Drop)]
 pub struct ReportPart {
@@ -27,10 +39,27 @@ pub struct ReportPart {
     pub entries: List<ReportEntry>,
 }
 
+impl Copied for ReportPart {
+    fn copy(&self, alloc: Global) -> Result<ReportPart, Memory> {
+        let entries = self.entries.copy(alloc)?;
+        Ok(ReportPart {
+            scenario: self.scenario,
+            entries,
+        })
+    }
+}
+
 /// The outcomes of all scenarios that were asked for.
 #[derive(Drop)]
 pub struct Report {
     pub parts: List<ReportPart>,
+}
+
+impl Copied for Report {
+    fn copy(&self, alloc: Global) -> Result<Report, Memory> {
+        let parts = self.parts.copy(alloc)?;
+        Ok(Report { parts })
+    }
 }
 
 // Whether two endings are the same.

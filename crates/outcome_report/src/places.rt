@@ -8,7 +8,7 @@ ghost use Rattle.outcome_report.specs.Counting.{as_list, count_in, add_place};
 use crate::outcome_report::ReportEntry;
 use dpkg_scenarios::Ending;
 use indexmap::IndexMap;
-use script_names::{List, Mark, Memory, Site};
+use script_names::{Copied, List, Mark, Memory, Site};
 use std::alloc::Global;
 
 /// How an outcome ends that isn't done.
@@ -19,6 +19,12 @@ pub enum EndKind {
     Bound,
 }
 
+impl Copied for EndKind {
+    fn copy(&self, _alloc: Global) -> Result<EndKind, Memory> {
+        Ok(*self)
+    }
+}
+
 /// Where an outcome ends that isn't done: how, and the site; where `sited` is not set there is none, and its numbers
 /// are 0.
 #[derive(Clone, Copy, Debug, PartialEq, Eq, PartialOrd, Ord, Hash)]
@@ -27,6 +33,12 @@ pub struct EndPlace {
     pub sited: bool,
     pub step: u16,
     pub at: u32,
+}
+
+impl Copied for EndPlace {
+    fn copy(&self, _alloc: Global) -> Result<EndPlace, Memory> {
+        Ok(*self)
+    }
 }
 
 // The place of no site.

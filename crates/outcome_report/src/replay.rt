@@ -4,7 +4,8 @@ ghost use Rattle.outcome_report.specs.Kept.{replay_of};
 use dpkg_scenarios::Ending;
 use feature_trees::Value;
 use scenario_runs::{Replayed, ScriptCall};
-use script_names::{List, Mark};
+use script_names::{Copied, List, Mark, Memory};
+use std::alloc::Global;
 
 /// What a report keeps of a run: its ending, the marks of the acts that were done, in order, the tree that it left, and
 /// the calls of scripts, in order.
@@ -14,6 +15,20 @@ pub struct Replay {
     pub trace: List<Mark>,
     pub after: Value,
     pub calls: List<ScriptCall>,
+}
+
+impl Copied for Replay {
+    fn copy(&self, alloc: Global) -> Result<Replay, Memory> {
+        let trace = self.trace.copy(alloc)?;
+        let after = self.after.copy(alloc)?;
+        let calls = self.calls.copy(alloc)?;
+        Ok(Replay {
+            ending: self.ending,
+            trace,
+            after,
+            calls,
+        })
+    }
 }
 
 /// What a report keeps of a run.

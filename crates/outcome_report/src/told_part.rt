@@ -16,12 +16,11 @@ use crate::places::{EndPlace, add_some, end_place};
 use crate::replay::keep_replay;
 use crate::report_text::{put_entry, put_heading};
 use crate::representable::is_entry;
-use crate::verdicts::ending_verdict;
 use case_paths::Found;
-use dpkg_scenarios::{Ending, Scenario};
+use dpkg_scenarios::{Ending, Scenario, ending_verdict};
 use scenario_outcomes::{OutcomesFault, job_paths, make_outcome};
 use scenario_runs::{Job, ScriptCall, run};
-use script_names::{Bytes, List, Memory};
+use script_names::{Bytes, Copied, List, Memory};
 use shown_texts::push_line;
 use start_trees::Need;
 use std::alloc::Global;
@@ -33,6 +32,17 @@ pub struct ToldPart {
     pub text: Bytes,
     pub failed: bool,
     pub unfinished: bool,
+}
+
+impl Copied for ToldPart {
+    fn copy(&self, alloc: Global) -> Result<ToldPart, Memory> {
+        let text = self.text.copy(alloc)?;
+        Ok(ToldPart {
+            text,
+            failed: self.failed,
+            unfinished: self.unfinished,
+        })
+    }
 }
 
 // The lines before the first outcome.

@@ -11,7 +11,7 @@ ghost use Rattle.outcome_report.specs.Told.{AllBeginReports};
 
 use crate::report_text::put_verdict_line;
 use crate::told_part::ToldPart;
-use crate::verdicts::joint_verdict;
+use dpkg_scenarios::joint_verdict;
 use script_names::{Bytes, List, Memory};
 use shown_texts::push_line;
 use std::alloc::Global;

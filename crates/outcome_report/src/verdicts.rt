@@ -1,20 +1,10 @@
 ghost use Rattle.std.specs.Prelude.{◌≡◌};
-ghost use Rattle.outcome_report.specs.OutcomeReport.{ending_verdict, joint_verdict, part_has, report_has, verdict_of};
+ghost use Rattle.outcome_report.specs.OutcomeReport.{part_has, report_has, verdict_of};
+ghost use Rattle.dpkg_scenarios.specs.Verdicts.{ending_verdict, joint_verdict};
 
 use crate::outcome_report::{Report, ReportPart};
-use dpkg_scenarios::Ending;
+use dpkg_scenarios::{ending_verdict, joint_verdict};
 use scenario_runs::Replayed;
-
-/// The verdict on an ending alone: 1 where the scenario failed, 2 where it ended without a state, else 0.
-pub fn ending_verdict(ending: Ending) -> u8
-    ensures { result ≡ ending_verdict ending }
-{
-    match ending {
-        Ending::Done(_) => 0,
-        Ending::Failed(_) => 1,
-        Ending::Incomplete(_, _) | Ending::Bound(_) => 2,
-    }
-}
 
 // Whether an outcome of the part has this verdict.
 fn part_has(part: &ReportPart, verdict: u8) -> bool
@@ -35,19 +25,6 @@ fn report_has(report: &Report, verdict: u8) -> bool
         .as_slice()
         .iter()
         .any(|part| part_has(part, verdict))
-}
-
-/// The verdict on outcomes together: 1 where some failed, else 2 where some are incomplete or bound, else 0.
-pub fn joint_verdict(failed: bool, unfinished: bool) -> u8
-    ensures { result ≡ joint_verdict failed unfinished }
-{
-    if failed {
-        1
-    } else if unfinished {
-        2
-    } else {
-        0
-    }
 }
 
 /// The verdict of a report.

@@ -1,4 +1,5 @@
-use script_names::Memory;
+use script_names::{Copied, Memory};
+use std::alloc::Global;
 
 /// Why a file that comes with a package is not of its form.
 #[derive(Clone, Copy, Debug, PartialEq, Eq)]
@@ -6,6 +7,12 @@ pub enum LineFault {
     /// The least line at fault, counted from 1, and the least why of that line, by the reader.
     Line { line: u32, why: u8 },
     Memory,
+}
+
+impl Copied for LineFault {
+    fn copy(&self, _alloc: Global) -> Result<LineFault, Memory> {
+        Ok(*self)
+    }
 }
 
 impl From<Memory> for LineFault {

@@ -19,7 +19,8 @@ use Rattle.tree_clauses.specs.ClauseText.{literal_content, literal_text}
 use Rattle.outcome_report.specs.declared.outcome_report.Report.{Report}
 use Rattle.outcome_report.specs.declared.outcome_report.ReportEntry.{ReportEntry}
 use Rattle.outcome_report.specs.declared.outcome_report.ReportPart.{ReportPart}
-use Rattle.outcome_report.specs.OutcomeReport.{joint_verdict, verdict_of, report_has}
+use Rattle.outcome_report.specs.OutcomeReport.{verdict_of, report_has}
+use Rattle.dpkg_scenarios.specs.Verdicts.{joint_verdict}
 use Rattle.dpkg_scenarios.specs.Names.{scenario_name}
 use Rattle.outcome_report.specs.ReportText.{result_text, call_content, call_line}
 use Rattle.outcome_report.specs.Whole.{IsRepresentableEntry, AllRepresentable, AllPartsRepresentable, IsWholeEntry, AllWhole, AllPartsWhole}

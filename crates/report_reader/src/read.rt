@@ -9,7 +9,7 @@ ghost use Rattle.report_reader.specs.JsonAnswers.{Finds, ReadsReport};
 use crate::outcomes::report_in;
 use outcome_report::Report;
 use report_json::report_value;
-use script_names::Memory;
+use script_names::{Copied, Memory};
 use serde_json::Value;
 use std::alloc::Global;
 
@@ -21,6 +21,12 @@ pub enum JsonFault {
     /// The value of the text is no report's.
     Shape,
     Memory,
+}
+
+impl Copied for JsonFault {
+    fn copy(&self, _alloc: Global) -> Result<JsonFault, Memory> {
+        Ok(*self)
+    }
 }
 
 // Whether two values are the same, of which the second has no float.

@@ -4,7 +4,7 @@ use crate::made::{PartRow, ShortRow, report, short_part};
 use dpkg_scenarios::{Ending, Scenario, ScriptKind, State};
 use outcome_report::{Report, render_brief, render_text, verdict};
 use scenario_runs::CallEnd;
-use script_names::{List, Memory, Reason, Site};
+use script_names::{Copied, List, Memory, Reason, Site};
 use std::alloc::Global;
 use std::test::Fail;
 
@@ -298,5 +298,14 @@ fn reports_are_printed(rt: HostRuntime) -> Result<(), Fail> {
     let text = render_text(rt.alloc(), &report)?;
     assert!(rt; text.as_slice() == TEXT.as_bytes());
     assert!(rt; verdict(&report) == 1);
+    Ok(())
+}
+
+#[test]
+fn a_copy_of_a_report_has_its_text(rt: HostRuntime) -> Result<(), Fail> {
+    let report = report(rt.alloc(), BOTH)?;
+    let copy = report.copy(rt.alloc())?;
+    let text = render_text(rt.alloc(), &copy)?;
+    assert!(rt; text.as_slice() == TEXT.as_bytes());
     Ok(())
 }

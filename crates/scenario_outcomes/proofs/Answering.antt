@@ -23,7 +23,7 @@ use Rattle.scenario_outcomes.proofs.Exact.{exact, few, too_many}
 use Rattle.scenario_outcomes.proofs.StoreClauses.{clause_of, covers_its_pairs}
 
 module _ (job of : Job) (same : of ≡ job) (files : ArePerformed of.files) (law : DecisionsArePlayed) (needs : List Need) (limit : ℕ) (s : Seen) (starts : AreStarts (Some s) needs) where
-  whole_answer : (paths : List Path) (outcomes : List Outcome) → Explored (decision_of of files) s [] limit (Ok paths) → AreOutcomes 0 paths outcomes
+  whole_answer : (paths : List Path) (outcomes : List Outcome) → Explored (decision_of of files) s limit (Ok paths) → AreOutcomes 0 paths outcomes
       → Answers (scenario_run job) (IsStart needs) limit (Ok outcomes)
   whole_answer paths outcomes found made =
       let P : Job → Type 0 = λ x. Answers (scenario_run x) (IsStart needs) limit (Ok outcomes) in
@@ -34,12 +34,12 @@ module _ (job of : Job) (same : of ≡ job) (files : ArePerformed of.files) (law
         few (scenario_run of) (IsStart needs) (decision_of of files) s (law of files) starts.0 paths found.0 limit found.1,
       )
 
-  pub paths_found : (paths : List Path) → Explored (decision_of of files) s [] limit (Ok paths)
+  pub paths_found : (paths : List Path) → Explored (decision_of of files) s limit (Ok paths)
       → ArePaths (scenario_run job) (IsStart needs) limit paths
   paths_found paths found =
       record { told = λ outcomes made. whole_answer paths outcomes found made; alive = found.0.alive; few = found.1 }
 
-  pub over_answer : Explored (decision_of of files) s [] limit (Err fault.Over) → Answers (scenario_run job) (IsStart needs) limit (Err answer.Over)
+  pub over_answer : Explored (decision_of of files) s limit (Err fault.Over) → Answers (scenario_run job) (IsStart needs) limit (Err answer.Over)
   over_answer found =
       let P : Job → Type 0 = λ x. Answers (scenario_run x) (IsStart needs) limit (Err answer.Over) in
       subst P same (too_many (scenario_run of) (IsStart needs) (decision_of of files) s (law of files) starts.0 limit found)

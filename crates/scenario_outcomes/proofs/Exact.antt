@@ -5,7 +5,7 @@ use Rattle.feature_trees.specs.declared.value.Value.{Value}
 use Rattle.tree_clauses.specs.Literals.{Covers}
 use Rattle.clause_solver.specs.Stands.{Seen}
 use Rattle.clause_solver.specs.Pairs.{HasPair}
-use Rattle.act_decisions.specs.Decisions.{Decision, Played, play}
+use Rattle.utility_calls.specs.Decisions.{Decision, Played, play}
 use Rattle.case_paths.specs.Traces as order
 use Rattle.case_paths.specs.Paths as paths_of
 use Rattle.case_paths.specs.Paths.{IsAt, AreThePaths, AllAlive, states, traces, AllPlayed}
@@ -146,7 +146,7 @@ module _ (run : Value → Option Replayed) (start : Value → Type 0) (d : Decis
   abbrev from : Value → Played (Ending × List ScriptCall)
   from tree = play d tree [] []
 
-  module _ (paths : List Path) (outcomes : List Outcome) (are : AreThePaths d s [] paths) (made : AreOutcomes 0 paths outcomes) where
+  module _ (paths : List Path) (outcomes : List Outcome) (are : AreThePaths d s paths) (made : AreOutcomes 0 paths outcomes) where
     covers_once : (tree : Value) → start tree → CoversOnce outcomes tree
     covers_once tree is =
         let one = are.once tree tree ((starts tree tree).1 (is, refl)) in
@@ -194,7 +194,7 @@ module _ (run : Value → Option Replayed) (start : Value → Type 0) (d : Decis
 
   -- ---- how many traces there are
 
-  module _ (paths : List Path) (are : AreThePaths d s [] paths) where
+  module _ (paths : List Path) (are : AreThePaths d s paths) where
     trace_found : (trace : List Mark) → IsTrace run start trace → In trace (traces (states paths))
     trace_found trace is =
         let one = are.once is.tree is.tree ((starts is.tree is.tree).1 (is.is_start, refl)) in
@@ -211,7 +211,7 @@ module _ (run : Value → Option Replayed) (start : Value → Type 0) (d : Decis
         let m = as_many paths in
         omega (arith, n, m, le)
 
-  are_traces : (ts : List (List Mark)) → AllPlayed d s [] ts → AreTraces run start ts
+  are_traces : (ts : List (List Mark)) → AllPlayed d s ts → AreTraces run start ts
   are_traces [] h = tt
   are_traces (t ∷ ts) h =
       let pair = (starts h.0.0 h.0.1).0 h.0.2 in (
@@ -225,7 +225,7 @@ module _ (run : Value → Option Replayed) (start : Value → Type 0) (d : Decis
         are_traces ts h.1,
       )
 
-  pub too_many : (limit : ℕ) → paths_of.AreTooMany d s [] limit → AreTooMany run start limit
+  pub too_many : (limit : ℕ) → paths_of.AreTooMany d s limit → AreTooMany run start limit
   too_many limit h = record { traces = h.traces; are = are_traces h.traces h.played; differ = differ h.traces h.rising; count = h.count }
 
 -- ---- the outcomes so far

@@ -1,17 +1,16 @@
 //! The runs of a job from all trees at once, as a machine whose paths can be found.
 
-ghost use Rattle.std.specs.Prelude.{◌≡◌, ◌++◌, OnOk};
+ghost use Rattle.std.specs.Prelude.{◌≡◌};
 ghost use Rattle.scenario_runs.specs.Performed.{ArePerformed};
 ghost use Rattle.scenario_outcomes.specs.PerformedOnce.{files_once};
 ghost use Rattle.scenario_runs.specs.Deciding.{decision_of, decision_performed};
 
-use act_decisions::theorems::decisions_play_behind;
 use case_paths::{Machine, Ran};
 use dpkg_scenarios::Ending;
 use feature_trees::Value;
 use scenario_runs::theorems::scenario_runs_are_decided;
 use scenario_runs::{Job, Replayed, ScriptCall, run};
-use script_names::{Copied, List, Mark, Memory};
+use script_names::{List, Memory};
 use std::alloc::Global;
 
 /// The runs of a job, which one decision plays.
@@ -31,43 +30,23 @@ impl<'a> JobRuns<'a> {
     }
 }
 
-// Adds marks to others.
-fn append(marks: &mut List<Mark>, more: List<Mark>) -> Result<(), Memory>
-    ensures { OnOk result (marks.new ≡ marks.old ++ more) }
-{
-    for mark in more.into_vec() {
-        marks.add(mark)?;
-    }
-    Ok(())
-}
-
 impl<'a> Machine for JobRuns<'a> {
     type End = (Ending, List<ScriptCall>);
 
     ghost decision = { λ m. decision_of m.job.now m.performed };
 
-    ghost first = { λ _ tree. tree };
-
-    fn run(
-        &self,
-        alloc: Global,
-        start: &Value,
-        trace: &List<Mark>,
-    ) -> Result<Ran<(Ending, List<ScriptCall>)>, Memory> {
-        decisions_play_behind::<(Ending, List<ScriptCall>)>();
+    fn run(&self, alloc: Global, start: &Value) -> Result<Ran<(Ending, List<ScriptCall>)>, Memory> {
         scenario_runs_are_decided();
         let Replayed {
             ending,
-            trace: marks,
+            trace,
             after: _,
             calls,
             acts,
         } = run(alloc, self.job, start)?;
-        let mut all = trace.copy(alloc)?;
-        append(&mut all, marks)?;
         Ok(Ran {
             value: (ending, calls),
-            trace: all,
+            trace,
             acts,
         })
     }

@@ -31,8 +31,7 @@ pub fn job_paths(
         None => return Err(OutcomesFault::NoStart),
     };
     let runs = JobRuns::of(job);
-    let none = List::new(alloc);
-    match explore(alloc, &runs, store, &none, limit as usize) {
+    match explore(alloc, &runs, store, limit as usize) {
         Ok(paths) => Ok(paths),
         Err(PathsFault::Over) => Err(OutcomesFault::Over),
         Err(PathsFault::Memory) => Err(OutcomesFault::Memory),

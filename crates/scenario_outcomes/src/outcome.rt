@@ -6,12 +6,12 @@ ghost use Rattle.case_paths.specs.Paths.{AllAlive, states};
 ghost use Rattle.scenario_outcomes.specs.OutcomeOf.{IsOutcomeOf, AreOutcomes};
 
 use case_paths::{Found, PathState, PathsFault};
-use clause_solver::Clause;
 use dpkg_scenarios::Ending;
 use feature_trees::Value;
 use scenario_runs::ScriptCall;
-use script_names::{List, Mark, Memory};
+use script_names::{Copied, List, Mark, Memory};
 use std::alloc::Global;
+use tree_clauses::Clause;
 
 /// One way in which a scenario can end: its number from 1, the ending of its runs and the marks of their acts, the
 /// clause that says which start trees they begin from and which trees they leave, and one such start tree.
@@ -24,6 +24,21 @@ pub struct Outcome {
     pub shown: Value,
 }
 
+impl Copied for Outcome {
+    fn copy(&self, alloc: Global) -> Result<Outcome, Memory> {
+        let trace = self.trace.copy(alloc)?;
+        let clause = self.clause.copy(alloc)?;
+        let shown = self.shown.copy(alloc)?;
+        Ok(Outcome {
+            number: self.number,
+            ending: self.ending,
+            trace,
+            clause,
+            shown,
+        })
+    }
+}
+
 /// Why there is no list of outcomes: no tree has what is needed, or the runs from those that do have more different
 /// traces than the limit, or want of memory.
 #[derive(Clone, Copy, Debug, PartialEq, Eq)]
@@ -31,6 +46,12 @@ pub enum OutcomesFault {
     NoStart,
     Over,
     Memory,
+}
+
+impl Copied for OutcomesFault {
+    fn copy(&self, _alloc: Global) -> Result<OutcomesFault, Memory> {
+        Ok(*self)
+    }
 }
 
 impl From<Memory> for OutcomesFault {

@@ -3,8 +3,8 @@ use Rattle.std.proofs.Common.{◌≡◌, ℕ, List, [], length, Some, refl, sym,
 use Rattle.script_names.specs.declared.mark.Mark.{Mark}
 use Rattle.feature_trees.specs.declared.value.Value.{Value}
 use Rattle.utility_calls.specs.declared.acts.Act.{Act}
-use Rattle.act_decisions.specs.Decisions.{Decided, Played, play}
-use Rattle.colis_decisions.proofs.Playing.{bind_plays}
+use Rattle.utility_calls.specs.Decisions.{Decided, Played, play}
+use Rattle.colis_meaning.proofs.Playing.{bind_plays}
 use Rattle.dpkg_scenarios.specs.declared.scenario.StepNext.{StepNext}
 use Rattle.dpkg_scenarios.specs.declared.scenario.StepNext.TheVariants.{Go, Stop}
 use Rattle.dpkg_scenarios.specs.Scenarios.{table}

@@ -8,11 +8,11 @@ use Rattle.script_names.specs.declared.mark.Site.{Site}
 use Rattle.script_names.specs.declared.reason.Done.{Done}
 use Rattle.utility_calls.specs.declared.acts.Act.{Act}
 use Rattle.utility_calls.specs.Acts.{row, tree_after, IsPerformed}
-use Rattle.act_decisions.specs.Decisions.{Decision, Decided, Asks, Played, mark_at, AllPerformed}
+use Rattle.utility_calls.specs.Decisions.{Decision, Decided, Asks, Played, mark_at, AllPerformed}
 use Rattle.shell_rules.specs.declared.state.Conc.{Conc}
 use Rattle.shell_rules.specs.declared.run.End.{End}
 use Rattle.colis_syntax.specs.WellFormed.{ProgramParts}
-use Rattle.colis_decisions.specs.Laws.{IsDecided}
+use Rattle.colis_meaning.specs.Decided.{IsDecided}
 use Rattle.dpkg_scenarios.specs.declared.scenario.ScriptKind.{ScriptKind}
 use Rattle.dpkg_scenarios.specs.declared.scenario.StepWork.{StepWork}
 use Rattle.dpkg_scenarios.specs.declared.scenario.StepWork.TheVariants as work
@@ -31,8 +31,8 @@ use Rattle.scenario_runs.specs.declared.course.Worked.{Worked}
 use Rattle.scenario_runs.specs.declared.course.Reached.{Reached}
 use Rattle.scenario_runs.specs.Runs as r
 use Rattle.scenario_runs.specs.Performed.{ArePerformed}
-use Rattle.colis_decisions.proofs.Playing.{bind, bind_plays, bind_performed}
-use Rattle.colis_decisions.proofs.WholeDecisions.{runs_decided}
+use Rattle.colis_meaning.proofs.Playing.{bind, bind_plays, bind_performed}
+use Rattle.colis_meaning.proofs.WholeDecisions.{runs_decided}
 use Rattle.scenario_runs.specs.Playing.{plays_behind, Came, course_at, came, made, Plays, knows, handle}
 
 -- what follows, and how far the run has come

@@ -3,9 +3,9 @@ use Rattle.std.proofs.Common.{◌≡◌, ℕ, List, [], ◌++◌, refl, sym, ap,
 use Rattle.script_names.specs.declared.mark.Mark.{Mark}
 use Rattle.feature_trees.specs.declared.value.Value.{Value}
 use Rattle.utility_calls.specs.declared.acts.Act.{Act}
-use Rattle.act_decisions.specs.Decisions.{Decision, Decided, Played, play, AllPerformed}
-use Rattle.act_decisions.proofs.Playing.{plays_behind as behind_what_was}
-use Rattle.colis_decisions.proofs.Playing.{bind, bind_plays, bind_performed}
+use Rattle.utility_calls.specs.Decisions.{Decision, Decided, Played, play, AllPerformed}
+use Rattle.utility_calls.proofs.Playing.{plays_behind as behind_what_was}
+use Rattle.colis_meaning.proofs.Playing.{bind, bind_plays, bind_performed}
 use Rattle.scenario_runs.specs.declared.call.ScriptCall.{ScriptCall}
 use Rattle.scenario_runs.specs.declared.course.Course.{Course}
 

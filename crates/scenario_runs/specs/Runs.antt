@@ -11,7 +11,7 @@ use Rattle.script_names.specs.declared.reason.Done.TheVariants as done
 use Rattle.feature_trees.specs.declared.value.Value.{Value}
 use Rattle.utility_calls.specs.declared.acts.Act.{Act}
 use Rattle.utility_calls.specs.Acts.{row, tree_after}
-use Rattle.act_decisions.specs.Decisions.{mark_at}
+use Rattle.utility_calls.specs.Decisions.{mark_at}
 use Rattle.shell_rules.specs.declared.state.Conc.{Conc}
 use Rattle.shell_rules.specs.declared.run.End.{End}
 use Rattle.shell_rules.specs.declared.run.End.TheVariants as end

@@ -2,7 +2,8 @@ ghost use Rattle.std.specs.Prelude.{◌≡◌, All};
 ghost use Rattle.utility_calls.specs.Acts.{IsPerformed};
 ghost use Rattle.scenario_runs.specs.Acts.{AreFileActs, numbered};
 
-use script_names::List;
+use script_names::{Copied, List, Memory};
+use std::alloc::Global;
 use std::marker::Model;
 use utility_calls::acts::Act;
 
@@ -11,6 +12,13 @@ use utility_calls::acts::Act;
 #[derive(Drop)]
 pub struct FileActs {
     acts: List<Act>,
+}
+
+impl Copied for FileActs {
+    fn copy(&self, alloc: Global) -> Result<FileActs, Memory> {
+        let acts = self.acts.copy(alloc)?;
+        Ok(FileActs { acts })
+    }
 }
 
 impl Model for FileActs {

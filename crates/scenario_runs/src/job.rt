@@ -6,7 +6,8 @@ ghost use Rattle.scenario_runs.specs.Runs.{script_of, package_of};
 use crate::file_acts::FileActs;
 use colis_syntax::Program;
 use dpkg_scenarios::{Scenario, ScriptKind};
-use script_names::{Bytes, Slot};
+use script_names::{Bytes, Copied, Memory, Slot};
+use std::alloc::Global;
 
 /// The maintainer scripts of a package, those that it has (Debian Policy, 6.1).
 #[derive(Drop)]
@@ -15,6 +16,21 @@ pub struct Scripts {
     pub postinst: Slot<Program>,
     pub prerm: Slot<Program>,
     pub postrm: Slot<Program>,
+}
+
+impl Copied for Scripts {
+    fn copy(&self, alloc: Global) -> Result<Scripts, Memory> {
+        let preinst = self.preinst.copy(alloc)?;
+        let postinst = self.postinst.copy(alloc)?;
+        let prerm = self.prerm.copy(alloc)?;
+        let postrm = self.postrm.copy(alloc)?;
+        Ok(Scripts {
+            preinst,
+            postinst,
+            prerm,
+            postrm,
+        })
+    }
 }
 
 impl Scripts {
@@ -38,6 +54,14 @@ pub struct Package {
     pub scripts: Scripts,
 }
 
+impl Copied for Package {
+    fn copy(&self, alloc: Global) -> Result<Package, Memory> {
+        let version = self.version.copy(alloc)?;
+        let scripts = self.scripts.copy(alloc)?;
+        Ok(Package { version, scripts })
+    }
+}
+
 /// What is done with files in the steps of a scenario, for each work of a step that is no script.
 #[derive(Drop)]
 pub struct Files {
@@ -45,6 +69,21 @@ pub struct Files {
     pub remove_files: FileActs,
     pub remove_old: FileActs,
     pub remove_conf: FileActs,
+}
+
+impl Copied for Files {
+    fn copy(&self, alloc: Global) -> Result<Files, Memory> {
+        let unpack = self.unpack.copy(alloc)?;
+        let remove_files = self.remove_files.copy(alloc)?;
+        let remove_old = self.remove_old.copy(alloc)?;
+        let remove_conf = self.remove_conf.copy(alloc)?;
+        Ok(Files {
+            unpack,
+            remove_files,
+            remove_old,
+            remove_conf,
+        })
+    }
 }
 
 /// What the run of a scenario needs: the scenario, whether the new package has neither a configuration file nor a
@@ -57,6 +96,22 @@ pub struct Job {
     pub old_package: Package,
     pub files: Files,
     pub turns: u32,
+}
+
+impl Copied for Job {
+    fn copy(&self, alloc: Global) -> Result<Job, Memory> {
+        let new_package = self.new_package.copy(alloc)?;
+        let old_package = self.old_package.copy(alloc)?;
+        let files = self.files.copy(alloc)?;
+        Ok(Job {
+            scenario: self.scenario,
+            plain: self.plain,
+            new_package,
+            old_package,
+            files,
+            turns: self.turns,
+        })
+    }
 }
 
 impl Job {

@@ -1,8 +1,9 @@
 use crate::call::ScriptCall;
 use dpkg_scenarios::Ending;
 use feature_trees::Value;
-use script_names::List;
+use script_names::{Copied, List, Memory};
 use shell_rules::Trace;
+use std::alloc::Global;
 use utility_calls::acts::Act;
 
 /// The run of a scenario from one tree: its ending, the marks of the acts that were done, in order, the tree that it
@@ -14,4 +15,20 @@ pub struct Replayed {
     pub after: Value,
     pub calls: List<ScriptCall>,
     pub acts: List<Act>,
+}
+
+impl Copied for Replayed {
+    fn copy(&self, alloc: Global) -> Result<Replayed, Memory> {
+        let trace = self.trace.copy(alloc)?;
+        let after = self.after.copy(alloc)?;
+        let calls = self.calls.copy(alloc)?;
+        let acts = self.acts.copy(alloc)?;
+        Ok(Replayed {
+            ending: self.ending,
+            trace,
+            after,
+            calls,
+            acts,
+        })
+    }
 }

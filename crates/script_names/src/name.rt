@@ -41,6 +41,12 @@ pub enum NameFault {
     Memory,
 }
 
+impl Copied for NameFault {
+    fn copy(&self, _alloc: Global) -> Result<NameFault, Memory> {
+        Ok(*self)
+    }
+}
+
 impl From<Memory> for NameFault {
     ghost use Rattle.script_names.specs.declared.name.NameFault.TheVariants.{Memory as OutOfMemory};
 

@@ -33,6 +33,12 @@ pub enum PathFault {
     Memory,
 }
 
+impl Copied for PathFault {
+    fn copy(&self, _alloc: Global) -> Result<PathFault, Memory> {
+        Ok(*self)
+    }
+}
+
 impl From<Memory> for PathFault {
     ghost use Rattle.script_names.specs.declared.path.PathFault.TheVariants.{Memory as OutOfMemory};
 

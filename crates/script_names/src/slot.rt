@@ -1,6 +1,7 @@
 ghost use Rattle.std.specs.Prelude.{◌≡◌, IfOk, None, Some, is_none};
 ghost use Rattle.std.specs.Option.{option_copied};
 
+use crate::copied::Copied;
 use crate::memory::Memory;
 use std::alloc::Global;
 use std::marker::Model;
@@ -10,6 +11,18 @@ use std::marker::Model;
 #[derive(Debug, Drop)]
 pub struct Slot<T> {
     items: Vec<T>,
+}
+
+impl<T: Copied> Copied for Slot<T> {
+    fn copy(&self, alloc: Global) -> Result<Slot<T>, Memory> {
+        match self.get() {
+            None => Ok(Slot::empty(alloc)),
+            Some(value) => {
+                let copy = value.copy(alloc)?;
+                Slot::new(alloc, copy)
+            }
+        }
+    }
 }
 
 impl<T> Model for Slot<T> {

@@ -51,6 +51,12 @@ pub enum FormFault {
     Memory,
 }
 
+impl Copied for FormFault {
+    fn copy(&self, _alloc: Global) -> Result<FormFault, Memory> {
+        Ok(*self)
+    }
+}
+
 /// The script, which some text spells, if no unsupported form stands in it; else the first one, which is the one of
 /// least offset, and at one offset the one that is named first.
 pub fn accept(alloc: Global, script: Script) -> Result<Accepted, FormFault>

@@ -1,4 +1,5 @@
-use script_names::Memory;
+use script_names::{Copied, Memory};
+use std::alloc::Global;
 
 /// Why tokens give no script.
 #[derive(Clone, Copy, Debug, PartialEq, Eq, Drop)]
@@ -10,6 +11,12 @@ pub enum ParseFault {
     Deep { at: u32 },
     /// Want of memory.
     Memory,
+}
+
+impl Copied for ParseFault {
+    fn copy(&self, _alloc: Global) -> Result<ParseFault, Memory> {
+        Ok(*self)
+    }
 }
 
 impl From<Memory> for ParseFault {

@@ -1,4 +1,6 @@
+use script_names::{Copied, Memory};
 use shell_syntax::Redirect;
+use std::alloc::Global;
 
 /// What a command is, by its first token (XCU 2.9 Shell Commands).
 #[derive(Clone, Copy, Debug, PartialEq, Eq)]
@@ -11,6 +13,12 @@ pub enum CommandForm {
     Simple,
 }
 
+impl Copied for CommandForm {
+    fn copy(&self, _alloc: Global) -> Result<CommandForm, Memory> {
+        Ok(*self)
+    }
+}
+
 /// What a compound command is, by its first token (XCU 2.9.4 Compound Commands).
 #[derive(Clone, Copy, Debug, PartialEq, Eq)]
 pub enum CompoundForm {
@@ -21,6 +29,12 @@ pub enum CompoundForm {
     /// `while`, or `until` where that is true.
     Loop { until: bool },
     Braces,
+}
+
+impl Copied for CompoundForm {
+    fn copy(&self, _alloc: Global) -> Result<CompoundForm, Memory> {
+        Ok(*self)
+    }
 }
 
 /// What a token is to a simple command (XCU 2.9.1 Simple Commands).

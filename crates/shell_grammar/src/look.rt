@@ -1,4 +1,6 @@
+use script_names::{Copied, Memory};
 use shell_syntax::Redirect;
+use std::alloc::Global;
 
 /// The reserved words (XCU 2.4 Reserved Words).
 #[derive(Clone, Copy, Debug, PartialEq, Eq)]
@@ -22,6 +24,12 @@ pub enum Reserved {
     Until,
     Case,
     Esac,
+}
+
+impl Copied for Reserved {
+    fn copy(&self, _alloc: Global) -> Result<Reserved, Memory> {
+        Ok(*self)
+    }
 }
 
 /// The kinds of tokens that the grammar tells apart, and the tokens' end (XCU 2.10.1 Shell Grammar Lexical
@@ -51,4 +59,10 @@ pub enum Look {
     Assignment,
     /// Any other word.
     Other,
+}
+
+impl Copied for Look {
+    fn copy(&self, _alloc: Global) -> Result<Look, Memory> {
+        Ok(*self)
+    }
 }

@@ -1,7 +1,8 @@
 ghost use Rattle.std.specs.Prelude.{◌≡◌};
 
-use script_names::Memory;
+use script_names::{Copied, Memory};
 use shell_syntax::Form;
+use std::alloc::Global;
 
 /// Why a text is not cut into tokens; each offset is in bytes from the beginning of the text.
 #[derive(Clone, Copy, Debug, PartialEq, Eq)]
@@ -19,6 +20,12 @@ pub enum LexFault {
     /// The `$` of a command substitution inside 64 others.
     Deep { at: u32 },
     Memory,
+}
+
+impl Copied for LexFault {
+    fn copy(&self, _alloc: Global) -> Result<LexFault, Memory> {
+        Ok(*self)
+    }
 }
 
 impl From<Memory> for LexFault {

@@ -1,4 +1,5 @@
-use script_names::{Reason, Site};
+use script_names::{Copied, Memory, Reason, Site};
+use std::alloc::Global;
 
 /// The greatest exit status that `exit` and `return` can be given (POSIX.1-2017, XCU 2.14 exit, return).
 pub const MAX_STATUS: u32 = 255;
@@ -18,4 +19,10 @@ pub enum Leave {
     Stopped(Reason, Site),
     /// With no turn left for the loop at the site.
     Bound(Site),
+}
+
+impl Copied for Leave {
+    fn copy(&self, _alloc: Global) -> Result<Leave, Memory> {
+        Ok(*self)
+    }
 }

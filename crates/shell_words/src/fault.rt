@@ -1,7 +1,7 @@
 ghost use Rattle.std.specs.Prelude.{◌≡◌};
 
-use script_names::Memory;
-use std::alloc::{AllocError, AllocFailed};
+use script_names::{Copied, Memory};
+use std::alloc::{AllocError, AllocFailed, Global};
 
 /// Why a word gave no fields, no string, or no match.
 #[derive(Clone, Copy, Debug, PartialEq, Eq)]
@@ -13,6 +13,12 @@ pub enum WordFault {
     /// A pattern has a shape that shells read differently.
     Pattern,
     Memory,
+}
+
+impl Copied for WordFault {
+    fn copy(&self, _alloc: Global) -> Result<WordFault, Memory> {
+        Ok(*self)
+    }
 }
 
 impl From<Memory> for WordFault {

@@ -1,7 +1,8 @@
 ghost use Rattle.std.specs.Prelude.{◌≡◌};
 
 use feature_trees::Kinds;
-use script_names::{List, Name, Path};
+use script_names::{Copied, List, Memory, Name, Path};
+use std::alloc::Global;
 
 /// What is wanted of what stands at a path, which may be nothing.
 #[derive(Debug, Drop)]
@@ -12,9 +13,26 @@ pub enum Wanted {
     Names(List<Name>),
 }
 
+impl Copied for Wanted {
+    fn copy(&self, alloc: Global) -> Result<Wanted, Memory> {
+        match self {
+            Wanted::Kinds(kinds) => Ok(Wanted::Kinds(*kinds)),
+            Wanted::Names(names) => Ok(Wanted::Names(names.copy(alloc)?)),
+        }
+    }
+}
+
 /// What a tree is to have at a path.
 #[derive(Debug, Drop)]
 pub struct Need {
     pub path: Path,
     pub wanted: Wanted,
+}
+
+impl Copied for Need {
+    fn copy(&self, alloc: Global) -> Result<Need, Memory> {
+        let path = self.path.copy(alloc)?;
+        let wanted = self.wanted.copy(alloc)?;
+        Ok(Need { path, wanted })
+    }
 }

@@ -10,6 +10,12 @@ pub enum CallEnd {
     Fails,
 }
 
+impl Copied for CallEnd {
+    fn copy(&self, _alloc: Global) -> Result<CallEnd, Memory> {
+        Ok(*self)
+    }
+}
+
 /// A command of which it is stated how each call of it ends, that it prints nothing and that it changes nothing.
 #[derive(Debug, Drop)]
 pub struct StatedCall {

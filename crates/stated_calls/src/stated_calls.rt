@@ -37,6 +37,12 @@ pub enum StatedFault {
     Memory,
 }
 
+impl Copied for StatedFault {
+    fn copy(&self, _alloc: Global) -> Result<StatedFault, Memory> {
+        Ok(*self)
+    }
+}
+
 impl From<Memory> for StatedFault {
     ghost use Rattle.std.specs.Prelude.{◌≡◌};
     ghost use Rattle.stated_calls.specs.declared.stated_calls.StatedFault.TheVariants.{Memory as NoMemory};

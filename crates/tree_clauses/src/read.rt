@@ -12,7 +12,7 @@ use crate::clause::{Clause, Literal, Var};
 use crate::cuts::{line_pieces, member_pieces, word_pieces};
 use crate::text::print_clause;
 use feature_trees::{Kind, Kinds};
-use script_names::{List, Memory, Name, NameFault};
+use script_names::{Copied, List, Memory, Name, NameFault};
 use shown_texts::{read_number, read_shown};
 use std::alloc::Global;
 
@@ -22,6 +22,12 @@ pub enum ClauseFault {
     /// No clause has this text.
     Bad,
     Memory,
+}
+
+impl Copied for ClauseFault {
+    fn copy(&self, _alloc: Global) -> Result<ClauseFault, Memory> {
+        Ok(*self)
+    }
 }
 
 impl From<Memory> for ClauseFault {

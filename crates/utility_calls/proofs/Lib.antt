@@ -5,3 +5,4 @@ pub mod ActChanges
 pub mod Performed
 pub mod Above
 pub mod InDirectories
+pub mod Playing

@@ -1,6 +1,7 @@
-//! Calls of utilities: the acts that they come to, and what each act is on a tree, row by row.
+//! Calls of utilities: the acts that they come to, what each act is on a tree, row by row, and what acts decided one
+//! after another come to from each tree.
 //! It stands on feature_trees and script_names. Begin with `calls` and specs/Calls.antt for what a call comes to, and
-//! with `acts`, specs/Table.antt and specs/Acts.antt for what each act does.
+//! with `acts`, specs/Table.antt and specs/Acts.antt for what each act does; specs/Decisions.antt has the decisions.
 #![tactic(auto)]
 
 pub mod acts;

@@ -1,9 +1,10 @@
-//! What holds of the rows of acts, for the layers above.
+//! What holds of the rows of acts, and of decisions over acts, for the layers above.
 
 ghost use Rattle.utility_calls.specs.Ways.{ParentsAreDirs};
 ghost use Rattle.utility_calls.specs.ActRows.{RowApplies, NoOtherApplies};
 ghost use Rattle.utility_calls.specs.ActChanges.{QuestionsChangeNothing, OnlySuccessesChange, ActsKeepDirs};
 ghost use Rattle.utility_calls.specs.ActChanges.{ActsKeepSound, ChangesHaveNames, ChangesAreInDirectories};
+ghost use Rattle.utility_calls.specs.Decisions.{PlaysBehind};
 ghost use Rattle.utility_calls.specs.Performed.{CallsHavePerformedActs};
 
 use feature_trees::theorems::puts_are_local;
@@ -39,4 +40,9 @@ pub fn changes_are_in_directories()
 /// Each act that a call comes to meets the conditions of acts, whatever the call's words.
 pub fn planned_acts_are_performed()
     ensures { CallsHavePerformedActs }
+{}
+
+/// A decision that is played behind a trace and acts gives what it gives behind none, with these before it.
+pub fn decisions_play_behind<A>()
+    ensures { PlaysBehind A }
 {}

@@ -1,8 +1,8 @@
 // A row has the words of a line, with "" for an empty one, and behind an arrow the request that they spell, or the
-// number of the word at which they stop to be one.
+// number of the word at which they stop to be one. A request is shown by a copy of it.
 use command_words::{Folders, Layout, Request, WordsFault, read_words};
 use dpkg_scenarios::{Scenario, scenario_name};
-use script_names::{List, Memory, Text};
+use script_names::{Copied, List, Memory, Text};
 use std::alloc::{AllocError, Global};
 use std::process::Abort;
 use std::test::Fail;
@@ -96,9 +96,18 @@ fn shown_request(alloc: Global, request: &Request) -> Result<String, AllocError>
     }
 }
 
+// A copy of a request, shown.
+fn shown_copy(alloc: Global, request: &Request) -> Result<String, AllocError> {
+    match request.copy(alloc) {
+        Ok(copy) => shown_request(alloc, &copy),
+        Err(Memory) => String::from_str(alloc, "memory"),
+    }
+}
+
+// An answer, by a copy of its request.
 fn shown(alloc: Global, answer: &Result<Request, WordsFault>) -> Result<String, AllocError> {
     match answer {
-        Ok(request) => shown_request(alloc, request),
+        Ok(request) => shown_copy(alloc, request),
         Err(WordsFault::Usage { word }) => format!(in alloc; "usage {word}"),
         Err(WordsFault::Memory) => String::from_str(alloc, "memory"),
     }

@@ -6,5 +6,5 @@ abbrev pub invariant-loop-at : goal.invariant-loop-at
 invariant-loop-at g l = record {
   place : l.at ≡ length l.state.trace;
   room : length l.lower + 1 + length l.higher ≤ l.fn.room;
-  follows : Follows (g.M.Machine.decision l.machine) (g.M.Machine.first l.machine) l.trace l.fn.stage l.value l.marks l.acts l.lower l.state l.higher;
+  follows : Follows (g.M.Machine.decision l.machine) l.fn.stage l.value l.marks l.acts l.lower l.state l.higher;
 }

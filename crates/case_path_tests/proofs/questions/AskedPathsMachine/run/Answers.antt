@@ -1,10 +1,10 @@
 use Rattle.case_path_tests.specs.Questions.{asked_from}
-use Rattle.act_decisions.specs.Decisions.{play}
+use Rattle.utility_calls.specs.Decisions.{play}
 use Rattle.case_path_tests.proofs.Asking.{asked_next, asked_all}
 use Rattle.case_path_tests.proofs.questions.AskedPathsMachine.run.Goals as goal
 
 pub loop-path-init : goal.loop-path-init
-loop-path-init c = λ i. play (asked_from (c.as_slice-paths.ensures i)) (c.in_ok-tree.ensures i) (c.in_ok-marks.ensures i) (c.new-acts.ensures i)
+loop-path-init c = λ i. play (asked_from (c.as_slice-paths.ensures i)) (c.in_ok-tree.ensures i) (c.new-marks.ensures i) (c.new-acts.ensures i)
 
 pub loop-path-preserved : goal.loop-path-preserved
 loop-path-preserved c =

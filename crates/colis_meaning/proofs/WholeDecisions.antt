@@ -3,7 +3,7 @@ use Rattle.std.proofs.Common.{◌≡◌, true, ℕ, List, [], refl, sym, ap, ◌
 use Rattle.script_names.specs.declared.mark.Mark.{Mark}
 use Rattle.feature_trees.specs.declared.value.Value.{Value}
 use Rattle.utility_calls.specs.declared.acts.Act.{Act}
-use Rattle.act_decisions.specs.Decisions.{Decided, Played, play}
+use Rattle.utility_calls.specs.Decisions.{Decided, Played, play}
 use Rattle.shell_rules.specs.declared.state.Conc.{Conc}
 use Rattle.shell_rules.specs.declared.run.End.{End}
 use Rattle.shell_rules.specs.declared.run.End.TheVariants as end
@@ -15,10 +15,10 @@ use Rattle.colis_syntax.specs.declared.def.Def.{Def}
 use Rattle.colis_syntax.specs.WellFormed.{ProgramParts}
 use Rattle.colis_meaning.specs.Meaning.{co_stmt, funs_of, names_of}
 use Rattle.colis_meaning.proofs.Obeying.{program_has}
-use Rattle.colis_decisions.specs.Laws.{ended_of, IsDecided}
-use Rattle.colis_decisions.proofs.Playing.{Came, On, Off, came, IsDecision, bind, bind_plays, bind_performed}
-use Rattle.colis_decisions.proofs.DecidedRules.{Decisiveness, expansions_decided, commands_decided, loops_decided}
-use Rattle.colis_decisions.proofs.DecidedRules.{calls_decided}
+use Rattle.colis_meaning.specs.Decided.{ended_of, IsDecided}
+use Rattle.colis_meaning.proofs.Playing.{Came, On, Off, came, IsDecision, bind, bind_plays, bind_performed}
+use Rattle.colis_meaning.proofs.DecidedRules.{Decisiveness, expansions_decided, commands_decided, loops_decided}
+use Rattle.colis_meaning.proofs.DecidedRules.{calls_decided}
 
 -- the end that a way to leave comes to
 abbrev end_came : Leave → Conc → End

@@ -5,7 +5,7 @@ use Rattle.script_names.specs.declared.mark.Mark.{Mark}
 use Rattle.feature_trees.specs.declared.value.Value.{Value}
 use Rattle.utility_calls.specs.declared.acts.Act.{Act}
 use Rattle.utility_calls.specs.Acts.{row, tree_after}
-use Rattle.act_decisions.specs.Decisions.{Decision, Decided, Asks, Played, play, mark_at, AllPerformed}
+use Rattle.utility_calls.specs.Decisions.{Decision, Decided, Asks, Played, play, mark_at, AllPerformed}
 use Rattle.shell_rules.specs.declared.state.Conc.{Conc}
 use Rattle.shell_rules.specs.declared.leave.Leave.{Leave}
 use Rattle.shell_rules.specs.declared.leave.Leave.TheVariants.{Broke, Continued, Returned, Exited, Stopped, Bound}

@@ -5,7 +5,7 @@ use Rattle.script_names.specs.declared.reason.Done.{Done}
 use Rattle.feature_trees.specs.declared.value.Value.{Value}
 use Rattle.utility_calls.specs.declared.acts.Act.{Act}
 use Rattle.utility_calls.specs.Acts.{row, tree_after}
-use Rattle.act_decisions.specs.Decisions.{Decision, Decided, Asks, Played, mark_at, play, behind}
+use Rattle.utility_calls.specs.Decisions.{Decision, Decided, Asks, Played, mark_at, play, behind}
 
 -- a played decision with another trace and other acts
 abbrev told : {A : Type 0} → Played A → List Mark → List Act → Played A

@@ -3,7 +3,7 @@
 use Rattle.std.specs.Prelude.{◌≡◌, ℕ, List, []}
 use Rattle.script_names.specs.declared.mark.Mark.{Mark}
 use Rattle.feature_trees.specs.declared.value.Value.{Value}
-use Rattle.act_decisions.specs.Decisions.{Decision, Played, play, AllPerformed}
+use Rattle.utility_calls.specs.Decisions.{Decision, Played, play, AllPerformed}
 use Rattle.shell_rules.specs.declared.state.Conc.{Conc}
 use Rattle.shell_rules.specs.declared.run.End.{End}
 use Rattle.shell_rules.specs.Whole.{Ended}

@@ -25,7 +25,7 @@ use Rattle.utility_calls.specs.Acts.{row, tree_after, IsPerformed}
 use Rattle.utility_calls.specs.Calls.{call}
 use Rattle.utility_calls.specs.Performed.{HasPerformedActs}
 use Rattle.utility_calls.proofs.Performed.{performed}
-use Rattle.act_decisions.specs.Decisions.{Decided, Asks, mark_at}
+use Rattle.utility_calls.specs.Decisions.{Decided, Asks, mark_at}
 use Rattle.shell_rules.specs.declared.state.Conc.{Conc}
 use Rattle.shell_rules.specs.declared.leave.Leave.{Leave}
 use Rattle.shell_rules.specs.declared.leave.Leave.TheVariants as leave
@@ -40,8 +40,8 @@ use Rattle.shell_rules.specs.Cases as k
 use Rattle.shell_rules.specs.Calls as u
 use Rattle.shell_rules.specs.Parts.{Property, Each, EachLink, EachArm, EachPattern, EachCaseArm, EachSet}
 use Rattle.shell_rules.specs.RuleLaws.{ExpansionsKeep, CommandsKeep, LoopsKeep, CallsKeep}
-use Rattle.colis_decisions.proofs.Playing.{Came, On, Off, at, came, Decides, IsDecision, stays, if_plays}
-use Rattle.colis_decisions.proofs.Playing.{then_decides, closed_plays, turn_decided, body_plays, condition_plays}
+use Rattle.colis_meaning.proofs.Playing.{Came, On, Off, at, came, Decides, IsDecision, stays, if_plays}
+use Rattle.colis_meaning.proofs.Playing.{then_decides, closed_plays, turn_decided, body_plays, condition_plays}
 
 -- as a property
 abbrev pub Decisiveness : Property
