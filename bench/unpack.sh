@@ -26,7 +26,8 @@ deb() {
 begin() {
     rm -rf control data
     mkdir -p control data/usr/share/doc/p data/var/lib/p data/usr/bin
-    printf 'Package: p\nVersion: 1.0-1\nArchitecture: all\nMaintainer: p <p@example.org>\nDescription: p\n' >control/control
+    printf '%s\n' 'Package: p' 'Version: 1.0-1' 'Architecture: all' 'Maintainer: p <p@example.org>' 'Description: p' \
+        >control/control
     printf '#!/bin/sh\nset -e\nmkdir -p /var/lib/p\n' >control/postinst
     printf 'text\n' >data/usr/share/doc/p/copyright
     ln -s true data/usr/bin/p
@@ -190,9 +191,8 @@ unpack '' made
 refused 'an empty word' "$usage"
 for word in -h --help; do
     unpack "$word"
-    head -n 2 said >short
-    printf 'status 0\nMakes the folder that the checker reads, of one package: its control file, its scripts, its list of files and its\n' |
-        same "$word" short
+    grep -e '^status' -e '^    colis-unpack [^-]' said | cut -c 1-29 >short
+    printf '%s\n' 'status 0' '    colis-unpack FILE.deb DIR' | same "$word" short
 done
 
 # ---- installed packages
