@@ -1,10 +1,10 @@
 -- A shelf over the file system: its count, and what a read takes of a file.
-use Rattle.std.specs.Prelude.{◌≡◌, ◌≢◌, ◌≤◌, ◌+◌, ℕ, List, [], length, Option, Some, None, Result, Ok, Err}
+use Rattle.std.specs.Prelude.{◌≡◌, ◌≢◌, ◌≤◌, ◌⊎◌, ◌+◌, ℕ, List, [], length, Option, Some, None, Result, Ok, Err}
 use Rattle.std.specs.Io.KnownBytes.{Consumes, IsAtEnd}
 use Rattle.std.specs.IoError.{error_kind}
 use Rattle.std.specs.declared.io.Error.{Error}
 use Rattle.std.specs.declared.io.ErrorKind.{ErrorKind}
-use Rattle.std.specs.declared.io.ErrorKind.TheVariants.{NotFound}
+use Rattle.std.specs.declared.io.ErrorKind.TheVariants.{NotFound, NotADirectory}
 use Rattle.checker_io.specs.declared.shelf.ShelfFault.{ShelfFault}
 use Rattle.checker_io.specs.declared.shelf.ShelfFault.TheVariants.{Missing, TooLong, Failed, Memory}
 use Rattle.checker_io.specs.Faults.{one_more}
@@ -46,12 +46,13 @@ RestTakes old new max (Err TooLong) = (bytes : List ℕ) × Consumes old new byt
 RestTakes old new max (Err Failed) = TakesAtMost old new (max + 1)
 RestTakes old new max (Err Memory) = TakesAtMost old new (max + 1)
 
--- Why a file was not read that could not be opened: it is missing exactly where the system finds no such file.
+-- Why a file was not read that could not be opened: it is missing exactly where the system finds none of that name,
+-- or finds something else than a directory where the name goes on below it.
 abbrev pub NotOpened : ErrorKind → Result (List ℕ) ShelfFault → Type 0
 NotOpened kind (Ok bytes) = ⊥
-NotOpened kind (Err Missing) = kind ≡ NotFound
+NotOpened kind (Err Missing) = (kind ≡ NotFound) ⊎ (kind ≡ NotADirectory)
 NotOpened kind (Err TooLong) = ⊥
-NotOpened kind (Err Failed) = kind ≢ NotFound
+NotOpened kind (Err Failed) = (kind ≢ NotFound) × (kind ≢ NotADirectory)
 NotOpened kind (Err Memory) = ⊥
 
 -- What reading a file answers that was opened so, and what it takes from it.

@@ -93,11 +93,12 @@ fn read_rest<F: Read>(alloc: Global, file: &mut F, max: usize) -> Result<Bytes, 
     Err(ShelfFault::Failed)
 }
 
-// Why a file was not read that could not be opened.
+// Why a file was not read that could not be opened. A file below what is no directory is missing, as one is in a
+// directory that does not hold it.
 fn open_fault(fault: &io::Error) -> ShelfFault
     ensures { NotOpened (error_kind fault.now) (Err result) }
 {
-    if fault.kind() == ErrorKind::NotFound {
+    if fault.kind() == ErrorKind::NotFound || fault.kind() == ErrorKind::NotADirectory {
         ShelfFault::Missing
     } else {
         ShelfFault::Failed
@@ -135,7 +136,8 @@ impl<'a, R: Files> Shelf for DirShelf<'a, R> {
     ghost state = { dir_state };
 
     /// The whole file of that name, of which at most one byte more than `max` is read. It is missing exactly where the
-    /// system finds none; a name of a directory, or of a file that may not be read, is a failed read.
+    /// system finds none, be it that the name goes on below what is no directory; a name of a directory, or of a file
+    /// that may not be read, is a failed read.
     fn read(&mut self, alloc: Global, name: &str, max: usize) -> Result<Bytes, ShelfFault>
         ensures fits { IfOk result (λ bytes. length bytes ≤ max) }
         ensures cause { ReadCause (dir_state self.old) (dir_state self.new) name.now result }

@@ -212,7 +212,9 @@ const FILES: &[Read] = &[
     ("written/none", 5, Err(ShelfFault::Missing)),
     ("written", 5, Err(ShelfFault::Failed)),
     ("written/none/none", 5, Err(ShelfFault::Missing)),
-    ("written/short/none", 5, Err(ShelfFault::Failed)),
+    ("written/short/none", 5, Err(ShelfFault::Missing)),
+    ("written/short/none/none", 5, Err(ShelfFault::Missing)),
+    ("written/short/", 5, Err(ShelfFault::Missing)),
     ("/dev/zero", 10_000, Err(ShelfFault::TooLong)),
 ];
 
