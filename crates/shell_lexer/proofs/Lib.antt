@@ -25,6 +25,8 @@ mod Rests
 mod Skips
 mod SoFar
 pub mod SpelledCases
+mod SpelledEnds
+mod SpelledFaults
 mod SpelledFronts
 mod SpelledKinds
 mod SpelledLine
@@ -32,6 +34,7 @@ mod SpelledOperators
 mod SpelledParts
 mod SpelledRedirects
 mod SpelledRuns
+mod SpelledWrong
 mod Steps
 mod Tiles
 mod TwoCuts

@@ -1,22 +1,30 @@
--- A part that holds no others is seen exactly where it is spelled.
-use Rattle.std.proofs.Common.{◌≡◌, ℕ, ◌+◌, ◌-◌, ◌≤◌, Bool, true, false, not, if◌then◌else◌, ◌||◌, nat_eq, [], ◌∷◌, ◌++◌, Option, Some, None, refl, sym, ap, ◌∙◌, subst, codes, arith}
+-- What is seen in a word, or in double quotes, is what is spelled; and a part that holds no others is seen where it is
+-- spelled.
+use Rattle.std.proofs.Common.{◌≡◌, ℕ, ◌+◌, ◌-◌, ◌≤◌, Bool, true, false, not, if◌then◌else◌, ◌||◌, nat_eq, [], ◌∷◌, ◌++◌, append-nil, Option, Some, None, refl, sym, ap, ◌∙◌, subst, codes, arith}
 use Rattle.std.proofs.lemmas.Grind.{common_steps}
-use Rattle.std.specs.List.{list_all}
+use Rattle.std.specs.List.{list_all, list_any}
+use Rattle.shell_syntax.specs.declared.form.Form.TheVariants as form
 use Rattle.shell_syntax.specs.declared.key.Key.{Key}
 use Rattle.shell_syntax.specs.declared.key.Key.TheVariants.{Named, Arg, Count}
 use Rattle.shell_lexer.specs.declared.byte_kind.ByteKind.{ByteKind}
 use Rattle.shell_lexer.specs.declared.byte_kind.ByteKind.TheVariants as k
 use Rattle.shell_lexer.specs.declared.byte_kind.RunKind.TheVariants.{Names, Defaults}
+use Rattle.shell_lexer.specs.declared.fault.LexFault.{LexFault}
+use Rattle.shell_lexer.specs.declared.fault.LexFault.TheVariants.{OpenQuote, Unsupported}
 use Rattle.shell_lexer.specs.declared.token.RawPart.{RawPart}
 use Rattle.shell_lexer.specs.declared.token.RawPart.TheVariants as part
-use Rattle.shell_lexer.specs.Text.{Bytes, kind, skip, place, head_is, is_letter, is_digit, is_name_byte, is_default_byte, run, behind}
-use Rattle.shell_lexer.specs.Parts.{Look, Byte, Piece, AllArgs, DoubleQuote, Substitution, bad_param, closed, behind_colon, behind_key, braced_by, braced, parenthesis, before_quote, dollar_by, dollar, has_quote, quote_body, behind_quote, look_by, look_at, look, is_escapable, inner_escaped, inner_by, inner_at, inner}
+use Rattle.shell_lexer.specs.Text.{Bytes, kind, skip, place, offset, tail, head_is, is_letter, is_digit, is_special, is_name_byte, is_default_byte, run, behind}
+use Rattle.shell_lexer.specs.Parts.{Look, Ends, Byte, Piece, AllArgs, DoubleQuote, Substitution, Bad, bad_param, closed, behind_colon, behind_key, braced_by, braced, parenthesis, before_quote, dollar_by, dollar, has_quote, quote_body, behind_quote, look_by, look_at, look, is_escapable, inner_escaped, inner_by, inner_at, inner}
 use Rattle.shell_lexer.specs.Spelling.{Stands, begins}
 use Rattle.shell_lexer.specs.SpelledParts.{is_variable, is_default, IsDigitOf, IsParam, name as by_name, name_braced, name_default, number as by_number, number_braced, number_default, count, count_braced, IsQuoted, single, escaped, IsPiece, IsSubstitution}
+use Rattle.shell_lexer.specs.SpelledEnds.{AtTextEnd, IsWordEnd, text_ends}
+use Rattle.shell_lexer.specs.SpelledFaults.{IsKey, name as name_key_is, number as number_key_is, IsBegun, nothing, key as key_begun, colon, default as with_default, count as begun_count, EndsInParam, special, before_quote as before_a_quote, IsBad, open_quote, open_parameter, backquote, arithmetic, parameter}
+use Rattle.shell_lexer.proofs.SpelledEnds.{is_end}
 use Rattle.shell_lexer.proofs.SpelledKinds.{KindOf, kind_of, digit_kind, letter_kind}
 use Rattle.shell_lexer.proofs.Ahead.{Ahead}
 use Rattle.shell_lexer.proofs.SpelledRuns.{skip_again, stands_then, stands_parts, stands_skip, skip_stands, IsRun, run_is, behind_is, run_stands}
-use Rattle.shell_lexer.proofs.SpelledFronts.{is_not, not_next}
+use Rattle.shell_lexer.proofs.SpelledFronts.{head_back, is_not, not_next}
+use Rattle.shell_lexer.proofs.SpelledCases.{or_case}
 use Rattle.std.proofs.Math.Bool.{or-true}
 use Rattle.std.proofs.lemmas.Bool.{and_from, and_parts, cond-false, cond-true, cond_both, eqb-true, false≢true, not-true, true≢false}
 
@@ -77,7 +85,7 @@ key_default quoted at key default middle rest is h =
     ∙ ap (closed quoted at key (Some default)) p.2.1 ∙ ap (Piece (part.Param key (Some default) quoted)) p.2.2
 
 -- behind `${`
-name_key : (quoted : Bool) (at : ℕ) (name text middle : Bytes) → is_variable name ≡ true → Stands name text middle → begins is_name_byte (skip middle) ≡ false
+pub name_key : (quoted : Bool) (at : ℕ) (name text middle : Bytes) → is_variable name ≡ true → Stands name text middle → begins is_name_byte (skip middle) ≡ false
     → braced quoted at (skip text) ≡ behind_key quoted at (Named name) (skip middle)
 name_key quoted at [] text middle is h ends = absurd (false≢true is)
 name_key quoted at (b ∷ name) text middle is h ends =
@@ -86,7 +94,7 @@ name_key quoted at (b ∷ name) text middle is h ends =
     ∙ ap (λ n. behind_key quoted at (Named n) (skip (behind Names (b ∷ h.0)))) (run_is is_name_byte (b ∷ name) (b ∷ h.0) middle all)
     ∙ ap (λ t. behind_key quoted at (Named (b ∷ name)) (skip t)) (behind_is is_name_byte (b ∷ name) (b ∷ h.0) middle all)
 
-digit_key : (quoted : Bool) (at number digit : ℕ) (text more : Bytes) → IsDigitOf number digit → skip text ≡ digit ∷ more → braced quoted at (skip text) ≡ behind_key quoted at (Arg number) (skip more)
+pub digit_key : (quoted : Bool) (at number digit : ℕ) (text more : Bytes) → IsDigitOf number digit → skip text ≡ digit ∷ more → braced quoted at (skip text) ≡ behind_key quoted at (Arg number) (skip more)
 digit_key quoted at number digit text more is e =
     ap (braced quoted at) e ∙ ap (λ it. braced_by quoted at digit it more) (digit_kind digit (digit_passes is))
     ∙ cond-false (nat_eq digit 48) _ _ (digit_no_zero is) ∙ ap (λ n. behind_key quoted at (Arg n) (skip more)) (digit_number is)
@@ -190,14 +198,25 @@ inner_double len text rest h = ap (λ t. inner_at (place len t) t) (h.1 ∙ ap (
 
 -- ---- what is seen is spelled
 
+-- where an end is
+abbrev IsEndSeen : Bool → Bytes → Type 0
+IsEndSeen true text = AtTextEnd text
+IsEndSeen false text = IsWordEnd text
+
+-- a fault, or a form in braces of which it is not said that it is no parameter
+pub data IsBadSeen (inside : Bool) (at : ℕ) (text : Bytes) : LexFault → Type 0 where
+  bad : {fault : LexFault} → IsBad inside at text fault → IsBadSeen inside at text fault
+  in_braces : {rest : Bytes} → Stands (codes "${") text rest → IsBadSeen inside at text (Unsupported form.Param at)
+
 -- what is seen says what stands
-abbrev pub IsSeen : Bool → Look → Bytes → Type 0
-IsSeen inside (Piece it rest) text = IsPiece inside it text rest
-IsSeen inside (AllArgs rest) text = Stands (codes "$@") text rest
-IsSeen inside (Substitution rest) text = IsSubstitution text rest
-IsSeen inside (DoubleQuote rest) text = Stands (codes "\"") text rest
-IsSeen inside (Byte b rest) text = Ahead text rest
-IsSeen inside _ text = Unit {0}
+abbrev pub IsSeen : Bool → ℕ → Look → Bytes → Type 0
+IsSeen inside at (Piece it rest) text = IsPiece inside it text rest
+IsSeen inside at (AllArgs rest) text = Stands (codes "$@") text rest
+IsSeen inside at (Substitution rest) text = IsSubstitution text rest
+IsSeen inside at (DoubleQuote rest) text = Stands (codes "\"") text rest
+IsSeen inside at (Byte b rest) text = Ahead text rest
+IsSeen inside at Ends text = IsEndSeen inside text
+IsSeen inside at (Bad fault) text = IsBadSeen inside at text fault
 
 -- what stands behind `${`, as what stands from `$` on
 record IsOpened (text from : Bytes) : Type 0 where
@@ -208,31 +227,57 @@ record IsOpened (text from : Bytes) : Type 0 where
 opened_stands : (text from bytes rest : Bytes) → IsOpened text from → Stands bytes from rest → Stands (codes "${" ++ bytes) text rest
 opened_stands text from bytes rest o h = (o.behind, o.is, (from, o.brace, h))
 
-closed_seen : (quoted : Bool) (at : ℕ) (key : Key) (default : Option Bytes) (text middle t : Bytes) → skip middle ≡ t → ((rest : Bytes) → Stands (codes "}") middle rest → IsParam key default text rest)
-    → IsSeen quoted (closed quoted at key default t) text
-closed_seen quoted at key default text middle [] e make = tt
-closed_seen quoted at key default text middle (b ∷ u) e make =
-    cond_both (nat_eq b 125) (Piece (part.Param key default quoted) u) (bad_param at) (λ l. IsSeen quoted l text)
-    (λ is. (refl, make u (u, e ∙ ap (λ b. b ∷ u) (eqb-true b 125 is), refl))) (λ _. tt)
+-- the text ends behind the beginning of a parameter
+opened_ends : (text from begun rest : Bytes) → IsOpened text from → IsBegun begun → Stands begun from rest → AtTextEnd rest → EndsInParam text
+opened_ends text from begun rest o is h e = record { begun = begun; is_begun = is; rest = rest; stands = opened_stands text from begun rest o h; ends = e }
 
-colon_seen : (quoted : Bool) (at : ℕ) (key : Key) (text middle t : Bytes) → skip middle ≡ t
-    → ((default rest : Bytes) → is_default default ≡ true → Stands (codes "-" ++ (default ++ codes "}")) middle rest → IsParam key (Some default) text rest) → IsSeen quoted (behind_colon quoted at key t) text
-colon_seen quoted at key text middle [] e make = tt
-colon_seen quoted at key text middle (b ∷ u) e make =
-    cond_both (nat_eq b 45) (closed quoted at key (Some (run Defaults u)) (skip (behind Defaults u))) (bad_param at) (λ l. IsSeen quoted l text)
+-- another form in braces
+other_seen : (quoted : Bool) (at : ℕ) (text from : Bytes) → IsOpened text from → IsSeen quoted at (bad_param at) text
+other_seen quoted at text from o = in_braces (opened_stands text from [] from o refl)
+
+-- what stands behind a key in a parameter that ends with the text
+data IsTail : Bytes → Type 0 where
+  no_tail : IsTail []
+  colon_tail : IsTail (codes ":")
+  default_tail : (default : Bytes) → is_default default ≡ true → IsTail (codes ":-" ++ default)
+
+begun_tail : (bytes tail : Bytes) → IsKey bytes → IsTail tail → IsBegun (bytes ++ tail)
+begun_tail bytes tail is no_tail = subst IsBegun (sym (append-nil bytes)) (key_begun is)
+begun_tail bytes tail is colon_tail = colon is
+begun_tail bytes tail is (default_tail d e) = with_default d is e
+
+closed_seen : (quoted : Bool) (at : ℕ) (key : Key) (default : Option Bytes) (text from middle t : Bytes) → IsOpened text from → skip middle ≡ t
+    → ((rest : Bytes) → Stands (codes "}") middle rest → IsParam key default text rest) → (AtTextEnd middle → EndsInParam text) → IsSeen quoted at (closed quoted at key default t) text
+closed_seen quoted at key default text from middle [] o e make ends = bad (open_parameter (ends e))
+closed_seen quoted at key default text from middle (b ∷ u) o e make ends =
+    cond_both (nat_eq b 125) (Piece (part.Param key default quoted) u) (bad_param at) (λ l. IsSeen quoted at l text)
+    (λ is. (refl, make u (u, e ∙ ap (λ b. b ∷ u) (eqb-true b 125 is), refl))) (λ _. other_seen quoted at text from o)
+
+colon_seen : (quoted : Bool) (at : ℕ) (key : Key) (text from middle t : Bytes) → IsOpened text from → skip middle ≡ t
+    → ((default rest : Bytes) → is_default default ≡ true → Stands (codes "-" ++ (default ++ codes "}")) middle rest → IsParam key (Some default) text rest)
+    → ((tail rest : Bytes) → IsTail (58 ∷ tail) → Stands tail middle rest → AtTextEnd rest → EndsInParam text) → IsSeen quoted at (behind_colon quoted at key t) text
+colon_seen quoted at key text from middle [] o e make ends = bad (open_parameter (ends [] middle colon_tail refl e))
+colon_seen quoted at key text from middle (b ∷ u) o e make ends =
+    cond_both (nat_eq b 45) (closed quoted at key (Some (run Defaults u)) (skip (behind Defaults u))) (bad_param at) (λ l. IsSeen quoted at l text)
     (λ is.
     let all = run_stands is_default_byte (run Defaults u) u refl in
-    closed_seen quoted at key (Some (run Defaults u)) text (behind Defaults u) (skip (behind Defaults u)) refl
-    (λ rest h. make (run Defaults u) rest all.pass (u, e ∙ ap (λ b. b ∷ u) (eqb-true b 45 is), stands_then (run Defaults u) (codes "}") u (behind Defaults u) rest all.stands h)))
-    (λ _. tt)
+    let dash = e ∙ ap (λ b. b ∷ u) (eqb-true b 45 is) in
+    closed_seen quoted at key (Some (run Defaults u)) text from (behind Defaults u) (skip (behind Defaults u)) o refl
+    (λ rest h. make (run Defaults u) rest all.pass (u, dash, stands_then (run Defaults u) (codes "}") u (behind Defaults u) rest all.stands h))
+    (λ end. ends (45 ∷ run Defaults u) (behind Defaults u) (default_tail (run Defaults u) all.pass) (u, dash, all.stands) end))
+    (λ _. other_seen quoted at text from o)
 
-key_seen : (quoted : Bool) (at : ℕ) (key : Key) (text middle t : Bytes) → skip middle ≡ t → ((rest : Bytes) → Stands (codes "}") middle rest → IsParam key None text rest)
-    → ((default rest : Bytes) → is_default default ≡ true → Stands (codes ":-" ++ (default ++ codes "}")) middle rest → IsParam key (Some default) text rest) → IsSeen quoted (behind_key quoted at key t) text
-key_seen quoted at key text middle [] e make make_default = tt
-key_seen quoted at key text middle (b ∷ u) e make make_default =
-    cond_both (nat_eq b 58) (behind_colon quoted at key (skip u)) (closed quoted at key None (b ∷ u)) (λ l. IsSeen quoted l text)
-    (λ is. colon_seen quoted at key text u (skip u) refl (λ default rest default_is h. make_default default rest default_is (u, e ∙ ap (λ b. b ∷ u) (eqb-true b 58 is), h)))
-    (λ _. closed_seen quoted at key None text middle (b ∷ u) e make)
+key_seen : (quoted : Bool) (at : ℕ) (key : Key) (text from middle t : Bytes) → IsOpened text from → skip middle ≡ t → ((rest : Bytes) → Stands (codes "}") middle rest → IsParam key None text rest)
+    → ((default rest : Bytes) → is_default default ≡ true → Stands (codes ":-" ++ (default ++ codes "}")) middle rest → IsParam key (Some default) text rest)
+    → ((tail rest : Bytes) → IsTail tail → Stands tail middle rest → AtTextEnd rest → EndsInParam text) → IsSeen quoted at (behind_key quoted at key t) text
+key_seen quoted at key text from middle [] o e make make_default ends = bad (open_parameter (ends [] middle no_tail refl e))
+key_seen quoted at key text from middle (b ∷ u) o e make make_default ends =
+    cond_both (nat_eq b 58) (behind_colon quoted at key (skip u)) (closed quoted at key None (b ∷ u)) (λ l. IsSeen quoted at l text)
+    (λ is.
+    let colon_is = e ∙ ap (λ b. b ∷ u) (eqb-true b 58 is) in
+    colon_seen quoted at key text from u (skip u) o refl (λ default rest default_is h. make_default default rest default_is (u, colon_is, h))
+    (λ tail rest tail_is h end. ends (58 ∷ tail) rest tail_is (u, colon_is, h) end))
+    (λ _. closed_seen quoted at key None text from middle (b ∷ u) o e make (λ end. ends [] middle no_tail refl end))
 
 -- the run of a name that begins with a letter
 name_stands : (b : ℕ) (more text : Bytes) → skip text ≡ b ∷ more → is_letter b ≡ true
@@ -257,50 +302,68 @@ name_stands b more text e is = by (run Names (b ∷ more)) (run_stands is_name_b
     first : {t : Bytes} → b ∷ more ≡ c ∷ t → c ≡ b
     first e = cc
 
-braced_by_seen : (quoted : Bool) (at b : ℕ) (text from more : Bytes) (it : ByteKind) → IsOpened text from → skip from ≡ b ∷ more → KindOf b it → IsSeen quoted (braced_by quoted at b it more) text
+braced_by_seen : (quoted : Bool) (at b : ℕ) (text from more : Bytes) (it : ByteKind) → IsOpened text from → skip from ≡ b ∷ more → KindOf b it → IsSeen quoted at (braced_by quoted at b it more) text
 braced_by_seen quoted at b text from more k.Name o e is =
     let n = name_stands b more from e is in
     let found = run Names (b ∷ more) in
     let middle = behind Names (b ∷ more) in
-    key_seen quoted at (Named found) text middle (skip middle) refl
+    key_seen quoted at (Named found) text from middle (skip middle) o refl
     (λ rest h. name_braced n.0 (opened_stands text from (found ++ codes "}") rest o (stands_then found (codes "}") from middle rest n.1 h)))
     (λ default rest default_is h. name_default n.0 default_is
     (opened_stands text from (found ++ (codes ":-" ++ (default ++ codes "}"))) rest o (stands_then found (codes ":-" ++ (default ++ codes "}")) from middle rest n.1 h)))
+    (λ tail rest tail_is h end. opened_ends text from (found ++ tail) rest o (begun_tail found tail (name_key_is n.0) tail_is) (stands_then found tail from middle rest n.1 h) end)
 braced_by_seen quoted at b text from more k.Digit o e is =
-    cond_both (nat_eq b 48) (bad_param at) (behind_key quoted at (Arg (b - 48)) (skip more)) (λ l. IsSeen quoted l text) (λ _. tt)
-    (λ other. key_seen quoted at (Arg (b - 48)) text more (skip more) refl
+    cond_both (nat_eq b 48) (bad_param at) (behind_key quoted at (Arg (b - 48)) (skip more)) (λ l. IsSeen quoted at l text) (λ _. other_seen quoted at text from o)
+    (λ other. key_seen quoted at (Arg (b - 48)) text from more (skip more) o refl
     (λ rest h. number_braced (digit_of b is other) (opened_stands text from (b ∷ codes "}") rest o (more, e, h)))
-    (λ default rest default_is h. number_default (digit_of b is other) default_is (opened_stands text from (b ∷ (codes ":-" ++ (default ++ codes "}"))) rest o (more, e, h))))
+    (λ default rest default_is h. number_default (digit_of b is other) default_is (opened_stands text from (b ∷ (codes ":-" ++ (default ++ codes "}"))) rest o (more, e, h)))
+    (λ tail rest tail_is h end. opened_ends text from (b ∷ tail) rest o (begun_tail (b ∷ []) tail (number_key_is (digit_of b is other)) tail_is) (more, e, h) end))
 braced_by_seen quoted at b text from more k.Hash o e is =
-    closed_seen quoted at Count None text more (skip more) refl (λ rest h. count_braced (opened_stands text from (codes "#}") rest o (more, e ∙ ap (λ b. b ∷ more) is, h)))
-braced_by_seen quoted at b text from more _ o e is = tt
+    let hash = e ∙ ap (λ b. b ∷ more) is in
+    closed_seen quoted at Count None text from more (skip more) o refl (λ rest h. count_braced (opened_stands text from (codes "#}") rest o (more, hash, h)))
+    (λ end. opened_ends text from (codes "#") more o begun_count (more, hash, refl) end)
+braced_by_seen quoted at b text from more _ o e is = other_seen quoted at text from o
 
-braced_seen : (quoted : Bool) (at : ℕ) (text from t : Bytes) → IsOpened text from → skip from ≡ t → IsSeen quoted (braced quoted at t) text
-braced_seen quoted at text from [] o e = tt
+braced_seen : (quoted : Bool) (at : ℕ) (text from t : Bytes) → IsOpened text from → skip from ≡ t → IsSeen quoted at (braced quoted at t) text
+braced_seen quoted at text from [] o e = bad (open_parameter (opened_ends text from [] from o nothing refl e))
 braced_seen quoted at text from (b ∷ more) o e = braced_by_seen quoted at b text from more (kind b) o e (kind_of b)
 
-quote_byte : (quoted : Bool) (at : ℕ) (behind text : Bytes) → skip text ≡ 36 ∷ behind → IsSeen quoted (before_quote quoted at behind) text
-quote_byte true at behind text d = (36, [], d)
-quote_byte false at behind text d = tt
+quote_byte : (quoted : Bool) (at b : ℕ) (behind more text : Bytes) → skip text ≡ 36 ∷ behind → skip behind ≡ b ∷ more → list_any (nat_eq b) (codes "'\"") ≡ true
+    → IsSeen quoted at (before_quote quoted at behind) text
+quote_byte true at b behind more text d e is = (36, [], d)
+quote_byte false at b behind more text d e is = bad (parameter (before_a_quote refl is (behind, d, (more, e, refl))))
 
-dollar_by_seen : (quoted : Bool) (at b : ℕ) (text behind more : Bytes) (it : ByteKind) → skip text ≡ 36 ∷ behind → skip behind ≡ b ∷ more → KindOf b it → IsSeen quoted (dollar_by quoted at behind b it more) text
+-- a special parameter that is not supported
+special_seen : (quoted : Bool) (at b : ℕ) (text behind more : Bytes) → skip text ≡ 36 ∷ behind → skip behind ≡ b ∷ more → list_any (nat_eq b) (codes "*?-$!0") ≡ true → IsSeen quoted at (bad_param at) text
+special_seen quoted at b text behind more d e is = bad (parameter (special is (behind, d, (more, e, refl))))
+
+special_byte : (b : ℕ) → is_special b ≡ true → list_any (nat_eq b) (codes "*?-$!0") ≡ true
+special_byte b e =
+    or_case (nat_eq b 42 || nat_eq b 63 || nat_eq b 33) (nat_eq b 45) e
+    (λ e. or_case (nat_eq b 42 || nat_eq b 63) (nat_eq b 33) e (λ e. or_case (nat_eq b 42) (nat_eq b 63) e (one 42 refl) (one 63 refl)) (one 33 refl)) (one 45 refl) where
+      one : (c : ℕ) → list_any (nat_eq c) (codes "*?-$!0") ≡ true → nat_eq b c ≡ true → list_any (nat_eq b) (codes "*?-$!0") ≡ true
+      one c h is = ap (λ b. list_any (nat_eq b) (codes "*?-$!0")) (eqb-true b c is) ∙ h
+
+dollar_by_seen : (quoted : Bool) (at b : ℕ) (text behind more : Bytes) (it : ByteKind) → skip text ≡ 36 ∷ behind → skip behind ≡ b ∷ more → KindOf b it → IsSeen quoted at (dollar_by quoted at behind b it more) text
 dollar_by_seen quoted at b text after more k.Open d e is =
-    cond_both (head_is 40 (skip more)) _ (Substitution more) (λ l. IsSeen quoted l text) (λ _. tt)
-    (λ one. record { stands = (after, d, (more, e ∙ ap (λ b. b ∷ more) is, refl)); single = not_next 40 more refl one })
+    let first = e ∙ ap (λ b. b ∷ more) is in
+    cond_both (head_is 40 (skip more)) _ (Substitution more) (λ l. IsSeen quoted at l text) (λ two. bad (arithmetic (after, d, (more, first, (tail (skip more), head_back 40 (skip more) two, refl)))))
+    (λ one. record { stands = (after, d, (more, first, refl)); single = not_next 40 more refl one })
 dollar_by_seen quoted at b text after more k.Brace d e is = braced_seen quoted at text more (skip more) (record { behind = after; is = d; brace = e ∙ ap (λ b. b ∷ more) is }) refl
 dollar_by_seen quoted at b text after more k.Name d e is = let n = name_stands b more after e is in (refl, by_name n.0 (after, d, n.1) n.2)
 dollar_by_seen quoted at b text after more k.Digit d e is =
-    cond_both (nat_eq b 48) (bad_param at) (Piece (part.Param (Arg (b - 48)) None quoted) more) (λ l. IsSeen quoted l text) (λ _. tt)
+    cond_both (nat_eq b 48) (bad_param at) (Piece (part.Param (Arg (b - 48)) None quoted) more) (λ l. IsSeen quoted at l text)
+    (λ zero'. special_seen quoted at b text after more d e (ap (λ b. list_any (nat_eq b) (codes "*?-$!0")) (eqb-true b 48 zero')))
     (λ other. (refl, by_number (digit_of b is other) (after, d, (more, e, refl))))
 dollar_by_seen quoted at b text after more k.Hash d e is = (refl, count (after, d, (more, e ∙ ap (λ b. b ∷ more) is, refl)))
 dollar_by_seen quoted at b text after more k.At d e is = (after, d, (more, e ∙ ap (λ b. b ∷ more) is, refl))
-dollar_by_seen quoted at b text after more k.Single d e is = quote_byte quoted at after text d
-dollar_by_seen quoted at b text after more k.Double d e is = quote_byte quoted at after text d
-dollar_by_seen quoted at b text after more k.Special d e is = tt
-dollar_by_seen quoted at b text after more k.Dollar d e is = tt
+dollar_by_seen quoted at b text after more k.Single d e is = quote_byte quoted at b after more text d e (ap (λ b. list_any (nat_eq b) (codes "'\"")) is)
+dollar_by_seen quoted at b text after more k.Double d e is = quote_byte quoted at b after more text d e (ap (λ b. list_any (nat_eq b) (codes "'\"")) is)
+dollar_by_seen quoted at b text after more k.Special d e is = special_seen quoted at b text after more d e (special_byte b is)
+dollar_by_seen quoted at b text after more k.Dollar d e is = special_seen quoted at b text after more d e (ap (λ b. list_any (nat_eq b) (codes "*?-$!0")) is)
 dollar_by_seen quoted at b text after more _ d e is = (36, [], d)
 
-dollar_seen : (quoted : Bool) (at : ℕ) (text behind t : Bytes) → skip text ≡ 36 ∷ behind → skip behind ≡ t → IsSeen quoted (dollar quoted at behind t) text
+dollar_seen : (quoted : Bool) (at : ℕ) (text behind t : Bytes) → skip text ≡ 36 ∷ behind → skip behind ≡ t → IsSeen quoted at (dollar quoted at behind t) text
 dollar_seen quoted at text after [] d e = (36, [], d)
 dollar_seen quoted at text after (b ∷ more) d e = dollar_by_seen quoted at b text after more (kind b) d e (kind_of b)
 
@@ -315,47 +378,58 @@ quote_splits : (t : Bytes) → has_quote t ≡ true → (t ≡ quote_body t ++ 3
 quote_splits [] e = absurd (false≢true e)
 quote_splits (b ∷ t) e = quote_splits_by b t (nat_eq b 39) refl e (λ h. quote_splits t h)
 
-look_by_seen : (at c : ℕ) (text more : Bytes) (it : ByteKind) → skip text ≡ c ∷ more → KindOf c it → IsSeen false (look_by at c it more) text
+no_quote_by : (b : ℕ) (t : Bytes) (it : Bool) → nat_eq b 39 ≡ it → (it || has_quote t) ≡ false → (has_quote t ≡ false → list_all (λ b. not (nat_eq b 39)) t ≡ true)
+    → list_all (λ b. not (nat_eq b 39)) (b ∷ t) ≡ true
+no_quote_by b t true is e again = absurd (true≢false e)
+no_quote_by b t false is e again = and_from (not (nat_eq b 39)) (list_all (λ b. not (nat_eq b 39)) t) (ap not is) (again e)
+
+-- no quote comes
+no_quote : (t : Bytes) → has_quote t ≡ false → list_all (λ b. not (nat_eq b 39)) t ≡ true
+no_quote [] e = refl
+no_quote (b ∷ t) e = no_quote_by b t (nat_eq b 39) refl e (λ h. no_quote t h)
+
+look_by_seen : (at c : ℕ) (text more : Bytes) (it : ByteKind) → skip text ≡ c ∷ more → KindOf c it → IsSeen false at (look_by at c it more) text
 look_by_seen at c text more k.Single e is =
-    cond_both (has_quote more) (Piece (part.Quoted (quote_body more)) (behind_quote more)) _ (λ l. IsSeen false l text)
-    (λ has. let q = quote_splits more has in (refl, single q.1 (more, e ∙ ap (λ c. c ∷ more) is, q.0))) (λ _. tt)
+    let quote = e ∙ ap (λ c. c ∷ more) is in
+    cond_both (has_quote more) (Piece (part.Quoted (quote_body more)) (behind_quote more)) (Bad (OpenQuote at)) (λ l. IsSeen false at l text)
+    (λ has. let q = quote_splits more has in (refl, single q.1 (more, quote, q.0))) (λ none. bad (open_quote refl (more, quote, refl) (no_quote more none)))
 look_by_seen at c text more k.Double e is = (more, e ∙ ap (λ c. c ∷ more) is, refl)
 look_by_seen at c text [] k.Back e is = (c, [], e)
 look_by_seen at c text (b ∷ more) k.Back e is = (refl, escaped (b ∷ more, e ∙ ap (λ c. c ∷ b ∷ more) is, refl))
 look_by_seen at c text more k.Dollar e is = dollar_seen false at text more (skip more) (e ∙ ap (λ c. c ∷ more) is) refl
-look_by_seen at c text more k.Blank e is = tt
-look_by_seen at c text more k.Newline e is = tt
-look_by_seen at c text more k.Semi e is = tt
-look_by_seen at c text more k.Amp e is = tt
-look_by_seen at c text more k.Bar e is = tt
-look_by_seen at c text more k.Open e is = tt
-look_by_seen at c text more k.Close e is = tt
-look_by_seen at c text more k.Less e is = tt
-look_by_seen at c text more k.Greater e is = tt
-look_by_seen at c text more k.Tick e is = tt
+look_by_seen at c text more k.Tick e is = bad (backquote (more, e ∙ ap (λ c. c ∷ more) is, refl))
+look_by_seen at c text more k.Blank e is = is_end c text more k.Blank e is refl
+look_by_seen at c text more k.Newline e is = is_end c text more k.Newline e is refl
+look_by_seen at c text more k.Semi e is = is_end c text more k.Semi e is refl
+look_by_seen at c text more k.Amp e is = is_end c text more k.Amp e is refl
+look_by_seen at c text more k.Bar e is = is_end c text more k.Bar e is refl
+look_by_seen at c text more k.Open e is = is_end c text more k.Open e is refl
+look_by_seen at c text more k.Close e is = is_end c text more k.Close e is refl
+look_by_seen at c text more k.Less e is = is_end c text more k.Less e is refl
+look_by_seen at c text more k.Greater e is = is_end c text more k.Greater e is refl
 look_by_seen at c text more _ e is = (c, [], e)
 
-look_at_seen : (at : ℕ) (text t : Bytes) → skip text ≡ t → IsSeen false (look_at at t) text
-look_at_seen at text [] e = tt
+look_at_seen : (at : ℕ) (text t : Bytes) → skip text ≡ t → IsSeen false at (look_at at t) text
+look_at_seen at text [] e = text_ends e
 look_at_seen at text (c ∷ more) e = look_by_seen at c text more (kind c) e (kind_of c)
 
-pub look_seen : (len : ℕ) (text : Bytes) (it : Look) → look len text ≡ it → IsSeen false it text
-look_seen len text it e = subst (λ l. IsSeen false l text) e (look_at_seen (place len (skip text)) text (skip text) refl)
+pub look_seen : (len : ℕ) (text : Bytes) (it : Look) → look len text ≡ it → IsSeen false (offset len text) it text
+look_seen len text it e = subst (λ l. IsSeen false (offset len text) l text) e (look_at_seen (offset len text) text (skip text) refl)
 
-escaped_byte : (b : ℕ) (more text : Bytes) → skip text ≡ b ∷ more → IsSeen true (inner_escaped b more) text
-escaped_byte b [] text e = (b, [], e)
-escaped_byte b (c ∷ more) text e = cond_both (is_escapable (kind c)) (Byte c more) (Byte b (c ∷ more)) (λ l. IsSeen true l text) (λ _. (b, c ∷ [], e)) (λ _. (b, [], e))
+escaped_byte : (at b : ℕ) (more text : Bytes) → skip text ≡ b ∷ more → IsSeen true at (inner_escaped b more) text
+escaped_byte at b [] text e = (b, [], e)
+escaped_byte at b (c ∷ more) text e = cond_both (is_escapable (kind c)) (Byte c more) (Byte b (c ∷ more)) (λ l. IsSeen true at l text) (λ _. (b, c ∷ [], e)) (λ _. (b, [], e))
 
-inner_by_seen : (at c : ℕ) (text more : Bytes) (it : ByteKind) → skip text ≡ c ∷ more → KindOf c it → IsSeen true (inner_by at c it more) text
+inner_by_seen : (at c : ℕ) (text more : Bytes) (it : ByteKind) → skip text ≡ c ∷ more → KindOf c it → IsSeen true at (inner_by at c it more) text
 inner_by_seen at c text more k.Double e is = (more, e ∙ ap (λ c. c ∷ more) is, refl)
-inner_by_seen at c text more k.Back e is = escaped_byte c more text e
+inner_by_seen at c text more k.Back e is = escaped_byte at c more text e
 inner_by_seen at c text more k.Dollar e is = dollar_seen true at text more (skip more) (e ∙ ap (λ c. c ∷ more) is) refl
-inner_by_seen at c text more k.Tick e is = tt
+inner_by_seen at c text more k.Tick e is = bad (backquote (more, e ∙ ap (λ c. c ∷ more) is, refl))
 inner_by_seen at c text more _ e is = (c, [], e)
 
-inner_at_seen : (at : ℕ) (text t : Bytes) → skip text ≡ t → IsSeen true (inner_at at t) text
-inner_at_seen at text [] e = tt
+inner_at_seen : (at : ℕ) (text t : Bytes) → skip text ≡ t → IsSeen true at (inner_at at t) text
+inner_at_seen at text [] e = e
 inner_at_seen at text (c ∷ more) e = inner_by_seen at c text more (kind c) e (kind_of c)
 
-pub inner_seen : (len : ℕ) (text : Bytes) (it : Look) → inner len text ≡ it → IsSeen true it text
-inner_seen len text it e = subst (λ l. IsSeen true l text) e (inner_at_seen (place len (skip text)) text (skip text) refl)
+pub inner_seen : (len : ℕ) (text : Bytes) (it : Look) → inner len text ≡ it → IsSeen true (offset len text) it text
+inner_seen len text it e = subst (λ l. IsSeen true (offset len text) l text) e (inner_at_seen (offset len text) text (skip text) refl)

@@ -20,7 +20,7 @@ use Rattle.shell_lexer.proofs.SpelledFronts.{shown, head_of, head_back}
 use Rattle.std.proofs.lemmas.Bool.{and_from, and_parts, cond-false, cond-true, cond_both, eqb-true, false≢true}
 use Rattle.shell_lexer.proofs.SpelledCases.{or_case, some_same, none_some}
 
-wrong_operator : {fault : LexFault} {which : Sign} {rest : Bytes} → Wrong fault ≡ Operator which rest → ⊥
+pub wrong_operator : {fault : LexFault} {which : Sign} {rest : Bytes} → Wrong fault ≡ Operator which rest → ⊥
 wrong_operator e = cc
 
 word_operator : {which : Sign} {rest : Bytes} → Word ≡ Operator which rest → ⊥

@@ -18,12 +18,14 @@ use Rattle.shell_lexer.specs.declared.sight.ByteNote.{ByteNote}
 use Rattle.shell_lexer.specs.declared.sight.ByteNote.TheVariants as note
 use Rattle.shell_lexer.specs.LongestRuns.{plain_runs_are_longest, quoted_runs_are_longest}
 use Rattle.shell_lexer.specs.Reading.{Whole, Read, IsItems, IsInner, IsWord, token_at}
-use Rattle.shell_lexer.specs.Text.{Bytes, place}
+use Rattle.shell_lexer.specs.Text.{Bytes, skip, place, offset, ends_word}
 use Rattle.shell_lexer.specs.FirstLine.{behind_line, interpreter, nul_of}
 use Rattle.shell_lexer.specs.Lexed.{CutBy, Cut, CutAtAnyDepth, Faulty}
 use Rattle.shell_lexer.specs.Moved.{AreMoved}
-use Rattle.shell_lexer.specs.Operators.{Operator, sight}
-use Rattle.shell_lexer.specs.Parts.{Look, AllArgs, DoubleQuote, Piece, Substitution}
+use Rattle.shell_lexer.specs.Operators.{End, Operator, Wrong, sight}
+use Rattle.shell_lexer.specs.Parts.{Look, Ends, AllArgs, DoubleQuote, Piece, Substitution, Bad}
+use Rattle.shell_lexer.specs.SpelledEnds.{AtTextEnd, IsWordEnd}
+use Rattle.shell_lexer.specs.SpelledFaults.{IsWrong, IsBad, IsFirstNul}
 use Rattle.shell_lexer.specs.SpelledLine.{IsFirstLine}
 use Rattle.shell_lexer.specs.SpelledParts.{IsPiece, IsSubstitution}
 use Rattle.shell_lexer.specs.Tiled.{IsTiled, RiseFrom}
@@ -184,3 +186,33 @@ DoubleQuotesAreSpelled sees =
 -- a first line is accepted, with `-e` or without, exactly where it is spelled as one
 abbrev pub FirstLinesAreSpelled : Type 0
 FirstLinesAreSpelled = (line : Bytes) (strict : Bool) → (interpreter line ≡ Some strict) ↔ IsFirstLine strict line
+
+-- what the table sees is an end exactly where one is spelled
+abbrev pub EndsAreSpelled : (ℕ → Bytes → Look) → (Bytes → Type 0) → Type 0
+EndsAreSpelled sees IsEnd = (len : ℕ) (text : Bytes) → (sees len text ≡ Ends) ↔ IsEnd text
+
+-- the word of a redirection ends exactly where a word's end is spelled
+abbrev pub RedirectedWordsEnd : Type 0
+RedirectedWordsEnd = (text : Bytes) → (ends_word (skip text) ≡ true) ↔ IsWordEnd text
+
+-- the tokens end exactly where the text does
+abbrev pub TokensEnd : Type 0
+TokensEnd = (len : ℕ) (text : Bytes) → (sight len text ≡ End) ↔ AtTextEnd text
+
+-- where a token may begin, a form that is not supported is seen exactly where it is spelled, with its offset
+abbrev pub WrongFormsAreSpelled : Type 0
+WrongFormsAreSpelled = (len : ℕ) (text : Bytes) (fault : LexFault) → (sight len text ≡ Wrong fault) ↔ IsWrong len text fault
+
+-- what the table sees in a word, or in double quotes, is a fault exactly where that fault is spelled, with its offset
+abbrev pub FaultsAreSpelled : (ℕ → Bytes → Look) → Bool → Type 0
+FaultsAreSpelled sees inside =
+    (len : ℕ) (text : Bytes) (fault : LexFault)
+    → (sees len text ≡ Bad fault) ↔ IsBad inside (offset len text) text fault
+
+-- a NUL is found exactly where the first one stands
+abbrev pub NulsAreSpelled : Type 0
+NulsAreSpelled = (text : Bytes) (at : ℕ) → (nul_of text ≡ Some at) ↔ IsFirstNul at text
+
+-- a first line is refused exactly where it is spelled as none that is accepted
+abbrev pub OtherFirstLinesAreRefused : Type 0
+OtherFirstLinesAreRefused = (line : Bytes) → (interpreter line ≡ None) ↔ ((strict : Bool) → IsFirstLine strict line → ⊥)

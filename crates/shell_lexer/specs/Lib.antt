@@ -10,6 +10,8 @@ pub mod Parts
 pub mod Reading
 pub mod Reads
 pub mod Seen
+pub mod SpelledEnds
+pub mod SpelledFaults
 pub mod SpelledLine
 pub mod SpelledParts
 pub mod Spelling

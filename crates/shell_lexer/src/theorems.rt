@@ -1,6 +1,6 @@
 //! What holds of cuts, for the layers above; and that what is seen in a text is what is spelled there, so that the
-//! tables of specs/ can be read by the standard: specs/Spelling.antt, specs/SpelledParts.antt and
-//! specs/SpelledLine.antt.
+//! tables of specs/ can be read by the standard: specs/Spelling.antt, specs/SpelledParts.antt, specs/SpelledEnds.antt,
+//! specs/SpelledFaults.antt and specs/SpelledLine.antt.
 
 ghost use Rattle.std.specs.Prelude.{false, true};
 ghost use Rattle.shell_lexer.specs.Laws.{OneCut, OneCutAtAnyDepth, CutsWithinLimit, OnlyDeepIsRefused};
@@ -11,7 +11,11 @@ ghost use Rattle.shell_lexer.specs.Laws.{PlainRunsAreLongest, QuotedRunsAreLonge
 ghost use Rattle.shell_lexer.specs.Laws.{OperatorsAreLongest, RedirectionsAreSpelled, FirstLinesAreSpelled};
 ghost use Rattle.shell_lexer.specs.Laws.{PartsAreSpelled, AllArgsAreSpelled, SubstitutionsAreSpelled};
 ghost use Rattle.shell_lexer.specs.Laws.{DoubleQuotesAreSpelled};
+ghost use Rattle.shell_lexer.specs.Laws.{EndsAreSpelled, RedirectedWordsEnd, TokensEnd};
+ghost use Rattle.shell_lexer.specs.Laws.{FaultsAreSpelled, WrongFormsAreSpelled, NulsAreSpelled};
+ghost use Rattle.shell_lexer.specs.Laws.{OtherFirstLinesAreRefused};
 ghost use Rattle.shell_lexer.specs.Parts.{inner, look};
+ghost use Rattle.shell_lexer.specs.SpelledEnds.{AtTextEnd, IsWordEnd};
 
 /// A text is cut into tokens in one way, with the limit of 64 substitutions and without one.
 pub fn one_cut()
@@ -87,6 +91,28 @@ pub fn openings_are_spelled()
     ensures substitution_inside { SubstitutionsAreSpelled inner }
     ensures double_quote { DoubleQuotesAreSpelled look }
     ensures double_quote_inside { DoubleQuotesAreSpelled inner }
+{}
+
+/// A word ends exactly at the text's end, before a blank, and before a byte that can be the first of an operator (XCU
+/// 2.3 Token Recognition); so does the word of a redirection. In double quotes, and where a token may begin, nothing but
+/// the text's end is an end.
+pub fn ends_are_spelled()
+    ensures word { EndsAreSpelled look IsWordEnd }
+    ensures redirected { RedirectedWordsEnd }
+    ensures inside { EndsAreSpelled inner AtTextEnd }
+    ensures tokens { TokensEnd }
+{}
+
+/// A fault is seen exactly where it is spelled, with its offset. Where a token may begin: a lone `&`, `((`, `<<`, and a
+/// `<` or `>` of no supported redirection. In a word, outside double quotes and inside them: a single quote without its
+/// end, `${` of a parameter in which the text ends, a backquote, `$((`, and any other parameter form. In the whole text:
+/// the first NUL, and a first line that is not of the form.
+pub fn faults_are_spelled()
+    ensures token { WrongFormsAreSpelled }
+    ensures outside { FaultsAreSpelled look false }
+    ensures inside { FaultsAreSpelled inner true }
+    ensures nul { NulsAreSpelled }
+    ensures first_line { OtherFirstLinesAreRefused }
 {}
 
 /// A first line is accepted, with `-e` or without, exactly where it is spelled as one.
