@@ -8,14 +8,15 @@ use Rattle.feature_trees.specs.Tree.{kind_of}
 use Rattle.feature_trees.specs.Sound.{IsTree}
 use Rattle.utility_calls.specs.declared.acts.Act.{Act}
 use Rattle.utility_calls.specs.declared.sights.Row.{Row}
-use Rattle.utility_calls.specs.Table.{Rule, rules, row_of}
-use Rattle.utility_calls.specs.Acts.{path_of, place_of, inner_name, moved, begins, is_below, with_name, is_question, row, IsPerformed}
+use Rattle.utility_calls.specs.declared.sights.Rule.{Rule}
+use Rattle.utility_calls.specs.Table.{rules, row_of}
+use Rattle.utility_calls.specs.Acts.{path_of, place_of, inner_name, moved, begins, is_below, with_name, is_question, row, IsPerformed, link_row}
 use Rattle.utility_calls.specs.ActRows.{IsAmong}
 use Rattle.tree_clauses.specs.declared.case.Case.{Case}
 use Rattle.act_cases.specs.Plans.{case_of}
 use Rattle.act_cases.specs.Tables.{link_plan, slash_plan}
 use Rattle.tree_clauses.specs.Plain.{IsPlain}
-use Rattle.act_cases.specs.Cases.{IsOnOnePath, link_row, link_rows, slash_rows, second_rows, rows_of, IsExact, AnswersAs, case_answer, row_answer, AreCases, link_cases, slash_cases, rule_case, cases_of}
+use Rattle.act_cases.specs.Cases.{IsOnOnePath, link_rows, slash_rows, second_rows, rows_of, IsExact, AnswersAs, case_answer, row_answer, AreCases, link_cases, slash_cases, rule_case, cases_of}
 use Rattle.act_cases.proofs.Meets.{AreNames}
 use Rattle.act_cases.proofs.OneRowTaken.{Says, way, slash, table, row_says}
 use Rattle.act_cases.proofs.PlainCases.{link_plain, slash_plain, rule_plain}

@@ -6,15 +6,16 @@ use Rattle.feature_trees.specs.declared.value.Value.{Value}
 use Rattle.feature_trees.specs.Sound.{IsTree}
 use Rattle.utility_calls.specs.declared.acts.Act.{Act}
 use Rattle.utility_calls.specs.declared.acts.Act.TheVariants.{Exists, IsReg, IsDir, IsLink, CanRun, MakeDir, EnsureDir, RemoveDir, Remove, Touch, Symlink, Move, PlaceFile, PlaceLink, PlaceConf, Discard, DiscardDir}
-use Rattle.utility_calls.specs.Table.{Rule, rules, row_of, move_by}
-use Rattle.utility_calls.specs.Acts.{path_of, place_of, inner_name, moved, is_prefix, is_below, last_name, with_name, row, IsPerformed}
+use Rattle.utility_calls.specs.declared.sights.Rule.{Rule}
+use Rattle.utility_calls.specs.Table.{rules, row_of, move_by}
+use Rattle.utility_calls.specs.Acts.{path_of, place_of, inner_name, moved, is_prefix, is_below, last_name, with_name, row, IsPerformed, link_row}
 use Rattle.utility_calls.specs.ActRows.{IsAmong}
 use Rattle.tree_clauses.specs.declared.case.Case.{Case}
 use Rattle.act_cases.specs.Plans.{case_of}
 use Rattle.act_cases.specs.Tables.{link_plan, slash_plan}
 use Rattle.tree_clauses.specs.Plain.{IsPlain}
 use Rattle.act_cases.specs.Moves.{second_plan, move_rule_case, move_case, second_cases, move_cases}
-use Rattle.act_cases.specs.Cases.{HasSource, link_row, link_rows, slash_rows, rows_of, IsExact, AnswersAs, case_answer, row_answer, AreCases, link_cases, slash_cases}
+use Rattle.act_cases.specs.Cases.{HasSource, link_rows, slash_rows, rows_of, IsExact, AnswersAs, case_answer, row_answer, AreCases, link_cases, slash_cases}
 use Rattle.act_cases.proofs.Meets.{AreNames}
 use Rattle.act_cases.proofs.AnyRow.{Tells, way, slash, second, table, row_tells}
 use Rattle.act_cases.proofs.EachCase.{IsOne}

@@ -8,12 +8,12 @@ use Rattle.utility_calls.specs.declared.acts.Act.{Act}
 use Rattle.utility_calls.specs.declared.sights.Row.{Row}
 use Rattle.utility_calls.specs.Ways.{link_on_way}
 use Rattle.utility_calls.specs.Ways.{kind_at, NoLinkOnWay}
-use Rattle.utility_calls.specs.Table.{Rule, rules, rule_holds, row_of}
-use Rattle.utility_calls.specs.Acts.{path_of, place_of, source_of, is_below, is_there, second_link, by_way, by_slash, slash_row, sight_on, own_row, row, IsPerformed}
+use Rattle.utility_calls.specs.declared.sights.Rule.{Rule}
+use Rattle.utility_calls.specs.Table.{rules, rule_holds, row_of}
+use Rattle.utility_calls.specs.Acts.{path_of, place_of, source_of, is_below, is_there, second_link, by_way, by_slash, slash_row, sight_on, own_row, row, IsPerformed, link_row}
 use Rattle.utility_calls.specs.ActRows.{IsAmong, Reaches, LooksAtWay, Applies, on_way, at_slash, on_second_way, own}
 use Rattle.utility_calls.proofs.Ways.{counted}
 use Rattle.utility_calls.proofs.ActRow.{none_on, only_row, one_holds, row_applies, no_slash_is}
-use Rattle.act_cases.specs.Cases.{link_row}
 
 slash_is : (s : Bool) (k : Kind) (r : Row) → s ≡ true → k ≢ Absent → k ≢ Dir → by_slash s k r ≡ slash_row
 slash_is false k r h na nd = absurd (cc)

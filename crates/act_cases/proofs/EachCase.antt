@@ -3,7 +3,7 @@ use Rattle.std.proofs.Common.{◌≡◌, ◌≢◌, ℕ, zero, suc, ◌<◌, ◌
 use Rattle.feature_trees.specs.declared.kind.Kind.{Kind}
 use Rattle.feature_trees.specs.declared.kind.Kind.TheVariants.{Absent, Reg, Link, Other, Dir}
 use Rattle.feature_trees.specs.declared.value.Value.{Value}
-use Rattle.feature_trees.specs.Kinds.{has, of}
+use Rattle.feature_trees.specs.Kinds.{has, of, three}
 use Rattle.feature_trees.specs.Tree.{at, kind_of}
 use Rattle.feature_trees.specs.Sound.{IsTree}
 use Rattle.utility_calls.specs.declared.acts.Act.{Act}
@@ -11,14 +11,14 @@ use Rattle.utility_calls.specs.declared.sights.Row.{Row}
 use Rattle.utility_calls.specs.declared.sights.Effect.{Effect}
 use Rattle.utility_calls.specs.declared.sights.Effect.TheVariants.{Nothing, MakesDir, KeepsDir, MakesFile, MakesLink, LinksInside, TakesAway, Moves, MovesInside}
 use Rattle.utility_calls.specs.Ways.{kind_at, NoLinkOnWay}
-use Rattle.utility_calls.specs.Sights.{three}
-use Rattle.utility_calls.specs.Table.{Rule, rules, row_of}
-use Rattle.utility_calls.specs.Acts.{path_of, inner_name, target_of, with_name, slash_row, row, effect_on, is_question, IsPerformed}
+use Rattle.utility_calls.specs.declared.sights.Rule.{Rule}
+use Rattle.utility_calls.specs.Table.{rules, row_of}
+use Rattle.utility_calls.specs.Acts.{path_of, inner_name, target_of, with_name, slash_row, row, effect_on, is_question, IsPerformed, link_row}
 use Rattle.utility_calls.specs.ActRows.{IsAmong, Reaches}
 use Rattle.tree_clauses.specs.declared.case.Case.{Case}
 use Rattle.act_cases.specs.Plans.{put_by, case_of}
 use Rattle.act_cases.specs.Tables.{plan_of, link_plan, slash_plan, names_at, is_inner}
-use Rattle.act_cases.specs.Cases.{IsOnOnePath, link_row, IsExact, AnswersAs, rule_case}
+use Rattle.act_cases.specs.Cases.{IsOnOnePath, IsExact, AnswersAs, rule_case}
 use Rattle.tree_clauses.specs.Leads.{Leads}
 use Rattle.act_cases.proofs.Meets.{AreNames, first_name, later_names}
 use Rattle.act_cases.proofs.Leading.{leads_from, leads_to}

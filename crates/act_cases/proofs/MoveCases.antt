@@ -6,7 +6,7 @@ use Rattle.feature_trees.specs.declared.kind.Kind.TheVariants.{Absent, Reg, Link
 use Rattle.feature_trees.specs.declared.kind.Kinds.{Kinds}
 use Rattle.feature_trees.specs.declared.value.Value.{Value}
 use Rattle.feature_trees.specs.declared.value.Value.TheVariants as value
-use Rattle.feature_trees.specs.Kinds.{has, of}
+use Rattle.feature_trees.specs.Kinds.{has, of, but, three}
 use Rattle.feature_trees.specs.Tree.{at, kind_of, put, has_parents}
 use Rattle.feature_trees.specs.Sound.{sound}
 use Rattle.feature_trees.proofs.Laws.{and_parts, and_made}
@@ -17,15 +17,17 @@ use Rattle.utility_calls.specs.declared.sights.Sight.{Sight}
 use Rattle.utility_calls.specs.declared.sights.Effect.{Effect}
 use Rattle.utility_calls.specs.declared.sights.Effect.TheVariants.{Nothing, MakesDir, KeepsDir, MakesFile, MakesLink, LinksInside, TakesAway, Moves, MovesInside}
 use Rattle.utility_calls.specs.Ways.{kind_at, NoLinkOnWay}
-use Rattle.utility_calls.specs.Sights.{Where, anything, is as of_kinds, within, inside, outside, empty, full, into, into_empty, into_full, holds, three, but}
-use Rattle.utility_calls.specs.Table.{Rule, is_source, rule_holds, row_of, move_by}
-use Rattle.utility_calls.specs.Acts.{last_name, with_name, is_prefix, is_there, slash_row, row, effect_on, IsPerformed}
+use Rattle.utility_calls.specs.declared.sights.Where.{Where}
+use Rattle.utility_calls.specs.declared.sights.Where.TheVariants.{Anything, Is, Within, Inside, Outside, Empty, Full, Into, IntoEmpty, IntoFull}
+use Rattle.utility_calls.specs.Sights.{holds}
+use Rattle.utility_calls.specs.declared.sights.Rule.{Rule}
+use Rattle.utility_calls.specs.Table.{is_source, rule_holds, row_of, move_by}
+use Rattle.utility_calls.specs.Acts.{last_name, with_name, is_prefix, is_there, slash_row, row, effect_on, IsPerformed, link_row}
 use Rattle.utility_calls.specs.ActRows.{IsAmong, Reaches, LooksAtWay}
 use Rattle.act_cases.specs.Looks.{Sees}
 use Rattle.act_cases.specs.Plans.{EndMet, case_of}
 use Rattle.act_cases.specs.Tables.{ways_of, end_of_place, is_inner, link_plan, slash_plan}
 use Rattle.act_cases.specs.Moves.{moved_by, source_where, is_anything, second_names, is_move, move_plan, looked, second_plan, move_rule_case, move_case}
-use Rattle.act_cases.specs.Cases.{link_row}
 use Rattle.act_cases.proofs.Meets.{AreNames}
 use Rattle.act_cases.proofs.Leading.{leads_from, leads_to}
 use Rattle.act_cases.proofs.Seeing.{has_all, through_from, through_to, parents_clear}
@@ -42,49 +44,49 @@ use Rattle.utility_calls.proofs.Above.{there_parents, Clear, kept_parents, clear
 
 source_from : (t : Value) (names : List (List ℕ)) (s : Bool) (o : Option Kinds) → Sees (ways_of s (source_where o)) t names
     → Reached t names s × (is_source o (kind_of (at t names)) ≡ true)
-source_from t names s None h = rule_from t names s None anything (λ x. absurd (cc)) (λ x. absurd (cc)) h tt
-source_from t names s (Some ks) h = rule_from t names s None (of_kinds ks) (λ x. absurd (cc)) (λ x. absurd (cc)) h tt
+source_from t names s None h = rule_from t names s None Anything (λ x. absurd (cc)) (λ x. absurd (cc)) h tt
+source_from t names s (Some ks) h = rule_from t names s None (Is ks) (λ x. absurd (cc)) (λ x. absurd (cc)) h tt
 
 source_to : (t : Value) (names : List (List ℕ)) (s : Bool) (o : Option Kinds) → Reached t names s → is_source o (kind_of (at t names)) ≡ true
     → Sees (ways_of s (source_where o)) t names
-source_to t names s None r h = (rule_to t names s None anything (λ x. absurd (cc)) (λ x. absurd (cc)) r refl).0
-source_to t names s (Some ks) r h = (rule_to t names s None (of_kinds ks) (λ x. absurd (cc)) (λ x. absurd (cc)) r h).0
+source_to t names s None r h = (rule_to t names s None Anything (λ x. absurd (cc)) (λ x. absurd (cc)) r refl).0
+source_to t names s (Some ks) r h = (rule_to t names s None (Is ks) (λ x. absurd (cc)) (λ x. absurd (cc)) r h).0
 
 looked_from : (t : Value) (names : List (List ℕ)) (s below : Bool) → Sees (ways_of s (looked below)) t names
     → Reached t names s × ((below || is_there (kind_of (at t names))) ≡ true)
-looked_from t names s true h = rule_from t names s None anything (λ x. absurd (cc)) (λ x. absurd (cc)) h tt
-looked_from t names s false h = rule_from t names s None (of_kinds (but Absent)) (λ x. absurd (cc)) (λ x. absurd (cc)) h tt
+looked_from t names s true h = rule_from t names s None Anything (λ x. absurd (cc)) (λ x. absurd (cc)) h tt
+looked_from t names s false h = rule_from t names s None (Is (but Absent)) (λ x. absurd (cc)) (λ x. absurd (cc)) h tt
 
 looked_to : (t : Value) (names : List (List ℕ)) (s below : Bool) → Reached t names s → (below || is_there (kind_of (at t names))) ≡ true
     → Sees (ways_of s (looked below)) t names
-looked_to t names s true r h = (rule_to t names s None anything (λ x. absurd (cc)) (λ x. absurd (cc)) r refl).0
-looked_to t names s false r h = (rule_to t names s None (of_kinds (but Absent)) (λ x. absurd (cc)) (λ x. absurd (cc)) r h).0
+looked_to t names s true r h = (rule_to t names s None Anything (λ x. absurd (cc)) (λ x. absurd (cc)) r refl).0
+looked_to t names s false r h = (rule_to t names s None (Is (but Absent)) (λ x. absurd (cc)) (λ x. absurd (cc)) r h).0
 
 -- ---- what it says of the place
 
 any_holds : (place : Where) (s : Sight) → is_anything place ≡ true → holds place s ≡ true
-any_holds anything s e = refl
-any_holds (of_kinds ks) s e = absurd (cc)
-any_holds within s e = absurd (cc)
-any_holds (inside ks) s e = absurd (cc)
-any_holds outside s e = absurd (cc)
-any_holds empty s e = absurd (cc)
-any_holds full s e = absurd (cc)
-any_holds (into ks) s e = absurd (cc)
-any_holds into_empty s e = absurd (cc)
-any_holds into_full s e = absurd (cc)
+any_holds Anything s e = refl
+any_holds (Is ks) s e = absurd (cc)
+any_holds Within s e = absurd (cc)
+any_holds (Inside ks) s e = absurd (cc)
+any_holds Outside s e = absurd (cc)
+any_holds Empty s e = absurd (cc)
+any_holds Full s e = absurd (cc)
+any_holds (Into ks) s e = absurd (cc)
+any_holds IntoEmpty s e = absurd (cc)
+any_holds IntoFull s e = absurd (cc)
 
 any_sees : (place : Where) (t : Value) → is_anything place ≡ true → Sees (ways_of false place) t [] × EndMet (end_of_place place) t
-any_sees anything t e = (has_all (kind_of t), tt)
-any_sees (of_kinds ks) t e = absurd (cc)
-any_sees within t e = absurd (cc)
-any_sees (inside ks) t e = absurd (cc)
-any_sees outside t e = absurd (cc)
-any_sees empty t e = absurd (cc)
-any_sees full t e = absurd (cc)
-any_sees (into ks) t e = absurd (cc)
-any_sees into_empty t e = absurd (cc)
-any_sees into_full t e = absurd (cc)
+any_sees Anything t e = (has_all (kind_of t), tt)
+any_sees (Is ks) t e = absurd (cc)
+any_sees Within t e = absurd (cc)
+any_sees (Inside ks) t e = absurd (cc)
+any_sees Outside t e = absurd (cc)
+any_sees Empty t e = absurd (cc)
+any_sees Full t e = absurd (cc)
+any_sees (Into ks) t e = absurd (cc)
+any_sees IntoEmpty t e = absurd (cc)
+any_sees IntoFull t e = absurd (cc)
 
 module _ (t : Value) (names : List (List ℕ)) (m : Option (List ℕ)) (somewhere : names ≢ []) (named : IsTrue (some_name m)) where
   place_from : (place : Where) (c : Bool) → is_anything place ≡ c → Sees (ways_of false place) t (second_names c (is_inner place) names m)

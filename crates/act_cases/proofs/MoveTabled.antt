@@ -8,7 +8,8 @@ use Rattle.feature_trees.specs.Kinds.{has}
 use Rattle.feature_trees.proofs.Laws.{and_parts}
 use Rattle.utility_calls.specs.declared.sights.Effect.{Effect}
 use Rattle.utility_calls.specs.declared.sights.Effect.TheVariants.{Nothing, MakesDir, KeepsDir, MakesFile, MakesLink, LinksInside, TakesAway, Moves, MovesInside}
-use Rattle.utility_calls.specs.Table.{Rule, move_by, is_source}
+use Rattle.utility_calls.specs.declared.sights.Rule.{Rule}
+use Rattle.utility_calls.specs.Table.{move_by, is_source}
 use Rattle.utility_calls.specs.Acts.{is_there}
 use Rattle.utility_calls.specs.ActRows.{IsAmong}
 use Rattle.act_cases.specs.Tables.{is_inner}

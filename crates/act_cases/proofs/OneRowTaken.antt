@@ -8,7 +8,8 @@ use Rattle.utility_calls.specs.declared.acts.Act.{Act}
 use Rattle.utility_calls.specs.Ways.{in_dir}
 use Rattle.utility_calls.specs.Ways.{kind_at, NoLinkOnWay}
 use Rattle.utility_calls.specs.Sights.{sight_of, holds}
-use Rattle.utility_calls.specs.Table.{Rule, rules, is_source, rule_holds, row_of}
+use Rattle.utility_calls.specs.declared.sights.Rule.{Rule}
+use Rattle.utility_calls.specs.Table.{rules, is_source, rule_holds, row_of}
 use Rattle.utility_calls.specs.Acts.{path_of, place_of, inner_name, inner_at, kind_at_path, source_of, begins, is_below, is_there, sight_on, row, IsPerformed}
 use Rattle.utility_calls.specs.ActRows.{IsAmong, Reaches}
 use Rattle.act_cases.specs.Cases.{IsOnOnePath}

@@ -14,14 +14,16 @@ use Rattle.utility_calls.specs.declared.acts.Act.{Act}
 use Rattle.utility_calls.specs.declared.acts.Act.TheVariants.{Exists, IsReg, IsDir, IsLink, CanRun, MakeDir, EnsureDir, RemoveDir, Remove, Touch, Symlink, Move, PlaceFile, PlaceLink, PlaceConf, Discard, DiscardDir}
 use Rattle.utility_calls.specs.declared.sights.Effect.{Effect}
 use Rattle.utility_calls.specs.declared.sights.Effect.TheVariants.{Nothing, MakesDir, KeepsDir, MakesFile, MakesLink, LinksInside, TakesAway, Moves, MovesInside}
-use Rattle.utility_calls.specs.Sights.{Where, anything, is, within, inside, outside, empty, full, into, into_empty, into_full}
-use Rattle.utility_calls.specs.Table.{Rule, rules, remove_by, symlink_by}
+use Rattle.utility_calls.specs.declared.sights.Where.{Where}
+use Rattle.utility_calls.specs.declared.sights.Where.TheVariants.{Anything, Is, Within as within, Inside, Outside, Empty, Full, Into, IntoEmpty, IntoFull}
+use Rattle.utility_calls.specs.declared.sights.Rule.{Rule}
+use Rattle.utility_calls.specs.Table.{rules, remove_by, symlink_by}
 use Rattle.utility_calls.specs.Acts.{path_of, inner_name, target_of, is_question, IsPerformed}
 use Rattle.utility_calls.specs.ActRows.{IsAmong}
 use Rattle.act_cases.specs.declared.looks.Ways.{Ways}
 use Rattle.act_cases.specs.declared.plans.Plan.{Plan}
 use Rattle.act_cases.specs.declared.plans.End.{End}
-use Rattle.act_cases.specs.declared.plans.End.TheVariants.{Any, Empty, Full}
+use Rattle.act_cases.specs.declared.plans.End.TheVariants as end
 use Rattle.act_cases.specs.Looks.{var, kinds_from, look_literals, end_of}
 use Rattle.act_cases.specs.Puts.{put_literals, root_of}
 use Rattle.act_cases.specs.Plans.{end_literals, is_put, made_literals, changes, locals_by, root_by, case_of}
@@ -35,9 +37,9 @@ use Rattle.act_cases.proofs.Ordered.{firsts, below_contains, contains_below, not
 
 pub end_order : (e : End) (x m : ℕ) (b rest : List Literal) (after : List ℕ) → x < m → ((b' : List Literal) → Within b b' → PlainOrder b' (firsts m) rest after)
     → PlainOrder b (firsts m) (end_literals e x ++ rest) after
-end_order Any x m b rest after lt next = next b (λ l h. h)
-end_order Empty x m b rest after lt next = empty_fact (var x) (below_contains m x lt) (next _ (λ l h. inr h))
-end_order Full x m b rest after lt next = filled (var x) (below_contains m x lt) (next _ (λ l h. inr h))
+end_order end.Any x m b rest after lt next = next b (λ l h. h)
+end_order end.Empty x m b rest after lt next = empty_fact (var x) (below_contains m x lt) (next _ (λ l h. inr h))
+end_order end.Full x m b rest after lt next = filled (var x) (below_contains m x lt) (next _ (λ l h. inr h))
 
 -- whether an effect keeps the entries that a directory has
 abbrev pub keeps : Effect → Bool
@@ -153,16 +155,16 @@ module _ (plan : Plan) (names : List (List ℕ)) (target : List ℕ) where
 
 -- whether directories are all the way
 abbrev pub is_through : Where → Bool
-is_through anything = false
-is_through (is ks) = not (has ks kind.Absent)
+is_through Anything = false
+is_through (Is ks) = not (has ks kind.Absent)
 is_through within = true
-is_through (inside ks) = true
-is_through outside = false
-is_through empty = true
-is_through full = true
-is_through (into ks) = true
-is_through into_empty = true
-is_through into_full = true
+is_through (Inside ks) = true
+is_through Outside = false
+is_through Empty = true
+is_through Full = true
+is_through (Into ks) = true
+is_through IntoEmpty = true
+is_through IntoFull = true
 
 through_by : (s : Bool) (ks : Kinds) (c : Bool) → not c ≡ true
     → (if c then free (fitting s ks) else through (fitting s ks)) ≡ through (if c then free (fitting s ks) else through (fitting s ks)).last
@@ -170,16 +172,16 @@ through_by s ks true h = absurd (cc)
 through_by s ks false h = refl
 
 pub through_ways : (s : Bool) (place : Where) → is_through place ≡ true → ways_of s place ≡ through (ways_of s place).last
-through_ways s anything h = absurd (cc)
-through_ways s (is ks) h = through_by s ks (has ks kind.Absent) h
+through_ways s Anything h = absurd (cc)
+through_ways s (Is ks) h = through_by s ks (has ks kind.Absent) h
 through_ways s within h = refl
-through_ways s (inside ks) h = refl
-through_ways s outside h = absurd (cc)
-through_ways s empty h = refl
-through_ways s full h = refl
-through_ways s (into ks) h = refl
-through_ways s into_empty h = refl
-through_ways s into_full h = refl
+through_ways s (Inside ks) h = refl
+through_ways s Outside h = absurd (cc)
+through_ways s Empty h = refl
+through_ways s Full h = refl
+through_ways s (Into ks) h = refl
+through_ways s IntoEmpty h = refl
+through_ways s IntoFull h = refl
 
 abbrev none_or_dir : Kinds → Bool
 none_or_dir ks = not ks.reg && (not ks.link && not ks.other)

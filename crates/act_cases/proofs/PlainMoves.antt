@@ -10,7 +10,8 @@ use Rattle.tree_clauses.specs.declared.clause.Literal.{Literal}
 use Rattle.tree_clauses.specs.declared.clause.Literal.TheVariants.{Kind}
 use Rattle.tree_clauses.specs.Literals.{Valuation, value_of_variable, MeetsAll}
 use Rattle.utility_calls.specs.declared.acts.Act.TheVariants.{Move}
-use Rattle.utility_calls.specs.Table.{Rule, move_by}
+use Rattle.utility_calls.specs.declared.sights.Rule.{Rule}
+use Rattle.utility_calls.specs.Table.{move_by}
 use Rattle.utility_calls.specs.Acts.{last_name, is_prefix, IsPerformed}
 use Rattle.utility_calls.specs.ActRows.{IsAmong}
 use Rattle.act_cases.specs.declared.looks.Ways.{Ways}

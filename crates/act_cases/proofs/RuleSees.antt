@@ -11,7 +11,9 @@ use Rattle.feature_trees.proofs.Laws.{and_parts, and_made}
 use Rattle.utility_calls.specs.declared.sights.Sight.{Sight}
 use Rattle.utility_calls.specs.Ways.{in_dir}
 use Rattle.utility_calls.specs.Ways.{NoLinkOnWay}
-use Rattle.utility_calls.specs.Sights.{Where, anything, is, within, inside, outside, empty, full, into, into_empty, into_full, holds, sight_of, has_entry}
+use Rattle.utility_calls.specs.declared.sights.Where.{Where}
+use Rattle.utility_calls.specs.declared.sights.Where.TheVariants.{Anything, Is, Within, Inside, Outside, Empty, Full, Into, IntoEmpty, IntoFull}
+use Rattle.utility_calls.specs.Sights.{holds, sight_of, has_entry}
 use Rattle.utility_calls.specs.Acts.{with_name, inner_at}
 use Rattle.utility_calls.proofs.Ways.{parents}
 use Rattle.utility_calls.proofs.Above.{some_in, there_parents, parents_more}
@@ -22,16 +24,16 @@ use Rattle.act_cases.proofs.Seeing.{Fits, has_all, dir_has, fit_from, fit_to, fr
 
 -- whether a condition speaks of what holds the path's last name
 abbrev pub needs_name : Where → Bool
-needs_name anything = false
-needs_name (is kinds) = false
-needs_name within = true
-needs_name (inside kinds) = true
-needs_name outside = true
-needs_name empty = false
-needs_name full = false
-needs_name (into kinds) = false
-needs_name into_empty = false
-needs_name into_full = false
+needs_name Anything = false
+needs_name (Is kinds) = false
+needs_name Within = true
+needs_name (Inside kinds) = true
+needs_name Outside = true
+needs_name Empty = false
+needs_name Full = false
+needs_name (Into kinds) = false
+needs_name IntoEmpty = false
+needs_name IntoFull = false
 
 abbrev pub some_name : Option (List ℕ) → Bool
 some_name None = false
@@ -125,36 +127,36 @@ module _ (t : Value) (names : List (List ℕ)) (slash : Bool) where
   pub rule_from : (m : Option (List ℕ)) (place : Where) → (IsTrue (needs_name place) → names ≢ []) → (IsTrue (is_inner place) → IsTrue (some_name m))
       → Sees (ways_of slash place) t (names_at (is_inner place) names m) → EndMet (end_of_place place) (at t (names_at (is_inner place) names m))
       → Reached × (holds place (seen m) ≡ true)
-  rule_from m anything ne inner s e = let r = is_from all true s in (r.0, refl)
-  rule_from m (is kinds) ne inner s e = is_from kinds (has kinds Absent) s
-  rule_from m within ne inner s e =
+  rule_from m Anything ne inner s e = let r = is_from all true s in (r.0, refl)
+  rule_from m (Is kinds) ne inner s e = is_from kinds (has kinds Absent) s
+  rule_from m Within ne inner s e =
       let parts = through_from (fitting slash all) t names s in
       let fit = fit_from slash all (kind_of here) parts.1 in
       ((parents_clear t names parts.0, fit.1), in_from names (ne refl) parts.0)
-  rule_from m (inside kinds) ne inner s e =
+  rule_from m (Inside kinds) ne inner s e =
       let parts = through_from (fitting slash kinds) t names s in
       let fit = fit_from slash kinds (kind_of here) parts.1 in
       ((parents_clear t names parts.0, fit.1), and_made (in_dir t names) (has kinds (kind_of here)) (in_from names (ne refl) parts.0) fit.0)
-  rule_from m outside ne inner s e =
+  rule_from m Outside ne inner s e =
       let parts = out_from (fitting slash all) names (ne refl) s in
       let fit = fit_from slash all (kind_of here) parts.2 in
       ((parts.0, fit.1), not_of (in_dir t names) parts.1)
-  rule_from m empty ne inner s e =
+  rule_from m Empty ne inner s e =
       let r = dir_from s in
       (r.0, and_made (has (of Dir) (kind_of here)) (not (has_entry here)) (ap (has (of Dir)) r.1) (not_of (has_entry here) e))
-  rule_from m full ne inner s e =
+  rule_from m Full ne inner s e =
       let r = dir_from s in
       (r.0, and_made (has (of Dir) (kind_of here)) (has_entry here) (ap (has (of Dir)) r.1) e)
-  rule_from m (into kinds) ne inner s e =
+  rule_from m (Into kinds) ne inner s e =
       let b = below_from kinds m (inner refl) s in
       ((parents_clear t names b.parents, dir_fits b.dir), and_made (has (of Dir) (kind_of here)) _ (ap (has (of Dir)) b.dir) b.kind)
-  rule_from m into_empty ne inner s e =
+  rule_from m IntoEmpty ne inner s e =
       let b = below_from (of Dir) m (inner refl) s in
       let none : has_entry (inner_at here m) ≡ false = ap has_entry (sym (inner_is m (inner refl))) ∙ e in (
         (parents_clear t names b.parents, dir_fits b.dir),
         and_made (has (of Dir) (kind_of here)) _ (ap (has (of Dir)) b.dir) (and_made (has (of Dir) (kind_of (inner_at here m))) _ b.kind (not_of (has_entry (inner_at here m)) none)),
       )
-  rule_from m into_full ne inner s e =
+  rule_from m IntoFull ne inner s e =
       let b = below_from (of Dir) m (inner refl) s in
       let some : has_entry (inner_at here m) ≡ true = ap has_entry (sym (inner_is m (inner refl))) ∙ e in (
         (parents_clear t names b.parents, dir_fits b.dir),
@@ -176,29 +178,29 @@ module _ (t : Value) (names : List (List ℕ)) (slash : Bool) where
   pub rule_to : (m : Option (List ℕ)) (place : Where) → (IsTrue (needs_name place) → names ≢ []) → (IsTrue (is_inner place) → IsTrue (some_name m))
       → Reached → holds place (seen m) ≡ true
       → Sees (ways_of slash place) t (names_at (is_inner place) names m) × EndMet (end_of_place place) (at t (names_at (is_inner place) names m))
-  rule_to m anything ne inner r h = (free_to (fitting slash all) t names r.0 (fit_to slash all (kind_of here) (has_all (kind_of here)) r.1), tt)
-  rule_to m (is kinds) ne inner r h = (is_to kinds (has kinds Absent) refl r h, tt)
-  rule_to m within ne inner r h =
+  rule_to m Anything ne inner r h = (free_to (fitting slash all) t names r.0 (fit_to slash all (kind_of here) (has_all (kind_of here)) r.1), tt)
+  rule_to m (Is kinds) ne inner r h = (is_to kinds (has kinds Absent) refl r h, tt)
+  rule_to m Within ne inner r h =
       (through_to (fitting slash all) t names (some_in t names (ne refl) h) (fit_to slash all (kind_of here) (has_all (kind_of here)) r.1), tt)
-  rule_to m (inside kinds) ne inner r h =
+  rule_to m (Inside kinds) ne inner r h =
       let parts = and_parts (in_dir t names) (has kinds (kind_of here)) h in
       (through_to (fitting slash kinds) t names (some_in t names (ne refl) parts.0) (fit_to slash kinds (kind_of here) parts.1 r.1), tt)
-  rule_to m outside ne inner r h =
+  rule_to m Outside ne inner r h =
       (out_to (fitting slash all) names (ne refl) r.0 (not-true (in_dir t names) h) (fit_to slash all (kind_of here) (has_all (kind_of here)) r.1), tt)
-  rule_to m empty ne inner r h =
+  rule_to m Empty ne inner r h =
       let parts = and_parts (has (of Dir) (kind_of here)) (not (has_entry here)) h in
       (dir_to parts.0, not-true (has_entry here) parts.1)
-  rule_to m full ne inner r h =
+  rule_to m Full ne inner r h =
       let parts = and_parts (has (of Dir) (kind_of here)) (has_entry here) h in
       (dir_to parts.0, parts.1)
-  rule_to m (into kinds) ne inner r h =
+  rule_to m (Into kinds) ne inner r h =
       let parts = and_parts (has (of Dir) (kind_of here)) (has kinds (kind_of (inner_at here m))) h in
       (below_to kinds m (inner refl) (kind_dir here parts.0) parts.1, tt)
-  rule_to m into_empty ne inner r h =
+  rule_to m IntoEmpty ne inner r h =
       let parts = and_parts (has (of Dir) (kind_of here)) (has (of Dir) (kind_of (inner_at here m)) && not (has_entry (inner_at here m))) h in
       let more = and_parts (has (of Dir) (kind_of (inner_at here m))) (not (has_entry (inner_at here m))) parts.1 in
       (below_to (of Dir) m (inner refl) (kind_dir here parts.0) more.0, ap has_entry (inner_is m (inner refl)) ∙ not-true (has_entry (inner_at here m)) more.1)
-  rule_to m into_full ne inner r h =
+  rule_to m IntoFull ne inner r h =
       let parts = and_parts (has (of Dir) (kind_of here)) (has (of Dir) (kind_of (inner_at here m)) && has_entry (inner_at here m)) h in
       let more = and_parts (has (of Dir) (kind_of (inner_at here m))) (has_entry (inner_at here m)) parts.1 in
       (below_to (of Dir) m (inner refl) (kind_dir here parts.0) more.0, ap has_entry (inner_is m (inner refl)) ∙ more.1)

@@ -5,13 +5,12 @@ use Rattle.feature_trees.specs.declared.kind.Kind.TheVariants.{Absent, Reg, Link
 use Rattle.feature_trees.specs.declared.kind.Kinds.{Kinds}
 use Rattle.feature_trees.specs.declared.value.Value.{Value}
 use Rattle.feature_trees.specs.declared.value.Value.TheVariants as value
-use Rattle.feature_trees.specs.Kinds.{has, of, all}
+use Rattle.feature_trees.specs.Kinds.{has, of, all, but, two, three}
 use Rattle.feature_trees.specs.Tree.{entry, at, kind_of, is_dir, has_parents}
 use Rattle.feature_trees.proofs.Laws.{and_parts, and_made}
 use Rattle.tree_clauses.proofs.KindSets.{has_both}
 use Rattle.utility_calls.specs.Ways.{in_dir}
 use Rattle.utility_calls.specs.Ways.{NoLinkOnWay}
-use Rattle.utility_calls.specs.Sights.{but, two, three}
 use Rattle.act_cases.specs.Looks.{kinds_from, Sees}
 use Rattle.act_cases.specs.Tables.{fitting, free, through, beside}
 

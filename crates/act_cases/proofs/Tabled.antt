@@ -7,7 +7,8 @@ use Rattle.utility_calls.specs.declared.acts.Act.{Act}
 use Rattle.utility_calls.specs.declared.acts.Act.TheVariants.{Exists, IsReg, IsDir, IsLink, CanRun, MakeDir, EnsureDir, RemoveDir, Remove, Touch, Symlink, Move, PlaceFile, PlaceLink, PlaceConf, Discard, DiscardDir}
 use Rattle.utility_calls.specs.declared.sights.Effect.{Effect}
 use Rattle.utility_calls.specs.declared.sights.Effect.TheVariants.{Nothing, MakesDir, KeepsDir, MakesFile, MakesLink, LinksInside, TakesAway, Moves, MovesInside}
-use Rattle.utility_calls.specs.Table.{Rule, rules, remove_by, symlink_by}
+use Rattle.utility_calls.specs.declared.sights.Rule.{Rule}
+use Rattle.utility_calls.specs.Table.{rules, remove_by, symlink_by}
 use Rattle.utility_calls.specs.Acts.{path_of, place_of, inner_name, is_question}
 use Rattle.utility_calls.specs.ActRows.{IsAmong}
 use Rattle.act_cases.specs.Tables.{is_inner}

@@ -7,10 +7,10 @@ use Rattle.feature_trees.specs.declared.value.Value.{Value}
 use Rattle.feature_trees.specs.Sound.{IsTree}
 use Rattle.utility_calls.specs.declared.acts.Act.{Act}
 use Rattle.utility_calls.specs.declared.sights.Row.{Row}
-use Rattle.utility_calls.specs.declared.sights.Effect.TheVariants.{Nothing}
-use Rattle.utility_calls.specs.Table.{Rule, rules, row_of, stop}
-use Rattle.utility_calls.specs.Acts.{path_of, place_of, inner_name, target_of, moved, is_below, slash_row, row}
-use Rattle.utility_calls.specs.Acts.{tree_after}
+use Rattle.utility_calls.specs.declared.sights.Rule.{Rule}
+use Rattle.utility_calls.specs.Table.{rules, row_of}
+use Rattle.utility_calls.specs.Acts.{path_of, place_of, inner_name, target_of, moved, is_below, link_row, slash_row}
+use Rattle.utility_calls.specs.Acts.{row, tree_after}
 use Rattle.tree_clauses.specs.declared.case.Case.{Case}
 use Rattle.act_cases.specs.Plans.{case_of}
 use Rattle.tree_clauses.specs.Leads.{Leads}
@@ -25,10 +25,6 @@ IsOnOnePath act = moved act ≡ None
 abbrev pub HasSource : Option PathParts → Type 0
 HasSource None = ⊥
 HasSource (Some a) = Unit {0}
-
--- the row of a link on the way, at the first so many names
-abbrev pub link_row : ℕ → Row
-link_row n = record { number = n; answer = stop; effect = Nothing }
 
 -- the rows of links on the way: so many, from the one at the first n names on
 abbrev pub link_rows : ℕ → ℕ → List Row

@@ -5,7 +5,7 @@ use Rattle.feature_trees.specs.declared.value.Value.{Value}
 use Rattle.feature_trees.specs.declared.value.Value.TheVariants as value
 use Rattle.feature_trees.specs.declared.kind.Kind.TheVariants.{Absent, Link, Dir}
 use Rattle.feature_trees.specs.declared.kind.Kinds.{Kinds}
-use Rattle.feature_trees.specs.Kinds.{of, all}
+use Rattle.feature_trees.specs.Kinds.{of, all, but}
 use Rattle.feature_trees.specs.Tree.{at, put}
 use Rattle.tree_clauses.specs.declared.clause.Literal.{Literal}
 use Rattle.tree_clauses.specs.declared.clause.Literal.TheVariants.{Kind}
@@ -13,10 +13,12 @@ use Rattle.utility_calls.specs.declared.acts.Act.{Act}
 use Rattle.utility_calls.specs.declared.sights.Effect.{Effect}
 use Rattle.utility_calls.specs.declared.sights.Effect.TheVariants.{Nothing, MakesDir, KeepsDir, MakesFile, MakesLink}
 use Rattle.utility_calls.specs.declared.sights.Effect.TheVariants.{LinksInside, TakesAway, Moves, MovesInside}
-use Rattle.utility_calls.specs.Sights.{Where, but}
-use Rattle.utility_calls.specs.Sights.{anything, is, within, inside, outside, empty, full, into, into_empty, into_full}
-use Rattle.utility_calls.specs.Table.{Rule, rules, stop}
-use Rattle.utility_calls.specs.Acts.{path_of, place_of, inner_name, is_below}
+use Rattle.utility_calls.specs.declared.sights.Where.{Where}
+use Rattle.utility_calls.specs.declared.sights.Where.TheVariants.{Anything, Is, Within, Inside, Outside, Empty, Full}
+use Rattle.utility_calls.specs.declared.sights.Where.TheVariants.{Into, IntoEmpty, IntoFull}
+use Rattle.utility_calls.specs.declared.sights.Rule.{Rule}
+use Rattle.utility_calls.specs.Table.{rules}
+use Rattle.utility_calls.specs.Acts.{path_of, place_of, inner_name, is_below, link_row}
 use Rattle.tree_clauses.specs.declared.case.Case.{Case}
 use Rattle.act_cases.specs.declared.plans.End.TheVariants as end
 use Rattle.act_cases.specs.declared.moves.MovePlan.{MovePlan}
@@ -96,21 +98,21 @@ move_case plan p q = record {
 
 -- what a row says of what is moved, as a condition on its path
 abbrev pub source_where : Option Kinds → Where
-source_where None = anything
-source_where (Some kinds) = is kinds
+source_where None = Anything
+source_where (Some kinds) = Is kinds
 
 -- whether a row says nothing of the place
 abbrev pub is_anything : Where → Bool
-is_anything anything = true
-is_anything (is kinds) = false
-is_anything within = false
-is_anything (inside kinds) = false
-is_anything outside = false
-is_anything empty = false
-is_anything full = false
-is_anything (into kinds) = false
-is_anything into_empty = false
-is_anything into_full = false
+is_anything Anything = true
+is_anything (Is kinds) = false
+is_anything Within = false
+is_anything (Inside kinds) = false
+is_anything Outside = false
+is_anything Empty = false
+is_anything Full = false
+is_anything (Into kinds) = false
+is_anything IntoEmpty = false
+is_anything IntoFull = false
 
 -- the names that it looks along from the root to the place: none where it says nothing of it
 abbrev pub second_names : Bool → Bool → List (List ℕ) → Option (List ℕ) → List (List ℕ)
@@ -142,14 +144,14 @@ move_plan slash r = record {
 
 -- where a move looks at the way of its second path: something is moved, or that path is below the first
 abbrev pub looked : Bool → Where
-looked true = anything
-looked false = is (but Absent)
+looked true = Anything
+looked false = Is (but Absent)
 
 -- the row of a link at the first so many names of the second path
 abbrev pub second_plan : Bool → Bool → ℕ → MovePlan
 second_plan slash below k = record {
-  number = 128 + k;
-  answer = stop;
+  number = (link_row (128 + k)).number;
+  answer = (link_row (128 + k)).answer;
   source = ways_of slash (looked below);
   place = through (of Link);
   end = end.Any;

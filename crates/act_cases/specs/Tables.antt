@@ -1,45 +1,18 @@
--- The tables of the acts as the code has them, and what a row of a table looks at.
+-- What a row of a table looks at.
 use Rattle.std.specs.Prelude.{ℕ, Bool, true, false, List, Option, if◌then◌else◌}
-use Rattle.script_names.specs.declared.reason.Reason.TheVariants as reason
-use Rattle.script_names.specs.declared.reason.Done.TheVariants as done
 use Rattle.feature_trees.specs.declared.kind.Kind.TheVariants.{Absent, Reg, Link, Other, Dir}
 use Rattle.feature_trees.specs.declared.kind.Kinds.{Kinds}
-use Rattle.feature_trees.specs.Kinds.{has, of, all, both}
-use Rattle.utility_calls.specs.declared.sights.Effect.TheVariants.{Nothing}
-use Rattle.utility_calls.specs.Sights.{Where, but, two, three}
-use Rattle.utility_calls.specs.Sights.{anything, is, within, inside, outside, empty, full, into, into_empty, into_full}
-use Rattle.utility_calls.specs.Table.{Rule, stop}
-use Rattle.utility_calls.specs.Acts.{with_name}
+use Rattle.feature_trees.specs.Kinds.{has, of, all, but, both, two, three}
+use Rattle.utility_calls.specs.declared.sights.Where.{Where}
+use Rattle.utility_calls.specs.declared.sights.Where.TheVariants.{Anything, Is, Within, Inside, Outside, Empty, Full}
+use Rattle.utility_calls.specs.declared.sights.Where.TheVariants.{Into, IntoEmpty, IntoFull}
+use Rattle.utility_calls.specs.declared.sights.Row.{Row}
+use Rattle.utility_calls.specs.declared.sights.Rule.{Rule}
+use Rattle.utility_calls.specs.Acts.{with_name, link_row, slash_row}
 use Rattle.act_cases.specs.declared.looks.Ways.{Ways}
 use Rattle.act_cases.specs.declared.plans.Plan.{Plan}
 use Rattle.act_cases.specs.declared.plans.End.{End}
 use Rattle.act_cases.specs.declared.plans.End.TheVariants as end
-use Rattle.act_cases.specs.declared.tables.Place.{Place}
-use Rattle.act_cases.specs.declared.tables.Place.TheVariants as place
-use Rattle.act_cases.specs.declared.tables.TableRow.{TableRow}
-
--- the condition of a row
-abbrev pub where_of : Place → Where
-where_of place.Anything = anything
-where_of (place.Is kinds) = is kinds
-where_of place.Within = within
-where_of (place.Inside kinds) = inside kinds
-where_of place.Outside = outside
-where_of place.Empty = empty
-where_of place.Full = full
-where_of (place.Into kinds) = into kinds
-where_of place.IntoEmpty = into_empty
-where_of place.IntoFull = into_full
-
--- the row of the table
-abbrev pub rule_of : TableRow → Rule
-rule_of row = record {
-  number = row.number;
-  source = row.source;
-  place = where_of row.place;
-  answer = row.answer;
-  effect = row.effect;
-}
 
 -- the kinds that fit a path with a slash behind it
 abbrev pub fitting : Bool → Kinds → Kinds
@@ -60,43 +33,43 @@ beside kinds = record { strict = but Link; parent = three Absent Reg Other; last
 
 -- What a row looks at, by whether its path ends in a slash. Where something has to stand, directories are above it.
 abbrev pub ways_of : Bool → Where → Ways
-ways_of slash anything = free (fitting slash all)
-ways_of slash (is kinds) =
+ways_of slash Anything = free (fitting slash all)
+ways_of slash (Is kinds) =
     if has kinds Absent then free (fitting slash kinds) else through (fitting slash kinds)
-ways_of slash within = through (fitting slash all)
-ways_of slash (inside kinds) = through (fitting slash kinds)
-ways_of slash outside = beside (fitting slash all)
-ways_of slash empty = through (of Dir)
-ways_of slash full = through (of Dir)
-ways_of slash (into kinds) = through kinds
-ways_of slash into_empty = through (of Dir)
-ways_of slash into_full = through (of Dir)
+ways_of slash Within = through (fitting slash all)
+ways_of slash (Inside kinds) = through (fitting slash kinds)
+ways_of slash Outside = beside (fitting slash all)
+ways_of slash Empty = through (of Dir)
+ways_of slash Full = through (of Dir)
+ways_of slash (Into kinds) = through kinds
+ways_of slash IntoEmpty = through (of Dir)
+ways_of slash IntoFull = through (of Dir)
 
 -- what a row asks of the entries
 abbrev pub end_of_place : Where → End
-end_of_place anything = end.Any
-end_of_place (is kinds) = end.Any
-end_of_place within = end.Any
-end_of_place (inside kinds) = end.Any
-end_of_place outside = end.Any
-end_of_place empty = end.Empty
-end_of_place full = end.Full
-end_of_place (into kinds) = end.Any
-end_of_place into_empty = end.Empty
-end_of_place into_full = end.Full
+end_of_place Anything = end.Any
+end_of_place (Is kinds) = end.Any
+end_of_place Within = end.Any
+end_of_place (Inside kinds) = end.Any
+end_of_place Outside = end.Any
+end_of_place Empty = end.Empty
+end_of_place Full = end.Full
+end_of_place (Into kinds) = end.Any
+end_of_place IntoEmpty = end.Empty
+end_of_place IntoFull = end.Full
 
 -- whether a row looks below its path
 abbrev pub is_inner : Where → Bool
-is_inner anything = false
-is_inner (is kinds) = false
-is_inner within = false
-is_inner (inside kinds) = false
-is_inner outside = false
-is_inner empty = false
-is_inner full = false
-is_inner (into kinds) = true
-is_inner into_empty = true
-is_inner into_full = true
+is_inner Anything = false
+is_inner (Is kinds) = false
+is_inner Within = false
+is_inner (Inside kinds) = false
+is_inner Outside = false
+is_inner Empty = false
+is_inner Full = false
+is_inner (Into kinds) = true
+is_inner IntoEmpty = true
+is_inner IntoFull = true
 
 -- the names that a row looks along: those of the path, and one more where it looks below
 abbrev pub names_at : Bool → List (List ℕ) → Option (List ℕ) → List (List ℕ)
@@ -113,16 +86,14 @@ plan_of slash r = record {
   effect = r.effect;
 }
 
+-- a row that asks nothing of the entries, as it is made into a case
+abbrev pub plan_of_row : Row → Ways → Plan
+plan_of_row r ways = record { number = r.number; answer = r.answer; ways = ways; end = end.Any; effect = r.effect }
+
 -- the row of a link at the first so many names
 abbrev pub link_plan : ℕ → Plan
-link_plan n = record { number = n; answer = stop; ways = through (of Link); end = end.Any; effect = Nothing }
+link_plan n = plan_of_row (link_row n) (through (of Link))
 
 -- the row of a slash behind a file, a link or another thing
 abbrev pub slash_plan : Plan
-slash_plan = record {
-  number = 64;
-  answer = done.Stopped reason.Slash;
-  ways = through (three Reg Link Other);
-  end = end.Any;
-  effect = Nothing;
-}
+slash_plan = plan_of_row slash_row (through (three Reg Link Other))

@@ -8,6 +8,5 @@ mod making;
 mod moves;
 mod plans;
 mod puts;
-mod tables;
 
 pub use making::cases;

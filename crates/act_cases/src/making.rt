@@ -1,10 +1,10 @@
 ghost use Rattle.std.specs.Prelude.{◌≡◌, ◌-◌, ◌<◌, ◌≤◌, ◌++◌, ◌∷◌, [], length, map, All, IsTrue, IfOk, OnOk};
 ghost use Rattle.script_names.specs.Names.{is_name};
 ghost use Rattle.feature_trees.specs.declared.kind.Kind.TheVariants.{Link};
-ghost use Rattle.utility_calls.specs.Sights.{but};
+ghost use Rattle.feature_trees.specs.Kinds.{but};
 ghost use Rattle.utility_calls.specs.Acts.{path_of, place_of, inner_name, target_of, moved, with_name, IsPerformed};
-ghost use Rattle.act_cases.specs.Tables.{where_of, rule_of, fitting, through, free, beside, ways_of, end_of_place};
-ghost use Rattle.act_cases.specs.Tables.{is_inner, names_at, plan_of, link_plan, slash_plan};
+ghost use Rattle.act_cases.specs.Tables.{fitting, through, free, beside, ways_of, end_of_place, is_inner, names_at};
+ghost use Rattle.act_cases.specs.Tables.{plan_of, plan_of_row, link_plan, slash_plan};
 ghost use Rattle.act_cases.specs.Moves.{source_where, is_anything, is_move};
 ghost use Rattle.act_cases.specs.Moves.{move_plan, looked, second_plan, second_names};
 ghost use Rattle.act_cases.specs.Moves.{move_rule_case, second_cases, move_cases};
@@ -14,13 +14,12 @@ ghost use Rattle.act_cases.specs.Cases.{link_cases, slash_cases, rule_case, case
 use crate::looks::Ways;
 use crate::moves::{MovePlan, make_move_case};
 use crate::plans::{End, Plan, make_case};
-use crate::tables::{Place, TableRow, table_of};
 use feature_trees::{Kind, Kinds};
-use script_names::{Bytes, Copied, Done, List, Memory, Name, Reason};
+use script_names::{Bytes, Copied, List, Memory, Name};
 use std::alloc::Global;
 use tree_clauses::Case;
 use utility_calls::acts::Act;
-use utility_calls::sights::Effect;
+use utility_calls::sights::{Effect, Row, Rule, Where};
 
 // The kinds that fit a path with a slash behind it.
 fn fitting(slash: bool, kinds: Kinds) -> Kinds
@@ -38,9 +37,7 @@ fn fitting(slash: bool, kinds: Kinds) -> Kinds
 fn not_link() -> Kinds
     ensures { result ≡ but Link }
 {
-    let file = Kinds::either(Kinds::of(Kind::Reg), Kinds::of(Kind::Other));
-    let place = Kinds::either(Kinds::of(Kind::Absent), Kinds::of(Kind::Dir));
-    Kinds::either(place, file)
+    Kinds::but(Kind::Link)
 }
 
 // No link on the way.
@@ -78,74 +75,87 @@ fn beside(kinds: Kinds) -> Ways
 }
 
 // What a row looks at, by whether its path ends in a slash.
-fn ways_of(slash: bool, place: Place) -> Ways
-    ensures { result ≡ ways_of slash (where_of place) }
+fn ways_of(slash: bool, place: Where) -> Ways
+    ensures { result ≡ ways_of slash place }
 {
     match place {
-        Place::Anything => free(fitting(slash, Kinds::all())),
-        Place::Is(kinds) => {
+        Where::Anything => free(fitting(slash, Kinds::all())),
+        Where::Is(kinds) => {
             if kinds.has(Kind::Absent) {
                 free(fitting(slash, kinds))
             } else {
                 through(fitting(slash, kinds))
             }
         }
-        Place::Within => through(fitting(slash, Kinds::all())),
-        Place::Inside(kinds) => through(fitting(slash, kinds)),
-        Place::Outside => beside(fitting(slash, Kinds::all())),
-        Place::Empty => through(Kinds::of(Kind::Dir)),
-        Place::Full => through(Kinds::of(Kind::Dir)),
-        Place::Into(kinds) => through(kinds),
-        Place::IntoEmpty => through(Kinds::of(Kind::Dir)),
-        Place::IntoFull => through(Kinds::of(Kind::Dir)),
+        Where::Within => through(fitting(slash, Kinds::all())),
+        Where::Inside(kinds) => through(fitting(slash, kinds)),
+        Where::Outside => beside(fitting(slash, Kinds::all())),
+        Where::Empty => through(Kinds::of(Kind::Dir)),
+        Where::Full => through(Kinds::of(Kind::Dir)),
+        Where::Into(kinds) => through(kinds),
+        Where::IntoEmpty => through(Kinds::of(Kind::Dir)),
+        Where::IntoFull => through(Kinds::of(Kind::Dir)),
     }
 }
 
 // What a row asks of the entries.
-fn end_of(place: Place) -> End
-    ensures { result ≡ end_of_place (where_of place) }
+fn end_of(place: Where) -> End
+    ensures { result ≡ end_of_place place }
 {
     match place {
-        Place::Anything => End::Any,
-        Place::Is(_) => End::Any,
-        Place::Within => End::Any,
-        Place::Inside(_) => End::Any,
-        Place::Outside => End::Any,
-        Place::Empty => End::Empty,
-        Place::Full => End::Full,
-        Place::Into(_) => End::Any,
-        Place::IntoEmpty => End::Empty,
-        Place::IntoFull => End::Full,
+        Where::Anything => End::Any,
+        Where::Is(_) => End::Any,
+        Where::Within => End::Any,
+        Where::Inside(_) => End::Any,
+        Where::Outside => End::Any,
+        Where::Empty => End::Empty,
+        Where::Full => End::Full,
+        Where::Into(_) => End::Any,
+        Where::IntoEmpty => End::Empty,
+        Where::IntoFull => End::Full,
     }
 }
 
 // Whether a row looks below its path.
-fn is_inner(place: Place) -> bool
-    ensures { result ≡ is_inner (where_of place) }
+fn is_inner(place: Where) -> bool
+    ensures { result ≡ is_inner place }
 {
     match place {
-        Place::Anything => false,
-        Place::Is(_) => false,
-        Place::Within => false,
-        Place::Inside(_) => false,
-        Place::Outside => false,
-        Place::Empty => false,
-        Place::Full => false,
-        Place::Into(_) => true,
-        Place::IntoEmpty => true,
-        Place::IntoFull => true,
+        Where::Anything => false,
+        Where::Is(_) => false,
+        Where::Within => false,
+        Where::Inside(_) => false,
+        Where::Outside => false,
+        Where::Empty => false,
+        Where::Full => false,
+        Where::Into(_) => true,
+        Where::IntoEmpty => true,
+        Where::IntoFull => true,
     }
 }
 
 // A row of a table as it is made into a case.
-fn plan_of(slash: bool, row: &TableRow) -> Plan
-    ensures { result ≡ plan_of slash (rule_of row.now) }
+fn plan_of(slash: bool, rule: &Rule) -> Plan
+    ensures { result ≡ plan_of slash rule.now }
+{
+    Plan {
+        number: rule.number,
+        answer: rule.answer,
+        ways: ways_of(slash, rule.place),
+        end: end_of(rule.place),
+        effect: rule.effect,
+    }
+}
+
+// A row that asks nothing of the entries, as it is made into a case.
+fn plan_of_row(row: Row, ways: Ways) -> Plan
+    ensures { result ≡ plan_of_row row ways }
 {
     Plan {
         number: row.number,
         answer: row.answer,
-        ways: ways_of(slash, row.place),
-        end: end_of(row.place),
+        ways,
+        end: End::Any,
         effect: row.effect,
     }
 }
@@ -154,13 +164,7 @@ fn plan_of(slash: bool, row: &TableRow) -> Plan
 fn link_plan(number: u8) -> Plan
     ensures { result ≡ link_plan number }
 {
-    Plan {
-        number,
-        answer: Done::Stopped(Reason::Link),
-        ways: through(Kinds::of(Kind::Link)),
-        end: End::Any,
-        effect: Effect::Nothing,
-    }
+    plan_of_row(Row::of_link(number), through(Kinds::of(Kind::Link)))
 }
 
 // The row of a slash behind a file, a link or another thing.
@@ -168,13 +172,8 @@ fn slash_plan() -> Plan
     ensures { result ≡ slash_plan }
 {
     let things = Kinds::either(Kinds::of(Kind::Link), Kinds::of(Kind::Other));
-    Plan {
-        number: 64,
-        answer: Done::Stopped(Reason::Slash),
-        ways: through(Kinds::either(Kinds::of(Kind::Reg), things)),
-        end: End::Any,
-        effect: Effect::Nothing,
-    }
+    let seen = Kinds::either(Kinds::of(Kind::Reg), things);
+    plan_of_row(Row::of_slash(), through(seen))
 }
 
 // How many strict prefixes with a name there are.
@@ -256,16 +255,16 @@ fn add_rows(
     cases: &mut List<Case>,
     act: &Act,
     inside: &[Name],
-    rows: &[TableRow],
+    rules: &[Rule],
 ) -> Result<(), Memory>
     requires { inside.now ≡ with_name (path_of act.now).names (inner_name act.now) }
-    ensures { OnOk result (cases.new ≡ cases.old ++ map (rule_case act.now) (map rule_of rows.now)) }
+    ensures { OnOk result (cases.new ≡ cases.old ++ map (rule_case act.now) rules.now) }
 {
     let target = act.copy_target(alloc)?;
     let slash = act.path().slash();
-    for row in rows {
-        let names = looked_at(act, inside, is_inner(row.place));
-        let made = make_case(alloc, &plan_of(slash, row), names, &target)?;
+    for rule in rules {
+        let names = looked_at(act, inside, is_inner(rule.place));
+        let made = make_case(alloc, &plan_of(slash, rule), names, &target)?;
         cases.add(made)?;
     }
     Ok(())
@@ -281,8 +280,7 @@ fn make_cases(alloc: Global, act: &Act, inside: &[Name]) -> Result<List<Case>, M
     let path = act.path();
     add_links(alloc, &mut cases, path.names())?;
     add_slash(alloc, &mut cases, path.slash(), path.names())?;
-    let rows = table_of(alloc, act, false)?;
-    add_rows(alloc, &mut cases, act, inside, rows.as_slice())?;
+    add_rows(alloc, &mut cases, act, inside, act.rules(false))?;
     Ok(cases)
 }
 
@@ -301,20 +299,20 @@ fn path_cases(alloc: Global, act: &Act) -> Result<List<Case>, Memory>
 }
 
 // Whether a row says nothing of the place.
-fn is_anything(place: Place) -> bool
-    ensures { result ≡ is_anything (where_of place) }
+fn is_anything(place: Where) -> bool
+    ensures { result ≡ is_anything place }
 {
     match place {
-        Place::Anything => true,
-        Place::Is(_) => false,
-        Place::Within => false,
-        Place::Inside(_) => false,
-        Place::Outside => false,
-        Place::Empty => false,
-        Place::Full => false,
-        Place::Into(_) => false,
-        Place::IntoEmpty => false,
-        Place::IntoFull => false,
+        Where::Anything => true,
+        Where::Is(_) => false,
+        Where::Within => false,
+        Where::Inside(_) => false,
+        Where::Outside => false,
+        Where::Empty => false,
+        Where::Full => false,
+        Where::Into(_) => false,
+        Where::IntoEmpty => false,
+        Where::IntoFull => false,
     }
 }
 
@@ -334,22 +332,22 @@ fn source_ways(slash: bool, source: Option<Kinds>) -> Ways
     ensures { result ≡ ways_of slash (source_where source) }
 {
     match source {
-        None => ways_of(slash, Place::Anything),
-        Some(kinds) => ways_of(slash, Place::Is(kinds)),
+        None => ways_of(slash, Where::Anything),
+        Some(kinds) => ways_of(slash, Where::Is(kinds)),
     }
 }
 
 // A row of a move's table as it is made into a case.
-fn move_plan(slash: bool, row: &TableRow) -> MovePlan
-    ensures { result ≡ move_plan slash (rule_of row.now) }
+fn move_plan(slash: bool, rule: &Rule) -> MovePlan
+    ensures { result ≡ move_plan slash rule.now }
 {
     MovePlan {
-        number: row.number,
-        answer: row.answer,
-        source: source_ways(slash, row.source),
-        place: ways_of(false, row.place),
-        end: end_of(row.place),
-        moves: is_move(row.effect),
+        number: rule.number,
+        answer: rule.answer,
+        source: source_ways(slash, rule.source),
+        place: ways_of(false, rule.place),
+        end: end_of(rule.place),
+        moves: is_move(rule.effect),
     }
 }
 
@@ -358,11 +356,9 @@ fn looked(slash: bool, below: bool) -> Ways
     ensures { result ≡ ways_of slash (looked below) }
 {
     if below {
-        ways_of(slash, Place::Anything)
+        ways_of(slash, Where::Anything)
     } else {
-        let dir = Kinds::either(Kinds::of(Kind::Other), Kinds::of(Kind::Dir));
-        let file = Kinds::either(Kinds::of(Kind::Reg), Kinds::of(Kind::Link));
-        ways_of(slash, Place::Is(Kinds::either(file, dir)))
+        ways_of(slash, Where::Is(Kinds::but(Kind::Absent)))
     }
 }
 
@@ -371,9 +367,10 @@ fn second_plan(slash: bool, below: bool, k: u8) -> MovePlan
     requires { k < 128 }
     ensures { result ≡ second_plan slash below k }
 {
+    let row = Row::of_link(128 + k);
     MovePlan {
-        number: 128 + k,
-        answer: Done::Stopped(Reason::Link),
+        number: row.number,
+        answer: row.answer,
         source: looked(slash, below),
         place: through(Kinds::of(Kind::Link)),
         end: End::Any,
@@ -400,16 +397,16 @@ fn add_move_rows(
     cases: &mut List<Case>,
     act: &Act,
     inside: &[Name],
-    rows: &[TableRow],
+    rules: &[Rule],
 ) -> Result<(), Memory>
     requires { inside.now ≡ with_name (place_of act.now) (inner_name act.now) }
-    ensures { OnOk result (cases.new ≡ cases.old ++ map (move_rule_case act.now) (map rule_of rows.now)) }
+    ensures { OnOk result (cases.new ≡ cases.old ++ map (move_rule_case act.now) rules.now) }
 {
     let path = act.path();
     let slash = path.slash();
-    for row in rows {
-        let names = second_names(act, inside, is_anything(row.place), is_inner(row.place));
-        let made = make_move_case(alloc, &move_plan(slash, row), path.names(), names)?;
+    for rule in rules {
+        let names = second_names(act, inside, is_anything(rule.place), is_inner(rule.place));
+        let made = make_move_case(alloc, &move_plan(slash, rule), path.names(), names)?;
         cases.add(made)?;
     }
     Ok(())
@@ -440,8 +437,7 @@ fn make_move_cases(alloc: Global, act: &Act, inside: &[Name]) -> Result<List<Cas
     let path = act.path();
     add_links(alloc, &mut cases, path.names())?;
     add_slash(alloc, &mut cases, path.slash(), path.names())?;
-    let rows = table_of(alloc, act, act.is_below())?;
-    add_move_rows(alloc, &mut cases, act, inside, rows.as_slice())?;
+    add_move_rows(alloc, &mut cases, act, inside, act.rules(act.is_below()))?;
     add_seconds(alloc, &mut cases, act)?;
     Ok(cases)
 }

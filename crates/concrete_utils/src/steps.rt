@@ -4,31 +4,19 @@ ghost use Rattle.feature_trees.specs.declared.value.Value.TheVariants.{Absent, D
 ghost use Rattle.feature_trees.specs.Tree.{at, is_dir, kind_of, put, update, entries_of, has_parents};
 ghost use Rattle.utility_calls.specs.declared.sights.Effect.TheVariants.{Nothing, Moves, MovesInside};
 ghost use Rattle.utility_calls.specs.Acts.{path_of, place_of, target_of, source_of, inner_name, inner_at, second_link};
-ghost use Rattle.utility_calls.specs.Acts.{own_row, by_way, by_slash, slash_row, is_there, row as row_of, effect_on};
+ghost use Rattle.utility_calls.specs.Acts.{own_row, by_way, by_slash, is_there, row as row_of, effect_on};
 ghost use Rattle.utility_calls.specs.Acts.{tree_after, with_name, IsPerformed};
 ghost use Rattle.utility_calls.specs.ActChanges.{IsInDirectory};
 ghost use Rattle.utility_calls.specs.Sights.{sight_of};
-ghost use Rattle.utility_calls.specs.Table.{stop};
 ghost use Rattle.utility_calls.specs.Ways.{in_dir};
 
 use crate::walks::{Seen, entry_or, has_entry, walk};
 use feature_trees::{Entries, Kind, PutFault, Value};
-use script_names::{Copied, Done, Memory, Name, Path, Reason};
+use script_names::{Copied, Done, Memory, Name, Path};
 use std::alloc::Global;
 use utility_calls::acts::Act;
 use utility_calls::sights::{Effect, Row, Sight};
 use utility_calls::theorems::{acts_change_trees, changes_are_in_directories};
-
-// The row of a link on the way.
-fn link_row(number: u8) -> Row
-    ensures { result ≡ record { number = number; answer = stop; effect = Nothing } }
-{
-    Row {
-        number,
-        answer: Done::Stopped(Reason::Link),
-        effect: Effect::Nothing,
-    }
-}
 
 // The row of a slash behind what is no directory, else the later one.
 fn by_slash(slash: bool, kind: Kind, later: Row) -> Row
@@ -40,20 +28,9 @@ fn by_slash(slash: bool, kind: Kind, later: Row) -> Row
     match kind {
         Kind::Absent => later,
         Kind::Dir => later,
-        Kind::Reg => slash_row(),
-        Kind::Link => slash_row(),
-        Kind::Other => slash_row(),
-    }
-}
-
-// The row of a slash behind what is no directory.
-fn slash_row() -> Row
-    ensures { result ≡ slash_row }
-{
-    Row {
-        number: 64,
-        answer: Done::Stopped(Reason::Slash),
-        effect: Effect::Nothing,
+        Kind::Reg => Row::of_slash(),
+        Kind::Link => Row::of_slash(),
+        Kind::Other => Row::of_slash(),
     }
 }
 
@@ -127,7 +104,7 @@ fn move_row(a: &Act, tree: &Value, source: Kind, nothing: &Value) -> Row
     let below = a.is_below();
     let seen = walk(128, tree, a.place().names(), nothing);
     match second_link(looks_at_way(below, source), seen.link) {
-        Some(number) => link_row(number),
+        Some(number) => Row::of_link(number),
         None => {
             let inner = inner(a, seen.here, nothing);
             a.own_row(below, source, &sight_of(&seen, inner))
@@ -160,7 +137,7 @@ fn row_on(a: &Act, tree: &Value) -> Row
     let path = a.path();
     let first = walk(0, tree, path.names(), &nothing);
     match first.link {
-        Some(number) => link_row(number),
+        Some(number) => Row::of_link(number),
         None => {
             let kind = first.here.kind();
             let later = later_row(a, tree, &first, &nothing);

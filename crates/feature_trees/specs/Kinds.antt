@@ -28,6 +28,14 @@ of Dir = record none { dir = true }
 abbrev pub all : Kinds
 all = record { absent = true; reg = true; link = true; other = true; dir = true }
 
+-- all kinds but one
+abbrev pub but : Kind → Kinds
+but Absent = record all { absent = false }
+but Reg = record all { reg = false }
+but Link = record all { link = false }
+but Other = record all { other = false }
+but Dir = record all { dir = false }
+
 -- the kinds that are in both sets
 abbrev pub both : Kinds → Kinds → Kinds
 both a b = record {
@@ -47,3 +55,11 @@ either a b = record {
   other = a.other || b.other;
   dir = a.dir || b.dir;
 }
+
+-- two kinds
+abbrev pub two : Kind → Kind → Kinds
+two k l = either (of k) (of l)
+
+-- three kinds
+abbrev pub three : Kind → Kind → Kind → Kinds
+three k l m = either (of k) (two l m)

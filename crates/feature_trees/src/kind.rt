@@ -1,5 +1,5 @@
 ghost use Rattle.std.specs.Prelude.{◌≡◌, ◌↔◌, IsTrue};
-ghost use Rattle.feature_trees.specs.Kinds.{has, none, of, all, both, either};
+ghost use Rattle.feature_trees.specs.Kinds.{has, none, of, all, but, both, either};
 ghost use Rattle.feature_trees.specs.Tree.{kind_of};
 
 use crate::value::Value;
@@ -19,14 +19,39 @@ pub enum Kind {
 /// A set of kinds.
 #[derive(Clone, Copy, Debug, PartialEq, Eq)]
 pub struct Kinds {
-    absent: bool,
-    reg: bool,
-    link: bool,
-    other: bool,
-    dir: bool,
+    pub absent: bool,
+    pub reg: bool,
+    pub link: bool,
+    pub other: bool,
+    pub dir: bool,
 }
 
 impl Kinds {
+    /// The empty set, for tables of constants.
+    pub const NONE: Kinds = Kinds {
+        absent: false,
+        reg: false,
+        link: false,
+        other: false,
+        dir: false,
+    };
+
+    /// The set of all kinds, for tables of constants.
+    pub const ALL: Kinds = Kinds {
+        absent: true,
+        reg: true,
+        link: true,
+        other: true,
+        dir: true,
+    };
+
+    /// The empty set.
+    pub fn none() -> Kinds
+        ensures { result ≡ none }
+    {
+        Kinds::NONE
+    }
+
     /// The set of one kind alone.
     pub fn of(k: Kind) -> Kinds
         ensures { result ≡ of k }
@@ -44,12 +69,19 @@ impl Kinds {
     pub fn all() -> Kinds
         ensures { result ≡ all }
     {
+        Kinds::ALL
+    }
+
+    /// All kinds but one.
+    pub fn but(k: Kind) -> Kinds
+        ensures { result ≡ but k }
+    {
         Kinds {
-            absent: true,
-            reg: true,
-            link: true,
-            other: true,
-            dir: true,
+            absent: k != Kind::Absent,
+            reg: k != Kind::Reg,
+            link: k != Kind::Link,
+            other: k != Kind::Other,
+            dir: k != Kind::Dir,
         }
     }
 
@@ -96,14 +128,7 @@ impl Kinds {
     pub fn is_none(&self) -> bool
         ensures { IsTrue result ↔ (self.now ≡ none) }
     {
-        *self
-            == Kinds {
-                absent: false,
-                reg: false,
-                link: false,
-                other: false,
-                dir: false,
-            }
+        *self == Kinds::NONE
     }
 }
 

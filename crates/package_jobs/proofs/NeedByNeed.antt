@@ -9,9 +9,8 @@ use Rattle.script_names.specs.Paths.{PathParts}
 use Rattle.feature_trees.specs.declared.kind.Kind.{Kind}
 use Rattle.feature_trees.specs.declared.kind.Kinds.{Kinds}
 use Rattle.feature_trees.specs.declared.kind.Kind.TheVariants.{Absent, Reg, Link, Other, Dir}
-use Rattle.feature_trees.specs.Kinds.{has, of}
+use Rattle.feature_trees.specs.Kinds.{has, of, but, two}
 use Rattle.feature_trees.specs.Tree.{at, kind_of}
-use Rattle.utility_calls.specs.Sights.{but, two}
 use Rattle.start_trees.specs.declared.need.Need.{Need}
 use Rattle.clause_solver.specs.Stands.{IsFenced}
 use Rattle.start_trees.specs.declared.need.Wanted.TheVariants as wanted

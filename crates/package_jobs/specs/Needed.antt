@@ -4,8 +4,7 @@ use Rattle.std.specs.List.{flat_map, list_any}
 use Rattle.feature_trees.specs.declared.kind.Kind.{Kind}
 use Rattle.feature_trees.specs.declared.kind.Kind.TheVariants.{Absent, Reg, Dir}
 use Rattle.feature_trees.specs.declared.kind.Kinds.{Kinds}
-use Rattle.feature_trees.specs.Kinds.{of}
-use Rattle.utility_calls.specs.Sights.{but, two}
+use Rattle.feature_trees.specs.Kinds.{of, but, two}
 use Rattle.dpkg_scenarios.specs.declared.scenario.Scenario.{Scenario}
 use Rattle.dpkg_scenarios.specs.declared.scenario.Scenario.TheVariants as scenario
 use Rattle.start_trees.specs.declared.need.Need.{Need}

@@ -1,7 +1,7 @@
 ghost use Rattle.std.specs.Prelude.{◌≡◌, ◌↔◌, ◌++◌, ◌∷◌, ℕ, List as ListOf, [], IfOk, OnOk};
 ghost use Rattle.std.specs.List.{flat_map, list_any};
 ghost use Rattle.feature_trees.specs.declared.value.Value.{Value};
-ghost use Rattle.utility_calls.specs.Sights.{but, two};
+ghost use Rattle.feature_trees.specs.Kinds.{but, two};
 ghost use Rattle.start_trees.specs.Needs.{IsStart};
 ghost use Rattle.package_lists.specs.PathSets.{has};
 ghost use Rattle.package_jobs.specs.Needed.{kinds_asked, entry_needs, line_needs};
@@ -37,9 +37,7 @@ pub enum Asked {
 fn no_folder() -> Kinds
     ensures { result ≡ but Kind.Dir }
 {
-    let files = Kinds::either(Kinds::of(Kind::Absent), Kinds::of(Kind::Reg));
-    let others = Kinds::either(Kinds::of(Kind::Link), Kinds::of(Kind::Other));
-    Kinds::either(files, others)
+    Kinds::but(Kind::Dir)
 }
 
 // Nothing, or something of this kind.

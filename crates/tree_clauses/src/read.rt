@@ -108,8 +108,7 @@ fn read_kinds(alloc: Global, text: &[u8]) -> Result<Kinds, Memory>
     ensures { IfOk result (λ found. found ≡ kinds_of text.now) }
 {
     let pieces = member_pieces(alloc, text)?;
-    let none = Kinds::both(Kinds::of(Kind::Reg), Kinds::of(Kind::Dir));
-    let set = with_kind(&pieces, b"absent", Kind::Absent, none);
+    let set = with_kind(&pieces, b"absent", Kind::Absent, Kinds::none());
     let set = with_kind(&pieces, b"reg", Kind::Reg, set);
     let set = with_kind(&pieces, b"link", Kind::Link, set);
     let set = with_kind(&pieces, b"other", Kind::Other, set);

@@ -23,7 +23,7 @@ fn entry(alloc: Global) -> Result<Literal, NameFault> {
 // set of none, and of a fence of none.
 fn literal(alloc: Global, place: u32) -> Result<Literal, NameFault> {
     let files = Kinds::either(Kinds::of(Kind::Reg), Kinds::of(Kind::Dir));
-    let none = Kinds::both(Kinds::of(Kind::Reg), Kinds::of(Kind::Dir));
+    let none = Kinds::none();
     let some = Kinds::either(Kinds::of(Kind::Other), Kinds::of(Kind::Absent));
     match place {
         0 => entry(alloc),

@@ -18,7 +18,8 @@ use Rattle.utility_calls.specs.declared.sights.Row.{Row}
 use Rattle.utility_calls.specs.declared.sights.Effect.{Effect}
 use Rattle.utility_calls.specs.declared.sights.Effect.TheVariants.{Nothing, MakesDir, KeepsDir, MakesFile, MakesLink, LinksInside, TakesAway, Moves, MovesInside}
 use Rattle.utility_calls.specs.Ways.{link_on_way}
-use Rattle.utility_calls.specs.Table.{Rule, rules, rule_holds, row_of, first_row, stop, remove_by, symlink_by, move_by}
+use Rattle.utility_calls.specs.declared.sights.Rule.{Rule}
+use Rattle.utility_calls.specs.Table.{rules, rule_holds, row_of, first_row, stop, remove_by, symlink_by, move_by}
 use Rattle.utility_calls.specs.Acts.{path_of, place_of, inner_name, target_of, with_name, source_of, is_below, second_link, by_way, by_slash, slash_row, sight_on, own_row, row, effect_on, is_question, tree_after, IsPerformed}
 use Rattle.utility_calls.specs.ActChanges.{AreNames, HasNames}
 

@@ -13,7 +13,8 @@ use Rattle.utility_calls.specs.declared.sights.Sight.{Sight}
 use Rattle.utility_calls.specs.declared.sights.Row.{Row}
 use Rattle.utility_calls.specs.Ways.{link_on_way, in_dir, kind_at, NoLinkOnWay}
 use Rattle.utility_calls.specs.Sights.{sight, sight_of}
-use Rattle.utility_calls.specs.Table.{Rule, rules, rule_holds, row_of, first_row, exists_rules, is_reg_rules, is_dir_rules, is_link_rules, can_run_rules, make_dir_rules, ensure_dir_rules, remove_dir_rules, remove_rules, remove_deep_rules, remove_force_rules, remove_force_deep_rules, remove_by, touch_rules, place_file_rules, place_link_rules, place_conf_rules, discard_rules, discard_dir_rules, symlink_rules, symlink_force_rules, symlink_by, move_below_rules, move_rules, move_by}
+use Rattle.utility_calls.specs.declared.sights.Rule.{Rule}
+use Rattle.utility_calls.specs.Table.{rules, rule_holds, row_of, first_row, exists_rules, is_reg_rules, is_dir_rules, is_link_rules, can_run_rules, make_dir_rules, ensure_dir_rules, remove_dir_rules, remove_rules, remove_deep_rules, remove_force_rules, remove_force_deep_rules, remove_by, touch_rules, place_file_rules, place_link_rules, place_conf_rules, discard_rules, discard_dir_rules, symlink_rules, symlink_force_rules, symlink_by, move_below_rules, move_rules, move_by}
 use Rattle.utility_calls.specs.Acts.{path_of, place_of, inner_of, source_of, is_prefix, is_below, is_there, second_link, by_way, by_slash, slash_row, sight_on, own_row, row, IsPerformed}
 use Rattle.utility_calls.specs.ActRows.{IsAmong, FitsSlash, Reaches, LooksAtWay, Applies, on_way, at_slash, on_second_way, own}
 use Rattle.utility_calls.proofs.Ways.{Found, IsFirstLink, found, counted}

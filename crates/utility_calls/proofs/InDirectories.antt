@@ -21,7 +21,8 @@ use Rattle.utility_calls.specs.declared.sights.Effect.{Effect}
 use Rattle.utility_calls.specs.declared.sights.Effect.TheVariants.{Nothing, MakesDir, KeepsDir, MakesFile, MakesLink}
 use Rattle.utility_calls.specs.declared.sights.Effect.TheVariants.{LinksInside, TakesAway, Moves, MovesInside}
 use Rattle.utility_calls.specs.Ways.{link_on_way}
-use Rattle.utility_calls.specs.Table.{Rule, rules, first_row, remove_by, symlink_by, move_by}
+use Rattle.utility_calls.specs.declared.sights.Rule.{Rule}
+use Rattle.utility_calls.specs.Table.{rules, first_row, remove_by, symlink_by, move_by}
 use Rattle.utility_calls.specs.Acts.{path_of, place_of, inner_name, inner_of, with_name, source_of, is_prefix, is_below}
 use Rattle.utility_calls.specs.Acts.{is_there, second_link, by_way, by_slash, sight_on, own_row, row, is_question}
 use Rattle.utility_calls.specs.Acts.{IsPerformed}

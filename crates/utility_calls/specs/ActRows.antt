@@ -6,7 +6,8 @@ use Rattle.feature_trees.specs.Sound.{IsTree}
 use Rattle.feature_trees.specs.Tree.{at, kind_of}
 use Rattle.utility_calls.specs.declared.acts.Act.{Act}
 use Rattle.utility_calls.specs.Ways.{kind_at, NoLinkOnWay}
-use Rattle.utility_calls.specs.Table.{Rule, rules, rule_holds}
+use Rattle.utility_calls.specs.declared.sights.Rule.{Rule}
+use Rattle.utility_calls.specs.Table.{rules, rule_holds}
 use Rattle.utility_calls.specs.Acts.{path_of, place_of, is_below, is_there, source_of, sight_on, IsPerformed, row}
 
 -- the row is one of these

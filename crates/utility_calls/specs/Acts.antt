@@ -9,7 +9,7 @@ use Rattle.feature_trees.specs.declared.value.Value.{Value}
 use Rattle.feature_trees.specs.declared.value.Value.TheVariants as value
 use Rattle.feature_trees.specs.declared.kind.Kind.{Kind}
 use Rattle.feature_trees.specs.declared.kind.Kind.TheVariants as kind
-use Rattle.feature_trees.specs.Kinds.{has}
+use Rattle.feature_trees.specs.Kinds.{has, but, three}
 use Rattle.feature_trees.specs.Tree.{entry, at, entries_of, kind_of, put}
 use Rattle.utility_calls.specs.declared.acts.Act.{Act}
 use Rattle.utility_calls.specs.declared.acts.Act.TheVariants.{Exists, IsReg, IsDir, IsLink, CanRun, MakeDir}
@@ -21,7 +21,7 @@ use Rattle.utility_calls.specs.declared.sights.Effect.TheVariants.{Nothing, Make
 use Rattle.utility_calls.specs.declared.sights.Effect.TheVariants.{LinksInside, TakesAway, Moves, MovesInside}
 use Rattle.utility_calls.specs.declared.sights.Row.{Row}
 use Rattle.utility_calls.specs.Ways.{link_on_way, in_dir}
-use Rattle.utility_calls.specs.Sights.{sight_of, but}
+use Rattle.utility_calls.specs.Sights.{sight_of}
 use Rattle.utility_calls.specs.Table.{rules, first_row, stop}
 
 -- the path of an act; of a move that of what is moved
@@ -118,10 +118,14 @@ abbrev pub second_link : Act → Value → Option ℕ
 second_link act tree =
     if is_below act || is_there (source_of act tree) then link_on_way 128 tree (place_of act) else None
 
--- the row of a link on the way, else the later one
+-- the row of a link on the way
+abbrev pub link_row : ℕ → Row
+link_row n = record { number = n; answer = stop; effect = Nothing }
+
+-- that row, else the later one
 abbrev pub by_way : Option ℕ → Row → Row
 by_way None row = row
-by_way (Some n) row = record { number = n; answer = stop; effect = Nothing }
+by_way (Some n) row = link_row n
 
 -- the row where a slash stands behind a file, a link or another thing
 abbrev pub slash_row : Row

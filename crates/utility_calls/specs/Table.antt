@@ -8,7 +8,7 @@ use Rattle.script_names.specs.declared.reason.Done.TheVariants.{Ok, Failed, Stop
 use Rattle.feature_trees.specs.declared.kind.Kind.{Kind}
 use Rattle.feature_trees.specs.declared.kind.Kind.TheVariants.{Absent, Reg, Link, Other, Dir}
 use Rattle.feature_trees.specs.declared.kind.Kinds.{Kinds}
-use Rattle.feature_trees.specs.Kinds.{has, of}
+use Rattle.feature_trees.specs.Kinds.{has, of, but, two, three}
 use Rattle.utility_calls.specs.declared.acts.Act.{Act}
 use Rattle.utility_calls.specs.declared.acts.Act.TheVariants.{Exists, IsReg, IsDir, IsLink, CanRun, MakeDir}
 use Rattle.utility_calls.specs.declared.acts.Act.TheVariants.{EnsureDir, RemoveDir, Remove, Touch, Symlink, Move}
@@ -18,16 +18,11 @@ use Rattle.utility_calls.specs.declared.sights.Effect.{Effect}
 use Rattle.utility_calls.specs.declared.sights.Effect.TheVariants.{Nothing, MakesDir, KeepsDir, MakesFile, MakesLink}
 use Rattle.utility_calls.specs.declared.sights.Effect.TheVariants.{LinksInside, TakesAway, Moves, MovesInside}
 use Rattle.utility_calls.specs.declared.sights.Row.{Row}
-use Rattle.utility_calls.specs.Sights.{Where, anything, is, within, inside, outside, empty, full, into, into_empty}
-use Rattle.utility_calls.specs.Sights.{into_full, holds, but, two, three}
-
--- a row of the table; `source` are the kinds of what is moved, where they matter
-pub record Rule : Type 0 where
-  pub number : ℕ
-  pub source : Option Kinds
-  pub place : Where
-  pub answer : Done
-  pub effect : Effect
+use Rattle.utility_calls.specs.declared.sights.Rule.{Rule}
+use Rattle.utility_calls.specs.declared.sights.Where.{Where}
+use Rattle.utility_calls.specs.declared.sights.Where.TheVariants.{Anything, Is, Within, Inside, Outside, Empty, Full}
+use Rattle.utility_calls.specs.declared.sights.Where.TheVariants.{Into, IntoEmpty, IntoFull}
+use Rattle.utility_calls.specs.Sights.{holds}
 
 -- a row that changes nothing
 abbrev pub leaves : ℕ → Where → Done → Rule
@@ -51,112 +46,182 @@ does_from n source place effect =
 abbrev pub stop : Done
 stop = Stopped reason.Link
 
+-- the row of an act that meets a link at its path
+abbrev pub stops : Rule
+stops = leaves 65 (Is (of Link)) stop
+
 -- `test -e`
 abbrev pub exists_rules : List Rule
 exists_rules =
-    leaves 65 (is (of Link)) stop ∷ leaves 66 (is (of Absent)) Failed ∷ leaves 67 (is (three Reg Other Dir)) Ok ∷ []
+    stops
+    ∷ leaves 66 (Is (of Absent)) Failed
+    ∷ leaves 67 (Is (three Reg Other Dir)) Ok
+    ∷ []
 
 -- `test -f`
 abbrev pub is_reg_rules : List Rule
 is_reg_rules =
-    leaves 65 (is (of Link)) stop ∷ leaves 66 (is (three Absent Other Dir)) Failed ∷ leaves 67 (is (of Reg)) Ok ∷ []
+    stops
+    ∷ leaves 66 (Is (three Absent Other Dir)) Failed
+    ∷ leaves 67 (Is (of Reg)) Ok
+    ∷ []
 
 -- `test -d`
 abbrev pub is_dir_rules : List Rule
 is_dir_rules =
-    leaves 65 (is (of Link)) stop ∷ leaves 66 (is (three Absent Reg Other)) Failed ∷ leaves 67 (is (of Dir)) Ok ∷ []
+    stops
+    ∷ leaves 66 (Is (three Absent Reg Other)) Failed
+    ∷ leaves 67 (Is (of Dir)) Ok
+    ∷ []
 
 -- `test -h`
 abbrev pub is_link_rules : List Rule
-is_link_rules = leaves 66 (is (but Link)) Failed ∷ leaves 67 (is (of Link)) Ok ∷ []
+is_link_rules =
+    leaves 66 (Is (but Link)) Failed
+    ∷ leaves 67 (Is (of Link)) Ok
+    ∷ []
 
 -- `test -x`; nothing says whether a file may be run
 abbrev pub can_run_rules : List Rule
 can_run_rules =
-    leaves 65 (is (of Link)) stop ∷ leaves 66 (is (of Absent)) Failed ∷ leaves 67 (is (of Dir)) Ok
-    ∷ leaves 68 (is (two Reg Other)) (Stopped reason.Run) ∷ []
+    stops
+    ∷ leaves 66 (Is (of Absent)) Failed
+    ∷ leaves 67 (Is (of Dir)) Ok
+    ∷ leaves 68 (Is (two Reg Other)) (Stopped reason.Run)
+    ∷ []
 
 -- `mkdir`
 abbrev pub make_dir_rules : List Rule
 make_dir_rules =
-    leaves 66 outside Failed ∷ leaves 67 (is (but Absent)) Failed ∷ does 68 (inside (of Absent)) MakesDir ∷ []
+    leaves 66 Outside Failed
+    ∷ leaves 67 (Is (but Absent)) Failed
+    ∷ does 68 (Inside (of Absent)) MakesDir
+    ∷ []
 
 -- one directory of `mkdir -p`
 abbrev pub ensure_dir_rules : List Rule
 ensure_dir_rules =
-    leaves 65 (is (of Link)) stop ∷ leaves 66 outside Failed ∷ leaves 67 (is (two Reg Other)) Failed
-    ∷ does 68 (inside (two Absent Dir)) KeepsDir ∷ []
+    stops
+    ∷ leaves 66 Outside Failed
+    ∷ leaves 67 (Is (two Reg Other)) Failed
+    ∷ does 68 (Inside (two Absent Dir)) KeepsDir
+    ∷ []
 
 -- `rmdir`
 abbrev pub remove_dir_rules : List Rule
-remove_dir_rules = leaves 66 (is (but Dir)) Failed ∷ leaves 67 full Failed ∷ does 68 empty TakesAway ∷ []
+remove_dir_rules =
+    leaves 66 (Is (but Dir)) Failed
+    ∷ leaves 67 Full Failed
+    ∷ does 68 Empty TakesAway
+    ∷ []
 
 -- `rm`
 abbrev pub remove_rules : List Rule
 remove_rules =
-    leaves 66 (is (of Absent)) Failed ∷ leaves 67 (is (of Dir)) Failed
-    ∷ does 68 (is (three Reg Link Other)) TakesAway ∷ []
+    leaves 66 (Is (of Absent)) Failed
+    ∷ leaves 67 (Is (of Dir)) Failed
+    ∷ does 68 (Is (three Reg Link Other)) TakesAway
+    ∷ []
 
 -- `rm -r`
 abbrev pub remove_deep_rules : List Rule
-remove_deep_rules = leaves 66 (is (of Absent)) Failed ∷ does 69 (is (but Absent)) TakesAway ∷ []
+remove_deep_rules =
+    leaves 66 (Is (of Absent)) Failed
+    ∷ does 69 (Is (but Absent)) TakesAway
+    ∷ []
 
 -- `rm -f`
 abbrev pub remove_force_rules : List Rule
 remove_force_rules =
-    leaves 67 (is (of Dir)) Failed ∷ leaves 70 outside Ok ∷ does 71 (inside (but Dir)) TakesAway ∷ []
+    leaves 67 (Is (of Dir)) Failed
+    ∷ leaves 70 Outside Ok
+    ∷ does 71 (Inside (but Dir)) TakesAway
+    ∷ []
 
 -- `rm -rf`
 abbrev pub remove_force_deep_rules : List Rule
-remove_force_deep_rules = leaves 70 outside Ok ∷ does 72 within TakesAway ∷ []
+remove_force_deep_rules =
+    leaves 70 Outside Ok
+    ∷ does 72 Within TakesAway
+    ∷ []
 
 -- `touch`
 abbrev pub touch_rules : List Rule
 touch_rules =
-    leaves 65 (is (of Link)) stop ∷ leaves 66 outside Failed ∷ does 67 (inside (two Absent Reg)) MakesFile
-    ∷ leaves 68 (is (two Other Dir)) Ok ∷ []
+    stops
+    ∷ leaves 66 Outside Failed
+    ∷ does 67 (Inside (two Absent Reg)) MakesFile
+    ∷ leaves 68 (Is (two Other Dir)) Ok
+    ∷ []
 
 -- a regular file of a package is placed
 abbrev pub place_file_rules : List Rule
 place_file_rules =
-    leaves 66 outside Failed ∷ leaves 67 (is (of Dir)) Failed ∷ does 68 (inside (but Dir)) MakesFile ∷ []
+    leaves 66 Outside Failed
+    ∷ leaves 67 (Is (of Dir)) Failed
+    ∷ does 68 (Inside (but Dir)) MakesFile
+    ∷ []
 
 -- a link of a package is placed
 abbrev pub place_link_rules : List Rule
 place_link_rules =
-    leaves 66 outside Failed ∷ leaves 67 (is (of Dir)) stop ∷ does 68 (inside (but Dir)) MakesLink ∷ []
+    leaves 66 Outside Failed
+    ∷ leaves 67 (Is (of Dir)) stop
+    ∷ does 68 (Inside (but Dir)) MakesLink
+    ∷ []
 
 -- a configuration file of a package is placed
 abbrev pub place_conf_rules : List Rule
 place_conf_rules =
-    leaves 66 outside Failed ∷ leaves 67 (is (of Dir)) Failed ∷ does 68 (inside (two Absent Reg)) MakesFile
-    ∷ leaves 69 (is (two Link Other)) (Stopped reason.Conffile) ∷ []
+    leaves 66 Outside Failed
+    ∷ leaves 67 (Is (of Dir)) Failed
+    ∷ does 68 (Inside (two Absent Reg)) MakesFile
+    ∷ leaves 69 (Is (two Link Other)) (Stopped reason.Conffile)
+    ∷ []
 
 -- what is no directory is discarded
 abbrev pub discard_rules : List Rule
 discard_rules =
-    leaves 66 outside Ok ∷ leaves 67 (is (of Dir)) Ok ∷ does 68 (inside (but Dir)) TakesAway ∷ []
+    leaves 66 Outside Ok
+    ∷ leaves 67 (Is (of Dir)) Ok
+    ∷ does 68 (Inside (but Dir)) TakesAway
+    ∷ []
 
 -- an empty directory is discarded
 abbrev pub discard_dir_rules : List Rule
-discard_dir_rules = leaves 66 (is (but Dir)) Ok ∷ leaves 67 full Ok ∷ does 68 empty TakesAway ∷ []
+discard_dir_rules =
+    leaves 66 (Is (but Dir)) Ok
+    ∷ leaves 67 Full Ok
+    ∷ does 68 Empty TakesAway
+    ∷ []
 
 -- `ln -s`; W is what stands under the target's last name
 abbrev pub symlink_rules : List Rule
 symlink_rules =
-    leaves 65 (is (of Link)) stop ∷ leaves 66 outside Failed ∷ leaves 67 (is (two Reg Other)) Failed
-    ∷ does 68 (inside (of Absent)) MakesLink ∷ leaves 70 (into (but Absent)) Failed
-    ∷ does 71 (into (of Absent)) LinksInside ∷ []
+    stops
+    ∷ leaves 66 Outside Failed
+    ∷ leaves 67 (Is (two Reg Other)) Failed
+    ∷ does 68 (Inside (of Absent)) MakesLink
+    ∷ leaves 70 (Into (but Absent)) Failed
+    ∷ does 71 (Into (of Absent)) LinksInside
+    ∷ []
 
 -- `ln -sf`
 abbrev pub symlink_force_rules : List Rule
 symlink_force_rules =
-    leaves 65 (is (of Link)) stop ∷ leaves 66 outside Failed ∷ does 69 (inside (three Absent Reg Other)) MakesLink
-    ∷ leaves 72 (into (of Dir)) Failed ∷ does 73 (into (but Dir)) LinksInside ∷ []
+    stops
+    ∷ leaves 66 Outside Failed
+    ∷ does 69 (Inside (three Absent Reg Other)) MakesLink
+    ∷ leaves 72 (Into (of Dir)) Failed
+    ∷ does 73 (Into (but Dir)) LinksInside
+    ∷ []
 
 -- `mv` to a path below the moved one
 abbrev pub move_below_rules : List Rule
-move_below_rules = leaves 65 (is (of Link)) stop ∷ leaves 66 (is (but Link)) Failed ∷ []
+move_below_rules =
+    stops
+    ∷ leaves 66 (Is (but Link)) Failed
+    ∷ []
 
 -- what may be moved: anything that is there
 abbrev pub some : Kinds
@@ -173,23 +238,23 @@ file = two Reg Other
 -- `mv` to another path; W is what stands there under the moved path's last name
 abbrev pub move_rules : List Rule
 move_rules =
-    leaves_from 65 some (is (of Link)) stop
-    ∷ leaves_from 66 (of Absent) anything Failed
-    ∷ leaves_from 67 some outside Failed
-    ∷ does_from 68 no_dir (inside (of Absent)) Moves
-    ∷ does_from 69 (of Dir) (inside (of Absent)) Moves
-    ∷ leaves_from 70 (of Dir) (is file) Failed
-    ∷ does_from 71 no_dir (into (of Absent)) MovesInside
-    ∷ leaves_from 72 no_dir (into (of Dir)) Failed
-    ∷ does_from 73 (of Dir) (into (of Absent)) MovesInside
-    ∷ leaves_from 74 (of Dir) (into no_dir) Failed
-    ∷ leaves_from 75 (of Dir) into_full Failed
-    ∷ does_from 76 (of Dir) into_empty MovesInside
-    ∷ does_from 77 file (is file) Moves
-    ∷ leaves_from 78 (of Link) (is file) (Stopped reason.Same)
-    ∷ does_from 79 file (into file) MovesInside
-    ∷ leaves_from 80 (of Link) (into no_dir) (Stopped reason.Same)
-    ∷ leaves_from 81 file (into (of Link)) (Stopped reason.Same)
+    leaves_from 65 some (Is (of Link)) stop
+    ∷ leaves_from 66 (of Absent) Anything Failed
+    ∷ leaves_from 67 some Outside Failed
+    ∷ does_from 68 no_dir (Inside (of Absent)) Moves
+    ∷ does_from 69 (of Dir) (Inside (of Absent)) Moves
+    ∷ leaves_from 70 (of Dir) (Is file) Failed
+    ∷ does_from 71 no_dir (Into (of Absent)) MovesInside
+    ∷ leaves_from 72 no_dir (Into (of Dir)) Failed
+    ∷ does_from 73 (of Dir) (Into (of Absent)) MovesInside
+    ∷ leaves_from 74 (of Dir) (Into no_dir) Failed
+    ∷ leaves_from 75 (of Dir) IntoFull Failed
+    ∷ does_from 76 (of Dir) IntoEmpty MovesInside
+    ∷ does_from 77 file (Is file) Moves
+    ∷ leaves_from 78 (of Link) (Is file) (Stopped reason.Same)
+    ∷ does_from 79 file (Into file) MovesInside
+    ∷ leaves_from 80 (of Link) (Into no_dir) (Stopped reason.Same)
+    ∷ leaves_from 81 file (Into (of Link)) (Stopped reason.Same)
     ∷ []
 
 -- the rows of `rm` by its options
