@@ -1,5 +1,5 @@
--- What follows a step is a later one, and each step is reached.
-use Rattle.std.proofs.Common.{◌≡◌, ℕ, zero, suc, ◌<◌, ◌≤◌, Bool, true, false, List, [], ◌∷◌, length, Some, refl, subst, arith}
+-- Steps are numbered in their order, what follows a step is a later one, and each step is reached.
+use Rattle.std.proofs.Common.{◌≡◌, ℕ, zero, suc, ◌+◌, ◌<◌, ◌≤◌, Bool, true, false, ◌&&◌, List, [], ◌∷◌, length, Some, refl, subst, arith}
 use Rattle.std.specs.Prelude.{◌==◌, if◌then◌else◌}
 use Rattle.std.specs.List.{find}
 use Rattle.std.specs.Option.{option_map}
@@ -10,8 +10,29 @@ use Rattle.dpkg_scenarios.specs.declared.scenario.State.{State}
 use Rattle.dpkg_scenarios.specs.declared.scenario.StepNext.{StepNext}
 use Rattle.dpkg_scenarios.specs.declared.scenario.StepNext.TheVariants.{Go}
 use Rattle.dpkg_scenarios.specs.Scenarios.{Step, Follows, table, go, done, failed, removed, restore, restore_call}
-use Rattle.dpkg_scenarios.specs.Steps.{follows}
+use Rattle.dpkg_scenarios.specs.Steps.{IsStep, follows}
 use Rattle.dpkg_scenarios.specs.Laws.{GoesForward, Succeeds, ReachesEach}
+
+-- lines are numbered one after another, from this number on
+abbrev pub counts : ℕ → List Step → Bool
+counts m [] = true
+counts m (step ∷ steps) = (step.number == m) && counts (m + 1) steps
+
+pub tables_count : (s : Scenario) → counts 1 (table s) ≡ true
+tables_count Install = refl
+tables_count InstallAgain = refl
+tables_count Upgrade = refl
+tables_count Remove = refl
+tables_count Purge = refl
+tables_count PurgeLater = refl
+
+pub first_step : (s : Scenario) → IsStep s 1
+first_step Install = (omega arith, omega arith)
+first_step InstallAgain = (omega arith, omega arith)
+first_step Upgrade = (omega arith, omega arith)
+first_step Remove = (omega arith, omega arith)
+first_step Purge = (omega arith, omega arith)
+first_step PurgeLater = (omega arith, omega arith)
 
 -- what follows is later than step n, and no later than the last one
 abbrev IsLater : ℕ → ℕ → Follows → Type 0

@@ -2,13 +2,12 @@
 use Rattle.std.specs.Prelude.{◌≡◌, ℕ, ◌<◌, Bool, true, false, List, [], ◌∷◌, replicate, length, Option, Some, None}
 use Rattle.std.specs.Prelude.{if◌then◌else◌}
 use Rattle.dpkg_scenarios.specs.declared.scenario.Scenario.{Scenario}
-use Rattle.dpkg_scenarios.specs.declared.scenario.Scenario.TheVariants as scenario
 use Rattle.dpkg_scenarios.specs.declared.scenario.State.{State}
-use Rattle.dpkg_scenarios.specs.declared.scenario.State.TheVariants.{Installed, ConfigFiles, NotInstalled}
+use Rattle.dpkg_scenarios.specs.declared.scenario.State.TheVariants.{ConfigFiles, NotInstalled}
 use Rattle.dpkg_scenarios.specs.declared.scenario.Ending.TheVariants.{Done}
 use Rattle.dpkg_scenarios.specs.declared.scenario.StepNext.{StepNext}
 use Rattle.dpkg_scenarios.specs.declared.scenario.StepNext.TheVariants.{Go, Stop}
-use Rattle.dpkg_scenarios.specs.Scenarios.{table}
+use Rattle.dpkg_scenarios.specs.Scenarios.{table, columns_of}
 use Rattle.dpkg_scenarios.specs.Steps.{IsStep, next_of}
 
 -- what follows a step is a later step of the scenario, or its end: so every walk ends
@@ -27,19 +26,17 @@ walk scenario plain (Stop ending) oks = Stop ending
 walk scenario plain (Go n) [] = Go n
 walk scenario plain (Go n) (ok ∷ oks) = walk scenario plain (or_stays (next_of scenario n ok 0 plain) (Go n)) oks
 
--- the state that a scenario is to bring a package to
-abbrev pub aim : Scenario → Bool → State
-aim scenario.Install plain = Installed
-aim scenario.InstallAgain plain = Installed
-aim scenario.Upgrade plain = Installed
-aim scenario.Remove plain = if plain then NotInstalled else ConfigFiles
-aim scenario.Purge plain = NotInstalled
-aim scenario.PurgeLater plain = NotInstalled
+-- the state of a package that is brought to one, by whether it has neither a configuration file nor a postrm: such a
+-- one is not left in Config-Files, but Not-Installed
+abbrev pub left_in : State → Bool → State
+left_in ConfigFiles plain = if plain then NotInstalled else ConfigFiles
+left_in state plain = state
 
--- where every step succeeds, the scenario is done, in that state
+-- where every step succeeds, the scenario is done, in the state that it is to bring the package to
 abbrev pub Succeeds : Type 0
 Succeeds = (scenario : Scenario) (plain : Bool)
-    → walk scenario plain (Go 1) (replicate (length (table scenario)) true) ≡ Stop (Done (aim scenario plain))
+    → walk scenario plain (Go 1) (replicate (length (table scenario)) true)
+    ≡ Stop (Done (left_in (columns_of scenario).aim plain))
 
 -- every step is reached from the first one
 abbrev pub IsReached : Scenario → ℕ → Type 0

@@ -1,8 +1,15 @@
 -- The six scenarios as tables, a line for each step: its number, what is done, the words of the call, what follows on
--- success and what on failure. To be read beside Debian Policy, 6.5 (the calls), 6.6 (unpacking, and its unwinding),
--- 6.7 (configuring) and 6.8 (removing and purging).
+-- success and what on failure; and beside its steps a record for each scenario. To be read beside Debian Policy, 6.5
+-- (the calls), 6.6 (unpacking, and its unwinding), 6.7 (configuring) and 6.8 (removing and purging).
 use Rattle.std.specs.Prelude.{ℕ, Bool, true, false, List, [], ◌∷◌, codes, if◌then◌else◌}
 use Rattle.script_names.specs.declared.reason.Reason.TheVariants.{Restore}
+use Rattle.dpkg_scenarios.specs.declared.columns.Before.{Before}
+use Rattle.dpkg_scenarios.specs.declared.columns.Before.TheVariants as before
+use Rattle.dpkg_scenarios.specs.declared.columns.NewEntries.{NewEntries}
+use Rattle.dpkg_scenarios.specs.declared.columns.NewEntries.TheVariants.{Every, Added, NoEntry}
+use Rattle.dpkg_scenarios.specs.declared.columns.OwnFolders.{OwnFolders}
+use Rattle.dpkg_scenarios.specs.declared.columns.OwnFolders.TheVariants.{NoFolder, Dropped, Standing, Left}
+use Rattle.dpkg_scenarios.specs.declared.columns.Columns.{Columns}
 use Rattle.dpkg_scenarios.specs.declared.scenario.Scenario.{Scenario}
 use Rattle.dpkg_scenarios.specs.declared.scenario.Scenario.TheVariants as scenario
 use Rattle.dpkg_scenarios.specs.declared.scenario.State.{State}
@@ -166,3 +173,25 @@ table scenario.Upgrade = upgrade
 table scenario.Remove = remove
 table scenario.Purge = purge
 table scenario.PurgeLater = purge_later
+
+-- What a scenario does beside its steps: its place among all, what is in place before it, the state that it is to bring
+-- the package to, which entries of the new package have to fit, which of its configuration files are placed, and which
+-- folders are the scenario's own to take away.
+abbrev pub does : ℕ → Before → State → NewEntries → NewEntries → OwnFolders → Columns
+does place before aim fits conffiles own =
+    record { place = place; before = before; aim = aim; fits = fits; conffiles = conffiles; own = own }
+
+-- the record of a scenario
+abbrev pub columns_of : Scenario → Columns
+columns_of scenario.Install = does 0 before.NotInstalled Installed Every Every NoFolder
+columns_of scenario.InstallAgain = does 1 before.ConfigFiles Installed Every NoEntry NoFolder
+columns_of scenario.Upgrade = does 2 before.OldInstalled Installed Added Added Dropped
+columns_of scenario.Remove = does 3 before.Installed ConfigFiles NoEntry NoEntry Standing
+columns_of scenario.Purge = does 4 before.Installed NotInstalled NoEntry NoEntry Standing
+columns_of scenario.PurgeLater = does 5 before.ConfigFiles NotInstalled NoEntry NoEntry Left
+
+-- all scenarios, in the order of their places
+abbrev pub all_scenarios : List Scenario
+all_scenarios =
+    scenario.Install ∷ scenario.InstallAgain ∷ scenario.Upgrade ∷ scenario.Remove ∷ scenario.Purge
+    ∷ scenario.PurgeLater ∷ []

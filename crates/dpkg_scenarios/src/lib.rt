@@ -5,6 +5,7 @@
 #![tactic(auto)]
 
 mod call;
+mod columns;
 mod names;
 mod scenario;
 mod steps;
@@ -13,6 +14,7 @@ pub mod theorems;
 mod verdicts;
 
 pub use call::call_words;
+pub use columns::{Before, Columns, NewEntries, OwnFolders, all_scenarios, columns_of};
 pub use names::{scenario_name, scenario_named, script_name};
 pub use scenario::{Ending, Scenario, ScriptKind, State, StepNext, StepWork};
 pub use steps::{next, work};

@@ -1,6 +1,10 @@
 ghost use Rattle.std.specs.Prelude.{◌≡◌};
+ghost use Rattle.std.specs.List.{find};
+ghost use Rattle.std.specs.Option.{option_copied};
+ghost use Rattle.std.specs.Str.{bytes_eq};
 ghost use Rattle.dpkg_scenarios.specs.Names.{scenario_name, scenario_named, script_name};
 
+use crate::columns::all_scenarios;
 use crate::scenario::{Scenario, ScriptKind};
 
 /// The name of a scenario.
@@ -21,25 +25,32 @@ pub fn scenario_name(scenario: Scenario) -> &'static str
 pub fn scenario_named(name: &[u8]) -> Option<Scenario>
     ensures { result ≡ scenario_named name.now }
 {
-    if name == b"install".as_slice() {
-        return Some(Scenario::Install);
+    named_among(all_scenarios(), name)
+}
+
+// The first of these scenarios that has this name.
+fn named_among(scenarios: &[Scenario], name: &[u8]) -> Option<Scenario>
+    ensures { result ≡ find (λ scenario. bytes_eq name.now (scenario_name scenario)) scenarios.now }
+{
+    match found(scenarios, name) {
+        Some(scenario) => Some(*scenario),
+        None => None,
     }
-    if name == b"install-again".as_slice() {
-        return Some(Scenario::InstallAgain);
-    }
-    if name == b"upgrade".as_slice() {
-        return Some(Scenario::Upgrade);
-    }
-    if name == b"remove".as_slice() {
-        return Some(Scenario::Remove);
-    }
-    if name == b"purge".as_slice() {
-        return Some(Scenario::Purge);
-    }
-    if name == b"purge-later".as_slice() {
-        return Some(Scenario::PurgeLater);
-    }
-    None
+}
+
+// The first of these scenarios that has this name, in its place.
+fn found<'a>(scenarios: &'a [Scenario], name: &[u8]) -> Option<&'a Scenario>
+    ensures { option_copied result
+        ≡ find (λ scenario. bytes_eq name.now (scenario_name scenario)) scenarios.now }
+{
+    scenarios.iter().find(|scenario| is_named(name, **scenario))
+}
+
+// Whether the scenario has this name.
+fn is_named(name: &[u8], scenario: Scenario) -> bool
+    ensures { result ≡ bytes_eq name.now (scenario_name scenario) }
+{
+    name == scenario_name(scenario).as_bytes()
 }
 
 /// The name of a maintainer script, which is that of its file.
