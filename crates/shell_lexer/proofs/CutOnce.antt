@@ -12,7 +12,7 @@ use Rattle.shell_lexer.specs.Reading.{Out, Whole, Stop, behind, token_at, kind_o
 use Rattle.shell_lexer.specs.Lexed.{Cut, CutBy, Begins, Faulty, IsBody, Caused}
 use Rattle.shell_lexer.specs.Reads.{ItemsRead}
 use Rattle.shell_lexer.proofs.Causes.{caused_map}
-use Rattle.shell_lexer.proofs.Insides.{stops_inside}
+use Rattle.shell_lexer.proofs.FaultPlaces.{body_placed}
 use Rattle.shell_lexer.proofs.Unique.{items_one, same_value, same_stop, no_stop}
 
 same_strict : {x : Option Bool} {a b : Bool} → x ≡ Some a → x ≡ Some b → a ≡ b
@@ -46,13 +46,13 @@ cause text Memory h = absurd h
 
 -- a fault behind the first line is the text's
 pub body_faulty : (text : Bytes) (f : LexFault) → Begins text → IsBody too_deep text (Stop f) → Faulty text f
-body_faulty text (Nul at) b x = absurd (stops_inside (Nul at) x)
-body_faulty text (Interpreter at) b x = absurd (stops_inside (Interpreter at) x)
+body_faulty text (Nul at) b x = absurd (body_placed text (Nul at) x)
+body_faulty text (Interpreter at) b x = absurd (body_placed text (Interpreter at) x)
 body_faulty text (OpenQuote at) b x = (b, x)
 body_faulty text (OpenSubstitution at) b x = (b, x)
 body_faulty text (Unsupported form at) b x = (b, x)
 body_faulty text (Deep at) b x = (b, x)
-body_faulty text Memory b x = absurd (stops_inside Memory x)
+body_faulty text Memory b x = absurd (body_placed text Memory x)
 
 pub some_none : {A : Type 0} {x : Option A} {a : A} → x ≡ Some a → x ≡ None → ⊥
 some_none e f = cc

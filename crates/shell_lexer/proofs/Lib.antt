@@ -5,8 +5,8 @@ mod Begun
 mod Causes
 mod Cells
 pub mod CutOnce
+mod FaultPlaces
 mod Fronts
-mod Insides
 mod LongestRuns
 mod MovedReadings
 mod Numbers

@@ -18,7 +18,7 @@ module _ (len : ℕ) (text : Bytes) where
   operator_rest s t h = ahead_behind text t (operator_ahead s text t (operator_seen len text t s h))
 
   pub byte_rest : (c : ℕ) (t : Bytes) → look len text ≡ Byte c t → Behind text t
-  byte_rest c t h = ahead_behind text t (look_seen len text (Byte c t) h)
+  byte_rest c t h = ahead_behind text t (c, [], look_seen len text (Byte c t) h)
 
   pub piece_rest : (p : RawPart) (t : Bytes) → look len text ≡ Piece p t → Behind text t
   piece_rest p t h = ahead_behind text t (piece_ahead false p text t (look_seen len text (Piece p t) h))

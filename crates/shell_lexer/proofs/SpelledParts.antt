@@ -208,13 +208,22 @@ pub data IsBadSeen (inside : Bool) (at : ℕ) (text : Bytes) : LexFault → Type
   bad : {fault : LexFault} → IsBad inside at text fault → IsBadSeen inside at text fault
   in_braces : {rest : Bytes} → Stands (codes "${") text rest → IsBadSeen inside at text (Unsupported form.Param at)
 
+-- a byte that stands for itself; in double quotes perhaps behind a backslash
+abbrev IsByteSeen : Bool → ℕ → Bytes → Bytes → Type 0
+IsByteSeen true b rest text = Ahead text rest
+IsByteSeen false b rest text = skip text ≡ b ∷ rest
+
+byte_seen : (inside : Bool) (b : ℕ) (rest text : Bytes) → skip text ≡ b ∷ rest → IsByteSeen inside b rest text
+byte_seen true b rest text e = (b, [], e)
+byte_seen false b rest text e = e
+
 -- what is seen says what stands
 abbrev pub IsSeen : Bool → ℕ → Look → Bytes → Type 0
 IsSeen inside at (Piece it rest) text = IsPiece inside it text rest
 IsSeen inside at (AllArgs rest) text = Stands (codes "$@") text rest
 IsSeen inside at (Substitution rest) text = IsSubstitution text rest
 IsSeen inside at (DoubleQuote rest) text = Stands (codes "\"") text rest
-IsSeen inside at (Byte b rest) text = Ahead text rest
+IsSeen inside at (Byte b rest) text = IsByteSeen inside b rest text
 IsSeen inside at Ends text = IsEndSeen inside text
 IsSeen inside at (Bad fault) text = IsBadSeen inside at text fault
 
@@ -361,10 +370,10 @@ dollar_by_seen quoted at b text after more k.Single d e is = quote_byte quoted a
 dollar_by_seen quoted at b text after more k.Double d e is = quote_byte quoted at b after more text d e (ap (λ b. list_any (nat_eq b) (codes "'\"")) is)
 dollar_by_seen quoted at b text after more k.Special d e is = special_seen quoted at b text after more d e (special_byte b is)
 dollar_by_seen quoted at b text after more k.Dollar d e is = special_seen quoted at b text after more d e (ap (λ b. list_any (nat_eq b) (codes "*?-$!0")) is)
-dollar_by_seen quoted at b text after more _ d e is = (36, [], d)
+dollar_by_seen quoted at b text after more _ d e is = byte_seen quoted 36 after text d
 
 dollar_seen : (quoted : Bool) (at : ℕ) (text behind t : Bytes) → skip text ≡ 36 ∷ behind → skip behind ≡ t → IsSeen quoted at (dollar quoted at behind t) text
-dollar_seen quoted at text after [] d e = (36, [], d)
+dollar_seen quoted at text after [] d e = byte_seen quoted 36 after text d
 dollar_seen quoted at text after (b ∷ more) d e = dollar_by_seen quoted at b text after more (kind b) d e (kind_of b)
 
 -- up to the quote
@@ -394,7 +403,7 @@ look_by_seen at c text more k.Single e is =
     cond_both (has_quote more) (Piece (part.Quoted (quote_body more)) (behind_quote more)) (Bad (OpenQuote at)) (λ l. IsSeen false at l text)
     (λ has. let q = quote_splits more has in (refl, single q.1 (more, quote, q.0))) (λ none. bad (open_quote refl (more, quote, refl) (no_quote more none)))
 look_by_seen at c text more k.Double e is = (more, e ∙ ap (λ c. c ∷ more) is, refl)
-look_by_seen at c text [] k.Back e is = (c, [], e)
+look_by_seen at c text [] k.Back e is = e
 look_by_seen at c text (b ∷ more) k.Back e is = (refl, escaped (b ∷ more, e ∙ ap (λ c. c ∷ b ∷ more) is, refl))
 look_by_seen at c text more k.Dollar e is = dollar_seen false at text more (skip more) (e ∙ ap (λ c. c ∷ more) is) refl
 look_by_seen at c text more k.Tick e is = bad (backquote (more, e ∙ ap (λ c. c ∷ more) is, refl))
@@ -407,7 +416,7 @@ look_by_seen at c text more k.Open e is = is_end c text more k.Open e is refl
 look_by_seen at c text more k.Close e is = is_end c text more k.Close e is refl
 look_by_seen at c text more k.Less e is = is_end c text more k.Less e is refl
 look_by_seen at c text more k.Greater e is = is_end c text more k.Greater e is refl
-look_by_seen at c text more _ e is = (c, [], e)
+look_by_seen at c text more _ e is = e
 
 look_at_seen : (at : ℕ) (text t : Bytes) → skip text ≡ t → IsSeen false at (look_at at t) text
 look_at_seen at text [] e = text_ends e

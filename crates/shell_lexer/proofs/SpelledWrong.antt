@@ -14,7 +14,7 @@ use Rattle.shell_lexer.specs.Text.{Bytes, kind, skip, place, offset, tail, head_
 use Rattle.shell_lexer.specs.Operators.{Sight, End, Operator, Wrong, sight, sight_at, sight_by, twice, numbered, numbered_by, less, greater, copied, redirected, out_to, in_from, copy_of, whole_word, null_word}
 use Rattle.shell_lexer.specs.Spelling.{Stands, begins, IsNotNext, IsRedirected}
 use Rattle.shell_lexer.specs.SpelledEnds.{AtTextEnd}
-use Rattle.shell_lexer.specs.SpelledFaults.{IsNumbered, IsNoRedirection, IsWrong, background, arithmetic, here_document, input, output}
+use Rattle.shell_lexer.specs.SpelledFaults.{IsNumbered, IsNoRedirection, IsWrong, background, arithmetic_command, here_document, input, output}
 use Rattle.shell_lexer.proofs.SpelledFronts.{shown, head_of, head_back, is_not, not_next}
 use Rattle.shell_lexer.proofs.SpelledKinds.{KindOf, kind_of, digit_kind}
 use Rattle.shell_lexer.proofs.SpelledOperators.{operator_seen}
@@ -87,7 +87,7 @@ seen_by len c text more k.Amp e is =
 seen_by len c text more k.Open e is =
     let first = e ∙ ap (λ c. c ∷ more) is in
     cond_both (head_is 40 (skip more)) (Wrong (Unsupported form.Arith (offset len text))) (Operator s.LeftParen more) (IsSeen len text)
-    (λ two. wrong (arithmetic (more, first, (tail (skip more), head_back 40 (skip more) two, refl)))) (λ _. tt)
+    (λ two. wrong (arithmetic_command (more, first, (tail (skip more), head_back 40 (skip more) two, refl)))) (λ _. tt)
 seen_by len c text more k.Less e is = less_seen len [] text text more (record { digits = []; pass = refl; number = refl; stands = (more, e ∙ ap (λ c. c ∷ more) is, refl) })
 seen_by len c text more k.Greater e is = greater_seen len [] text text more (record { digits = []; pass = refl; number = refl; stands = (more, e ∙ ap (λ c. c ∷ more) is, refl) })
 seen_by len c text more k.Digit e is =
@@ -180,7 +180,7 @@ wrong_seen len text fault (background {rest = rest} h other) =
     shown len 38 text h.0 h.1
     ∙ cond-false (head_is 38 (skip h.0)) (Operator s.AndAnd (tail (skip h.0))) (Wrong (Unsupported form.Background (place len (38 ∷ h.0)))) (ap (λ t. head_is 38 (skip t)) h.2 ∙ is_not 38 (skip rest) other)
     ∙ ap (λ t. Wrong (Unsupported form.Background (place len t))) (sym h.1)
-wrong_seen len text fault (arithmetic h) =
+wrong_seen len text fault (arithmetic_command h) =
     shown len 40 text h.0 h.1
     ∙ cond-true (head_is 40 (skip h.0)) (Wrong (Unsupported form.Arith (place len (40 ∷ h.0)))) (Operator s.LeftParen h.0) (head_of 40 (skip h.0) h.2.0 h.2.1 refl).0
     ∙ ap (λ t. Wrong (Unsupported form.Arith (place len t))) (sym h.1)

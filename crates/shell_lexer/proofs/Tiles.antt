@@ -164,7 +164,7 @@ mutual
 
   pub word_leave : {deep : ℕ → Bool} {len depth : ℕ} {run text : Bytes} {q : Out Read} → IsWord deep len depth run text q → Leaves text q
   word_leave {deep} {len} {depth} {run} {text} {q} (word_ends h e) = subst (Leaves text) (sym e) ([], refl)
-  word_leave {deep} {len} {depth} {run} {text} {q} (word_byte b t q1 h x e) = subst (Leaves text) (sym e) (leaves_grown text t [] (note.Plain b (offset len text) ∷ []) q1 (ahead_behind text t (look_seen len text (Byte b t) h)) (word_leave x))
+  word_leave {deep} {len} {depth} {run} {text} {q} (word_byte b t q1 h x e) = subst (Leaves text) (sym e) (leaves_grown text t [] (note.Plain b (offset len text) ∷ []) q1 (ahead_behind text t (b, [], look_seen len text (Byte b t) h)) (word_leave x))
   word_leave {deep} {len} {depth} {run} {text} {q} (word_piece p t q1 h x e) = subst (Leaves text) (sym e) (leaves_grown text t (plain_run run ++ p ∷ []) (note.Gap ∷ []) q1 (ahead_behind text t (piece_ahead false p text t (look_seen len text (Piece p t) h))) (word_leave x))
   word_leave {deep} {len} {depth} {run} {text} {q} (word_all t q1 h x e) =
       subst (Leaves text) (sym e) (leaves_grown text t (plain_run run ++ part.All ∷ []) (note.All (offset len text) false ∷ []) q1 (ahead_behind text t (stands_ahead 36 (64 ∷ []) text t (look_seen len text (AllArgs t) h))) (word_leave x))
@@ -198,7 +198,7 @@ mutual
 -- a word that isn't at its end has a byte
 word_ahead : {deep : ℕ → Bool} {len depth : ℕ} {run text : Bytes} {q : Out Read} → IsWord deep len depth run text q → (look len text ≡ Ends → ⊥) → LeavesAhead text q
 word_ahead {deep} {len} {depth} {run} {text} {q} (word_ends h e) n = absurd (n h)
-word_ahead {deep} {len} {depth} {run} {text} {q} (word_byte b t q1 h x e) n = subst (LeavesAhead text) (sym e) (ahead_grown text t [] (note.Plain b (offset len text) ∷ []) q1 (look_seen len text (Byte b t) h) (word_leave x))
+word_ahead {deep} {len} {depth} {run} {text} {q} (word_byte b t q1 h x e) n = subst (LeavesAhead text) (sym e) (ahead_grown text t [] (note.Plain b (offset len text) ∷ []) q1 (b, [], look_seen len text (Byte b t) h) (word_leave x))
 word_ahead {deep} {len} {depth} {run} {text} {q} (word_piece p t q1 h x e) n = subst (LeavesAhead text) (sym e) (ahead_grown text t (plain_run run ++ p ∷ []) (note.Gap ∷ []) q1 (piece_ahead false p text t (look_seen len text (Piece p t) h)) (word_leave x))
 word_ahead {deep} {len} {depth} {run} {text} {q} (word_all t q1 h x e) n =
     subst (LeavesAhead text) (sym e) (ahead_grown text t (plain_run run ++ part.All ∷ []) (note.All (offset len text) false ∷ []) q1 (stands_ahead 36 (64 ∷ []) text t (look_seen len text (AllArgs t) h)) (word_leave x))

@@ -25,7 +25,7 @@ use Rattle.shell_lexer.specs.Moved.{AreMoved}
 use Rattle.shell_lexer.specs.Operators.{End, Operator, Wrong, sight}
 use Rattle.shell_lexer.specs.Parts.{Look, Ends, AllArgs, DoubleQuote, Piece, Substitution, Bad}
 use Rattle.shell_lexer.specs.SpelledEnds.{AtTextEnd, IsWordEnd}
-use Rattle.shell_lexer.specs.SpelledFaults.{IsWrong, IsBad, IsFirstNul}
+use Rattle.shell_lexer.specs.SpelledFaults.{IsWrong, IsBad, IsFirstNul, FaultStands}
 use Rattle.shell_lexer.specs.SpelledLine.{IsFirstLine}
 use Rattle.shell_lexer.specs.SpelledParts.{IsPiece, IsSubstitution}
 use Rattle.shell_lexer.specs.Tiled.{IsTiled, RiseFrom}
@@ -216,3 +216,7 @@ NulsAreSpelled = (text : Bytes) (at : ℕ) → (nul_of text ≡ Some at) ↔ IsF
 -- a first line is refused exactly where it is spelled as none that is accepted
 abbrev pub OtherFirstLinesAreRefused : Type 0
 OtherFirstLinesAreRefused = (line : Bytes) → (interpreter line ≡ None) ↔ ((strict : Bool) → IsFirstLine strict line → ⊥)
+
+-- the offset of a text's fault is that of the bytes by which the fault is named
+abbrev pub FaultsStand : Type 0
+FaultsStand = (text : Bytes) (fault : LexFault) → Faulty text fault → FaultStands text fault

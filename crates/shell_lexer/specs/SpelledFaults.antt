@@ -2,14 +2,17 @@
 -- Redirection; which forms are not supported is this project's own choice): by the bytes that stand there, where joined
 -- lines are left out but in single quotes. src/theorems.rt proves that the tables see a fault exactly where it is
 -- spelled so.
-use Rattle.std.specs.Prelude.{◌≡◌, ℕ, Bool, true, false, not, nat_eq, [], ◌∷◌, ◌++◌, length, Option, codes}
+use Rattle.std.specs.Prelude.{◌≡◌, ◌⊎◌, ℕ, Bool, true, false, not, nat_eq, List, [], ◌∷◌, ◌++◌, length, drop, Option}
+use Rattle.std.specs.Prelude.{codes}
 use Rattle.std.specs.List.{list_all, list_any}
+use Rattle.shell_syntax.specs.declared.form.Form.{Form}
 use Rattle.shell_syntax.specs.declared.form.Form.TheVariants as form
 use Rattle.shell_syntax.specs.declared.key.Key.{Key}
 use Rattle.shell_syntax.specs.declared.redirect.Redirect.{Redirect}
 use Rattle.shell_lexer.specs.declared.fault.LexFault.{LexFault}
-use Rattle.shell_lexer.specs.declared.fault.LexFault.TheVariants.{OpenQuote, OpenSubstitution, Unsupported}
-use Rattle.shell_lexer.specs.Text.{Bytes, is_digit, offset}
+use Rattle.shell_lexer.specs.declared.fault.LexFault.TheVariants.{Nul, Interpreter, OpenQuote, OpenSubstitution}
+use Rattle.shell_lexer.specs.declared.fault.LexFault.TheVariants.{Unsupported, Deep, Memory}
+use Rattle.shell_lexer.specs.Text.{Bytes, skip, is_digit, offset}
 use Rattle.shell_lexer.specs.Spelling.{Stands, IsNotNext, IsRedirected}
 use Rattle.shell_lexer.specs.SpelledEnds.{AtTextEnd}
 use Rattle.shell_lexer.specs.SpelledParts.{is_variable, is_default, IsDigitOf, IsParam}
@@ -32,7 +35,8 @@ IsNoRedirection text = (which : Redirect) (rest : Bytes) → IsRedirected which 
 pub data IsWrong (len : ℕ) (text : Bytes) : LexFault → Type 0 where
   background : {rest : Bytes} → Stands (codes "&") text rest → IsNotNext 38 rest
       → IsWrong len text (Unsupported form.Background (offset len text))
-  arithmetic : {rest : Bytes} → Stands (codes "((") text rest → IsWrong len text (Unsupported form.Arith (offset len text))
+  arithmetic_command : {rest : Bytes} → Stands (codes "((") text rest
+      → IsWrong len text (Unsupported form.Arith (offset len text))
   here_document : {from rest : Bytes} → IsNumbered (codes "<<") text from rest
       → IsWrong len text (Unsupported form.Heredoc (offset len from))
   input : {from rest : Bytes} → IsNumbered (codes "<") text from rest → IsNotNext 60 rest → IsNoRedirection text
@@ -52,7 +56,8 @@ pub data IsBegun : Bytes → Type 0 where
   nothing : IsBegun []
   key : {key : Bytes} → IsKey key → IsBegun key
   colon : {key : Bytes} → IsKey key → IsBegun (key ++ codes ":")
-  default : {key : Bytes} (default : Bytes) → IsKey key → is_default default ≡ true → IsBegun (key ++ (codes ":-" ++ default))
+  default : {key : Bytes} (default : Bytes) → IsKey key → is_default default ≡ true
+      → IsBegun (key ++ (codes ":-" ++ default))
   count : IsBegun (codes "#")
 
 -- `${` and the beginning of a parameter stand here, and then the text ends
@@ -98,3 +103,41 @@ pub record IsFirstNul (at : ℕ) (text : Bytes) : Type 0 where
   pub is : text ≡ before ++ 0 ∷ rest
   pub first : list_all (λ b. not (nat_eq b 0)) before ≡ true
   pub place : length before ≡ at
+
+-- ---- at a fault's offset
+
+-- these bytes stand in a text from an offset on, which is that of the first of them
+pub record StandsAt (bytes : Bytes) (at : ℕ) (text : Bytes) : Type 0 where
+  pub rest : Bytes
+  pub stands : Stands bytes (drop at text) rest
+  pub first : skip (drop at text) ≡ drop at text
+
+-- one of these stands there
+abbrev pub OneStands : List Bytes → ℕ → Bytes → Type 0
+OneStands [] at text = ⊥
+OneStands (bytes ∷ others) at text = StandsAt bytes at text ⊎ OneStands others at text
+
+-- what a form that a cut refuses begins with
+abbrev pub beginnings : Form → List Bytes
+beginnings form.Heredoc = codes "<<" ∷ []
+beginnings form.Arith = codes "((" ∷ codes "$((" ∷ []
+beginnings form.Background = codes "&" ∷ []
+beginnings form.Backquote = codes "`" ∷ []
+beginnings form.Param = codes "$" ∷ []
+beginnings form.AllArgs = codes "$@" ∷ []
+beginnings form.Redirect = codes "<" ∷ codes ">" ∷ []
+beginnings form.Tilde = codes "~" ∷ []
+beginnings form.Brace = codes "{" ∷ []
+beginnings form.SubstCase = codes "case" ∷ []
+beginnings _ = []
+
+-- what stands at a fault's offset: the NUL; the quote that is open; the `${` or `$(` that is; what the form begins with;
+-- the `$(` that is too deep. A first line has the offset 0.
+abbrev pub FaultStands : Bytes → LexFault → Type 0
+FaultStands text (Nul at) = OneStands ((0 ∷ []) ∷ []) at text
+FaultStands text (Interpreter at) = at ≡ 0
+FaultStands text (OpenQuote at) = OneStands (codes "'" ∷ codes "\"" ∷ []) at text
+FaultStands text (OpenSubstitution at) = OneStands (codes "${" ∷ codes "$(" ∷ []) at text
+FaultStands text (Unsupported which at) = OneStands (beginnings which) at text
+FaultStands text (Deep at) = OneStands (codes "$(" ∷ []) at text
+FaultStands text Memory = ⊥

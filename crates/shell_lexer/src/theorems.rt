@@ -13,7 +13,7 @@ ghost use Rattle.shell_lexer.specs.Laws.{PartsAreSpelled, AllArgsAreSpelled, Sub
 ghost use Rattle.shell_lexer.specs.Laws.{DoubleQuotesAreSpelled};
 ghost use Rattle.shell_lexer.specs.Laws.{EndsAreSpelled, RedirectedWordsEnd, TokensEnd};
 ghost use Rattle.shell_lexer.specs.Laws.{FaultsAreSpelled, WrongFormsAreSpelled, NulsAreSpelled};
-ghost use Rattle.shell_lexer.specs.Laws.{OtherFirstLinesAreRefused};
+ghost use Rattle.shell_lexer.specs.Laws.{OtherFirstLinesAreRefused, FaultsStand};
 ghost use Rattle.shell_lexer.specs.Parts.{inner, look};
 ghost use Rattle.shell_lexer.specs.SpelledEnds.{AtTextEnd, IsWordEnd};
 
@@ -106,13 +106,15 @@ pub fn ends_are_spelled()
 /// A fault is seen exactly where it is spelled, with its offset. Where a token may begin: a lone `&`, `((`, `<<`, and a
 /// `<` or `>` of no supported redirection. In a word, outside double quotes and inside them: a single quote without its
 /// end, `${` of a parameter in which the text ends, a backquote, `$((`, and any other parameter form. In the whole text:
-/// the first NUL, and a first line that is not of the form.
+/// the first NUL, and a first line that is not of the form. The offset of a text's fault is that of the bytes by which it
+/// is named: the quote or the `$` that is open, the `$` that is too deep, what a form begins with.
 pub fn faults_are_spelled()
     ensures token { WrongFormsAreSpelled }
     ensures outside { FaultsAreSpelled look false }
     ensures inside { FaultsAreSpelled inner true }
     ensures nul { NulsAreSpelled }
     ensures first_line { OtherFirstLinesAreRefused }
+    ensures places { FaultsStand }
 {}
 
 /// A first line is accepted, with `-e` or without, exactly where it is spelled as one.

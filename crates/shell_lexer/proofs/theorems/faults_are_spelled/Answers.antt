@@ -1,4 +1,5 @@
 use Rattle.std.proofs.Common.{false, true}
+use Rattle.shell_lexer.proofs.FaultPlaces.{faults_stand}
 use Rattle.shell_lexer.proofs.SpelledFaults.{bad_is, bad_seen, nul_is, nul_seen, line_refused, refused_line}
 use Rattle.shell_lexer.proofs.SpelledWrong.{wrong_is, wrong_seen}
 use Rattle.shell_lexer.proofs.theorems.faults_are_spelled.Goals as goal
@@ -17,3 +18,6 @@ returns-clause-nul c = λ text at. (nul_is text at, nul_seen text at)
 
 pub returns-clause-first_line : goal.returns-clause-first_line
 returns-clause-first_line c = λ line. (refused_line line, line_refused line)
+
+pub returns-clause-places : goal.returns-clause-places
+returns-clause-places c = faults_stand
