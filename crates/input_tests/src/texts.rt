@@ -9,8 +9,8 @@ use feature_trees::put_tree;
 use package_lists::{BaseLine, Entry, EntryKind};
 use script_names::{Bytes, Memory, Path, Slot};
 use shell_forms::Accepted;
-use stated_calls::{CallEnd, StatedCall};
 use std::alloc::Global;
+use utility_calls::{CallEnd, StatedCall};
 
 fn put_path(text: &mut Bytes, letter: &[u8], path: &Path) -> Result<(), Memory> {
     text.extend(letter)?;

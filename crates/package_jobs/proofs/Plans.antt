@@ -14,7 +14,7 @@ use Rattle.scenario_runs.specs.declared.job.Job.{Job}
 use Rattle.scenario_runs.specs.Runs.{Plan, plan_of, run_of, scenario_run, program_meaning, script_of as program_of, package_of}
 use Rattle.package_jobs.specs.Made.{DoTheSame, IsMade}
 use Rattle.package_jobs.specs.Sides.{old_of}
-use Rattle.stated_calls.specs.declared.stated_call.StatedCall.{StatedCall}
+use Rattle.utility_calls.specs.declared.stated_call.StatedCall.{StatedCall}
 use Rattle.package_lists.specs.Bases.{calls_of}
 use Rattle.package_jobs.specs.Written.{script_of, side_of, script_meaning, stated_meaning, is_plain, files_of, written_plan, written_run}
 

@@ -6,7 +6,7 @@ use Rattle.checker_input.specs.declared.package.Package as side
 use Rattle.scenario_runs.specs.declared.job.Scripts.{Scripts}
 use Rattle.scenario_runs.specs.declared.job.Package.{Package}
 use Rattle.scenario_runs.specs.Runs.{program_meaning, script_of as program_of}
-use Rattle.stated_calls.specs.declared.stated_call.StatedCall.{StatedCall}
+use Rattle.utility_calls.specs.declared.stated_call.StatedCall.{StatedCall}
 use Rattle.package_jobs.specs.Written.{script_of, stated_meaning}
 
 -- each program does what the script of that kind does that is read under stated calls, and there is one exactly where

@@ -10,7 +10,7 @@ use Rattle.dpkg_scenarios.specs.declared.scenario.ScriptKind.TheVariants.{Preins
 use Rattle.dpkg_scenarios.specs.declared.scenario.StepWork.TheVariants.{Unpack, RemoveFiles, RemoveOld, RemoveConf}
 use Rattle.shell_syntax.specs.declared.script.Script.{Script}
 use Rattle.shell_to_colis.specs.Shell.{sh_script}
-use Rattle.stated_calls.specs.declared.stated_call.StatedCall.{StatedCall}
+use Rattle.utility_calls.specs.declared.stated_call.StatedCall.{StatedCall}
 use Rattle.stated_calls.specs.Scripts.{stated_script}
 use Rattle.package_lists.specs.Bases.{calls_of}
 use Rattle.package_lists.specs.declared.base.BaseLine.{BaseLine}

@@ -17,9 +17,10 @@ use scenario_runs::{FileActs, Files, Job};
 use script_names::{Copied, List, Memory, Slot};
 use shell_forms::Accepted;
 use shell_to_colis::translate;
+use stated_calls::stated_program;
 use stated_calls::theorems::stated_calls_translate;
-use stated_calls::{StatedCalls, stated_program};
 use std::alloc::Global;
+use utility_calls::StatedCalls;
 
 // The program of a script under stated calls.
 fn translated(alloc: Global, calls: &StatedCalls, script: &Accepted) -> Result<Program, Memory>

@@ -6,11 +6,11 @@ use Rattle.std.specs.Str.{bytes_eq}
 use Rattle.script_names.specs.Paths.{PathParts}
 use Rattle.shown_texts.specs.Parts.{parts}
 use Rattle.feature_trees.specs.TreeLines.{text_lines}
-use Rattle.stated_calls.specs.declared.stated_call.CallEnd.{CallEnd}
-use Rattle.stated_calls.specs.declared.stated_call.CallEnd.TheVariants.{Succeeds, Fails}
-use Rattle.stated_calls.specs.declared.stated_call.StatedCall.{StatedCall}
-use Rattle.stated_calls.specs.Calls.{has_name, added_fault}
-use Rattle.stated_calls.specs.Names.{can_be_stated}
+use Rattle.utility_calls.specs.declared.stated_call.CallEnd.{CallEnd}
+use Rattle.utility_calls.specs.declared.stated_call.CallEnd.TheVariants.{Succeeds, Fails}
+use Rattle.utility_calls.specs.declared.stated_call.StatedCall.{StatedCall}
+use Rattle.utility_calls.specs.StatedCalls.{has_name, added_fault}
+use Rattle.utility_calls.specs.StatedNames.{can_be_stated}
 use Rattle.package_lists.specs.declared.fault.LineFault.{LineFault}
 use Rattle.package_lists.specs.declared.fault.LineFault.TheVariants.{Line}
 use Rattle.package_lists.specs.declared.base.BaseLine.{BaseLine}

@@ -14,8 +14,8 @@ use crate::path_set::PathSet;
 use crate::paths::read_path;
 use script_names::{Bytes, Copied, List, Memory, Path};
 use shown_texts::cut;
-use stated_calls::{CallEnd, StatedCall, can_be_stated};
 use std::alloc::Global;
+use utility_calls::{CallEnd, StatedCall, can_be_stated};
 
 /// What is known of the system at a path, before anything is done with a package.
 #[derive(Debug, Drop)]

@@ -5,8 +5,8 @@ ghost use Rattle.package_lists.specs.declared.base.BaseLine.TheVariants.{Call};
 
 use crate::base::BaseLine;
 use script_names::Memory;
-use stated_calls::{StatedCall, StatedCalls, StatedFault};
 use std::alloc::Global;
+use utility_calls::{StatedCall, StatedCalls, StatedFault};
 
 /// The calls that lines state, in their order.
 pub fn calls_of(alloc: Global, lines: &[BaseLine]) -> Result<StatedCalls, Memory>

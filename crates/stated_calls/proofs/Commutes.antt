@@ -17,6 +17,7 @@ use Rattle.shell_syntax.specs.declared.syntax.Word.{Word, roll-Word}
 use Rattle.shell_syntax.specs.declared.syntax.Command.TheOpen as o
 use Rattle.shell_syntax.specs.declared.syntax.Command.TheFolds.{fold-roll-Command, fold-roll-Part, fold-roll-Assign, fold-roll-CaseArm, fold-roll-IfArm, fold-roll-Link, fold-roll-Word, fold_out-Word, ind-Command, map-Command, map-Part}
 use Rattle.script_names.specs.CommandNames.{is_one_of, special_names}
+use Rattle.utility_calls.proofs.Adding.{no_left, no_right}
 use Rattle.shell_forms.specs.Names.{Text}
 use Rattle.shell_forms.specs.Words.{both_bytes}
 use Rattle.shell_forms.specs.Seen.{layer_bytes, bytes_of, static_of}
@@ -37,7 +38,7 @@ use Rattle.colis_syntax.specs.declared.def.Def.{Def}
 use Rattle.colis_syntax.specs.WellFormed.{is_def, is_argument}
 use Rattle.shell_to_colis.specs.Translated.{To, PartTo, WordTo, each, static, piece_of, pieces_to, joined_to, is_all_alone, field_to, fields_to, rest_of, parameter_to, default_to, expansion, flag_kind, called_kind, variable_kind, leaving_kind, named_kind, kind_of, assigned_to, simple_to, redirect_to, redirected_to, seq_to, chain_to, if_to, otherwise_to, list_to, condition_to, body_to, arm_of, translated, part_to, assign_to, case_arm_to, if_arm_to, link_to, word_to}
 use Rattle.shell_to_colis.specs.Translated as to
-use Rattle.stated_calls.specs.declared.stated_call.StatedCall.{StatedCall}
+use Rattle.utility_calls.specs.declared.stated_call.StatedCall.{StatedCall}
 use Rattle.stated_calls.specs.Calls.{read_as}
 use Rattle.stated_calls.specs.Scripts.{renamed, static_read_as, command_read, part_read, assign_read, case_arm_read, if_arm_read, link_read, word_read}
 use Rattle.stated_calls.specs.Scripts as read
@@ -169,14 +170,6 @@ word_bytes : (w : Word) → static (word_to w) ≡ static_of w.parts
 word_bytes w = ap static (word_parts w) ∙ parts_bytes w.parts
 
 -- ---- which statement a simple command becomes
-
-pub no_left : (b d : Bool) → (b || d) ≡ false → b ≡ false
-no_left true d e = absurd (cc e)
-no_left false d e = refl
-
-pub no_right : (b d : Bool) → (b || d) ≡ false → d ≡ false
-no_right true d e = absurd (cc e)
-no_right false d e = e
 
 last_same : {K : Type 0} (a b d e f g h i j : Bool) (k1 k2 k3 k4 k5 k6 k7 k8 k9 : K) → i ≡ j
     → (if a then k1 else (if b then k2 else (if d then k3 else (if e then k4 else (if f then k5 else (if g then k6 else (if h then k7 else (if i then k8 else k9))))))))

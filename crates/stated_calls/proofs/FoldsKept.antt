@@ -12,7 +12,7 @@ use Rattle.shell_syntax.specs.declared.syntax.Command.TheOpen as o
 use Rattle.shell_syntax.specs.declared.syntax.Command.TheFolds.{fold-Command, fold-Part, fold-Assign, fold-CaseArm, fold-IfArm, fold-Link, fold-Word, fold-roll-Command, fold-roll-Part, fold-roll-Assign, fold-roll-CaseArm, fold-roll-IfArm, fold-roll-Link, fold-roll-Word, ind-Command, map-Command, map-Part}
 use Rattle.shell_forms.specs.Names.{Text}
 use Rattle.shell_forms.specs.Seen.{static_of}
-use Rattle.stated_calls.specs.declared.stated_call.StatedCall.{StatedCall}
+use Rattle.utility_calls.specs.declared.stated_call.StatedCall.{StatedCall}
 use Rattle.stated_calls.specs.Scripts.{renamed, static_read_as, command_read, part_read, assign_read, case_arm_read, if_arm_read, link_read, word_read}
 use Rattle.stated_calls.specs.Scripts as read
 use Rattle.shell_to_colis.proofs.Nodes.{cong_cons, cong2}

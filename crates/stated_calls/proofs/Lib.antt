@@ -1,4 +1,3 @@
-mod Adding
 mod Counting
 mod StaticPieces
 mod Nodes

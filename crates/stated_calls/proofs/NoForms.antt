@@ -23,12 +23,14 @@ use Rattle.shell_forms.specs.First.{script_forms}
 use Rattle.shell_forms.specs.Functions.{Definitions, of_all, definitions, part_definitions, assign_definitions, case_arm_definitions, if_arm_definitions, link_definitions, word_definitions, first_of}
 use Rattle.shell_forms.specs.Functions as def
 use Rattle.shell_forms.specs.declared.place.Place.{Place}
-use Rattle.stated_calls.specs.declared.stated_call.StatedCall.{StatedCall}
-use Rattle.stated_calls.specs.Calls.{are_stated, read_as}
+use Rattle.utility_calls.specs.declared.stated_call.StatedCall.{StatedCall}
+use Rattle.stated_calls.specs.Calls.{read_as}
+use Rattle.utility_calls.specs.StatedCalls.{are_stated}
 use Rattle.stated_calls.specs.Defined.{in_script}
 use Rattle.stated_calls.specs.Scripts.{renamed, command_read, stated_script}
 use Rattle.shell_to_colis.proofs.Nodes.{cong2}
-use Rattle.stated_calls.proofs.Commutes.{is_special, no_left, no_right, named_so}
+use Rattle.stated_calls.proofs.Commutes.{is_special, named_so}
+use Rattle.utility_calls.proofs.Adding.{no_left, no_right}
 use Rattle.stated_calls.proofs.FoldsKept.{Same, fold_kept}
 use Rattle.stated_calls.proofs.Within.{no_other}
 use Rattle.stated_calls.proofs.WholeScript.{fresh, sound_left}

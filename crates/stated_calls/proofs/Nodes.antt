@@ -18,7 +18,7 @@ use Rattle.colis_syntax.specs.declared.syntax.StmtArm.{StmtArm, roll-StmtArm}
 use Rattle.colis_syntax.specs.declared.syntax.PatArm.{PatArm, roll-PatArm}
 use Rattle.shell_forms.specs.Names.{Text}
 use Rattle.shell_to_colis.specs.Translated.{piece_of, expansion, assigned_to, redirect_to, redirected_to, seq_to, chain_to, if_to, condition_to, body_to}
-use Rattle.stated_calls.specs.declared.stated_call.StatedCall.{StatedCall}
+use Rattle.utility_calls.specs.declared.stated_call.StatedCall.{StatedCall}
 use Rattle.stated_calls.specs.Programs.{fields_layer, stmt_layer, str_layer, piece_layer, link_layer, case_arm_layer, set_layer, arm_layer, fields_read, stmt_read, str_read, piece_read, link_read, case_arm_read, set_read, arm_read}
 
 module _ (calls : List StatedCall) where

@@ -20,7 +20,7 @@ use Rattle.colis_syntax.specs.WellFormed.{Scope, Test, looped, enclosed, def_sco
 use Rattle.colis_syntax.specs.WellFormed as wf
 use Rattle.shell_forms.specs.Names.{Text}
 use Rattle.shell_forms.specs.Words.{both_bytes}
-use Rattle.stated_calls.specs.declared.stated_call.StatedCall.{StatedCall}
+use Rattle.utility_calls.specs.declared.stated_call.StatedCall.{StatedCall}
 use Rattle.stated_calls.specs.Scripts.{static_read_as}
 use Rattle.stated_calls.specs.Programs.{str_bytes, piece_bytes, static_pieces, static_fields, renamed, named, fields_read, stmt_read, str_read, piece_read, link_read, case_arm_read, set_read, arm_read, def_read, in_program, stated_program}
 use Rattle.stated_calls.specs.Programs as co

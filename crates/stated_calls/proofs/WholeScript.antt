@@ -30,19 +30,21 @@ use Rattle.colis_syntax.specs.declared.def.Def.{Def}
 use Rattle.colis_syntax.specs.WellFormed.{is_def}
 use Rattle.shell_to_colis.specs.Members.{layer_defines, defined_by, layer_members, members_of}
 use Rattle.shell_to_colis.specs.Translated.{translated, def_to, defs_behind, defs_to, body_statements, seq_to, program_of}
-use Rattle.stated_calls.specs.declared.stated_call.StatedCall.{StatedCall}
-use Rattle.stated_calls.specs.declared.stated_call.CallEnd.{CallEnd}
-use Rattle.stated_calls.specs.declared.stated_call.CallEnd.TheVariants.{Succeeds, Fails}
-use Rattle.stated_calls.specs.Names.{can_be_stated, is_name_byte}
-use Rattle.stated_calls.specs.Calls.{has_name, is_stated, are_stated, name_of, read_as}
+use Rattle.utility_calls.specs.declared.stated_call.StatedCall.{StatedCall}
+use Rattle.utility_calls.specs.declared.stated_call.CallEnd.{CallEnd}
+use Rattle.utility_calls.specs.declared.stated_call.CallEnd.TheVariants.{Succeeds, Fails}
+use Rattle.utility_calls.specs.StatedNames.{can_be_stated, is_name_byte}
+use Rattle.stated_calls.specs.Calls.{name_of, read_as}
+use Rattle.utility_calls.specs.StatedCalls.{has_name, is_stated, are_stated}
 use Rattle.stated_calls.specs.Defined.{is_function, defines, in_script}
 use Rattle.stated_calls.specs.Scripts.{command_read, stated_script}
 use Rattle.stated_calls.specs.Programs.{stmt_read, def_read, in_program, stated_program}
 use Rattle.stated_calls.proofs.Nodes.{seq_read}
 use Rattle.shell_to_colis.proofs.Nodes.{cong_cons, cong2}
-use Rattle.stated_calls.proofs.Commutes.{Sound, Clear, is_special, names_kept, no_left, no_right, named_layer, read_layer, read_at, translated_same}
+use Rattle.stated_calls.proofs.Commutes.{Sound, Clear, is_special, names_kept, named_layer, read_layer, read_at, translated_same}
+use Rattle.utility_calls.proofs.Adding.{no_left, no_right}
 use Rattle.shell_to_colis.proofs.SameScript.{or_no as or_nothing}
-use Rattle.stated_calls.proofs.Adding.{or_apart as or_more}
+use Rattle.utility_calls.proofs.Adding.{or_apart as or_more}
 
 abbrev X : Type 0
 X = o.Command-F Command Part Assign CaseArm IfArm Link Word

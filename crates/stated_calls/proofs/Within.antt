@@ -26,7 +26,7 @@ use Rattle.shell_to_colis.specs.Members.{layer_defines, defined_by, layer_member
 use Rattle.stated_calls.specs.Defined.{is_function, defines}
 use Rattle.shell_to_colis.proofs.Nodes.{cong2}
 use Rattle.shell_to_colis.proofs.Passes.{no_front, no_back, not_when as no_when}
-use Rattle.stated_calls.proofs.Commutes.{no_left, no_right}
+use Rattle.utility_calls.proofs.Adding.{no_left, no_right}
 
 -- ---- lists without items
 

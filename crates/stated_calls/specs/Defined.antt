@@ -5,7 +5,7 @@ use Rattle.std.specs.Str.{bytes_eq}
 use Rattle.shell_syntax.specs.declared.syntax.Command.{Command}
 use Rattle.shell_forms.specs.Names.{Text}
 use Rattle.shell_to_colis.specs.Members.{defined_by, members_of}
-use Rattle.stated_calls.specs.declared.stated_call.StatedCall.{StatedCall}
+use Rattle.utility_calls.specs.declared.stated_call.StatedCall.{StatedCall}
 
 -- whether it is a function of this name
 abbrev pub is_function : Text → Option (Text × Command) → Bool

@@ -4,7 +4,7 @@ use Rattle.shell_syntax.specs.declared.script.Script.{Script}
 use Rattle.shell_forms.specs.First.{script_forms}
 use Rattle.shell_to_colis.specs.Laws.{DoesTheSame}
 use Rattle.shell_to_colis.specs.Translated.{program_of}
-use Rattle.stated_calls.specs.declared.stated_call.StatedCall.{StatedCall}
+use Rattle.utility_calls.specs.declared.stated_call.StatedCall.{StatedCall}
 use Rattle.stated_calls.specs.Scripts.{stated_script}
 use Rattle.stated_calls.specs.Programs.{stated_program}
 

@@ -19,7 +19,7 @@ use Rattle.colis_syntax.specs.declared.syntax.Fields.TheFolds.{fold-SetTo, fold-
 use Rattle.colis_syntax.specs.WellFormed.{ProgramParts, is_def}
 use Rattle.shell_forms.specs.Names.{Text}
 use Rattle.shell_forms.specs.Words.{both_bytes}
-use Rattle.stated_calls.specs.declared.stated_call.StatedCall.{StatedCall}
+use Rattle.utility_calls.specs.declared.stated_call.StatedCall.{StatedCall}
 use Rattle.stated_calls.specs.Scripts.{static_read_as}
 
 -- ---- the static name of a call

@@ -16,7 +16,7 @@ use Rattle.shell_syntax.specs.declared.syntax.Command.TheFolds.{fold-Command, fo
 use Rattle.shell_syntax.specs.declared.syntax.Command.TheFolds.{fold-IfArm, fold-Link, fold-Word}
 use Rattle.shell_forms.specs.Names.{Text}
 use Rattle.shell_forms.specs.Seen.{static_of}
-use Rattle.stated_calls.specs.declared.stated_call.StatedCall.{StatedCall}
+use Rattle.utility_calls.specs.declared.stated_call.StatedCall.{StatedCall}
 use Rattle.stated_calls.specs.Calls.{read_as}
 use Rattle.stated_calls.specs.Defined.{in_script}
 

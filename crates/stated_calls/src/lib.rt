@@ -1,16 +1,12 @@
-//! Stated calls: commands of which it is stated how each call of them ends, that it prints nothing and that it changes
-//! nothing; and scripts and programs that are read under them. It stands on shell_to_colis and what that stands on.
+//! Scripts and programs that are read under stated calls: commands of which it is stated how each call of them ends,
+//! that it prints nothing and that it changes nothing. It stands on shell_to_colis and what that stands on.
 //! Begin with `stated_script` in `scripts` and `stated_program` in `programs`; `theorems` has the laws.
 #![tactic(auto)]
 
 mod programs;
 mod read;
 mod scripts;
-mod stated_call;
-mod stated_calls;
 pub mod theorems;
 
 pub use programs::stated_program;
 pub use scripts::stated_script;
-pub use stated_call::{CallEnd, StatedCall};
-pub use stated_calls::{StatedCalls, StatedFault, can_be_stated};

@@ -9,11 +9,10 @@ ghost use Rattle.stated_calls.specs.Programs.{in_program, stmt_read, str_read, p
 ghost use Rattle.stated_calls.specs.Programs.{link_read, arm_read, case_arm_read, def_read, stated_program};
 
 use crate::read::{end_of, name_of};
-use crate::stated_call::{CallEnd, StatedCall};
-use crate::stated_calls::StatedCalls;
 use colis_syntax::{ChainPart, Def, Fields, PatArm, Program, SetTo, Stmt, StmtArm, Str, StrPiece};
 use script_names::{Boxed as Box, Bytes, Copied, List, Memory};
 use std::alloc::Global;
+use utility_calls::{CallEnd, StatedCall, StatedCalls};
 
 // ---- which calls count
 

@@ -2,7 +2,7 @@ ghost use Rattle.std.specs.Prelude.{◌≡◌, Option};
 ghost use Rattle.std.specs.Option.{option_copied, option_map};
 ghost use Rattle.stated_calls.specs.Calls.{name_of, read_as};
 
-use crate::stated_call::{CallEnd, StatedCall};
+use utility_calls::{CallEnd, StatedCall};
 
 /// The name that a call which ends so is read as.
 pub(crate) fn name_of(end: CallEnd) -> &'static [u8]

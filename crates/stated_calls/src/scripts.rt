@@ -10,12 +10,11 @@ ghost use Rattle.stated_calls.specs.Scripts.{stated_script, command_read, part_r
 ghost use Rattle.stated_calls.specs.Scripts.{assign_read, case_arm_read, if_arm_read, link_read, word_read};
 
 use crate::read::{end_of, name_of};
-use crate::stated_call::{CallEnd, StatedCall};
-use crate::stated_calls::StatedCalls;
 use script_names::{Boxed as Box, Bytes, Copied, List, Memory};
 use shell_forms::static_text;
 use shell_syntax::{Assign, CaseArm, Command, IfArm, Link, Part, Redirect, Script, Word};
 use std::alloc::Global;
+use utility_calls::{CallEnd, StatedCall, StatedCalls};
 
 // ---- which calls count
 

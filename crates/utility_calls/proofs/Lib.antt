@@ -6,3 +6,4 @@ pub mod Performed
 pub mod Above
 pub mod InDirectories
 pub mod Playing
+pub mod Adding

@@ -14,5 +14,10 @@ mod places;
 mod planned;
 mod questions;
 pub mod sights;
+mod stated_call;
+mod stated_calls;
 mod table;
 pub mod theorems;
+
+pub use stated_call::{CallEnd, StatedCall};
+pub use stated_calls::{StatedCalls, StatedFault, can_be_stated};

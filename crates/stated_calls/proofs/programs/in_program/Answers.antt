@@ -1,6 +1,6 @@
 use Rattle.std.proofs.Common.{rules, not}
 use Rattle.colis_syntax.specs.WellFormed.{is_def}
-use Rattle.stated_calls.specs.declared.stated_call.StatedCall.{StatedCall}
+use Rattle.utility_calls.specs.declared.stated_call.StatedCall.{StatedCall}
 use Rattle.stated_calls.proofs.Counting.{filter_more}
 use Rattle.stated_calls.proofs.programs.in_program.Goals as goal
 

@@ -1,6 +1,6 @@
 use Rattle.std.proofs.Common.{rules, not}
 use Rattle.shell_to_colis.specs.Members.{members_of}
-use Rattle.stated_calls.specs.declared.stated_call.StatedCall.{StatedCall}
+use Rattle.utility_calls.specs.declared.stated_call.StatedCall.{StatedCall}
 use Rattle.stated_calls.specs.Defined.{defines}
 use Rattle.stated_calls.proofs.Counting.{filter_more}
 use Rattle.stated_calls.proofs.scripts.in_script.Goals as goal

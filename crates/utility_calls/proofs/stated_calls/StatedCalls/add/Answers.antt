@@ -1,8 +1,8 @@
 use Rattle.std.proofs.Common.{◌≡◌, true, sym, ap, ◌∙◌, subst}
-use Rattle.stated_calls.specs.Names.{can_be_stated}
-use Rattle.stated_calls.specs.Calls.{is_stated, are_stated}
-use Rattle.stated_calls.proofs.Adding.{one_more}
-use Rattle.stated_calls.proofs.stated_calls.StatedCalls.add.Goals as goal
+use Rattle.utility_calls.specs.StatedNames.{can_be_stated}
+use Rattle.utility_calls.specs.StatedCalls.{is_stated, are_stated}
+use Rattle.utility_calls.proofs.Adding.{one_more}
+use Rattle.utility_calls.proofs.stated_calls.StatedCalls.add.Goals as goal
 
 pub invariant_of-self-2 : goal.invariant_of-self-2
 invariant_of-self-2 c =

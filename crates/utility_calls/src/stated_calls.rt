@@ -1,7 +1,7 @@
 ghost use Rattle.std.specs.Prelude.{◌≡◌, [], ◌∷◌, ◌++◌, IsTrue, OnOk, OnErr, IfOk};
 ghost use Rattle.std.specs.List.{list_any, list_all};
-ghost use Rattle.stated_calls.specs.Names.{is_name_byte, can_be_stated};
-ghost use Rattle.stated_calls.specs.Calls.{is_stated, are_stated, added_fault, AddGives};
+ghost use Rattle.utility_calls.specs.StatedNames.{is_name_byte, can_be_stated};
+ghost use Rattle.utility_calls.specs.StatedCalls.{is_stated, are_stated, added_fault, AddGives};
 
 use crate::stated_call::{CallEnd, StatedCall};
 use script_names::{Bytes, Copied, List, Memory, NAME_MAX, is_kept_name};
@@ -16,8 +16,8 @@ pub struct StatedCalls {
 
 impl Model for StatedCalls {
     ghost use Rattle.std.specs.Prelude.{List, IsTrue};
-    ghost use Rattle.stated_calls.specs.declared.stated_call.StatedCall.{StatedCall};
-    ghost use Rattle.stated_calls.specs.Calls.{are_stated};
+    ghost use Rattle.utility_calls.specs.declared.stated_call.StatedCall.{StatedCall};
+    ghost use Rattle.utility_calls.specs.StatedCalls.{are_stated};
 
     ghost Value = { List StatedCall };
 
@@ -44,7 +44,7 @@ impl Copied for StatedFault {
 
 impl From<Memory> for StatedFault {
     ghost use Rattle.std.specs.Prelude.{◌≡◌};
-    ghost use Rattle.stated_calls.specs.declared.stated_calls.StatedFault.TheVariants.{Memory as NoMemory};
+    ghost use Rattle.utility_calls.specs.declared.stated_calls.StatedFault.TheVariants.{Memory as NoMemory};
 
     ghost from_gives = { λ _ fault. fault ≡ NoMemory };
 

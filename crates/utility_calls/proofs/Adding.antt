@@ -1,13 +1,19 @@
 -- Stated calls with one more behind them.
-use Rattle.std.proofs.Common.{◌≡◌, Bool, true, false, not, ◌&&◌, ◌||◌, List, [], ◌∷◌, ◌++◌, refl, sym, ap, ◌∙◌}
+use Rattle.std.proofs.Common.{◌≡◌, ℕ, Bool, true, false, not, ◌&&◌, ◌||◌, List, [], ◌∷◌, ◌++◌, refl, sym, ap, ◌∙◌}
 use Rattle.std.specs.Str.{bytes_eq}
 use Rattle.std.proofs.lemmas.Bool.{and_from, and_parts}
 use Rattle.std.proofs.lemmas.Slice.Eq.{bytes_eq-Decides}
-use Rattle.shell_forms.specs.Names.{Text}
-use Rattle.stated_calls.specs.declared.stated_call.StatedCall.{StatedCall}
-use Rattle.stated_calls.specs.Names.{can_be_stated}
-use Rattle.stated_calls.specs.Calls.{is_stated, are_stated}
-use Rattle.stated_calls.proofs.Commutes.{no_left, no_right}
+use Rattle.utility_calls.specs.declared.stated_call.StatedCall.{StatedCall}
+use Rattle.utility_calls.specs.StatedNames.{can_be_stated}
+use Rattle.utility_calls.specs.StatedCalls.{is_stated, are_stated}
+
+pub no_left : (b d : Bool) → (b || d) ≡ false → b ≡ false
+no_left true d e = absurd (cc e)
+no_left false d e = refl
+
+pub no_right : (b d : Bool) → (b || d) ≡ false → d ≡ false
+no_right true d e = absurd (cc e)
+no_right false d e = e
 
 or_nothing : (b : Bool) → (b || false) ≡ b
 or_nothing true = refl
@@ -17,12 +23,12 @@ pub or_apart : (a b d : Bool) → (a || (b || d)) ≡ ((a || b) || d)
 or_apart true b d = refl
 or_apart false b d = refl
 
-stated_end : (x : Text) (calls : List StatedCall) (new : StatedCall) → is_stated (calls ++ new ∷ []) x ≡ (is_stated calls x || bytes_eq new.name x)
+stated_end : (x : List ℕ) (calls : List StatedCall) (new : StatedCall) → is_stated (calls ++ new ∷ []) x ≡ (is_stated calls x || bytes_eq new.name x)
 stated_end x [] new = or_nothing (bytes_eq new.name x)
 stated_end x (call ∷ calls) new =
     ap (λ b. bytes_eq call.name x || b) (stated_end x calls new) ∙ or_apart (bytes_eq call.name x) (is_stated calls x) (bytes_eq new.name x)
 
-other_way : (b : Bool) (x y : Text) → bytes_eq x y ≡ false → bytes_eq y x ≡ b → b ≡ false
+other_way : (b : Bool) (x y : List ℕ) → bytes_eq x y ≡ false → bytes_eq y x ≡ b → b ≡ false
 other_way true x y e h = absurd (cc (sym ((bytes_eq-Decides x y).1 (sym ((bytes_eq-Decides y x).0 h))) ∙ e))
 other_way false x y e h = refl
 
