@@ -6,7 +6,7 @@ use Rattle.std.specs.Map.{KeepsOthers}
 use Rattle.std.specs.Str.{bytes_eq}
 use Rattle.std.proofs.lemmas.List.{append-nil}
 use Rattle.package_lists.specs.FolderNames.{or_none}
-use Rattle.shell_to_colis.proofs.TextSets.{texts, key_cmp, is_key, same_key, apart, by_text}
+use Rattle.script_names.proofs.TextSets.{texts, key_cmp, is_key, same_key, apart, by_text}
 
 module _ {A : Type 0} where
   abbrev kept : BTreeMap (Vec ℕ A) (List (List ℕ)) → List ℕ → List (List ℕ)

@@ -9,4 +9,3 @@ mod Same
 pub mod SameScript
 pub mod Made
 mod DefNames
-pub mod TextSets

@@ -3,7 +3,7 @@ use Rattle.std.specs.Prelude.{if◌then◌else◌}
 use Rattle.std.specs.BTreeMap.{UpdatesBy}
 use Rattle.std.specs.Str.{bytes_eq}
 use Rattle.package_lists.specs.FolderNames.{names_at}
-use Rattle.shell_to_colis.proofs.TextSets.{texts, key_cmp}
+use Rattle.script_names.proofs.TextSets.{texts, key_cmp}
 use Rattle.package_lists.proofs.NamesBelow.{adds_name}
 use Rattle.package_lists.proofs.folder_names.FolderNames.add.Goals as goal
 

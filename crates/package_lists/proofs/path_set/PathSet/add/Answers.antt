@@ -2,7 +2,7 @@ use Rattle.std.proofs.Common.{◌≡◌, ℕ, List, subst}
 use Rattle.std.specs.Prelude.{◌||◌}
 use Rattle.std.specs.Str.{bytes_eq}
 use Rattle.package_lists.specs.PathSets.{has}
-use Rattle.shell_to_colis.proofs.TextSets.{adds}
+use Rattle.script_names.proofs.TextSets.{adds}
 use Rattle.package_lists.proofs.path_set.PathSet.add.Goals as goal
 
 pub returns-clause-ok : goal.returns-clause-ok
