@@ -4,15 +4,27 @@ use Rattle.std.specs.Prelude.{◌||◌}
 use Rattle.std.specs.BTreeSet.{BTreeSet, UpdatesBy, contains_by}
 use Rattle.std.specs.Map.{IsKeyTest, AreApart}
 use Rattle.std.specs.Set.{KeepsOthers}
-use Rattle.std.specs.Ordering.{is_eq, eq_by_cmp}
+use Rattle.std.specs.Ordering.{nat_cmp, is_eq, eq_by_cmp}
 use Rattle.std.specs.declared.cmp.Ordering.{Ordering}
+use Rattle.std.specs.declared.cmp.Ordering.TheVariants.{Less, Equal, Greater}
+use Rattle.std.specs.Cmp.Lexicographic.{slice_cmp}
 use Rattle.std.specs.FinMap.{slice_cmp-IsAntisymmetric, nat_cmp-IsAntisymmetric}
 use Rattle.std.specs.Str.{bytes_eq}
 use Rattle.std.proofs.lemmas.Map.Text.{is_eq-slice_cmp}
 use Rattle.std.proofs.lemmas.Slice.Eq.{bytes_eq-Decides}
 use Rattle.std.proofs.lemmas.Bool.{false_from_ne_true}
-use Rattle.shell_forms.proofs.Added.{equal, differ}
-pub use Rattle.shell_words.proofs.Named.{names as texts}
+
+-- the order of texts, by their bytes
+abbrev pub texts : List ℕ → List ℕ → Ordering
+texts = slice_cmp nat_cmp
+
+pub equal : (r : Ordering) → is_eq r ≡ true → r ≡ Equal
+equal Less e = cc
+equal Equal e = refl
+equal Greater e = cc
+
+pub differ : true ≡ false → ⊥
+differ e = cc
 
 same_text : (q text : List ℕ) → eq_by_cmp texts q text ≡ true → q ≡ text
 same_text q text e = slice_cmp-IsAntisymmetric nat_cmp-IsAntisymmetric q text (equal _ e)

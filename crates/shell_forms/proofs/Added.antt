@@ -4,13 +4,13 @@ use Rattle.std.specs.BTreeMap.{BTreeMap, UpdatesBy}
 use Rattle.std.specs.Map.{lookup, KeepsOthers, IsKeyTest, AreApart}
 use Rattle.std.specs.Ordering.{nat_cmp, is_eq, eq_by_cmp}
 use Rattle.std.specs.declared.cmp.Ordering.{Ordering}
-use Rattle.std.specs.declared.cmp.Ordering.TheVariants.{Less, Equal, Greater}
 use Rattle.std.specs.Cmp.Lexicographic.{slice_cmp}
 use Rattle.std.specs.FinMap.{slice_cmp-IsAntisymmetric, nat_cmp-IsAntisymmetric}
 use Rattle.std.specs.Str.{bytes_eq}
 use Rattle.std.proofs.lemmas.Map.Text.{is_eq-slice_cmp}
 use Rattle.std.proofs.lemmas.Slice.Eq.{bytes_eq-Decides}
 use Rattle.std.proofs.lemmas.Bool.{leb-true, leb-false, false_from_ne_true}
+use Rattle.script_names.proofs.TextSets.{equal, differ}
 use Rattle.shell_forms.specs.Names.{Text}
 use Rattle.shell_forms.specs.Functions.{lesser}
 use Rattle.shell_forms.specs.Known.{has_name, is_at_most}
@@ -19,16 +19,8 @@ use Rattle.shell_forms.proofs.Known.{Adds, lesser-none}
 abbrev pub names : Text → Text → Ordering
 names = slice_cmp nat_cmp
 
-pub equal : (r : Ordering) → is_eq r ≡ true → r ≡ Equal
-equal Less e = cc
-equal Equal e = refl
-equal Greater e = cc
-
 same_name : (q name : Text) → eq_by_cmp names q name ≡ true → q ≡ name
 same_name q name e = slice_cmp-IsAntisymmetric nat_cmp-IsAntisymmetric q name (equal _ e)
-
-pub differ : true ≡ false → ⊥
-differ e = cc
 
 -- two names that differ, the other way round
 other_way : (name q : Text) → bytes_eq name q ≡ false → bytes_eq q name ≡ false

@@ -5,7 +5,7 @@ use Rattle.std.specs.List.{Contains}
 use Rattle.shell_forms.specs.Forms.{Found}
 use Rattle.shell_forms.specs.First.{rank, NotBehind, IsFirst}
 use Rattle.shell_forms.specs.Soonest.{is_sooner, soonest}
-use Rattle.shell_forms.proofs.Added.{differ}
+use Rattle.script_names.proofs.TextSets.{differ}
 
 -- ---- the order of forms
 

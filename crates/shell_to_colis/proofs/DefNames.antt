@@ -6,8 +6,7 @@ use Rattle.std.specs.Str.{bytes_eq}
 use Rattle.colis_syntax.specs.declared.def.Def.{Def}
 use Rattle.colis_syntax.specs.WellFormed.{is_def}
 use Rattle.shell_to_colis.specs.DefNames.{has_name, AreTheNames}
-use Rattle.script_names.proofs.TextSets.{key_cmp, adds}
-use Rattle.shell_words.proofs.Named.{names as texts}
+use Rattle.script_names.proofs.TextSets.{texts, key_cmp, adds}
 
 either_first : (a b c : Bool) → (a || (b || c)) ≡ (b || (a || c))
 either_first true true c = refl
