@@ -1,15 +1,16 @@
 -- The cases of a move: one for each row, and on each tree one that leads on.
-use Rattle.std.proofs.Common.{◌≡◌, ℕ, zero, suc, ◌+◌, ◌-◌, ◌<◌, ◌≤◌, ◌⊎◌, inl, inr, true, List, [], ◌∷◌, ◌++◌, length, map, take, refl, sym, ap, subst, ◌∙◌, arith}
+use Rattle.std.proofs.Common.{◌≡◌, ℕ, zero, suc, ◌+◌, ◌-◌, ◌<◌, ◌≤◌, ◌⊎◌, inl, inr, true, Option, Some, None, List, [], ◌∷◌, ◌++◌, length, map, take, refl, sym, ap, subst, ◌∙◌, arith}
 use Rattle.std.specs.List.{Contains}
 use Rattle.script_names.specs.Paths.{PathParts}
 use Rattle.feature_trees.specs.declared.value.Value.{Value}
 use Rattle.feature_trees.specs.Sound.{IsTree}
 use Rattle.utility_calls.specs.declared.acts.Act.{Act}
-use Rattle.utility_calls.specs.declared.acts.Act.TheVariants.{Exists, IsReg, IsDir, IsLink, CanRun, MakeDir, EnsureDir, RemoveDir, Remove, Touch, Symlink, Move, PlaceFile, PlaceLink, PlaceConf, Discard, DiscardDir}
+use Rattle.utility_calls.specs.declared.acts.Act.TheVariants.{Move}
 use Rattle.utility_calls.specs.declared.sights.Rule.{Rule}
 use Rattle.utility_calls.specs.Table.{rules, row_of, move_by}
 use Rattle.utility_calls.specs.Acts.{path_of, place_of, inner_name, moved, is_prefix, is_below, last_name, with_name, row, IsPerformed, link_row}
 use Rattle.utility_calls.specs.ActRows.{IsAmong}
+use Rattle.utility_calls.proofs.OneMove.{IsStillOrMove, still_or_move}
 use Rattle.tree_clauses.specs.declared.case.Case.{Case}
 use Rattle.act_cases.specs.Plans.{case_of}
 use Rattle.act_cases.specs.Tables.{link_plan, slash_plan}
@@ -144,22 +145,15 @@ module _ (a b : PathParts) (performed : IsPerformed (Move a b)) where
       }
 
 -- the cases of an act that is a move
-pub moves_are_cases : (act : Act) → HasSource (moved act) → IsPerformed act → length (path_of act).names ≤ 64 → length (place_of act) ≤ 64
-    → AreNames (path_of act).names → AreNames (place_of act) → AreNames (with_name (place_of act) (inner_name act)) → AreCases act (move_cases act)
-moves_are_cases (Move a b) h performed few_a few_b named_a named_b inside = are_move_cases a b performed few_a few_b named_a named_b inside
-moves_are_cases (Exists p) h performed few_a few_b named_a named_b inside = absurd h
-moves_are_cases (IsReg p) h performed few_a few_b named_a named_b inside = absurd h
-moves_are_cases (IsDir p) h performed few_a few_b named_a named_b inside = absurd h
-moves_are_cases (IsLink p) h performed few_a few_b named_a named_b inside = absurd h
-moves_are_cases (CanRun p) h performed few_a few_b named_a named_b inside = absurd h
-moves_are_cases (MakeDir p) h performed few_a few_b named_a named_b inside = absurd h
-moves_are_cases (EnsureDir p) h performed few_a few_b named_a named_b inside = absurd h
-moves_are_cases (RemoveDir p) h performed few_a few_b named_a named_b inside = absurd h
-moves_are_cases (Remove p force deep) h performed few_a few_b named_a named_b inside = absurd h
-moves_are_cases (Touch p) h performed few_a few_b named_a named_b inside = absurd h
-moves_are_cases (Symlink p target last force) h performed few_a few_b named_a named_b inside = absurd h
-moves_are_cases (PlaceFile p) h performed few_a few_b named_a named_b inside = absurd h
-moves_are_cases (PlaceLink p target) h performed few_a few_b named_a named_b inside = absurd h
-moves_are_cases (PlaceConf p) h performed few_a few_b named_a named_b inside = absurd h
-moves_are_cases (Discard p) h performed few_a few_b named_a named_b inside = absurd h
-moves_are_cases (DiscardDir p) h performed few_a few_b named_a named_b inside = absurd h
+
+abbrev CasesOfMove : Act → Type 0
+CasesOfMove act =
+    IsPerformed act → length (path_of act).names ≤ 64 → length (place_of act) ≤ 64 → AreNames (path_of act).names → AreNames (place_of act)
+    → AreNames (with_name (place_of act) (inner_name act)) → AreCases act (move_cases act)
+
+is_move : (act : Act) (o : Option PathParts) → HasSource o → IsStillOrMove act o → CasesOfMove act
+is_move act None h s = absurd h
+is_move act (Some a) h s = subst CasesOfMove (sym s.1) (are_move_cases a s.0)
+
+pub moves_are_cases : (act : Act) → HasSource (moved act) → CasesOfMove act
+moves_are_cases act h = is_move act (moved act) h (still_or_move act)

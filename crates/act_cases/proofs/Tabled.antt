@@ -9,7 +9,7 @@ use Rattle.utility_calls.specs.declared.sights.Effect.{Effect}
 use Rattle.utility_calls.specs.declared.sights.Effect.TheVariants.{Nothing, MakesDir, KeepsDir, MakesFile, MakesLink, LinksInside, TakesAway, Moves, MovesInside}
 use Rattle.utility_calls.specs.declared.sights.Rule.{Rule}
 use Rattle.utility_calls.specs.Table.{rules, remove_by, symlink_by}
-use Rattle.utility_calls.specs.Acts.{path_of, place_of, inner_name, is_question}
+use Rattle.utility_calls.specs.Acts.{inner_name, is_question}
 use Rattle.utility_calls.specs.ActRows.{IsAmong}
 use Rattle.act_cases.specs.Tables.{is_inner}
 use Rattle.act_cases.specs.Cases.{IsOnOnePath}
@@ -137,23 +137,3 @@ tabled (PlaceLink p target) one = (refl, refl)
 tabled (PlaceConf p) one = (refl, refl)
 tabled (Discard p) one = (refl, refl)
 tabled (DiscardDir p) one = (refl, refl)
-
--- the place that it looks at is its path
-pub place_is : (act : Act) → IsOnOnePath act → place_of act ≡ (path_of act).names
-place_is (Exists p) one = refl
-place_is (IsReg p) one = refl
-place_is (IsDir p) one = refl
-place_is (IsLink p) one = refl
-place_is (CanRun p) one = refl
-place_is (MakeDir p) one = refl
-place_is (EnsureDir p) one = refl
-place_is (RemoveDir p) one = refl
-place_is (Remove p force deep) one = refl
-place_is (Touch p) one = refl
-place_is (Symlink p target last force) one = refl
-place_is (Move a b) one = absurd (cc)
-place_is (PlaceFile p) one = refl
-place_is (PlaceLink p target) one = refl
-place_is (PlaceConf p) one = refl
-place_is (Discard p) one = refl
-place_is (DiscardDir p) one = refl

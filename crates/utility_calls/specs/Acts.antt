@@ -182,10 +182,14 @@ is_question (IsLink p) = true
 is_question (CanRun p) = true
 is_question act = false
 
+-- the names of what is moved, where something is, differ from these
+abbrev pub MovesFrom : Option PathParts → List (List ℕ) → Type 0
+MovesFrom None names = Unit {0}
+MovesFrom (Some a) names = a.names ≢ names
+
 -- the names of a move's paths differ
 abbrev pub IsMove : Act → Type 0
-IsMove (Move a b) = a.names ≢ b.names
-IsMove act = Unit {0}
+IsMove act = MovesFrom (moved act) (place_of act)
 
 -- The conditions of an act: the path of one that changes the tree has a name, and so has the second path of a move,
 -- whose names differ from those of the first.

@@ -1,8 +1,8 @@
 -- That an act meets the conditions of acts has one proof at most, so that a ghost field may say it.
-use Rattle.std.specs.Prelude.{◌≢◌, List, [], All, refl}
+use Rattle.std.specs.Prelude.{◌≢◌, ℕ, List, [], Option, Some, None, All, refl}
+use Rattle.script_names.specs.Paths.{PathParts}
 use Rattle.utility_calls.specs.declared.acts.Act.{Act}
-use Rattle.utility_calls.specs.declared.acts.Act.TheVariants as act
-use Rattle.utility_calls.specs.Acts.{IsPerformed, IsMove, path_of, place_of}
+use Rattle.utility_calls.specs.Acts.{IsPerformed, IsMove, MovesFrom, moved, path_of, place_of}
 
 -- what is refused has one proof at most
 none_once : IsProp ⊥
@@ -12,24 +12,12 @@ none_once x y = absurd x
 pub other_once : {A : Type 0} (a b : A) → IsProp (a ≢ b)
 other_once a b x y = λ i e. none_once (x e) (y e) i
 
+move_by : (o : Option PathParts) (names : List (List ℕ)) → IsProp (MovesFrom o names)
+move_by None names x y = refl
+move_by (Some a) names x y = λ i e. none_once (x e) (y e) i
+
 pub move_once : (a : Act) → IsProp (IsMove a)
-move_once (act.Move a b) x y = λ i e. none_once (x e) (y e) i
-move_once (act.Exists p) x y = refl
-move_once (act.IsReg p) x y = refl
-move_once (act.IsDir p) x y = refl
-move_once (act.IsLink p) x y = refl
-move_once (act.CanRun p) x y = refl
-move_once (act.MakeDir p) x y = refl
-move_once (act.EnsureDir p) x y = refl
-move_once (act.RemoveDir p) x y = refl
-move_once (act.Remove p force deep) x y = refl
-move_once (act.Touch p) x y = refl
-move_once (act.Symlink p target last force) x y = refl
-move_once (act.PlaceFile p) x y = refl
-move_once (act.PlaceLink p target) x y = refl
-move_once (act.PlaceConf p) x y = refl
-move_once (act.Discard p) x y = refl
-move_once (act.DiscardDir p) x y = refl
+move_once a = move_by (moved a) (place_of a)
 
 pub performed_once : (a : Act) → IsProp (IsPerformed a)
 performed_once a x y = λ i. (

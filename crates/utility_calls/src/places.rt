@@ -135,13 +135,9 @@ impl Act {
     fn moves_apart(&self) -> bool
         ensures { IsTrue result ↔ IsMove self.now }
     {
-        match self {
-            Act::Move { a, b } => !a.same_names(b),
-            Act::Exists(_) | Act::IsReg(_) | Act::IsDir(_) | Act::IsLink(_) | Act::CanRun(_) =>
-                true,
-            Act::MakeDir(_) | Act::EnsureDir(_) | Act::RemoveDir(_) | Act::Touch(_) => true,
-            Act::Remove { .. } | Act::Symlink { .. } | Act::PlaceLink { .. } => true,
-            Act::PlaceFile(_) | Act::PlaceConf(_) | Act::Discard(_) | Act::DiscardDir(_) => true,
+        match self.moved() {
+            Some(a) => !a.same_names(self.place()),
+            None => true,
         }
     }
 
