@@ -22,6 +22,7 @@ use Rattle.shell_lexer.specs.SpelledFaults.{EndsInParam, IsOtherParam, special, 
 use Rattle.shell_lexer.proofs.Ahead.{Behind, behind_then, skip_behind, stands_behind}
 use Rattle.shell_lexer.proofs.PrintedBytes.{skip_first}
 use Rattle.shell_lexer.proofs.Rests.{passed_rest, operator_rest, byte_rest, piece_rest, all_rest, double_rest, run_rest, inner_byte_rest, inner_piece_rest, inner_all_rest, inner_run_rest}
+use Rattle.shell_lexer.proofs.SpelledBytes.{byte_front}
 use Rattle.shell_lexer.proofs.SpelledCases.{none_some, some_same}
 use Rattle.shell_lexer.proofs.SpelledFaults.{bad_is, nul_is}
 use Rattle.shell_lexer.proofs.SpelledParts.{look_seen, inner_seen}
@@ -220,7 +221,7 @@ plain_stands {run = run} {text = text} (word_ends h e) = subst (PlainStands text
   by : (bytes : Bytes) → is_plainly bytes [] ≡ true → (end : Bytes) × Stands bytes text end
   by [] e = (text, refl)
   by (c ∷ bytes) e = absurd (false≢true e)
-plain_stands {len = len} {text = text} (word_byte b t q1 h x e) = subst (PlainStands text) (sym e) (byte_plain text t b (offset len text) q1 (look_seen len text (Byte b t) h) (plain_stands x))
+plain_stands {len = len} {text = text} (word_byte b t q1 h x e) = subst (PlainStands text) (sym e) (byte_plain text t b (offset len text) q1 (byte_front b text t (look_seen len text (Byte b t) h)) (plain_stands x))
 plain_stands {run = run} {text = text} (word_piece p t q1 h x e) = subst (PlainStands text) (sym e) (other_plain text (plain_run run ++ p ∷ []) (note.Gap ∷ []) q1 (λ c bytes ns. refl))
 plain_stands {len = len} {run = run} {text = text} (word_all t q1 h x e) =
     subst (PlainStands text) (sym e) (other_plain text (plain_run run ++ part.All ∷ []) (note.All (offset len text) false ∷ []) q1 (λ c bytes ns. refl))
@@ -284,7 +285,7 @@ module _ (whole : Bytes) where
     word_placed : {deep : ℕ → Bool} {depth : ℕ} {run text : Bytes} {q : Out Read} → Behind whole text → IsWord deep (length whole) depth run text q → WordPlaced q
     word_placed g (word_ends h e) = subst WordPlaced (sym e) tt
     word_placed {text = text} g (word_byte b t q1 h x e) =
-        subst WordPlaced (sym e) (grown_placed [] (note.Plain b (offset (length whole) text) ∷ []) q1 (placed b [] whole text t g (t, look_seen (length whole) text (Byte b t) h, refl), tt)
+        subst WordPlaced (sym e) (grown_placed [] (note.Plain b (offset (length whole) text) ∷ []) q1 (placed b [] whole text t g (t, byte_front b text t (look_seen (length whole) text (Byte b t) h), refl), tt)
         (word_placed (behind_then whole text t g (byte_rest (length whole) text b t h)) x))
     word_placed {run = run} {text = text} g (word_piece p t q1 h x e) =
         subst WordPlaced (sym e) (grown_placed (plain_run run ++ p ∷ []) (note.Gap ∷ []) q1 (tt, tt) (word_placed (behind_then whole text t g (piece_rest (length whole) text p t h)) x))

@@ -2,6 +2,7 @@ mod Ahead
 mod AnyOffset
 mod BeforeNewline
 mod Begun
+mod BytesSeen
 mod Causes
 mod Cells
 pub mod CutOnce
@@ -24,6 +25,7 @@ mod Quotes
 mod Rests
 mod Skips
 mod SoFar
+mod SpelledBytes
 pub mod SpelledCases
 mod SpelledEnds
 mod SpelledFaults

@@ -7,6 +7,7 @@ use Rattle.shell_lexer.specs.Parts.{Byte, Piece, AllArgs, DoubleQuote, Substitut
 use Rattle.shell_lexer.specs.Text.{Bytes}
 use Rattle.shell_lexer.proofs.Ahead.{Behind, ahead_behind, operator_ahead, piece_ahead, stands_ahead}
 use Rattle.shell_lexer.proofs.SpelledOperators.{operator_seen}
+use Rattle.shell_lexer.proofs.SpelledBytes.{byte_ahead}
 use Rattle.shell_lexer.proofs.SpelledParts.{look_seen, inner_seen}
 use Rattle.shell_lexer.proofs.Tiles.{fits, passed_ahead}
 
@@ -18,7 +19,7 @@ module _ (len : ℕ) (text : Bytes) where
   operator_rest s t h = ahead_behind text t (operator_ahead s text t (operator_seen len text t s h))
 
   pub byte_rest : (c : ℕ) (t : Bytes) → look len text ≡ Byte c t → Behind text t
-  byte_rest c t h = ahead_behind text t (c, [], look_seen len text (Byte c t) h)
+  byte_rest c t h = ahead_behind text t (byte_ahead false c text t (look_seen len text (Byte c t) h))
 
   pub piece_rest : (p : RawPart) (t : Bytes) → look len text ≡ Piece p t → Behind text t
   piece_rest p t h = ahead_behind text t (piece_ahead false p text t (look_seen len text (Piece p t) h))
@@ -33,7 +34,7 @@ module _ (len : ℕ) (text : Bytes) where
   run_rest t h = ahead_behind text t (stands_ahead 36 (40 ∷ []) text t (look_seen len text (Substitution t) h).stands)
 
   pub inner_byte_rest : (c : ℕ) (t : Bytes) → inner len text ≡ Byte c t → Behind text t
-  inner_byte_rest c t h = ahead_behind text t (inner_seen len text (Byte c t) h)
+  inner_byte_rest c t h = ahead_behind text t (byte_ahead true c text t (inner_seen len text (Byte c t) h))
 
   pub inner_piece_rest : (p : RawPart) (t : Bytes) → inner len text ≡ Piece p t → Behind text t
   inner_piece_rest p t h = ahead_behind text t (piece_ahead true p text t (inner_seen len text (Piece p t) h))

@@ -39,12 +39,12 @@ head_among P b ([] ∷ texts) h e = head_among P b texts h e
 head_among P b ((a ∷ bytes) ∷ texts) h e =
     or_case (nat_eq a b) (list_any (head_is b) texts) e (λ is. subst P (eqb-true a b is) h.0) (λ more. head_among P b texts h.1 more)
 
-operator_ends : (b : ℕ) → begins_operator b ≡ true → is_word_end (kind b) ≡ true
+pub operator_ends : (b : ℕ) → begins_operator b ≡ true → is_word_end (kind b) ≡ true
 operator_ends b e =
     head_among (λ b. is_word_end (kind b) ≡ true) b operators
     (refl, (refl, (refl, (refl, (refl, (refl, (refl, (refl, (refl, (refl, (refl, (refl, (refl, (refl, (refl, (refl, (refl, (refl, tt)))))))))))))))))) e
 
-blank_ends : (b : ℕ) → is_blank b ≡ true → is_word_end (kind b) ≡ true
+pub blank_ends : (b : ℕ) → is_blank b ≡ true → is_word_end (kind b) ≡ true
 blank_ends b e = ap is_word_end (cond-true (is_blank b) k.Blank _ e)
 
 -- ---- what is spelled is seen

@@ -20,7 +20,7 @@ use Rattle.shell_lexer.specs.SpelledEnds.{AtTextEnd}
 use Rattle.shell_lexer.specs.SpelledFaults.{IsKey, name as by_name, number as by_number, IsBegun, nothing, key as key_begun, colon, default as with_default, count as by_count, EndsInParam, IsOtherParam, special, before_quote as before_a_quote, braced as in_braces, IsNoParam, IsBad, open_quote, open_parameter, backquote, arithmetic, parameter, IsFirstNul}
 use Rattle.shell_lexer.specs.SpelledLine.{IsFirstLine}
 use Rattle.shell_lexer.specs.SpelledParts.{is_default, IsParam}
-use Rattle.shell_lexer.proofs.SpelledCases.{or_case, none_some, some_same}
+use Rattle.shell_lexer.proofs.SpelledCases.{none_some, some_same, one_among}
 use Rattle.shell_lexer.proofs.SpelledFronts.{head_of}
 use Rattle.shell_lexer.proofs.SpelledLine.{line_is, line_accepted}
 use Rattle.shell_lexer.proofs.SpelledParts.{name_key, digit_key, IsSeen, IsBadSeen, bad, in_braces as seen_in_braces, look_seen, inner_seen, look_piece, inner_piece}
@@ -35,7 +35,7 @@ eyes false = look
 eyes true = inner
 
 -- behind `$` the table of dollars is asked
-eyes_dollar : (inside : Bool) (len : ℕ) (text behind : Bytes) → skip text ≡ 36 ∷ behind → eyes inside len text ≡ dollar inside (offset len text) behind (skip behind)
+pub eyes_dollar : (inside : Bool) (len : ℕ) (text behind : Bytes) → skip text ≡ 36 ∷ behind → eyes inside len text ≡ dollar inside (offset len text) behind (skip behind)
 eyes_dollar false len text behind e = ap (λ t. look_at (place len t) t) e ∙ ap (λ t. dollar false (place len t) behind (skip behind)) (sym e)
 eyes_dollar true len text behind e = ap (λ t. inner_at (place len t) t) e ∙ ap (λ t. dollar true (place len t) behind (skip behind)) (sym e)
 
@@ -82,15 +82,6 @@ ends_in_param inside len text h =
     let s = h.stands in
     eyes_dollar inside len text s.0 s.1 ∙ ap (dollar inside (offset len text) s.0) s.2.1
     ∙ begun_braced inside (offset len text) h.begun s.2.0 h.rest h.is_begun s.2.2 h.ends
-
--- what holds of each of some bytes
-abbrev Each : (ℕ → Type 0) → Bytes → Type 0
-Each P [] = Unit {0}
-Each P (b ∷ bytes) = P b × Each P bytes
-
-one_among : (P : ℕ → Type 0) (b : ℕ) (bytes : Bytes) → Each P bytes → list_any (nat_eq b) bytes ≡ true → P b
-one_among P b [] h e = absurd (false≢true e)
-one_among P b (a ∷ bytes) h e = or_case (nat_eq b a) (list_any (nat_eq b) bytes) e (λ is. subst P (sym (eqb-true b a is)) h.0) (λ more. one_among P b bytes h.1 more)
 
 -- behind `$`, a byte before which no supported form begins
 abbrev IsBadDollar : Bool → ℕ → Type 0

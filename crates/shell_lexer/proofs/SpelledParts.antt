@@ -17,11 +17,12 @@ use Rattle.shell_lexer.specs.Text.{Bytes, kind, skip, place, offset, tail, head_
 use Rattle.shell_lexer.specs.Parts.{Look, Ends, Byte, Piece, AllArgs, DoubleQuote, Substitution, Bad, bad_param, closed, behind_colon, behind_key, braced_by, braced, parenthesis, before_quote, dollar_by, dollar, has_quote, quote_body, behind_quote, look_by, look_at, look, is_escapable, inner_escaped, inner_by, inner_at, inner}
 use Rattle.shell_lexer.specs.Spelling.{Stands, begins}
 use Rattle.shell_lexer.specs.SpelledParts.{is_variable, is_default, IsDigitOf, IsParam, name as by_name, name_braced, name_default, number as by_number, number_braced, number_default, count, count_braced, IsQuoted, single, escaped, IsPiece, IsSubstitution}
+use Rattle.shell_lexer.specs.SpelledBytes.{begins_expansion, IsByte, ordinary, dollar as byte_dollar, last as byte_last, backslash as byte_backslash, escaped as byte_escaped}
 use Rattle.shell_lexer.specs.SpelledEnds.{AtTextEnd, IsWordEnd, text_ends}
 use Rattle.shell_lexer.specs.SpelledFaults.{IsKey, name as name_key_is, number as number_key_is, IsBegun, nothing, key as key_begun, colon, default as with_default, count as begun_count, EndsInParam, special, before_quote as before_a_quote, IsBad, open_quote, open_parameter, backquote, arithmetic, parameter}
+use Rattle.shell_lexer.proofs.SpelledBytes.{kind_escaped, not_escaped, no_meaning, is_expansion, no_expansion}
 use Rattle.shell_lexer.proofs.SpelledEnds.{is_end}
 use Rattle.shell_lexer.proofs.SpelledKinds.{KindOf, kind_of, digit_kind, letter_kind}
-use Rattle.shell_lexer.proofs.Ahead.{Ahead}
 use Rattle.shell_lexer.proofs.SpelledRuns.{skip_again, stands_then, stands_parts, stands_skip, skip_stands, IsRun, run_is, behind_is, run_stands}
 use Rattle.shell_lexer.proofs.SpelledFronts.{head_back, is_not, not_next}
 use Rattle.shell_lexer.proofs.SpelledCases.{or_case}
@@ -30,7 +31,7 @@ use Rattle.std.proofs.lemmas.Bool.{and_from, and_parts, cond-false, cond-true, c
 
 -- ---- bytes of names
 
-letter_passes : (b : ℕ) → is_letter b ≡ true → is_name_byte b ≡ true
+pub letter_passes : (b : ℕ) → is_letter b ≡ true → is_name_byte b ≡ true
 letter_passes b e = by (is_letter b) e where
   by : (it : Bool) → it ≡ true → (it || is_digit b) ≡ true
   by true e = refl
@@ -208,22 +209,13 @@ pub data IsBadSeen (inside : Bool) (at : ℕ) (text : Bytes) : LexFault → Type
   bad : {fault : LexFault} → IsBad inside at text fault → IsBadSeen inside at text fault
   in_braces : {rest : Bytes} → Stands (codes "${") text rest → IsBadSeen inside at text (Unsupported form.Param at)
 
--- a byte that stands for itself; in double quotes perhaps behind a backslash
-abbrev IsByteSeen : Bool → ℕ → Bytes → Bytes → Type 0
-IsByteSeen true b rest text = Ahead text rest
-IsByteSeen false b rest text = skip text ≡ b ∷ rest
-
-byte_seen : (inside : Bool) (b : ℕ) (rest text : Bytes) → skip text ≡ b ∷ rest → IsByteSeen inside b rest text
-byte_seen true b rest text e = (b, [], e)
-byte_seen false b rest text e = e
-
 -- what is seen says what stands
 abbrev pub IsSeen : Bool → ℕ → Look → Bytes → Type 0
 IsSeen inside at (Piece it rest) text = IsPiece inside it text rest
 IsSeen inside at (AllArgs rest) text = Stands (codes "$@") text rest
 IsSeen inside at (Substitution rest) text = IsSubstitution text rest
 IsSeen inside at (DoubleQuote rest) text = Stands (codes "\"") text rest
-IsSeen inside at (Byte b rest) text = IsByteSeen inside b rest text
+IsSeen inside at (Byte b rest) text = IsByte inside text b rest
 IsSeen inside at Ends text = IsEndSeen inside text
 IsSeen inside at (Bad fault) text = IsBadSeen inside at text fault
 
@@ -337,10 +329,14 @@ braced_seen : (quoted : Bool) (at : ℕ) (text from t : Bytes) → IsOpened text
 braced_seen quoted at text from [] o e = bad (open_parameter (opened_ends text from [] from o nothing refl e))
 braced_seen quoted at text from (b ∷ more) o e = braced_by_seen quoted at b text from more (kind b) o e (kind_of b)
 
-quote_byte : (quoted : Bool) (at b : ℕ) (behind more text : Bytes) → skip text ≡ 36 ∷ behind → skip behind ≡ b ∷ more → list_any (nat_eq b) (codes "'\"") ≡ true
-    → IsSeen quoted at (before_quote quoted at behind) text
-quote_byte true at b behind more text d e is = (36, [], d)
-quote_byte false at b behind more text d e is = bad (parameter (before_a_quote refl is (behind, d, (more, e, refl))))
+-- a `$` before a byte with which it begins nothing
+dollar_itself : (inside : Bool) (b : ℕ) (text behind more : Bytes) (it : ByteKind) → skip text ≡ 36 ∷ behind → skip behind ≡ b ∷ more → kind b ≡ it → is_expansion inside it ≡ false → IsByte inside text 36 behind
+dollar_itself inside b text behind more it d e same none = byte_dollar (behind, d, refl) (ap (begins (begins_expansion inside)) e ∙ no_expansion inside b it same none)
+
+quote_byte : (quoted : Bool) (at b : ℕ) (behind more text : Bytes) (it : ByteKind) → skip text ≡ 36 ∷ behind → skip behind ≡ b ∷ more → list_any (nat_eq b) (codes "'\"") ≡ true
+    → kind b ≡ it → is_expansion true it ≡ false → IsSeen quoted at (before_quote quoted at behind) text
+quote_byte true at b behind more text it d e is same none = dollar_itself true b text behind more it d e same none
+quote_byte false at b behind more text it d e is same none = bad (parameter (before_a_quote refl is (behind, d, (more, e, refl))))
 
 -- a special parameter that is not supported
 special_seen : (quoted : Bool) (at b : ℕ) (text behind more : Bytes) → skip text ≡ 36 ∷ behind → skip behind ≡ b ∷ more → list_any (nat_eq b) (codes "*?-$!0") ≡ true → IsSeen quoted at (bad_param at) text
@@ -353,28 +349,28 @@ special_byte b e =
       one : (c : ℕ) → list_any (nat_eq c) (codes "*?-$!0") ≡ true → nat_eq b c ≡ true → list_any (nat_eq b) (codes "*?-$!0") ≡ true
       one c h is = ap (λ b. list_any (nat_eq b) (codes "*?-$!0")) (eqb-true b c is) ∙ h
 
-dollar_by_seen : (quoted : Bool) (at b : ℕ) (text behind more : Bytes) (it : ByteKind) → skip text ≡ 36 ∷ behind → skip behind ≡ b ∷ more → KindOf b it → IsSeen quoted at (dollar_by quoted at behind b it more) text
-dollar_by_seen quoted at b text after more k.Open d e is =
+dollar_by_seen : (quoted : Bool) (at b : ℕ) (text behind more : Bytes) (it : ByteKind) → skip text ≡ 36 ∷ behind → skip behind ≡ b ∷ more → KindOf b it → kind b ≡ it → IsSeen quoted at (dollar_by quoted at behind b it more) text
+dollar_by_seen quoted at b text after more k.Open d e is same =
     let first = e ∙ ap (λ b. b ∷ more) is in
     cond_both (head_is 40 (skip more)) _ (Substitution more) (λ l. IsSeen quoted at l text) (λ two. bad (arithmetic (after, d, (more, first, (tail (skip more), head_back 40 (skip more) two, refl)))))
     (λ one. record { stands = (after, d, (more, first, refl)); single = not_next 40 more refl one })
-dollar_by_seen quoted at b text after more k.Brace d e is = braced_seen quoted at text more (skip more) (record { behind = after; is = d; brace = e ∙ ap (λ b. b ∷ more) is }) refl
-dollar_by_seen quoted at b text after more k.Name d e is = let n = name_stands b more after e is in (refl, by_name n.0 (after, d, n.1) n.2)
-dollar_by_seen quoted at b text after more k.Digit d e is =
+dollar_by_seen quoted at b text after more k.Brace d e is same = braced_seen quoted at text more (skip more) (record { behind = after; is = d; brace = e ∙ ap (λ b. b ∷ more) is }) refl
+dollar_by_seen quoted at b text after more k.Name d e is same = let n = name_stands b more after e is in (refl, by_name n.0 (after, d, n.1) n.2)
+dollar_by_seen quoted at b text after more k.Digit d e is same =
     cond_both (nat_eq b 48) (bad_param at) (Piece (part.Param (Arg (b - 48)) None quoted) more) (λ l. IsSeen quoted at l text)
     (λ zero'. special_seen quoted at b text after more d e (ap (λ b. list_any (nat_eq b) (codes "*?-$!0")) (eqb-true b 48 zero')))
     (λ other. (refl, by_number (digit_of b is other) (after, d, (more, e, refl))))
-dollar_by_seen quoted at b text after more k.Hash d e is = (refl, count (after, d, (more, e ∙ ap (λ b. b ∷ more) is, refl)))
-dollar_by_seen quoted at b text after more k.At d e is = (after, d, (more, e ∙ ap (λ b. b ∷ more) is, refl))
-dollar_by_seen quoted at b text after more k.Single d e is = quote_byte quoted at b after more text d e (ap (λ b. list_any (nat_eq b) (codes "'\"")) is)
-dollar_by_seen quoted at b text after more k.Double d e is = quote_byte quoted at b after more text d e (ap (λ b. list_any (nat_eq b) (codes "'\"")) is)
-dollar_by_seen quoted at b text after more k.Special d e is = special_seen quoted at b text after more d e (special_byte b is)
-dollar_by_seen quoted at b text after more k.Dollar d e is = special_seen quoted at b text after more d e (ap (λ b. list_any (nat_eq b) (codes "*?-$!0")) is)
-dollar_by_seen quoted at b text after more _ d e is = byte_seen quoted 36 after text d
+dollar_by_seen quoted at b text after more k.Hash d e is same = (refl, count (after, d, (more, e ∙ ap (λ b. b ∷ more) is, refl)))
+dollar_by_seen quoted at b text after more k.At d e is same = (after, d, (more, e ∙ ap (λ b. b ∷ more) is, refl))
+dollar_by_seen quoted at b text after more k.Single d e is same = quote_byte quoted at b after more text k.Single d e (ap (λ b. list_any (nat_eq b) (codes "'\"")) is) same refl
+dollar_by_seen quoted at b text after more k.Double d e is same = quote_byte quoted at b after more text k.Double d e (ap (λ b. list_any (nat_eq b) (codes "'\"")) is) same refl
+dollar_by_seen quoted at b text after more k.Special d e is same = special_seen quoted at b text after more d e (special_byte b is)
+dollar_by_seen quoted at b text after more k.Dollar d e is same = special_seen quoted at b text after more d e (ap (λ b. list_any (nat_eq b) (codes "*?-$!0")) is)
+dollar_by_seen quoted at b text after more it d e is same = dollar_itself quoted b text after more it d e same refl
 
 dollar_seen : (quoted : Bool) (at : ℕ) (text behind t : Bytes) → skip text ≡ 36 ∷ behind → skip behind ≡ t → IsSeen quoted at (dollar quoted at behind t) text
-dollar_seen quoted at text after [] d e = byte_seen quoted 36 after text d
-dollar_seen quoted at text after (b ∷ more) d e = dollar_by_seen quoted at b text after more (kind b) d e (kind_of b)
+dollar_seen quoted at text after [] d e = byte_dollar (after, d, refl) (ap (begins (begins_expansion quoted)) e)
+dollar_seen quoted at text after (b ∷ more) d e = dollar_by_seen quoted at b text after more (kind b) d e (kind_of b) refl
 
 -- up to the quote
 quote_splits_by : (b : ℕ) (t : Bytes) (it : Bool) → nat_eq b 39 ≡ it → (it || has_quote t) ≡ true
@@ -397,48 +393,51 @@ no_quote : (t : Bytes) → has_quote t ≡ false → list_all (λ b. not (nat_eq
 no_quote [] e = refl
 no_quote (b ∷ t) e = no_quote_by b t (nat_eq b 39) refl e (λ h. no_quote t h)
 
-look_by_seen : (at c : ℕ) (text more : Bytes) (it : ByteKind) → skip text ≡ c ∷ more → KindOf c it → IsSeen false at (look_by at c it more) text
-look_by_seen at c text more k.Single e is =
+look_by_seen : (at c : ℕ) (text more : Bytes) (it : ByteKind) → skip text ≡ c ∷ more → KindOf c it → kind c ≡ it → IsSeen false at (look_by at c it more) text
+look_by_seen at c text more k.Single e is same =
     let quote = e ∙ ap (λ c. c ∷ more) is in
     cond_both (has_quote more) (Piece (part.Quoted (quote_body more)) (behind_quote more)) (Bad (OpenQuote at)) (λ l. IsSeen false at l text)
     (λ has. let q = quote_splits more has in (refl, single q.1 (more, quote, q.0))) (λ none. bad (open_quote refl (more, quote, refl) (no_quote more none)))
-look_by_seen at c text more k.Double e is = (more, e ∙ ap (λ c. c ∷ more) is, refl)
-look_by_seen at c text [] k.Back e is = e
-look_by_seen at c text (b ∷ more) k.Back e is = (refl, escaped (b ∷ more, e ∙ ap (λ c. c ∷ b ∷ more) is, refl))
-look_by_seen at c text more k.Dollar e is = dollar_seen false at text more (skip more) (e ∙ ap (λ c. c ∷ more) is) refl
-look_by_seen at c text more k.Tick e is = bad (backquote (more, e ∙ ap (λ c. c ∷ more) is, refl))
-look_by_seen at c text more k.Blank e is = is_end c text more k.Blank e is refl
-look_by_seen at c text more k.Newline e is = is_end c text more k.Newline e is refl
-look_by_seen at c text more k.Semi e is = is_end c text more k.Semi e is refl
-look_by_seen at c text more k.Amp e is = is_end c text more k.Amp e is refl
-look_by_seen at c text more k.Bar e is = is_end c text more k.Bar e is refl
-look_by_seen at c text more k.Open e is = is_end c text more k.Open e is refl
-look_by_seen at c text more k.Close e is = is_end c text more k.Close e is refl
-look_by_seen at c text more k.Less e is = is_end c text more k.Less e is refl
-look_by_seen at c text more k.Greater e is = is_end c text more k.Greater e is refl
-look_by_seen at c text more _ e is = e
+look_by_seen at c text more k.Double e is same = (more, e ∙ ap (λ c. c ∷ more) is, refl)
+look_by_seen at c text [] k.Back e is same = subst (λ b. IsByte false text b []) (sym is) (byte_last ([], e ∙ ap (λ c. c ∷ []) is, refl))
+look_by_seen at c text (b ∷ more) k.Back e is same = (refl, escaped (b ∷ more, e ∙ ap (λ c. c ∷ b ∷ more) is, refl))
+look_by_seen at c text more k.Dollar e is same = dollar_seen false at text more (skip more) (e ∙ ap (λ c. c ∷ more) is) refl
+look_by_seen at c text more k.Tick e is same = bad (backquote (more, e ∙ ap (λ c. c ∷ more) is, refl))
+look_by_seen at c text more k.Blank e is same = is_end c text more k.Blank e is refl
+look_by_seen at c text more k.Newline e is same = is_end c text more k.Newline e is refl
+look_by_seen at c text more k.Semi e is same = is_end c text more k.Semi e is refl
+look_by_seen at c text more k.Amp e is same = is_end c text more k.Amp e is refl
+look_by_seen at c text more k.Bar e is same = is_end c text more k.Bar e is refl
+look_by_seen at c text more k.Open e is same = is_end c text more k.Open e is refl
+look_by_seen at c text more k.Close e is same = is_end c text more k.Close e is refl
+look_by_seen at c text more k.Less e is same = is_end c text more k.Less e is refl
+look_by_seen at c text more k.Greater e is same = is_end c text more k.Greater e is refl
+look_by_seen at c text more it e is same = ordinary (more, e, refl) (no_meaning c it same refl)
 
 look_at_seen : (at : ℕ) (text t : Bytes) → skip text ≡ t → IsSeen false at (look_at at t) text
 look_at_seen at text [] e = text_ends e
-look_at_seen at text (c ∷ more) e = look_by_seen at c text more (kind c) e (kind_of c)
+look_at_seen at text (c ∷ more) e = look_by_seen at c text more (kind c) e (kind_of c) refl
 
 pub look_seen : (len : ℕ) (text : Bytes) (it : Look) → look len text ≡ it → IsSeen false (offset len text) it text
 look_seen len text it e = subst (λ l. IsSeen false (offset len text) l text) e (look_at_seen (offset len text) text (skip text) refl)
 
-escaped_byte : (at b : ℕ) (more text : Bytes) → skip text ≡ b ∷ more → IsSeen true at (inner_escaped b more) text
-escaped_byte at b [] text e = (b, [], e)
-escaped_byte at b (c ∷ more) text e = cond_both (is_escapable (kind c)) (Byte c more) (Byte b (c ∷ more)) (λ l. IsSeen true at l text) (λ _. (b, c ∷ [], e)) (λ _. (b, [], e))
+escaped_byte : (at b : ℕ) (more text : Bytes) → skip text ≡ b ∷ more → b ≡ 92 → IsSeen true at (inner_escaped b more) text
+escaped_byte at b [] text e is = subst (λ b. IsByte true text b []) (sym is) (byte_last ([], e ∙ ap (λ b. b ∷ []) is, refl))
+escaped_byte at b (c ∷ more) text e is =
+    let stands : Stands (codes "\\") text (c ∷ more) = (c ∷ more, e ∙ ap (λ b. b ∷ c ∷ more) is, refl) in
+    cond_both (is_escapable (kind c)) (Byte c more) (Byte b (c ∷ more)) (λ l. IsSeen true at l text) (λ it. byte_escaped refl stands (kind_escaped c (kind c) (kind_of c) it))
+    (λ it. subst (λ b. IsByte true text b (c ∷ more)) (sym is) (byte_backslash refl stands (not_escaped c (kind c) refl it)))
 
-inner_by_seen : (at c : ℕ) (text more : Bytes) (it : ByteKind) → skip text ≡ c ∷ more → KindOf c it → IsSeen true at (inner_by at c it more) text
-inner_by_seen at c text more k.Double e is = (more, e ∙ ap (λ c. c ∷ more) is, refl)
-inner_by_seen at c text more k.Back e is = escaped_byte at c more text e
-inner_by_seen at c text more k.Dollar e is = dollar_seen true at text more (skip more) (e ∙ ap (λ c. c ∷ more) is) refl
-inner_by_seen at c text more k.Tick e is = bad (backquote (more, e ∙ ap (λ c. c ∷ more) is, refl))
-inner_by_seen at c text more _ e is = (c, [], e)
+inner_by_seen : (at c : ℕ) (text more : Bytes) (it : ByteKind) → skip text ≡ c ∷ more → KindOf c it → kind c ≡ it → IsSeen true at (inner_by at c it more) text
+inner_by_seen at c text more k.Double e is same = (more, e ∙ ap (λ c. c ∷ more) is, refl)
+inner_by_seen at c text more k.Back e is same = escaped_byte at c more text e is
+inner_by_seen at c text more k.Dollar e is same = dollar_seen true at text more (skip more) (e ∙ ap (λ c. c ∷ more) is) refl
+inner_by_seen at c text more k.Tick e is same = bad (backquote (more, e ∙ ap (λ c. c ∷ more) is, refl))
+inner_by_seen at c text more it e is same = ordinary (more, e, refl) (not_escaped c it same refl)
 
 inner_at_seen : (at : ℕ) (text t : Bytes) → skip text ≡ t → IsSeen true at (inner_at at t) text
 inner_at_seen at text [] e = e
-inner_at_seen at text (c ∷ more) e = inner_by_seen at c text more (kind c) e (kind_of c)
+inner_at_seen at text (c ∷ more) e = inner_by_seen at c text more (kind c) e (kind_of c) refl
 
 pub inner_seen : (len : ℕ) (text : Bytes) (it : Look) → inner len text ≡ it → IsSeen true (offset len text) it text
 inner_seen len text it e = subst (λ l. IsSeen true (offset len text) l text) e (inner_at_seen (offset len text) text (skip text) refl)

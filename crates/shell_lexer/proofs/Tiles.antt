@@ -24,6 +24,7 @@ use Rattle.shell_lexer.proofs.Begun.{begun}
 use Rattle.std.proofs.lemmas.Bool.{and_from, and_parts, cond_both, eqb-true}
 use Rattle.shell_lexer.proofs.SpelledKinds.{KindOf, kind_of}
 use Rattle.shell_lexer.proofs.SpelledOperators.{operator_seen}
+use Rattle.shell_lexer.proofs.SpelledBytes.{byte_ahead}
 use Rattle.shell_lexer.proofs.SpelledParts.{look_seen, inner_seen}
 
 -- ---- the end, blanks and comments
@@ -164,7 +165,7 @@ mutual
 
   pub word_leave : {deep : ℕ → Bool} {len depth : ℕ} {run text : Bytes} {q : Out Read} → IsWord deep len depth run text q → Leaves text q
   word_leave {deep} {len} {depth} {run} {text} {q} (word_ends h e) = subst (Leaves text) (sym e) ([], refl)
-  word_leave {deep} {len} {depth} {run} {text} {q} (word_byte b t q1 h x e) = subst (Leaves text) (sym e) (leaves_grown text t [] (note.Plain b (offset len text) ∷ []) q1 (ahead_behind text t (b, [], look_seen len text (Byte b t) h)) (word_leave x))
+  word_leave {deep} {len} {depth} {run} {text} {q} (word_byte b t q1 h x e) = subst (Leaves text) (sym e) (leaves_grown text t [] (note.Plain b (offset len text) ∷ []) q1 (ahead_behind text t (byte_ahead false b text t (look_seen len text (Byte b t) h))) (word_leave x))
   word_leave {deep} {len} {depth} {run} {text} {q} (word_piece p t q1 h x e) = subst (Leaves text) (sym e) (leaves_grown text t (plain_run run ++ p ∷ []) (note.Gap ∷ []) q1 (ahead_behind text t (piece_ahead false p text t (look_seen len text (Piece p t) h))) (word_leave x))
   word_leave {deep} {len} {depth} {run} {text} {q} (word_all t q1 h x e) =
       subst (Leaves text) (sym e) (leaves_grown text t (plain_run run ++ part.All ∷ []) (note.All (offset len text) false ∷ []) q1 (ahead_behind text t (stands_ahead 36 (64 ∷ []) text t (look_seen len text (AllArgs t) h))) (word_leave x))
@@ -180,7 +181,7 @@ mutual
   pub inner_leave : {deep : ℕ → Bool} {len depth from : ℕ} {fresh : Bool} {run text : Bytes} {q : Out Read} → IsInner deep len depth from fresh run text q → Leaves text q
   inner_leave {deep} {len} {depth} {from} {fresh} {run} {text} {q} (inner_open h e) = subst (Leaves text) (sym e) tt
   inner_leave {deep} {len} {depth} {from} {fresh} {run} {text} {q} (inner_ends t h e) = subst (Leaves text) (sym e) (ahead_behind text t (stands_ahead 34 [] text t (inner_seen len text (DoubleQuote t) h)))
-  inner_leave {deep} {len} {depth} {from} {fresh} {run} {text} {q} (inner_byte b t q1 h x e) = subst (Leaves text) (sym e) (leaves_grown text t [] (note.Gap ∷ []) q1 (ahead_behind text t (inner_seen len text (Byte b t) h)) (inner_leave x))
+  inner_leave {deep} {len} {depth} {from} {fresh} {run} {text} {q} (inner_byte b t q1 h x e) = subst (Leaves text) (sym e) (leaves_grown text t [] (note.Gap ∷ []) q1 (ahead_behind text t (byte_ahead true b text t (inner_seen len text (Byte b t) h))) (inner_leave x))
   inner_leave {deep} {len} {depth} {from} {fresh} {run} {text} {q} (inner_piece p t q1 h x e) =
       subst (Leaves text) (sym e) (leaves_grown text t (quoted_run run ++ p ∷ []) (note.Gap ∷ []) q1 (ahead_behind text t (piece_ahead true p text t (inner_seen len text (Piece p t) h))) (inner_leave x))
   inner_leave {deep} {len} {depth} {from} {fresh} {run} {text} {q} (inner_all t q1 h x e) =
@@ -198,7 +199,7 @@ mutual
 -- a word that isn't at its end has a byte
 word_ahead : {deep : ℕ → Bool} {len depth : ℕ} {run text : Bytes} {q : Out Read} → IsWord deep len depth run text q → (look len text ≡ Ends → ⊥) → LeavesAhead text q
 word_ahead {deep} {len} {depth} {run} {text} {q} (word_ends h e) n = absurd (n h)
-word_ahead {deep} {len} {depth} {run} {text} {q} (word_byte b t q1 h x e) n = subst (LeavesAhead text) (sym e) (ahead_grown text t [] (note.Plain b (offset len text) ∷ []) q1 (b, [], look_seen len text (Byte b t) h) (word_leave x))
+word_ahead {deep} {len} {depth} {run} {text} {q} (word_byte b t q1 h x e) n = subst (LeavesAhead text) (sym e) (ahead_grown text t [] (note.Plain b (offset len text) ∷ []) q1 (byte_ahead false b text t (look_seen len text (Byte b t) h)) (word_leave x))
 word_ahead {deep} {len} {depth} {run} {text} {q} (word_piece p t q1 h x e) n = subst (LeavesAhead text) (sym e) (ahead_grown text t (plain_run run ++ p ∷ []) (note.Gap ∷ []) q1 (piece_ahead false p text t (look_seen len text (Piece p t) h)) (word_leave x))
 word_ahead {deep} {len} {depth} {run} {text} {q} (word_all t q1 h x e) n =
     subst (LeavesAhead text) (sym e) (ahead_grown text t (plain_run run ++ part.All ∷ []) (note.All (offset len text) false ∷ []) q1 (stands_ahead 36 (64 ∷ []) text t (look_seen len text (AllArgs t) h)) (word_leave x))

@@ -23,7 +23,8 @@ use Rattle.shell_lexer.specs.FirstLine.{behind_line, interpreter, nul_of}
 use Rattle.shell_lexer.specs.Lexed.{CutBy, Cut, CutAtAnyDepth, Faulty}
 use Rattle.shell_lexer.specs.Moved.{AreMoved}
 use Rattle.shell_lexer.specs.Operators.{End, Operator, Wrong, sight}
-use Rattle.shell_lexer.specs.Parts.{Look, Ends, AllArgs, DoubleQuote, Piece, Substitution, Bad}
+use Rattle.shell_lexer.specs.SpelledBytes.{IsByte}
+use Rattle.shell_lexer.specs.Parts.{Look, Ends, Byte, AllArgs, DoubleQuote, Piece, Substitution, Bad}
 use Rattle.shell_lexer.specs.SpelledEnds.{AtTextEnd, IsWordEnd}
 use Rattle.shell_lexer.specs.SpelledFaults.{IsWrong, IsBad, IsFirstNul, FaultStands}
 use Rattle.shell_lexer.specs.SpelledLine.{IsFirstLine}
@@ -182,6 +183,11 @@ SubstitutionsAreSpelled sees =
 abbrev pub DoubleQuotesAreSpelled : (ℕ → Bytes → Look) → Type 0
 DoubleQuotesAreSpelled sees =
     (len : ℕ) (text rest : Bytes) → (sees len text ≡ DoubleQuote rest) ↔ Stands (codes "\"") text rest
+
+-- what the table sees in a word, or in double quotes, is a byte that stands for itself exactly where one is spelled
+abbrev pub BytesAreSpelled : (ℕ → Bytes → Look) → Bool → Type 0
+BytesAreSpelled sees inside =
+    (len : ℕ) (text rest : Bytes) (byte : ℕ) → (sees len text ≡ Byte byte rest) ↔ IsByte inside text byte rest
 
 -- a first line is accepted, with `-e` or without, exactly where it is spelled as one
 abbrev pub FirstLinesAreSpelled : Type 0

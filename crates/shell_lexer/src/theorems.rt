@@ -1,6 +1,5 @@
 //! What holds of cuts, for the layers above; and that what is seen in a text is what is spelled there, so that the
-//! tables of specs/ can be read by the standard: specs/Spelling.antt, specs/SpelledParts.antt, specs/SpelledEnds.antt,
-//! specs/SpelledFaults.antt and specs/SpelledLine.antt.
+//! tables of specs/ can be read by the standard: specs/Spelling.antt and the files Spelled.. of specs/.
 
 ghost use Rattle.std.specs.Prelude.{false, true};
 ghost use Rattle.shell_lexer.specs.Laws.{OneCut, OneCutAtAnyDepth, CutsWithinLimit, OnlyDeepIsRefused};
@@ -10,7 +9,7 @@ ghost use Rattle.shell_lexer.specs.Laws.{QuotesAreOnePart, QuotesAreCut};
 ghost use Rattle.shell_lexer.specs.Laws.{PlainRunsAreLongest, QuotedRunsAreLongest};
 ghost use Rattle.shell_lexer.specs.Laws.{OperatorsAreLongest, RedirectionsAreSpelled, FirstLinesAreSpelled};
 ghost use Rattle.shell_lexer.specs.Laws.{PartsAreSpelled, AllArgsAreSpelled, SubstitutionsAreSpelled};
-ghost use Rattle.shell_lexer.specs.Laws.{DoubleQuotesAreSpelled};
+ghost use Rattle.shell_lexer.specs.Laws.{DoubleQuotesAreSpelled, BytesAreSpelled};
 ghost use Rattle.shell_lexer.specs.Laws.{EndsAreSpelled, RedirectedWordsEnd, TokensEnd};
 ghost use Rattle.shell_lexer.specs.Laws.{FaultsAreSpelled, WrongFormsAreSpelled, NulsAreSpelled};
 ghost use Rattle.shell_lexer.specs.Laws.{OtherFirstLinesAreRefused, FaultsStand};
@@ -91,6 +90,15 @@ pub fn openings_are_spelled()
     ensures substitution_inside { SubstitutionsAreSpelled inner }
     ensures double_quote { DoubleQuotesAreSpelled look }
     ensures double_quote_inside { DoubleQuotesAreSpelled inner }
+{}
+
+/// A byte of a word stands for itself exactly where it has no other meaning there (XCU 2.2 Quoting, 2.6 Word Expansions).
+/// Outside double quotes: a byte that no word ends before and that is no quote, backslash, backquote or `$`. In them: any
+/// byte but `"`, `$`, a backquote and a backslash, and these behind a backslash. A `$` that begins nothing, and a
+/// backslash that escapes nothing, stand for themselves.
+pub fn bytes_are_spelled()
+    ensures outside { BytesAreSpelled look false }
+    ensures inside { BytesAreSpelled inner true }
 {}
 
 /// A word ends exactly at the text's end, before a blank, and before a byte that can be the first of an operator (XCU
