@@ -5,7 +5,6 @@ use Rattle.std.specs.Option.{is_some, option_map, option_and_then, unwrap_or}
 use Rattle.std.specs.Str.{bytes_eq}
 use Rattle.std.proofs.lemmas.Slice.Eq.{bytes_eq-Decides}
 use Rattle.dpkg_scenarios.specs.declared.scenario.Scenario.{Scenario}
-use Rattle.dpkg_scenarios.specs.declared.scenario.Scenario.TheVariants as scenario
 use Rattle.command_words.specs.declared.field.Command.{Command}
 use Rattle.command_words.specs.declared.field.Command.TheVariants as command
 use Rattle.command_words.specs.declared.field.Field.{Field}
@@ -19,13 +18,13 @@ use Rattle.command_words.specs.declared.request.Request.TheVariants.{Check, Run,
 use Rattle.command_words.specs.declared.limits.TheConstants.{MOST_LOAD, MOST_TURNS, MOST_LIMIT}
 use Rattle.command_words.specs.declared.limits.TheConstants.{USUAL_TURNS, USUAL_LIMIT}
 use Rattle.command_words.specs.Fields.{takes, texts, first, given, is_field, command_name}
+use Rattle.dpkg_scenarios.proofs.Named.{names_scenario, scenario_read}
 use Rattle.dpkg_scenarios.specs.Names.{scenario_name, scenario_named}
 use Rattle.command_words.specs.Values.{number_in, is_value}
 use Rattle.command_words.specs.Requests.{number_or, scenario_said, layout_by, folders_said, check_of, run_from, load_by}
 use Rattle.command_words.specs.Requests.{request_by, request_of}
 use Rattle.command_words.specs.CommandLines.{Texts, listed, IsNumberOr, IsNumber, layout_words, NamesFolders, AsksCheck, AsksRun, AsksTranslate, AsksLoad, Asks, command_of}
 use Rattle.command_words.proofs.Fitting.{OneOf, Suits, AllFit, same_field}
-use Rattle.command_words.proofs.Looking.{names_scenario}
 use Rattle.command_words.proofs.Results.{differ, is_no, in_some}
 
 abbrev pub command_at : Request → Command
@@ -73,17 +72,9 @@ scenario_listed command [] h = refl
 scenario_listed command (t ∷ []) h = scenario_by t (scenario_named t) h.1 (names_scenario t)
 scenario_listed command (t ∷ u ∷ more) h = absurd h
 
-pub named_scenario : (s : Scenario) → scenario_named (scenario_name s) ≡ Some s
-named_scenario scenario.Install = refl
-named_scenario scenario.InstallAgain = refl
-named_scenario scenario.Upgrade = refl
-named_scenario scenario.Remove = refl
-named_scenario scenario.Purge = refl
-named_scenario scenario.PurgeLater = refl
-
 scenario_first : (o : Option Scenario) → option_and_then scenario_named (first (listed (option_map scenario_name o))) ≡ o
 scenario_first None = refl
-scenario_first (Some s) = named_scenario s
+scenario_first (Some s) = scenario_read s
 
 number_by : (o : Option ℕ) (usual : ℕ) → is_some o ≡ true → o ≡ Some (unwrap_or o usual)
 number_by None usual h = absurd (differ (sym h))
@@ -254,7 +245,7 @@ module _ (said : List Setting) where
   made_run folders tree chosen turns asks =
       let named = ap first asks.of_folders.dir in
       let dirs = folders_made folders asks.of_folders in
-      let scenarios = ap (λ ts. option_and_then scenario_named (first ts)) asks.of_scenario ∙ named_scenario chosen in
+      let scenarios = ap (λ ts. option_and_then scenario_named (first ts)) asks.of_scenario ∙ scenario_read chosen in
       let trees = ap first asks.of_tree in
       let turn = number_first MOST_TURNS USUAL_TURNS (texts field.Turns said) turns asks.of_turns in
       ap (request_by command.Run said) named
@@ -303,7 +294,7 @@ fits_scenario : (c : Command) (ts : Texts) (o : Option Scenario) → ts ≡ list
     → takes c field.Scenario ≡ true → OneOf (Suits c field.Scenario) ts
 fits_scenario c ts None e taken = fits_none c field.Scenario ts e
 fits_scenario c ts (Some s) e taken =
-    fits_one c field.Scenario ts (scenario_name s) e taken (ap is_some (named_scenario s))
+    fits_one c field.Scenario ts (scenario_name s) e taken (ap is_some (scenario_read s))
 
 fits_layout : (ts : Texts) (layout : Layout) → ts ≡ layout_words layout → OneOf (Suits command.Check field.Layout) ts
 fits_layout ts Plain e = fits_none command.Check field.Layout ts e

@@ -4,8 +4,6 @@ use Rattle.std.specs.Prelude.{IfSome, ◌==◌, if◌then◌else◌}
 use Rattle.std.specs.Str.{bytes_eq}
 use Rattle.std.proofs.lemmas.Bool.{eqb-true, or_cases}
 use Rattle.std.proofs.lemmas.Slice.Eq.{bytes_eq-Decides}
-use Rattle.dpkg_scenarios.specs.declared.scenario.Scenario.{Scenario}
-use Rattle.dpkg_scenarios.specs.declared.scenario.Scenario.TheVariants as scenario
 use Rattle.command_words.specs.declared.field.Command.{Command}
 use Rattle.command_words.specs.declared.field.Command.TheVariants as command
 use Rattle.command_words.specs.declared.field.Field.{Field}
@@ -14,7 +12,6 @@ use Rattle.command_words.specs.declared.setting.Setting.{Setting}
 use Rattle.command_words.specs.declared.look.Look.{Look}
 use Rattle.command_words.specs.declared.look.Look.TheVariants.{Says, Awaits, Ends, Unknown}
 use Rattle.command_words.specs.Fields.{option_name, option_named, command_name, command_named}
-use Rattle.dpkg_scenarios.specs.Names.{scenario_name, scenario_named}
 use Rattle.command_words.specs.Values.{is_name, is_flag}
 use Rattle.command_words.specs.Looks.{cut, put_before, awaits, says, parted, option_look, look}
 use Rattle.command_words.specs.CommandLines.{Item, item_words, item_setting, IsItem, HasValue}
@@ -64,16 +61,6 @@ names_command word =
     (pick P word (codes "run") command.Run _ (λ e. e)
     (pick P word (codes "translate") command.Translate _ (λ e. e)
     (pick P word (codes "load") command.Load None (λ e. e) tt)))
-
-pub names_scenario : (word : List ℕ) → IfSome (scenario_named word) (λ s. word ≡ scenario_name s)
-names_scenario word =
-    let P : Scenario → Type 0 = λ s. word ≡ scenario_name s in
-    pick P word (codes "install") scenario.Install _ (λ e. e)
-    (pick P word (codes "install-again") scenario.InstallAgain _ (λ e. e)
-    (pick P word (codes "upgrade") scenario.Upgrade _ (λ e. e)
-    (pick P word (codes "remove") scenario.Remove _ (λ e. e)
-    (pick P word (codes "purge") scenario.Purge _ (λ e. e)
-    (pick P word (codes "purge-later") scenario.PurgeLater None (λ e. e) tt)))))
 
 -- ---- a word with an equals sign
 

@@ -1,4 +1,4 @@
-use Rattle.package_tests.proofs.FirstSteps.{first_step}
+use Rattle.dpkg_scenarios.proofs.Walks.{first_step}
 use Rattle.package_tests.proofs.walks.walked.Goals as goal
 
 pub loop-end-init : goal.loop-end-init
