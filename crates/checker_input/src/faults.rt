@@ -84,30 +84,30 @@ pub enum InputRefusal {
     /// The version of a control file is none.
     Control {
         file: InputFile,
-        line: u32,
+        line: u64,
     },
     /// A line of a list of files is at fault, and why.
     List {
         file: InputFile,
-        line: u32,
+        line: u64,
         why: u8,
     },
     /// A line of a list of configuration files is at fault, and why.
     Conf {
         file: InputFile,
-        line: u32,
+        line: u64,
         why: u8,
     },
     /// A line of the base is at fault, and why.
     Base {
         file: InputFile,
-        line: u32,
+        line: u64,
         why: u8,
     },
     /// A line of the tree is at fault, and why.
     Tree {
         file: InputFile,
-        line: u32,
+        line: u64,
         why: u8,
     },
 }

@@ -62,6 +62,22 @@ fn file_line(
     Ok(text)
 }
 
+// The line of a fault in a file, with the number of its place or line.
+fn number_line(
+    alloc: Global,
+    request: &Request,
+    file: InputFile,
+    fault: &[u8],
+    number: u64,
+) -> Result<Bytes, Memory>
+    ensures { IfOk result (λ text. text ≡ place_line (file_name request.now file) fault.now number) }
+{
+    let mut text = file_line(alloc, request, file, fault)?;
+    push_number(&mut text, number)?;
+    text.extend(b"\n")?;
+    Ok(text)
+}
+
 // The line of a fault at a place in a file.
 fn place_line(
     alloc: Global,
@@ -72,9 +88,7 @@ fn place_line(
 ) -> Result<Bytes, Memory>
     ensures { IfOk result (λ text. text ≡ place_line (file_name request.now file) fault.now at) }
 {
-    let mut text = file_line(alloc, request, file, fault)?;
-    push_number(&mut text, u64::from(at))?;
-    text.extend(b"\n")?;
+    let text = number_line(alloc, request, file, fault, u64::from(at))?;
     Ok(text)
 }
 
@@ -148,13 +162,13 @@ fn fault_line(
     alloc: Global,
     request: &Request,
     file: InputFile,
-    number: u32,
+    number: u64,
     why: u8,
 ) -> Result<Bytes, Memory>
     ensures { IfOk result (λ text. text ≡ fault_line (file_name request.now file) number why) }
 {
     let mut text = file_line(alloc, request, file, b": line ")?;
-    push_number(&mut text, u64::from(number))?;
+    push_number(&mut text, number)?;
     text.extend(b": fault ")?;
     push_number(&mut text, u64::from(why))?;
     text.extend(b"\n")?;
@@ -178,7 +192,7 @@ fn input_line(alloc: Global, request: &Request, refusal: InputRefusal) -> Result
             form_line(alloc, request, file, form_name(form), at)
         }
         InputRefusal::Control { file, line } => {
-            place_line(alloc, request, file, b": bad version in line ", line)
+            number_line(alloc, request, file, b": bad version in line ", line)
         }
         InputRefusal::List { file, line, why } => fault_line(alloc, request, file, line, why),
         InputRefusal::Conf { file, line, why } => fault_line(alloc, request, file, line, why),

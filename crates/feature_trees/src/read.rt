@@ -25,7 +25,7 @@ pub const MOST_NAMES: usize = 4096;
 pub enum TreeFault {
     /// The first line at fault, counted from 1, and why: 1, it is not of the form, or its path has more than 4,096
     /// names; 2, an earlier line names its path; 3, its parent is neither the root nor an earlier line's directory.
-    Line { line: u32, why: u8 },
+    Line { line: u64, why: u8 },
     Memory,
 }
 
@@ -79,11 +79,8 @@ fn read_lines(alloc: Global, lines: &[&[u8]]) -> Result<Value, TreeFault>
     ensures tree { IfOk result IsTree }
 {
     let mut tree = Draft::empty(alloc);
-    let mut number = 0u32;
+    let mut number = 0u64;
     for line in lines {
-        if number == u32::MAX {
-            return Err(TreeFault::Memory);
-        }
         number += 1;
         match add_line(alloc, &mut tree, number, line) {
             Ok(()) => {}
@@ -97,7 +94,7 @@ fn read_lines(alloc: Global, lines: &[&[u8]]) -> Result<Value, TreeFault>
 }
 
 // Adds what a line says to the tree of the lines before it.
-fn add_line(alloc: Global, tree: &mut Draft, number: u32, text: &[u8]) -> Result<(), TreeFault>
+fn add_line(alloc: Global, tree: &mut Draft, number: u64, text: &[u8]) -> Result<(), TreeFault>
     ensures { IsLeft (with_line number (draft_value tree.old) (line_says text.now)) (draft_value tree.new) result }
 {
     match read_line(alloc, text)? {
@@ -107,7 +104,7 @@ fn add_line(alloc: Global, tree: &mut Draft, number: u32, text: &[u8]) -> Result
 }
 
 // Puts what a line says.
-fn put_line(alloc: Global, tree: &mut Draft, number: u32, line: TreeLine) -> Result<(), TreeFault>
+fn put_line(alloc: Global, tree: &mut Draft, number: u64, line: TreeLine) -> Result<(), TreeFault>
     requires there { IsThere line.value }
     requires no_entries { without_entries line.value ≡ line.value }
     ensures { IsLeft (with_line number (draft_value tree.old) (Some line)) (draft_value tree.new) result }
@@ -125,7 +122,7 @@ fn put_line(alloc: Global, tree: &mut Draft, number: u32, line: TreeLine) -> Res
 }
 
 // A line at fault.
-fn line_fault(line: u32, why: u8) -> TreeFault
+fn line_fault(line: u64, why: u8) -> TreeFault
     ensures { result ≡ Line line why }
 {
     TreeFault::Line { line, why }

@@ -120,11 +120,8 @@ pub fn read_base(alloc: Global, text: &[u8]) -> Result<Base, LineFault>
     let texts = text_lines(alloc, text)?;
     let mut lines = List::new(alloc);
     let mut named = PathSet::new(alloc);
-    let mut number = 0u32;
+    let mut number = 0u64;
     for text in &texts {
-        if number == u32::MAX {
-            return Err(LineFault::Memory);
-        }
         number += 1;
         match add_line(alloc, &mut lines, &mut named, number, text) {
             Ok(()) => {}
@@ -140,7 +137,7 @@ fn add_line(
     alloc: Global,
     lines: &mut List<BaseLine>,
     named: &mut PathSet,
-    number: u32,
+    number: u64,
     line: &[u8],
 ) -> Result<(), LineFault>
     requires { (name : ListOf ℕ) → has named.old name ≡ is_named lines.old name }

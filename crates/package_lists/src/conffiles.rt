@@ -42,11 +42,8 @@ fn read_paths(alloc: Global, lines: &[&[u8]], files: &PathSet) -> Result<PathSet
     ensures { IsNamed (has files.now) (map (λ line. line.now) lines.now) result }
 {
     let mut named = PathSet::new(alloc);
-    let mut number = 0u32;
+    let mut number = 0u64;
     for line in lines {
-        if number == u32::MAX {
-            return Err(LineFault::Memory);
-        }
         number += 1;
         match line_why(alloc, line, files, &named)? {
             Some(why) => return Err(LineFault::Line { line: number, why }),

@@ -23,11 +23,8 @@ pub fn read_control(alloc: Global, text: &[u8]) -> Result<Bytes, LineFault>
 fn first_version(alloc: Global, lines: &[&[u8]]) -> Result<Bytes, LineFault>
     ensures { IsAnswer (first_version 1 (map (λ line. line.now) lines.now)) result }
 {
-    let mut number = 0u32;
+    let mut number = 0u64;
     for line in lines {
-        if number == u32::MAX {
-            return Err(LineFault::Memory);
-        }
         number += 1;
         if line.starts_with(b"Version:") {
             return version_of(alloc, number, trimmed(&line[8..]));
@@ -38,7 +35,7 @@ fn first_version(alloc: Global, lines: &[&[u8]]) -> Result<Bytes, LineFault>
 }
 
 // The version of a line, where the value is one.
-fn version_of(alloc: Global, number: u32, value: &[u8]) -> Result<Bytes, LineFault>
+fn version_of(alloc: Global, number: u64, value: &[u8]) -> Result<Bytes, LineFault>
     ensures { IsAnswer (version_of number value.now) result }
 {
     if !is_version(value) {

@@ -5,7 +5,7 @@ use std::alloc::Global;
 #[derive(Clone, Copy, Debug, PartialEq, Eq)]
 pub enum LineFault {
     /// The least line at fault, counted from 1, and the least why of that line, by the reader.
-    Line { line: u32, why: u8 },
+    Line { line: u64, why: u8 },
     Memory,
 }
 

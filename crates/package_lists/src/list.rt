@@ -77,11 +77,8 @@ fn read_lines(alloc: Global, lines: &[&[u8]]) -> Result<Index, LineFault>
     ensures { Continues (with_lines 1 [] (map (λ line. line.now) lines.now)) result }
 {
     let mut index = no_entries(alloc);
-    let mut number = 0u32;
+    let mut number = 0u64;
     for line in lines {
-        if number == u32::MAX {
-            return Err(LineFault::Memory);
-        }
         number += 1;
         index = match add_line(alloc, index, number, line) {
             Ok(index) => index,
@@ -92,7 +89,7 @@ fn read_lines(alloc: Global, lines: &[&[u8]]) -> Result<Index, LineFault>
 }
 
 // The entries with what a line says.
-fn add_line(alloc: Global, index: Index, number: u32, line: &[u8]) -> Result<Index, LineFault>
+fn add_line(alloc: Global, index: Index, number: u64, line: &[u8]) -> Result<Index, LineFault>
     requires { IsIndex index }
     ensures { Continues (with_line number index.entries (line_says line.now)) result }
 {
@@ -104,7 +101,7 @@ fn add_line(alloc: Global, index: Index, number: u32, line: &[u8]) -> Result<Ind
 }
 
 // The entries with one more.
-fn add_entry(alloc: Global, index: Index, number: u32, entry: Entry) -> Result<Index, LineFault>
+fn add_entry(alloc: Global, index: Index, number: u64, entry: Entry) -> Result<Index, LineFault>
     requires { IsIndex index }
     ensures { Continues (with_entry number index.entries entry (entry_why index.entries entry)) result }
 {
@@ -269,7 +266,7 @@ fn read_entry(alloc: Global, path: &[u8], kind: EntryKind) -> Result<Said, Memor
 }
 
 // A line at fault.
-fn line_fault(line: u32, why: u8) -> LineFault
+fn line_fault(line: u64, why: u8) -> LineFault
     ensures { result ≡ Line line why }
 {
     LineFault::Line { line, why }

@@ -7,7 +7,7 @@ use script_names::{Bytes, List, Memory};
 use std::alloc::Global;
 use std::test::Fail;
 
-const LISTS: &[(&[u8], u32, u8)] = &[
+const LISTS: &[(&[u8], u64, u8)] = &[
     (b"", 0, 0),
     (b"/.", 0, 0),
     (b"/.\n/.\n/a\n", 0, 0),
@@ -47,7 +47,7 @@ const LISTS: &[(&[u8], u32, u8)] = &[
 // The same for configuration files, over the list of `CONF_LIST`.
 const CONF_LIST: &[u8] = b"/.\n/etc\n/etc/a\n/etc/b c\n/etc/l -> a\n/etc/d/\n";
 
-const CONFS: &[(&[u8], u32, u8)] = &[
+const CONFS: &[(&[u8], u64, u8)] = &[
     (b"", 0, 0),
     (b"/etc/a\n/etc/b c\n", 0, 0),
     (b"/etc/b c", 0, 0),
@@ -72,7 +72,7 @@ const CONFS: &[(&[u8], u32, u8)] = &[
 ];
 
 // The same for bases.
-const BASES: &[(&[u8], u32, u8)] = &[
+const BASES: &[(&[u8], u64, u8)] = &[
     (b"", 0, 0),
     (b"dir /a\nfile /b/c\nabsent /d\nnodir /e f\nfits\n", 0, 0),
     (b"\n# x\n#\nfits", 0, 0),
@@ -153,7 +153,7 @@ const BASES: &[(&[u8], u32, u8)] = &[
 ];
 
 // The same for control files.
-const CONTROLS: &[(&[u8], u32, u8)] = &[
+const CONTROLS: &[(&[u8], u64, u8)] = &[
     (b"Version:\n", 1, 1),
     (b"Version: \t \n", 1, 1),
     (b"Package: a\nVersion: 1 2\n", 2, 1),
@@ -176,21 +176,21 @@ const VERSIONS: &[(&[u8], &[u8])] = &[
 ];
 
 // The line at fault and its why; none is 0 and 0, want of memory 0 and 9.
-fn place(fault: LineFault) -> (u32, u8) {
+fn place(fault: LineFault) -> (u64, u8) {
     match fault {
         LineFault::Line { line, why } => (line, why),
         LineFault::Memory => (0, 9),
     }
 }
 
-fn list_fault(alloc: Global, text: &[u8]) -> (u32, u8) {
+fn list_fault(alloc: Global, text: &[u8]) -> (u64, u8) {
     match read_list(alloc, text) {
         Ok(_) => (0, 0),
         Err(fault) => place(fault),
     }
 }
 
-fn conf_fault(alloc: Global, text: &[u8]) -> (u32, u8) {
+fn conf_fault(alloc: Global, text: &[u8]) -> (u64, u8) {
     let mut entries = match read_list(alloc, CONF_LIST) {
         Ok(entries) => entries,
         Err(fault) => return place(fault),
@@ -201,14 +201,14 @@ fn conf_fault(alloc: Global, text: &[u8]) -> (u32, u8) {
     }
 }
 
-fn base_fault(alloc: Global, text: &[u8]) -> (u32, u8) {
+fn base_fault(alloc: Global, text: &[u8]) -> (u64, u8) {
     match read_base(alloc, text) {
         Ok(_) => (0, 0),
         Err(fault) => place(fault),
     }
 }
 
-fn control_fault(alloc: Global, text: &[u8]) -> (u32, u8) {
+fn control_fault(alloc: Global, text: &[u8]) -> (u64, u8) {
     match read_control(alloc, text) {
         Ok(_) => (0, 0),
         Err(fault) => place(fault),

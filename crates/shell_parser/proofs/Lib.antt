@@ -2,6 +2,7 @@ mod Compounds
 mod Lists
 mod Loops
 mod Places
+mod Rooms
 mod Simples
 mod Steps
 mod Words

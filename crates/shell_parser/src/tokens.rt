@@ -1,13 +1,14 @@
 //! Single tokens, and newlines.
 
-ghost use Rattle.std.specs.Prelude.{◌≡◌, ◌↔◌, ◌≤◌, ◌<◌, length, drop, IsTrue, OnOk, OnSome, IfSome, IfNone};
+ghost use Rattle.std.specs.Prelude.{◌≡◌, ◌↔◌, ◌≤◌, ◌<◌, cond, length, drop, IsTrue, OnOk, OnSome, IfSome, IfNone};
 ghost use Rattle.std.specs.Prelude.{Ok as Done, Some as Found, None as Absent};
 ghost use Rattle.shell_grammar.specs.Look.{look as look_of, place as place_of, word as word_of};
-ghost use Rattle.shell_grammar.specs.Forms.{is_token, is_separator as is_separator_of};
+ghost use Rattle.shell_grammar.specs.Forms.{is_token, is_some, is_separator as is_separator_of, link_and as link_and_of};
 ghost use Rattle.shell_grammar.specs.Grammar.{Is, Opens, Newlines, ForWords, Tree};
 ghost use Rattle.shell_grammar.specs.declared.look.Look.TheVariants.{Keyword};
 ghost use Rattle.shell_grammar.specs.declared.look.Reserved.TheVariants.{In};
 ghost use Rattle.shell_parser.specs.Reads.{Reads, Takes, Separates, ArmBegins};
+ghost use Rattle.shell_parser.specs.Rooms.{words_in_row};
 
 use crate::forms::{is_separator, link_and, same_look};
 use crate::looks::look;
@@ -162,9 +163,10 @@ pub fn arm_begin(level: usize, end: u32, ts: &[Token], at: usize) -> usize
 /// How many words stand there in a row: so many are to have room in a simple command.
 pub(crate) fn words_from(ts: &[Token], at: usize) -> usize
     requires { at ≤ length ts.now }
+    ensures { result ≡ words_in_row (drop at ts.now) }
 {
     let mut now = at;
-    while now < ts.len() && word_parts(ts, now).is_some() {
+    while word_parts(ts, now).is_some() {
         now += 1;
     }
     now - at
@@ -173,6 +175,7 @@ pub(crate) fn words_from(ts: &[Token], at: usize) -> usize
 /// How many commands are to have room in a list whose first one ends there: where a separator stands, two.
 pub(crate) fn list_room(ts: &[Token], at: usize) -> usize
     requires { at ≤ length ts.now }
+    ensures { result ≡ cond (is_separator_of (look_of (drop at ts.now))) 2 1 }
 {
     if separates(ts, at) {
         return 2;
@@ -183,6 +186,7 @@ pub(crate) fn list_room(ts: &[Token], at: usize) -> usize
 /// How many commands are to have room behind the first of an and-or list, where that ends there.
 pub(crate) fn link_room(ts: &[Token], at: usize) -> usize
     requires { at ≤ length ts.now }
+    ensures { result ≡ cond (is_some (link_and_of (look_of (drop at ts.now)))) 1 0 }
 {
     match link_and(look(ts, at)) {
         Some(_) => 1,

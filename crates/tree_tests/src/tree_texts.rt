@@ -40,7 +40,7 @@ const READ: &[(&str, &str)] = &[
 ];
 
 // Texts of no tree: the least line at fault, and why.
-const REFUSED: &[(&str, u32, u8)] = &[
+const REFUSED: &[(&str, u64, u8)] = &[
     // an empty line is not of the form
     ("\n", 1, 1),
     ("\nf /a\n", 1, 1),
@@ -131,7 +131,7 @@ fn texts_are_read(rt: HostRuntime) -> Result<(), Fail> {
 }
 
 // The line at which a text is refused, and why; zeros where it is not.
-fn fault(alloc: Global, text: &[u8]) -> (u32, u8) {
+fn fault(alloc: Global, text: &[u8]) -> (u64, u8) {
     match read_tree(alloc, text) {
         Err(TreeFault::Line { line, why }) => (line, why),
         _ => (0, 0),
@@ -158,7 +158,7 @@ fn long_line(alloc: Global, names: usize) -> Result<Bytes, Memory> {
 }
 
 // Where a text is refused whose only line has that many names.
-fn long_fault(alloc: Global, names: usize) -> Result<(u32, u8), Memory> {
+fn long_fault(alloc: Global, names: usize) -> Result<(u64, u8), Memory> {
     let text = long_line(alloc, names)?;
     Ok(fault(alloc, text.as_slice()))
 }
@@ -183,7 +183,7 @@ fn nested(alloc: Global, names: usize) -> Result<Value, Fail> {
 }
 
 // How many bytes the text of so many nested names has, and where it is refused.
-fn nested_fault(alloc: Global, names: usize) -> Result<(usize, (u32, u8)), Fail> {
+fn nested_fault(alloc: Global, names: usize) -> Result<(usize, (u64, u8)), Fail> {
     let tree = nested(alloc, names)?;
     let printed = print_tree(alloc, &tree)?;
     Ok((printed.len(), fault(alloc, printed.as_slice())))

@@ -10,4 +10,5 @@ abbrev pub invariant-loop-line : goal.invariant-loop-line
 invariant-loop-line l = record {
   rest : with_lines (l.number + 1) (draft_value l.tree) (map (λ line. line.now) (drop l.line-index l.lines)) ≡ with_lines 1 (Dir []) (map (λ line. line.now) l.lines);
   dir : kind_of (draft_value l.tree) ≡ kind.Dir;
+  counted : l.number ≡ l.line-index;
 }

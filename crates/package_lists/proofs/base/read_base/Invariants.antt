@@ -7,4 +7,5 @@ abbrev pub invariant-loop-text : goal.invariant-loop-text
 invariant-loop-text l = record {
   reads : with_bases (l.number + 1) l.lines (map (λ line. line.now) (drop l.text-index l.text-items)) ≡ with_bases 1 [] (map (λ line. line.now) l.text-items);
   names : (name : List ℕ) → has l.named name ≡ is_named l.lines name;
+  counted : l.number ≡ l.text-index;
 }

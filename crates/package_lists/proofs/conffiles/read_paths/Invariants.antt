@@ -9,4 +9,5 @@ invariant-loop-line l = record {
   rest : with_confs (l.number + 1) (has l.files) (map (λ line. line.now) (take l.line-index l.lines)) (map (λ line. line.now) (drop l.line-index l.lines))
       ≡ with_confs 1 (has l.files) [] (map (λ line. line.now) l.lines);
   named : (path : List ℕ) → has l.named path ≡ is_among (map (λ line. line.now) (take l.line-index l.lines)) path;
+  counted : l.number ≡ l.line-index;
 }

@@ -12,5 +12,5 @@ returns-then-starts_with c =
     subst (λ wanted. IsAnswer wanted c.version_of.result)
     (ap (version_of n) (c.trimmed.ensures ∙ ap trimmed (take_rest (get_or c.args.lines.now c.loop-line.line-index none).now 8))
     ∙ sym (found_version c.args.lines.now c.loop-line.line-index none n c.loop-line-test.true (sym c.starts_with.ensures.value ∙ c.if-starts_with.true))
-    ∙ c.loop-line.invariant)
+    ∙ c.loop-line.invariant.rest)
     c.version_of.ensures

@@ -1,0 +1,145 @@
+-- The text of each number is an accepted script.
+use Rattle.std.proofs.Common.{◌≡◌, ℕ, zero, suc, ◌+◌, ◌/◌, ◌%◌, ◌<◌, ◌≤◌, true, false, nat_eq, List, [], ◌∷◌, ◌++◌, append_assoc, append-nil, map, length, Option, None, codes, refl, sym, ap, ◌∙◌, subst, arith}
+use Rattle.std.specs.List.{list_all}
+use Rattle.std.proofs.lemmas.Bool.{and_from}
+use Rattle.command_words.specs.declared.limits.TheConstants.{MOST_LOAD}
+use Rattle.shell_syntax.specs.declared.script.Script.{Script}
+use Rattle.shell_syntax.specs.declared.syntax.Command.{Command}
+use Rattle.shell_syntax.specs.declared.syntax.Command.TheVariants as c
+use Rattle.shell_lexer.specs.declared.token.Token.{Token}
+use Rattle.shell_lexer.specs.declared.token.Lexed.{Lexed}
+use Rattle.shell_lexer.specs.FirstLine.{nul_from}
+use Rattle.shell_lexer.specs.Lexed.{Cut}
+use Rattle.shell_lexer.specs.Text.{Bytes, offset}
+use Rattle.shell_grammar.specs.Look.{Tokens}
+use Rattle.shell_grammar.specs.Spelling.{deep_64}
+use Rattle.shell_grammar.specs.Trees.{seq_of}
+use Rattle.shell_forms.specs.Names.{Text}
+use Rattle.shell_forms.specs.Forms.{script_place, member}
+use Rattle.shell_forms.specs.Functions.{definitions, first_of}
+use Rattle.checker_input.specs.Script.{IsAccepted}
+use Rattle.load_maker.specs.LoadText.{three_digits, load_line, load_lines, load_text}
+use Rattle.load_maker.proofs.PlainWords.{is_harmless, nul_behind, Cuts, word_token, newline_token, cuts_end, cuts_blank, cuts_newline, cuts_word, ends_newline, ends_blank}
+use Rattle.load_maker.proofs.PlainCommands.{plain_word, look_plain, no_word_more, word_more, command, Lines, no_line, line_more, whole_script}
+use Rattle.load_maker.proofs.PlainForms.{set_formless, mkdir_formless, Formless, formless_more, formless_list}
+
+-- ---- digits
+
+digit : (d : ℕ) → d < 10 → is_harmless (48 + d) ≡ true
+digit zero lt = refl
+digit (suc zero) lt = refl
+digit (suc (suc zero)) lt = refl
+digit (suc (suc (suc zero))) lt = refl
+digit (suc (suc (suc (suc zero)))) lt = refl
+digit (suc (suc (suc (suc (suc zero))))) lt = refl
+digit (suc (suc (suc (suc (suc (suc zero)))))) lt = refl
+digit (suc (suc (suc (suc (suc (suc (suc zero))))))) lt = refl
+digit (suc (suc (suc (suc (suc (suc (suc (suc zero)))))))) lt = refl
+digit (suc (suc (suc (suc (suc (suc (suc (suc (suc zero))))))))) lt = refl
+digit (suc (suc (suc (suc (suc (suc (suc (suc (suc (suc d)))))))))) lt = absurd (omega (arith, lt))
+
+harmless_more : (b : ℕ) (w : Bytes) → is_harmless b ≡ true → list_all is_harmless w ≡ true → list_all is_harmless (b ∷ w) ≡ true
+harmless_more b w e f = and_from (is_harmless b) (list_all is_harmless w) e f
+
+-- the path of a number
+abbrev path : ℕ → Bytes
+path k = codes "/srv/k" ++ three_digits k
+
+path_harmless : (k : ℕ) → k < 1000 → list_all is_harmless (path k) ≡ true
+path_harmless k lt =
+    let ones = (48 + k % 10) ∷ [] in
+    let tens = (48 + (k / 10) % 10) ∷ ones in
+    harmless_more (48 + k / 100) tens (digit (k / 100) (omega (arith, lt)))
+    (harmless_more (48 + (k / 10) % 10) ones (digit ((k / 10) % 10) (omega arith))
+    (harmless_more (48 + k % 10) [] (digit (k % 10) (omega arith)) refl))
+
+-- ---- lines
+
+module _ (len : ℕ) where
+  -- a text that is cut into the tokens of commands, one a line, in which no form stands
+  record Good (text : Bytes) : Type 0 where
+    pub tokens : Tokens
+    pub cut : Cuts len text tokens
+    pub commands : List Command
+    pub lines : Lines deep_64 len tokens commands
+    pub formless : (first : Text → Option ℕ) → Formless first commands
+    pub no_nul : (at : ℕ) → nul_from at text ≡ None
+
+  no_text : Good []
+  no_text = record { tokens = []; cut = cuts_end len; commands = []; lines = no_line deep_64 len; formless = λ first. refl; no_nul = λ at. refl }
+
+  one_line : (k : ℕ) (rest : Bytes) → k < 1000 → Good rest → Good (load_line k ++ rest)
+  one_line k rest lt good =
+      let third = path k ++ 10 ∷ rest in
+      let second = codes "-p" ++ 32 ∷ third in
+      let first = codes "mkdir" ++ 32 ∷ second in
+      let line_at = offset len (10 ∷ rest) in
+      let end = newline_token len rest ∷ good.tokens in
+      let paths = word_token len (path k) (10 ∷ rest) ∷ end in
+      let options = word_token len (codes "-p") (32 ∷ third) ∷ paths in
+      let all = word_token len (codes "mkdir") (32 ∷ second) ∷ options in
+      let names = plain_word (offset len first) (codes "mkdir") ∷ plain_word (offset len second) (codes "-p") ∷ plain_word (offset len third) (path k) ∷ [] in
+      let makes = c.Simple (offset len first) [] names in
+      let harmless = path_harmless k lt in
+      record {
+        tokens = all;
+        cut = cuts_word len 109 (codes "kdir") (32 ∷ second) options refl refl (ends_blank len second)
+            (cuts_blank len 45 (codes "p" ++ 32 ∷ third) options
+            (cuts_word len 45 (codes "p") (32 ∷ third) paths refl refl (ends_blank len third)
+            (cuts_blank len 47 (codes "srv/k" ++ (three_digits k ++ 10 ∷ rest)) paths
+            (cuts_word len 47 (codes "srv/k" ++ three_digits k) (10 ∷ rest) end refl harmless (ends_newline len rest)
+            (cuts_newline len rest good.tokens good.cut)))));
+        commands = makes ∷ good.commands;
+        lines = line_more deep_64 len line_at all good.tokens makes good.commands (look_plain (offset len first) (codes "mkdir") options)
+            (command deep_64 len (offset len first) (codes "mkdir") options end _ refl (look_plain (offset len second) (codes "-p") paths)
+            (word_more deep_64 len (offset len second) (codes "-p") paths end _ refl
+            (word_more deep_64 len (offset len third) (path k) end end [] refl (no_word_more deep_64 len line_at good.tokens))))
+            good.lines;
+        formless = λ f. formless_more f makes good.commands (mkdir_formless f (offset len first) (offset len second) (offset len third) (path k) (member script_place) refl) (good.formless f);
+        no_nul = nul_behind (codes "mkdir") (32 ∷ second) refl
+            (λ at. nul_behind (codes "-p") (32 ∷ third) refl
+            (λ at. nul_behind (path k) (10 ∷ rest) harmless (λ at. good.no_nul (at + 1)) (at + 1)) (at + 1));
+      }
+
+  all_lines : (k : ℕ) → k < 1000 → (rest : Bytes) → Good rest → Good (load_lines k ++ rest)
+  all_lines zero lt rest good = good
+  all_lines (suc k) lt rest good =
+      subst Good (sym (append_assoc (load_lines k) (load_line (suc k)) rest))
+      (all_lines k (omega (arith, lt)) (load_line (suc k) ++ rest) (one_line (suc k) rest lt good))
+
+-- ---- the script
+
+pub script_exists : (n : ℕ) → n ≤ MOST_LOAD → (script : Script) × IsAccepted (load_text n) script
+script_exists n most =
+    let len = length (load_text n) in
+    let rest = load_lines n in
+    let good : Good len rest = subst (Good len) (append-nil rest) (all_lines len n (omega (arith, most)) [] (no_text len)) in
+    let second = codes "-e" ++ 10 ∷ rest in
+    let first = codes "set" ++ 32 ∷ second in
+    let line_at = offset len (10 ∷ rest) in
+    let end = newline_token len rest ∷ good.tokens in
+    let options = word_token len (codes "-e") (10 ∷ rest) ∷ end in
+    let all = word_token len (codes "set") (32 ∷ second) ∷ options in
+    let sets = c.Simple (offset len first) [] (plain_word (offset len first) (codes "set") ∷ plain_word (offset len second) (codes "-e") ∷ []) in
+    let body = seq_of (sets ∷ good.commands) in
+    let lexed : Lexed = record { strict = false; tokens = all; end = len } in
+    let cut : Cut (load_text n) lexed = record {
+      no_nul = nul_behind (codes "set") (32 ∷ second) refl
+          (λ at. nul_behind (codes "-e") (10 ∷ rest) refl (λ at. good.no_nul (at + 1)) (at + 1)) 10;
+      first = refl;
+      body = cuts_word len 115 (codes "et") (32 ∷ second) options refl refl (ends_blank len second)
+          (cuts_blank len 45 (codes "e" ++ 10 ∷ rest) options
+          (cuts_word len 45 (codes "e") (10 ∷ rest) end refl refl (ends_newline len rest) (cuts_newline len rest good.tokens good.cut)));
+      end = refl;
+    } in
+    let reads = whole_script deep_64 len line_at all good.tokens sets good.commands (look_plain (offset len first) (codes "set") options)
+    (command deep_64 len (offset len first) (codes "set") options end _ refl (look_plain (offset len second) (codes "-e") end)
+    (word_more deep_64 len (offset len second) (codes "-e") end end [] refl (no_word_more deep_64 len line_at good.tokens)))
+    good.lines
+    in
+    let f = first_of (definitions body) in
+    let formless = formless_list f sets good.commands (set_formless f (offset len first) (offset len second) script_place refl)
+    (formless_more f sets good.commands (set_formless f (offset len first) (offset len second) (member script_place) refl) (good.formless f))
+    in
+    let script : Script = record { strict = false; body = body } in
+    (script, record { is_script = record { lexed = lexed; cut = cut; spells = record { rest = []; reads = reads }; strict = refl }; none = formless })
