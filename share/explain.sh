@@ -138,7 +138,7 @@ fault() {
     conffiles:1) echo 'a line is a path of 64 names at most, as /etc/foo' ;;
     conffiles:3) echo 'the list has no file of this name' ;;
     conffiles:4) echo 'flags are not supported' ;;
-    base:1) echo 'a line is dir, file, absent or nodir and a path, or fits, own, call NAME ok or call NAME fails' ;;
+    base:1) echo 'a line is dir, file, absent or nodir and a path, fits, own, or call NAME ok or fails' ;;
     base:2) echo 'an earlier line states how this command ends' ;;
     tree:1) echo 'a line is d PATH, f PATH, o PATH or l PATH TARGET' ;;
     tree:3) echo 'no earlier line says that its parent is a directory' ;;
@@ -279,7 +279,7 @@ case $why in
     at_line "$name" "$place" 'a version has letters, digits and . + - : ~ alone, and one of them at least'
     ;;
 'interpreter not accepted')
-    at_byte "$name" 0 'the first line is #!/bin/sh, #!/bin/dash or #!/bin/bash, with -e or without an option'
+    at_byte "$name" 0 'the first line is #!/bin/sh, #!/bin/dash or #!/bin/bash, perhaps with -e'
     ;;
 missing) say "$name" "$(missing "$name")" ;;
 'longer than 1048576 bytes') say "$name" 'files of 1048576 bytes at most are read' ;;

@@ -1,0 +1,216 @@
+#!/bin/sh
+# The launcher with the built program: its help, each sort of refusal with standard error in a pipe and on a terminal,
+# closed pipes, signals, pipes in place of files, and names of any bytes. What comes is to be as it stands here, byte
+# for byte; anything else is printed as WRONG, and the script then ends with 1. script (of util-linux) makes the
+# terminals; without it their rows are left out. `bench/launcher.sh SHELL` runs the launcher in another shell than sh.
+here=$(dirname "$(readlink -f "$0")")
+. "$here/common.sh"
+shell=${1:-/bin/sh}
+repository=$(dirname "$here")
+# (the launcher beside a program that is newer than all its sources, and so is not built again)
+mkdir -p "$folder/top/docs" "$folder/top/share" "$folder/top/crates/colis_checker/out"
+cp "$repository/docs/help.txt" "$folder/top/docs"
+cp "$repository/share/explain.sh" "$folder/top/share"
+: >"$folder/top/crates.txt"
+{ echo "#!$(command -v "$shell")" && tail -n +2 "$repository/colis"; } >"$folder/top/colis"
+chmod +x "$folder/top/colis"
+cp "$program" "$folder/top/crates/colis_checker/out/colis_checker"
+PATH=$folder/top:$PATH
+export PATH LC_ALL=C.UTF-8
+cd "$folder" || exit 1
+: >wrong
+terminals=
+command -v script >/dev/null && terminals=yes
+
+# same NAME GOT: the file has what stands on standard input.
+same() {
+    cat >expected
+    if cmp -s expected "$2"; then
+        echo "ok $1"
+    else
+        echo "WRONG $1"
+        diff -a expected "$2"
+        echo "$1" >>wrong
+    fi
+}
+
+# piped CALL: a call for a shell, without a terminal: standard output, standard error and the status in `said`.
+piped() {
+    sh -c "$1" >out 2>err </dev/null
+    status=$?
+    { cat out err && echo "status $status"; } >said
+}
+
+# typed CALL: the same on a terminal.
+typed() {
+    script -qec "$1" /dev/null </dev/null >out
+    status=$?
+    { tr -d '\r' <out && echo "status $status"; } >said
+}
+
+# refused CALL STATUS LINE WORDS: the call ends so, with this line, and on a terminal with these words below it.
+refused() {
+    piped "$1"
+    printf '%s\nstatus %d\n' "$3" "$2" | same "$1" said
+    [ -n "$terminals" ] || return
+    typed "$1"
+    printf '%s\n%s\nstatus %d\n' "$3" "$4" "$2" | same "$1 (terminal)" said
+}
+
+# script_of FOLDER: a package that places nothing, whose postinst is `#!/bin/sh` and what comes on standard input.
+script_of() {
+    { echo '#!/bin/sh' && cat; } | package "$1"
+}
+
+# ---- help
+
+for words in help -h --help 'check --help' 'run --help' 'translate --help' 'load --help' 'check -h' 'help check'; do
+    piped "colis $words"
+    { cat top/docs/help.txt && echo 'status 0'; } | same "$words" said
+done
+piped 'colis --version'
+{ head -n 1 top/docs/help.txt && echo 'status 0'; } | same --version said
+
+# ---- scripts
+
+script_of p <<'EOF'
+cat <<EOT
+x
+EOT
+EOF
+refused 'colis check p' 3 'colis: p/postinst: unsupported heredoc at 14' \
+    'p/postinst:2:5: cat <<EOT   (here-documents are not supported)'
+refused 'colis translate p/postinst' 3 'colis: p/postinst: unsupported heredoc at 14' \
+    'p/postinst:2:5: cat <<EOT   (here-documents are not supported)'
+printf "\techo '\303\251\033\377\302\205' \`true\`\n" | script_of q
+refused 'colis check q' 3 'colis: q/postinst: unsupported backquote at 25' \
+    "q/postinst:2:16: echo 'é\\x1b\\xff\\xc2\\x85' \`true\`   (backquotes are not supported; \$(..) is)"
+refused 'LC_ALL=C colis check q' 3 'colis: q/postinst: unsupported backquote at 25' \
+    "q/postinst:2:16: echo '\\xc3\\xa9\\x1b\\xff\\xc2\\x85' \`true\`   (backquotes are not supported; \$(..) is)"
+echo 'fi' | script_of p
+refused 'colis check p' 3 'colis: p/postinst: syntax at 10' 'p/postinst:2:1: fi   (no script goes on like this)'
+echo 'if true; then' | script_of p
+refused 'colis check p' 3 'colis: p/postinst: syntax at 24' \
+    'p/postinst:3:1:    (the script ends where more has to come)'
+echo "echo 'a" | script_of p
+refused 'colis check p' 3 'colis: p/postinst: open quote at 15' "p/postinst:2:6: echo 'a   (this quote is not closed)"
+echo "echo \$(a" | script_of p
+refused 'colis check p' 3 'colis: p/postinst: open substitution at 15' \
+    "p/postinst:2:6: echo \$(a   (this substitution is not closed)"
+printf 'echo \000\n' | script_of p
+refused 'colis check p' 3 'colis: p/postinst: NUL byte at 15' \
+    'p/postinst:2:6: echo \x00   (a script is a text, which has no NUL byte)'
+printf '#!/usr/bin/perl -w\nexit 0;\n' | package p
+refused 'colis check p' 3 'colis: p/postinst: interpreter not accepted' \
+    'p/postinst:1:1: #!/usr/bin/perl -w   (the first line is #!/bin/sh, #!/bin/dash or #!/bin/bash, perhaps with -e)'
+head -c 1048577 /dev/zero >p/postinst
+refused 'colis check p' 3 'colis: p/postinst: longer than 1048576 bytes' \
+    'p/postinst: files of 1048576 bytes at most are read'
+
+# ---- other files
+
+echo 'exit 0' | script_of p
+echo 'Version: 1_0' >p/control
+refused 'colis check p' 3 'colis: p/control: bad version in line 1' \
+    'p/control:1: Version: 1_0   (a version has letters, digits and . + - : ~ alone, and one of them at least)'
+echo 'exit 0' | script_of p
+printf '/.\nsrv\n' >p/list
+refused 'colis check p' 3 'colis: p/list: line 2: fault 1' \
+    'p/list:2: srv   (a line is a path of 64 names at most, as /usr/bin/foo, /var/lib/foo/ or /etc/foo -> bar)'
+echo 'exit 0' | script_of p
+echo /etc/foo >p/conffiles
+refused 'colis check p' 3 'colis: p/conffiles: line 1: fault 3' \
+    'p/conffiles:1: /etc/foo   (the list has no file of this name)'
+rm p/conffiles
+printf 'dir /etc\ncall foo okay\n' >mine
+for words in '--base mine' '--base=mine'; do
+    refused "colis check p $words" 3 'colis: mine: line 2: fault 1' \
+        'mine:2: call foo okay   (a line is dir, file, absent or nodir and a path, fits, own, or call NAME ok or fails)'
+done
+echo 'd /srv/a' >mine
+refused 'colis run p --scenario install --tree mine' 3 'colis: mine: line 1: fault 3' \
+    'mine:1: d /srv/a   (no earlier line says that its parent is a directory)'
+refused 'colis check none' 3 'colis: none/list: missing' 'none/list: there is no folder none'
+mkdir -p empty
+refused 'colis check empty' 3 'colis: empty/list: missing' \
+    'empty/list: a package has a list of its files; colis-unpack writes it'
+: >foo.deb
+refused 'colis check foo.deb' 3 'colis: foo.deb/list: missing' \
+    'foo.deb/list: foo.deb is a file, and a package is a folder here; colis-unpack FILE.deb DIR makes it'
+refused 'colis translate none' 3 'colis: none: missing' 'none: there is no such file'
+refused 'colis translate p' 4 'colis: p: read failed' 'p: this is a folder, and a file is read here'
+
+# ---- words
+
+refused 'colis chek p' 3 'colis: usage: word 1' \
+    'chek is no command; the commands are check, run, translate and load (colis --help)'
+refused 'colis' 3 'colis: usage: word 1' 'the commands are check, run, translate and load (colis --help)'
+refused 'colis check' 3 'colis: usage: word 2' 'check takes a folder (colis --help)'
+refused 'colis check p q' 3 'colis: usage: word 3' 'q is one word too many (colis --help)'
+refused 'colis check p --help' 3 'colis: usage: word 3' \
+    '--help is no option of check, or stands there twice (colis --help)'
+refused 'colis check p --turns' 3 'colis: usage: word 4' '--turns takes a number from 1 to 10000 (colis --help)'
+refused 'colis check p --turns x' 3 'colis: usage: word 4' '--turns takes a number from 1 to 10000 (colis --help)'
+refused 'colis run p --scenario install' 3 'colis: usage: word 5' \
+    'run takes a folder, --scenario NAME and --tree FILE (colis --help)'
+refused "colis check \$(printf 'p\\377')" 3 'colis: usage: word 1' \
+    'a word has bytes that are no UTF-8 text (colis --help)'
+
+# ---- scenarios
+
+printf '/.\n/srv\n/srv/a/\n' >p/list
+echo 'absent /srv' >mine
+refused 'colis check p --scenario remove --base mine' 3 'colis: no start tree for remove' \
+    "no tree is both as the base says and as the package's files are before it (START CONDITIONS in the manual)"
+echo 'mkdir -p /srv/a/b/c' | script_of p
+refused 'colis check p --scenario install --limit 1' 3 'colis: more than 1 outcomes in install' \
+    '--limit N allows more; --scenario NAME reports one scenario alone; a base that says more has fewer outcomes'
+
+# ---- names
+
+name=$(printf 'd: x\n\033[31m')
+export name
+echo "a \`b\`" | script_of "$name"
+refused "colis check \"\$name\"" 3 "colis: $name/postinst: unsupported backquote at 12" \
+    "d: x\\x0a\\x1b[31m/postinst:2:3: a \`b\`   (backquotes are not supported; \$(..) is)"
+
+# ---- answers
+
+echo 'exit 0' | script_of p
+echo '(program lax (exit 10 (word (p =0))))' >answer
+{ cat answer && echo 'status 0'; } >wanted
+for call in 'colis translate p/postinst' 'colis translate /dev/stdin <p/postinst' \
+    'cat p/postinst | colis translate /dev/stdin'; do
+    piped "$call"
+    same "$call" said <wanted
+    [ -n "$terminals" ] || continue
+    typed "$call"
+    same "$call (terminal)" said <wanted
+done
+mkfifo fifo
+cat p/postinst >fifo &
+piped 'colis translate fifo'
+same 'a pipe in place of a file' said <wanted
+
+# ---- closed pipes, full disks, signals
+
+for call in '{ sleep 1; colis translate p/postinst; echo "status $?" >status; } | true' \
+    'colis translate p/postinst >&-; echo "status $?" >status' \
+    'colis translate p/postinst >/dev/full; echo "status $?" >status'; do
+    piped "$call"
+    cat err status >said
+    printf 'colis: write failed\nstatus 5\n' | same "$call" said
+    [ -n "$terminals" ] || continue
+    typed "$call"
+    tr -d '\r' <out | cat - status >said
+    printf 'colis: write failed\nstatus 5\n' | same "$call (terminal)" said
+done
+call='timeout --preserve-status -s INT 1 colis translate fifo'
+piped "$call"
+echo 'status 130' | same "$call" said
+if [ -n "$terminals" ]; then
+    typed "$call"
+    echo 'status 130' | same "$call (terminal)" said
+fi
+
+[ ! -s wrong ]
