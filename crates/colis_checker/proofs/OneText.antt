@@ -206,8 +206,8 @@ of_one_task : OneAnswer → (given : Result Request ℕ) (files : Files) (text o
     → OfOneTask given text other status other_status
 of_one_task once given files text other status other_status a b =
     let moved : FilesGive a.request (Some files) (Ok b.task) × IsTextOf a.request b.task other other_status =
-        subst (λ (r : Request). FilesGive r (Some files) (Ok b.task) × IsTextOf r b.task other other_status)
-        (same_request (sym b.spelled ∙ a.spelled)) (b.read, b.of_task) in
+    subst (λ (r : Request). FilesGive r (Some files) (Ok b.task) × IsTextOf r b.task other other_status)
+    (same_request (sym b.spelled ∙ a.spelled)) (b.read, b.of_task) in
     let same = same_task (once a.request (λ file. files (file_name a.request file)) (Ok b.task) (Ok a.task) moved.0.told a.read.told) in
     record {
       request = a.request;

@@ -182,11 +182,7 @@ const CHECK: &[&str] = &["check", "p"];
 const RUN: &[&str] = &["run", "p", "--scenario", "install", "--tree", "t"];
 
 // What a check, a run and a translation find.
-const FOUND: &[File] = &[
-    ("p/list", b"/.\n"),
-    ("t", b""),
-    ("s", b"#!/bin/sh\n:\n"),
-];
+const FOUND: &[File] = &[("p/list", b"/.\n"), ("t", b""), ("s", b"#!/bin/sh\n:\n")];
 
 // The words, what fails (the read, the write and the line, by their numbers, and how much of that write is taken), and
 // what has to come of the call.

@@ -87,7 +87,11 @@ fn six_scenarios<R: Threads + Sync>(
 #[test]
 fn six_scenarios_at_once(rt: HostRuntime) -> Result<(), Fail> {
     for (number, call) in WORKED.iter().enumerate() {
-        assert_eq!(rt; six_scenarios(&rt, rt.alloc(), call)?, (true, true, 6), "row {number}");
+        assert_eq!(rt;
+            six_scenarios(&rt, rt.alloc(), call)?,
+            (true, true, 6),
+            "row {number}"
+        );
     }
     Ok(())
 }
