@@ -255,7 +255,7 @@ const FAILING: &[Fails] = &[
     ),
     Fails(
         &["check", "p", "--old", "o"],
-        8,
+        1,
         0,
         0,
         0,
