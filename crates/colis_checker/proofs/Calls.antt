@@ -206,7 +206,7 @@ told_text once request (Some files) task text status refusal A is of_task = λ r
       absurd (text_or_refusal request task text status refusal of_task (subst (λ (t : Task). IsTaskRefusal request t refusal) same b.2))
 ]
 
-same_request : {a b : Request} → ◌≡◌ {A = Result Request ℕ} (Ok a) (Ok b) → a ≡ b
+pub same_request : {a b : Request} → ◌≡◌ {A = Result Request ℕ} (Ok a) (Ok b) → a ≡ b
 same_request e = cc
 
 request_or_word : {a : Request} {word : ℕ} → ◌≡◌ {A = Result Request ℕ} (Ok a) (Err word) → ⊥

@@ -9,6 +9,7 @@ pub mod ToldParts
 pub mod Shared
 pub mod OneRefusal
 pub mod Quiet
+pub mod OneText
 pub mod Fitting
 pub mod Calls
 pub mod Failures

@@ -18,8 +18,9 @@ use Rattle.outcome_report.specs.Numbered.{AreNumbered, AllNumbered}
 use Rattle.outcome_report.specs.OutcomeReport.{IsEntryOf, AllEntries, IsPart}
 use Rattle.outcome_report.specs.Whole.{IsWholeEntry, AllWhole, AllPartsWhole, AreInOrder, scenario_place}
 use Rattle.outcome_report.specs.TextLaws.{TextsTellReports}
+use Rattle.report_json.specs.Laws as json
 use Rattle.colis_checker.specs.Reports.{AreParts, chosen}
-use Rattle.colis_checker.specs.Laws.{WholeReports, PlainTextsTellReports}
+use Rattle.colis_checker.specs.Laws.{WholeReports, PlainTextsTellReports, JsonTextsTellReports}
 use Rattle.outcome_report.proofs.Entries.{same_run}
 
 -- ---- an entry
@@ -93,7 +94,7 @@ module _ (packages : Packages) (turns limit : ℕ) where
       (map (λ (e : ReportEntry). e.outcome) part.entries) is.exact in
       (whole_entries run part.entries shows is.entries, numbered_from 1 part.entries is.exact.numbered)
 
-  whole_parts : (scenarios : List Scenario) (parts : List ReportPart) → AreParts packages turns limit scenarios parts
+  pub whole_parts : (scenarios : List Scenario) (parts : List ReportPart) → AreParts packages turns limit scenarios parts
       → AllPartsWhole parts × AllNumbered parts
   whole_parts [] [] are = (tt, tt)
   whole_parts [] (part ∷ parts) are = absurd are
@@ -131,5 +132,10 @@ whole_reports packages turns limit which report are =
 
 pub plain_texts_tell : TextsTellReports → PlainTextsTellReports
 plain_texts_tell tell packages other_packages turns other_turns limit other_limit which other_which text status other_status a b =
+    tell a.report b.report a.representable b.representable (whole_reports packages turns limit which a.report a.parts)
+    (whole_reports other_packages other_turns other_limit other_which b.report b.parts) (sym a.text_is ∙ b.text_is)
+
+pub json_texts_tell : json.JsonTextsTellReports → JsonTextsTellReports
+json_texts_tell tell packages other_packages turns other_turns limit other_limit which other_which text status other_status a b =
     tell a.report b.report a.representable b.representable (whole_reports packages turns limit which a.report a.parts)
     (whole_reports other_packages other_turns other_limit other_which b.report b.parts) (sym a.text_is ∙ b.text_is)

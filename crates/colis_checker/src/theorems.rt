@@ -1,11 +1,14 @@
 //! What a report means for those who read it, and what holds of refusals.
 
-ghost use Rattle.colis_checker.specs.Laws.{QuietScenario, QuietReport, FailedScenario, FailedReport, OneRefusal};
-ghost use Rattle.colis_checker.specs.Laws.{WholeReports, PlainTextsTellReports};
+ghost use Rattle.colis_checker.specs.Laws.{QuietScenario, QuietReport, UnfailedScenario, UnfailedReport};
+ghost use Rattle.colis_checker.specs.Laws.{FailedScenario, FailedReport, WholeReports};
+ghost use Rattle.colis_checker.specs.Laws.{PlainTextsTellReports, JsonTextsTellReports};
+ghost use Rattle.colis_checker.specs.Laws.{OneReportStatus, OneBriefText, OneStatus, OneText, OneRefusal};
 
 use checker_input::theorems::one_answer;
-use outcome_report::theorems::texts_tell_reports;
+use outcome_report::theorems::{endings_tell_brief_texts, texts_tell_reports};
 use package_jobs::theorems::more_turns_change_no_written_run;
+use report_json::theorems::json_tells_reports;
 
 /// Of a scenario that is reported with outcomes that are all done, the run from each start tree is done: it fails from
 /// none, and from none does it end where nothing is specified or no turn is left. With more turns of loops than it was
@@ -13,6 +16,16 @@ use package_jobs::theorems::more_turns_change_no_written_run;
 pub fn a_quiet_scenario_fails_nowhere()
     ensures scenario { QuietScenario }
     ensures report { QuietReport }
+{
+    more_turns_change_no_written_run();
+}
+
+/// Of a scenario that is reported without failed outcomes, though with incomplete or bound ones, the run from no start
+/// tree fails, with the turns of loops that it was reported with. Unless a run ended for want of a turn, it is the same
+/// run with more turns. Where the report's status is not 1, this holds of each chosen scenario.
+pub fn an_unfailed_scenario_fails_nowhere()
+    ensures scenario { UnfailedScenario }
+    ensures report { UnfailedReport }
 {
     more_turns_change_no_written_run();
 }
@@ -40,6 +53,33 @@ pub fn plain_texts_tell_reports()
     ensures { PlainTextsTellReports }
 {
     texts_tell_reports();
+}
+
+/// The JSON text of a check tells its report: two checks that answer the same JSON text, of whatever packages, report
+/// the same outcomes, with the same traces, clauses, trees and replays.
+pub fn json_texts_tell_reports()
+    ensures { JsonTextsTellReports }
+{
+    json_tells_reports();
+}
+
+/// The status of a check, and the text of a brief one, follow from the packages, the turns of loops and the scenarios:
+/// two checks of the same have the same.
+pub fn one_brief_report()
+    ensures status { OneReportStatus }
+    ensures text { OneBriefText }
+{
+    endings_tell_brief_texts();
+}
+
+/// The status of a call that is answered with a text follows from its words and from what the files hold. So does the
+/// text of a brief check, of a run, of a translation and of a load.
+pub fn one_text()
+    ensures status { OneStatus }
+    ensures text { OneText }
+{
+    endings_tell_brief_texts();
+    one_answer();
 }
 
 /// A request is refused for one reason: the first file that is at fault, or else the first scenario that cannot be

@@ -19,10 +19,10 @@ use Rattle.outcome_report.specs.BriefText.{brief_entry, brief_part, brief_text}
 use Rattle.outcome_report.specs.Numbered.{AreNumbered, AllNumbered}
 use Rattle.outcome_report.specs.Laws.{ending_and_trace, scenario_and_endings, EndingsTellBriefTexts}
 
-abbrev Told : Type 0
+abbrev pub Told : Type 0
 Told = List (Ending × List Mark)
 
-abbrev Scenarios : Type 0
+abbrev pub Scenarios : Type 0
 Scenarios = List (Scenario × Told)
 
 -- ---- entries
@@ -80,7 +80,7 @@ parts_are (part ∷ parts) numbered =
 
 -- ---- the verdict
 
-abbrev has_told : ℕ → Scenario × Told → Bool
+abbrev pub has_told : ℕ → Scenario × Told → Bool
 has_told v s = list_any (λ t. ending_verdict t.0 == v) s.1
 
 entries_have : (v : ℕ) (entries : List ReportEntry)
@@ -95,10 +95,10 @@ parts_have v (part ∷ parts) =
     ap (λ b. b || list_any (part_has v) parts) (entries_have v part.entries)
     ∙ ap (λ b. has_told v (scenario_and_endings part) || b) (parts_have v parts)
 
-abbrev verdict_told : Scenarios → ℕ
+abbrev pub verdict_told : Scenarios → ℕ
 verdict_told ss = joint_verdict (list_any (has_told 1) ss) (list_any (has_told 2) ss)
 
-verdict_is : (report : Report) → verdict_of report ≡ verdict_told (map scenario_and_endings report.parts)
+pub verdict_is : (report : Report) → verdict_of report ≡ verdict_told (map scenario_and_endings report.parts)
 verdict_is report =
     ap (λ b. joint_verdict b (report_has 2 report)) (parts_have 1 report.parts)
     ∙ ap (joint_verdict (list_any (has_told 1) (map scenario_and_endings report.parts))) (parts_have 2 report.parts)

@@ -2,7 +2,8 @@ pub mod Entries
 mod PlaceEquality
 mod Counted
 mod Growing
-mod Briefs
+pub mod Briefs
+pub mod EndAlike
 pub mod Carrying
 pub mod PartOf
 pub mod ShownBytes

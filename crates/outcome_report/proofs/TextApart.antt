@@ -76,7 +76,7 @@ directory_apart es (Link x) s t d h g a b e = cc
 directory_apart es Other s t d h g a b e = cc
 directory_apart es (Dir fs) s t d h g a b e = entries_apart_by_lines es fs s t h g a b e
 
-tree_apart : (v w : Value) (s t : List ℕ) → kind_of v ≡ kind.Dir → kind_of w ≡ kind.Dir → IsRepresentableTree v → IsRepresentableTree w
+pub tree_apart : (v w : Value) (s t : List ℕ) → kind_of v ≡ kind.Dir → kind_of w ≡ kind.Dir → IsRepresentableTree v → IsRepresentableTree w
     → second is_blank s ≡ false → second is_blank t ≡ false → tree_text v ++ s ≡ tree_text w ++ t → (v ≡ w) × (s ≡ t)
 tree_apart Absent w s t c d h g a b e = cc
 tree_apart Reg w s t c d h g a b e = cc

@@ -11,7 +11,7 @@ use Rattle.outcome_report.specs.declared.outcome_report.ReportEntry.{ReportEntry
 use Rattle.outcome_report.specs.declared.outcome_report.ReportPart.{ReportPart}
 use Rattle.outcome_report.specs.declared.outcome_report.Report.{Report}
 use Rattle.outcome_report.specs.Numbered.{AllNumbered}
-use Rattle.outcome_report.specs.OutcomeReport.{PartAnswers}
+use Rattle.outcome_report.specs.OutcomeReport.{IsPart, PartAnswers}
 use Rattle.outcome_report.specs.BriefText.{brief_text}
 
 -- ---- parts do not depend on how runs and start trees are said
@@ -33,6 +33,12 @@ ending_and_trace entry = (entry.outcome.ending, entry.outcome.trace)
 -- a scenario, and how its outcomes end
 abbrev pub scenario_and_endings : ReportPart → Scenario × List (Ending × List Mark)
 scenario_and_endings part = (part.scenario, map ending_and_trace part.entries)
+
+-- two parts on one scenario that are exact for the same runs and start trees have the same endings and traces
+abbrev pub PartsEndAlike : (Value → Option Replayed) → (Value → Type 0) → Type 0
+PartsEndAlike run start =
+    (one other : ReportPart) → IsPart run start one → IsPart run start other → one.scenario ≡ other.scenario
+    → scenario_and_endings one ≡ scenario_and_endings other
 
 -- reports on the same scenarios, whose outcomes have the same endings and traces, have one brief text
 abbrev pub EndingsTellBriefTexts : Type 0

@@ -1,1 +1,2 @@
 pub mod ReportJson
+pub mod Laws

@@ -5,6 +5,7 @@
 
 mod lines;
 mod render;
+pub mod theorems;
 mod values;
 
 pub use render::render_json;

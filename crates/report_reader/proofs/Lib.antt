@@ -9,6 +9,5 @@ pub mod ReportLaws
 pub mod FoundFacts
 pub mod LowTexts
 pub mod LowPieces
-pub mod ValueDepth
 pub mod ValueLaws
 pub mod ReadBack

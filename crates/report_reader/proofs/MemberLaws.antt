@@ -28,7 +28,8 @@ use Rattle.outcome_report.proofs.WholeLines.{is_a, is_blank, is_no_h, calls_mark
 use Rattle.report_json.specs.ReportJson.{lines_in, clause_json}
 use Rattle.report_reader.specs.ReportRead.{lines_onto, tree_found, calls_onto, clause_with, clause_from, clause_in}
 use Rattle.report_reader.proofs.ClauseFacts.{short_is, clause_found}
-use Rattle.report_reader.proofs.LineLaws.{marked_are_lines, lines_are, lines_back}
+use Rattle.report_json.proofs.LineLists.{marked_are_lines, lines_are}
+use Rattle.report_reader.proofs.LineLaws.{lines_back}
 
 -- ---- trees
 

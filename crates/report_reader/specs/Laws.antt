@@ -1,7 +1,7 @@
 -- What holds of the JSON texts of reports.
 use Rattle.std.specs.Prelude.{◌≡◌, Result, Ok, Err}
 use Rattle.outcome_report.specs.declared.outcome_report.Report.{Report}
-use Rattle.report_json.specs.ReportJson.{json_of, json_text}
+use Rattle.report_json.specs.ReportJson.{json_text}
 use Rattle.report_reader.specs.declared.read.JsonFault.{JsonFault}
 use Rattle.report_reader.specs.declared.read.JsonFault.TheVariants as fault
 use Rattle.report_reader.specs.JsonAnswers.{IsReadable, ReadsReport}
@@ -18,11 +18,3 @@ abbrev pub ReportsReadBack : Type 0
 ReportsReadBack =
     (report : Report) → IsReadable report → (answer : Result Report JsonFault)
     → ReadsReport (json_text report) answer → IsReadAs report answer
-
--- two readable reports with one value are the same
-abbrev pub ValuesTellReports : Type 0
-ValuesTellReports = (a b : Report) → IsReadable a → IsReadable b → json_of a ≡ json_of b → a ≡ b
-
--- two readable reports with one JSON text are the same
-abbrev pub JsonTextsTellReports : Type 0
-JsonTextsTellReports = (a b : Report) → IsReadable a → IsReadable b → json_text a ≡ json_text b → a ≡ b

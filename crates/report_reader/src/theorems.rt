@@ -1,14 +1,8 @@
 //! What holds of the JSON texts of reports, for readers of them.
 
-ghost use Rattle.report_reader.specs.Laws.{ReportsReadBack, ValuesTellReports, JsonTextsTellReports};
+ghost use Rattle.report_reader.specs.Laws.{ReportsReadBack};
 
 /// The JSON text of a whole report is read as the report.
 pub fn reports_read_back()
     ensures { ReportsReadBack }
-{}
-
-/// The JSON value of a whole report tells the report, and so does its JSON text: two with the same are the same.
-pub fn json_tells_reports()
-    ensures values { ValuesTellReports }
-    ensures texts { JsonTextsTellReports }
 {}

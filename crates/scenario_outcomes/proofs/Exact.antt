@@ -107,7 +107,8 @@ rises place (x ∷ y ∷ xs) (o ∷ p ∷ os) all rising =
     let Q : List Mark → Type 0 = λ t. TraceBelow x.state.trace t in
     (subst P (sym all.0.trace) (subst Q (sym all.1.0.trace) below), rises (suc place) (y ∷ xs) (p ∷ os) all.1 rising.1)
 
-below_other : (a : List Mark) → TraceBelow a a → ⊥
+-- no trace comes before itself
+pub below_other : (a : List Mark) → TraceBelow a a → ⊥
 below_other [] b = b
 below_other (mark ∷ a) (inl (inl less)) = absurd (omega (arith, less))
 below_other (mark ∷ a) (inl (inr (e, inl less))) = absurd (omega (arith, less))

@@ -5,3 +5,4 @@ mod StoreClauses
 mod Answering
 pub mod Carrying
 pub mod OnePath
+pub mod EndAlike

@@ -2,7 +2,7 @@
 
 use super::scripts_made::Script;
 use super::seen::Seen;
-use super::{Case, Failing, File, NOTHING, QUIET, Row, Wanted, installation, see, see_all};
+use super::{Case, Failing, File, QUIET, Row, Wanted, installation, see, see_all};
 use std::test::Fail;
 
 // A package that is on no system of the base, and whose script has four outcomes.
@@ -179,6 +179,11 @@ fn as_many_outcomes_as_the_limit(rt: HostRuntime) -> Result<(), Fail> {
 
 const CHECK: &[&str] = &["check", "p"];
 
+const RUN: &[&str] = &["run", "p", "--scenario", "install", "--tree", "t"];
+
+// What a check, a run and a translation find.
+const FOUND: &[File] = &[("p/list", b"/.\n"), ("t", b""), ("s", b"#!/bin/sh\n:\n")];
+
 // The words, what fails (the read, the write and the line, by their numbers, and how much of that write is taken), and
 // what has to come of the call.
 struct Fails(&'static [&'static str], u32, u32, u32, u32, Wanted);
@@ -187,7 +192,7 @@ impl Row for Fails {
     fn case(&self) -> Case {
         Case {
             words: self.0,
-            files: NOTHING,
+            files: FOUND,
             script: None,
             failing: Failing {
                 read: self.1,
@@ -239,6 +244,74 @@ const FAILING: &[Fails] = &[
     Fails(CHECK, 0, 1, 0, 0, (5, b"", b"colis: write failed\n")),
     Fails(CHECK, 0, 1, 1, 10, (5, b"colis repo", b"colis: wri")),
     Fails(&["check"], 0, 0, 1, 7, (5, b"", b"colis: ")),
+    // What else is read, and what else is written.
+    Fails(
+        &["check", "p", "--base", "b"],
+        1,
+        0,
+        0,
+        0,
+        (4, b"", b"colis: b: read failed\n"),
+    ),
+    Fails(
+        &["check", "p", "--old", "o"],
+        1,
+        0,
+        0,
+        0,
+        (4, b"", b"colis: o/control: read failed\n"),
+    ),
+    Fails(RUN, 8, 0, 0, 0, (4, b"", b"colis: t: read failed\n")),
+    Fails(
+        &["translate", "s"],
+        1,
+        0,
+        0,
+        0,
+        (4, b"", b"colis: s: read failed\n"),
+    ),
+    Fails(
+        &["check", "p", "--brief"],
+        0,
+        1,
+        0,
+        10,
+        (5, b"colis brie", b"colis: write failed\n"),
+    ),
+    Fails(
+        &["check", "p", "--json"],
+        0,
+        1,
+        0,
+        10,
+        (5, b"{\"colis\":1", b"colis: write failed\n"),
+    ),
+    Fails(
+        RUN,
+        0,
+        1,
+        0,
+        10,
+        (5, b"result don", b"colis: write failed\n"),
+    ),
+    Fails(
+        &["translate", "s"],
+        0,
+        1,
+        0,
+        10,
+        (5, b"(program l", b"colis: write failed\n"),
+    ),
+    Fails(
+        &["load", "1"],
+        0,
+        1,
+        0,
+        10,
+        (5, b"load 1\nins", b"colis: write failed\n"),
+    ),
+    Fails(&["translate", "x"], 0, 0, 1, 7, (5, b"", b"colis: ")),
+    Fails(RUN, 8, 0, 1, 7, (5, b"", b"colis: ")),
 ];
 
 #[test]

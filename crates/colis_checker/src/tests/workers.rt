@@ -38,21 +38,25 @@ impl Counting {
     }
 }
 
-// A report with success. What it says is taken from another call.
-const BRIEF: Called = Called(&["check", "p", "--brief"], NOTHING, (0, b"", b""));
+// Calls of six scenarios each: the words, the files, and the status. What they say is taken from other calls.
+const WORKED: &[Called] = &[
+    Called(&["check", "p", "--brief"], NOTHING, (0, b"", b"")),
+    Called(&["check", "p"], NOTHING, (0, b"", b"")),
+    Called(&["load", "1"], &[], (1, b"", b"")),
+];
 
 fn are_same(bytes: &[u8], others: &[u8]) -> bool {
     bytes == others
 }
 
-// Whether both calls wrote the same report, and the first ended as it has to.
+// Whether both calls wrote the same text, and the first ended as it has to.
 fn is_same_report(first: &Ended, second: &Ended, case: &Case) -> bool {
     first.status == case.status
         && are_same(first.out.bytes(), second.out.bytes())
         && first.err.bytes().is_empty()
 }
 
-// Whether the report of workers that enter the gate is that of workers that enter an open one.
+// Whether the text of workers that enter the gate is that of workers that enter an open one.
 fn reports_the_same<R: Threads + Sync>(
     rt: &R,
     alloc: Global,
@@ -64,10 +68,14 @@ fn reports_the_same<R: Threads + Sync>(
     Ok(is_same_report(&ended, &alone, case))
 }
 
-// Whether the report is the same, whether two workers were at work at once, and how many scenarios entered.
-fn six_scenarios<R: Threads + Sync>(rt: &R, alloc: Global) -> Result<(bool, bool, u64), Memory> {
+// Whether the report is the same, whether two workers were at work at once, and how often a worker entered.
+fn six_scenarios<R: Threads + Sync>(
+    rt: &R,
+    alloc: Global,
+    call: &Called,
+) -> Result<(bool, bool, u64), Memory> {
     let gate = Counting::new();
-    let same = reports_the_same(rt, alloc, &gate, &BRIEF.case())?;
+    let same = reports_the_same(rt, alloc, &gate, &call.case())?;
     Ok((
         same,
         gate.saw_another.load(Ordering::SeqCst),
@@ -75,10 +83,16 @@ fn six_scenarios<R: Threads + Sync>(rt: &R, alloc: Global) -> Result<(bool, bool
     ))
 }
 
-// All six scenarios enter, two of them at once, and the report is the same.
+// All six scenarios enter, each once, two of them at once, and the report is the same.
 #[test]
 fn six_scenarios_at_once(rt: HostRuntime) -> Result<(), Fail> {
-    assert_eq!(rt; six_scenarios(&rt, rt.alloc())?, (true, true, 6));
+    for (number, call) in WORKED.iter().enumerate() {
+        assert_eq!(rt;
+            six_scenarios(&rt, rt.alloc(), call)?,
+            (true, true, 6),
+            "row {number}"
+        );
+    }
     Ok(())
 }
 

@@ -4,7 +4,7 @@ use Rattle.serde_json.specs.Data.{Data, depth}
 use Rattle.serde_json.specs.Written.{has_float}
 use Rattle.report_json.specs.ReportJson.{json_of}
 use Rattle.report_json.proofs.Floats.{report_plain}
-use Rattle.report_reader.proofs.ValueDepth.{report_depth}
+use Rattle.report_json.proofs.ValueDepth.{report_depth}
 use Rattle.report_reader.proofs.read.has_value.Goals as goal
 
 turned : (r : Result Bool Memory) (d v e : Data) → v ≡ e → has_float e ≡ false → IfOk r (λ same. IsTrue same → d ≡ v)

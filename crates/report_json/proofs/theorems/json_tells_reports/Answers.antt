@@ -1,5 +1,5 @@
-use Rattle.report_reader.proofs.ReadBack.{values_tell, texts_tell}
-use Rattle.report_reader.proofs.theorems.json_tells_reports.Goals as goal
+use Rattle.report_json.proofs.Told.{values_tell, texts_tell}
+use Rattle.report_json.proofs.theorems.json_tells_reports.Goals as goal
 
 pub returns-clause-values : goal.returns-clause-values
 returns-clause-values c = values_tell
