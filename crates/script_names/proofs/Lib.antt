@@ -1,2 +1,3 @@
 pub mod Begins
+pub mod Commands
 pub mod Parts

@@ -4,6 +4,7 @@ use Rattle.std.specs.Prelude.{ℕ, Bool, true, false, not, ◌&&◌, ◌||◌, L
 use Rattle.std.specs.Prelude.{nat_lt}
 use Rattle.std.specs.List.{list_any, flat_map}
 use Rattle.std.specs.Str.{bytes_eq}
+use Rattle.script_names.specs.CommandNames.{is_one_of, is_kept_name, special_names}
 use Rattle.shell_syntax.specs.declared.form.Form.{Form}
 use Rattle.shell_syntax.specs.declared.form.Form.TheVariants as form
 use Rattle.shell_syntax.specs.declared.syntax.Command.{Command}
@@ -16,7 +17,7 @@ use Rattle.shell_syntax.specs.declared.syntax.Word.{Word}
 use Rattle.shell_syntax.specs.declared.syntax.Command.TheOpen as o
 use Rattle.shell_syntax.specs.declared.syntax.Command.TheFolds.{fold-Command, fold-Part, fold-Assign, fold-CaseArm}
 use Rattle.shell_syntax.specs.declared.syntax.Command.TheFolds.{fold-IfArm, fold-Link, fold-Word}
-use Rattle.shell_forms.specs.Names.{Text, is_one_of, is_kept_name, special_names}
+use Rattle.shell_forms.specs.Names.{Text}
 use Rattle.shell_forms.specs.Words.{PartSays, WordSays, AssignSays, static, has_unquoted, commands_of, is_all_alone}
 use Rattle.shell_forms.specs.declared.place.Place.{Place}
 use Rattle.shell_forms.specs.declared.place.Standing.{Standing}

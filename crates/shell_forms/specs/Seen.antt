@@ -2,6 +2,7 @@
 use Rattle.std.specs.Prelude.{ℕ, Bool, true, false, not, ◌&&◌, ◌||◌, List, [], ◌∷◌, Option, Some, None, codes}
 use Rattle.std.specs.List.{list_any}
 use Rattle.std.specs.Str.{bytes_eq}
+use Rattle.script_names.specs.CommandNames.{special_names}
 use Rattle.shell_syntax.specs.declared.syntax.Command.{Command}
 use Rattle.shell_syntax.specs.declared.syntax.Part.{Part, out-Part}
 use Rattle.shell_syntax.specs.declared.syntax.Assign.{Assign}
@@ -11,7 +12,7 @@ use Rattle.shell_syntax.specs.declared.syntax.Link.{Link}
 use Rattle.shell_syntax.specs.declared.syntax.Word.{Word}
 use Rattle.shell_syntax.specs.declared.syntax.Command.TheOpen as o
 use Rattle.shell_forms.specs.Words.{both_bytes, command_of}
-use Rattle.shell_forms.specs.Names.{Text, special_names}
+use Rattle.shell_forms.specs.Names.{Text}
 use Rattle.shell_forms.specs.Forms.{Forms, is_named, is_there, are_any, is_function, part_says, apart, all_of}
 
 -- one layer of a part

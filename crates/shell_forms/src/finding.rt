@@ -13,10 +13,9 @@ use crate::found::{Found, found_if};
 use crate::functions::Functions;
 use crate::place::Place;
 use crate::words::{
-    is, is_all_alone, is_kept_name, is_name, is_one_flag, is_special, sets_ifs, some_runs,
-    some_unquoted, static_name,
+    is, is_all_alone, is_name, is_one_flag, sets_ifs, some_runs, some_unquoted, static_name,
 };
-use script_names::{Bytes, Memory};
+use script_names::{Bytes, Memory, is_kept_name, is_special_name};
 use shell_syntax::{Assign, CaseArm, Command, Form, IfArm, Link, Part, Word};
 use std::alloc::Global;
 
@@ -131,7 +130,7 @@ fn is_prefix(
     match name {
         None => true,
         Some(name) => functions.first(name.as_slice()).is_some()
-            || is_special(name.as_slice())
+            || is_special_name(name.as_slice())
             || some_runs(assigns),
     }
 }

@@ -12,4 +12,4 @@ mod words;
 
 pub use accepted::{Accepted, FormFault, accept};
 pub use place::{Place, Standing};
-pub use words::{is_kept_name, is_name, static_text};
+pub use words::{is_name, static_text};

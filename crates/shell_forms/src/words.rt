@@ -2,7 +2,6 @@ ghost use Rattle.std.specs.Prelude.{◌≡◌, IfOk};
 ghost use Rattle.std.specs.List.{list_any};
 ghost use Rattle.std.specs.Option.{option_copied};
 ghost use Rattle.std.specs.Str.{bytes_eq};
-ghost use Rattle.shell_forms.specs.Names.{is_one_of, is_kept_name, special_names};
 ghost use Rattle.shell_forms.specs.Forms.{is_name};
 ghost use Rattle.shell_forms.specs.Seen.{bytes_of, static_of, static_name_of, is_unquoted, is_run, is_all};
 ghost use Rattle.shell_forms.specs.Seen.{is_all_alone_in, some_unquoted_in, some_runs_in, is_one_flag_in};
@@ -62,38 +61,6 @@ pub(crate) fn is(name: &[u8], one: &[u8]) -> bool
     ensures { result ≡ bytes_eq name.now one.now }
 {
     name == one
-}
-
-/// Whether a name is that of a special built-in.
-pub(crate) fn is_special(name: &[u8]) -> bool
-    ensures { result ≡ is_one_of name.now special_names }
-{
-    is(name, b":")
-        || is(name, b"break")
-        || is(name, b"continue")
-        || is(name, b"exit")
-        || is(name, b"return")
-        || is(name, b"set")
-        || is(name, b"export")
-        || is(name, b"unset")
-}
-
-/// Whether no function can have the name, since a utility or a special built-in has it.
-pub fn is_kept_name(name: &[u8]) -> bool
-    ensures { result ≡ is_kept_name name.now }
-{
-    is(name, b"true")
-        || is(name, b"false")
-        || is(name, b"echo")
-        || is(name, b"mkdir")
-        || is(name, b"rmdir")
-        || is(name, b"rm")
-        || is(name, b"touch")
-        || is(name, b"ln")
-        || is(name, b"mv")
-        || is(name, b"test")
-        || is(name, b"[")
-        || is_special(name)
 }
 
 /// Whether the words are the one static word `-e` or `+e`.

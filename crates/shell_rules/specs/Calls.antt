@@ -1,7 +1,7 @@
 -- Simple commands: assignments, utilities, functions, and what changes the shell itself
 -- (POSIX.1-2017, XCU 2.9.1 Simple Commands, 2.9.5 Function Definition Command, 2.14 Special Built-In Utilities).
 use Rattle.std.specs.Prelude.{ℕ, ◌+◌, ◌-◌, ◌*◌, Bool, true, false, not, ◌&&◌, ◌||◌, nat_eq, nat_le, List, [], ◌∷◌}
-use Rattle.std.specs.Prelude.{◌++◌, length}
+use Rattle.std.specs.Prelude.{◌++◌, length, filter}
 use Rattle.std.specs.Prelude.{Option, Some, None, option_map, codes, if◌then◌else◌}
 use Rattle.std.specs.List.{list_any, list_all}
 use Rattle.std.specs.Str.{bytes_eq}
@@ -10,6 +10,7 @@ use Rattle.script_names.specs.declared.mark.Mark.{Mark}
 use Rattle.script_names.specs.declared.reason.Done.{Done}
 use Rattle.script_names.specs.declared.reason.Done.TheVariants as done
 use Rattle.script_names.specs.declared.reason.Reason.TheVariants as reason
+use Rattle.script_names.specs.CommandNames as names
 use Rattle.utility_calls.specs.declared.acts.Act.{Act}
 use Rattle.utility_calls.specs.declared.planned.Planned.{Planned}
 use Rattle.utility_calls.specs.declared.planned.Planned.TheVariants.{Known, Ask, Print, Change, Unspecified}
@@ -80,11 +81,9 @@ abbrev pub do_call_of : List Text → Action
 do_call_of [] p s = Go tt (with_status s.substituted s)
 do_call_of (name ∷ words) p s = do_planned (call (name ∷ words)) p s
 
--- the names of the utilities that change the shell itself
+-- the names of the utilities that change the shell itself: of the special built-ins all but `:`
 abbrev pub special_names : List Text
-special_names =
-    codes "break" ∷ codes "continue" ∷ codes "exit" ∷ codes "return" ∷ codes "set" ∷ codes "export"
-    ∷ codes "unset" ∷ []
+special_names = filter (λ name. not (bytes_eq name (codes ":"))) names.special_names
 
 -- no command substitution of this command so far
 abbrev pub no_substitution : State → State

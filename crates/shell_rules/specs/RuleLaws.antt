@@ -2,11 +2,11 @@
 use Rattle.std.specs.Prelude.{◌≡◌, ◌↔◌, ℕ, Bool, true, List, Option, Some, is_none, IsTrue}
 use Rattle.std.specs.List.{list_all}
 use Rattle.script_names.specs.declared.reason.Reason.{Reason}
+use Rattle.script_names.specs.CommandNames.{utility_named}
 use Rattle.shell_words.specs.declared.pattern.Item.{Item}
 use Rattle.shell_words.specs.Patterns.{Matches}
 use Rattle.shell_words.specs.Pieces.{PieceParts}
 use Rattle.shell_words.specs.Trimmed.{IsTrimmed}
-use Rattle.utility_calls.specs.Calls.{utility_named}
 use Rattle.shell_rules.specs.State.{Text, Doing, Action}
 use Rattle.shell_rules.specs.Expansion as word
 use Rattle.shell_rules.specs.Commands as command

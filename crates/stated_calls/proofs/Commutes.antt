@@ -16,7 +16,8 @@ use Rattle.shell_syntax.specs.declared.syntax.Link.{Link, roll-Link}
 use Rattle.shell_syntax.specs.declared.syntax.Word.{Word, roll-Word}
 use Rattle.shell_syntax.specs.declared.syntax.Command.TheOpen as o
 use Rattle.shell_syntax.specs.declared.syntax.Command.TheFolds.{fold-roll-Command, fold-roll-Part, fold-roll-Assign, fold-roll-CaseArm, fold-roll-IfArm, fold-roll-Link, fold-roll-Word, fold_out-Word, ind-Command, map-Command, map-Part}
-use Rattle.shell_forms.specs.Names.{Text, is_one_of, special_names}
+use Rattle.script_names.specs.CommandNames.{is_one_of, special_names}
+use Rattle.shell_forms.specs.Names.{Text}
 use Rattle.shell_forms.specs.Words.{both_bytes}
 use Rattle.shell_forms.specs.Seen.{layer_bytes, bytes_of, static_of}
 use Rattle.colis_syntax.specs.declared.syntax.Stmt.{Stmt}

@@ -13,7 +13,8 @@ use Rattle.shell_syntax.specs.declared.syntax.Link.{Link}
 use Rattle.shell_syntax.specs.declared.syntax.Word.{Word}
 use Rattle.shell_syntax.specs.declared.syntax.Command.TheOpen as o
 use Rattle.shell_syntax.specs.declared.syntax.Command.TheFolds.{fold-roll-Part, fold-roll-Word, fold_out-Word, map-Part}
-use Rattle.shell_forms.specs.Names.{Text, is_one_of, special_names}
+use Rattle.script_names.specs.CommandNames.{is_one_of, special_names}
+use Rattle.shell_forms.specs.Names.{Text}
 use Rattle.shell_forms.specs.Words.{PartSays, WordSays, AssignSays, both_bytes, static, commands_of, command_of}
 use Rattle.shell_forms.specs.Seen.{layer_bytes, bytes_of, static_of}
 use Rattle.shell_forms.specs.Forms as form

@@ -1,7 +1,7 @@
 -- The program of a script that is read under stated calls is the script's program, so read.
 use Rattle.std.proofs.Common.{◌≡◌, ℕ, Bool, true, false, not, ◌||◌, ◌&&◌, List, [], ◌∷◌, ◌++◌, map, filter, length, nat_le, nat_lt, Option, Some, None, refl, sym, ap, ◌∙◌, subst, if◌then◌else◌, append-nil}
 use Rattle.std.specs.List.{list_all, find}
-use Rattle.std.specs.Option.{option_map}
+use Rattle.std.specs.Option.{option_map, option_map_or}
 use Rattle.std.specs.Str.{bytes_eq}
 use Rattle.std.proofs.lemmas.Slice.Eq.{bytes_eq-Decides}
 use Rattle.std.proofs.lemmas.Bool.{and_parts, not-true}
@@ -17,7 +17,8 @@ use Rattle.shell_syntax.specs.declared.syntax.Word.{Word}
 use Rattle.shell_syntax.specs.declared.syntax.Command.TheOpen as o
 use Rattle.shell_syntax.specs.declared.syntax.Command.TheFolds.{fold-roll-Command}
 use Rattle.shell_syntax.specs.declared.form.Form.TheVariants as forms
-use Rattle.shell_forms.specs.Names.{Text, is_one_of, utility_names, special_names, is_kept_name}
+use Rattle.script_names.specs.CommandNames.{is_one_of, utility_named, special_names, keeps_name, is_kept_name}
+use Rattle.shell_forms.specs.Names.{Text}
 use Rattle.shell_forms.specs.Words.{PartSays, WordSays, AssignSays}
 use Rattle.shell_forms.specs.Forms as form
 use Rattle.shell_forms.specs.Forms.{Forms, Found, forms_of, script_place, member, all_of}
@@ -177,7 +178,7 @@ is_free name e =
 sound_calls : (p : StatedCall → Bool) (calls : List StatedCall) → are_stated calls ≡ true → Sound (filter p calls)
 sound_calls p calls s name plain e =
     let h = counted p calls name plain s e in (
-      ap is_special h.is ∙ no_right (is_one_of h.call.name utility_names) (is_one_of h.call.name special_names) (is_free h.call.name h.can),
+      ap is_special h.is ∙ no_right (option_map_or keeps_name (utility_named h.call.name) false) (is_one_of h.call.name special_names) (is_free h.call.name h.can),
       ap is_special (sym h.reads) ∙ end_special h.call.end,
     )
 

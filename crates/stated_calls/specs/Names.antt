@@ -2,7 +2,8 @@
 use Rattle.std.specs.Prelude.{ℕ, Bool, not, ◌&&◌, ◌==◌, nat_lt, nat_le, length}
 use Rattle.std.specs.List.{list_all}
 use Rattle.script_names.specs.declared.name.TheConstants.{NAME_MAX}
-use Rattle.shell_forms.specs.Names.{Text, is_kept_name}
+use Rattle.script_names.specs.CommandNames.{is_kept_name}
+use Rattle.shell_forms.specs.Names.{Text}
 
 -- neither NUL nor a blank (POSIX.1-2017, Base Definitions, 3.74 Blank Character): a space or a tab
 abbrev pub is_name_byte : ℕ → Bool

@@ -4,8 +4,7 @@ ghost use Rattle.stated_calls.specs.Names.{is_name_byte, can_be_stated};
 ghost use Rattle.stated_calls.specs.Calls.{is_stated, are_stated, added_fault, AddGives};
 
 use crate::stated_call::{CallEnd, StatedCall};
-use script_names::{Bytes, Copied, List, Memory, NAME_MAX};
-use shell_forms::is_kept_name;
+use script_names::{Bytes, Copied, List, Memory, NAME_MAX, is_kept_name};
 use std::alloc::Global;
 use std::marker::Model;
 

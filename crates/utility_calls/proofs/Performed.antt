@@ -4,9 +4,12 @@ use Rattle.std.specs.Prelude.{codes}
 use Rattle.std.specs.Str.{bytes_eq}
 use Rattle.std.proofs.lemmas.List.Elements.{All-nil, All-cons, All-append}
 use Rattle.std.proofs.lemmas.Slice.Eq.{bytes_eq-Decides}
+use Rattle.script_names.specs.declared.command_names.Utility.{Utility}
+use Rattle.script_names.specs.declared.command_names.Utility.TheVariants as utility
 use Rattle.script_names.specs.declared.path.PathFault.{PathFault}
 use Rattle.script_names.specs.declared.reason.Reason.{Reason}
 use Rattle.script_names.specs.declared.reason.Reason.TheVariants as reason
+use Rattle.script_names.specs.CommandNames.{utility_named}
 use Rattle.script_names.specs.Paths.{PathParts, is_filled, path_fault, spelled_names, path_of as spelled}
 use Rattle.utility_calls.specs.declared.acts.Act.{Act}
 use Rattle.utility_calls.specs.declared.acts.Act.TheVariants.{EnsureDir}
@@ -16,14 +19,12 @@ use Rattle.utility_calls.specs.declared.planned.Planned.{Planned}
 use Rattle.utility_calls.specs.declared.planned.Planned.TheVariants.{Known, Ask, Print, Change, Unspecified}
 use Rattle.utility_calls.specs.declared.questions.Question.{Question}
 use Rattle.utility_calls.specs.declared.questions.Question.TheVariants as question
-use Rattle.utility_calls.specs.declared.calls.Utility.{Utility}
-use Rattle.utility_calls.specs.declared.calls.Utility.TheVariants as utility
 use Rattle.utility_calls.specs.Acts.{IsPerformed}
 use Rattle.utility_calls.specs.Options.{is_option, options, behind, is_ended, unended, has_option}
 use Rattle.utility_calls.specs.Operands.{first_of, path_reason, operand_reason, slash_reason, file_reason, each_reason, first_reason, ensured, each_acts, all_acts}
 use Rattle.utility_calls.specs.Pairs.{same_names, is_parent, still_reason, full_reason, end_reason, target_reason, place_reason, link_reason, ln_reason, ln_act, to_reason, mv_reason, mv_act}
 use Rattle.utility_calls.specs.Questions.{negated, question_of, asking, ask_path, ask, is_not, is_other_operator, test_two, test_three, test_four, test_call, bracket_call}
-use Rattle.utility_calls.specs.Calls.{unless, some_reason, each_behind, act_call, mkdir_each, is_deep, echo_call, echo_text, begins_with_dash, has_backslash, utility_call, utility_named, call}
+use Rattle.utility_calls.specs.Calls.{unless, some_reason, each_behind, act_call, mkdir_each, is_deep, echo_call, echo_text, begins_with_dash, has_backslash, utility_call, call}
 use Rattle.utility_calls.specs.Performed.{HasPerformedActs}
 use Rattle.std.specs.List.{list_any}
 

@@ -1,37 +1,21 @@
 -- What a call of a utility comes to, by its words alone (POSIX.1-2017, XCU).
 use Rattle.std.specs.Prelude.{ℕ, Bool, true, false, ◌||◌, ◌==◌, List, [], ◌∷◌, ◌++◌, Option, Some, None}
 use Rattle.std.specs.Prelude.{if◌then◌else◌, codes}
-use Rattle.std.specs.Str.{bytes_eq}
 use Rattle.std.specs.List.{list_any}
+use Rattle.script_names.specs.declared.command_names.Utility.{Utility}
+use Rattle.script_names.specs.declared.command_names.Utility.TheVariants as utility
 use Rattle.script_names.specs.declared.reason.Reason.{Reason}
 use Rattle.script_names.specs.declared.reason.Reason.TheVariants as reason
+use Rattle.script_names.specs.CommandNames.{utility_named}
 use Rattle.utility_calls.specs.declared.acts.Act.{Act}
 use Rattle.utility_calls.specs.declared.planned.Planned.{Planned}
 use Rattle.utility_calls.specs.declared.planned.Planned.TheVariants.{Known, Print, Change, Unspecified}
 use Rattle.utility_calls.specs.declared.operands.Each.{Each}
 use Rattle.utility_calls.specs.declared.operands.Each.TheVariants as each
-use Rattle.utility_calls.specs.declared.calls.Utility.{Utility}
-use Rattle.utility_calls.specs.declared.calls.Utility.TheVariants as utility
 use Rattle.utility_calls.specs.Options.{options, behind, is_ended, unended, options_fit, option_with, has_option}
 use Rattle.utility_calls.specs.Operands.{first_of, first_reason, all_acts}
 use Rattle.utility_calls.specs.Pairs.{ln_reason, ln_act, mv_reason, mv_act}
 use Rattle.utility_calls.specs.Questions.{test_call, bracket_call}
-
--- the utility of a name
-abbrev pub utility_named : List ℕ → Option Utility
-utility_named name =
-    if bytes_eq name (codes "true") || bytes_eq name (codes ":") then Some utility.True
-    else (if bytes_eq name (codes "false") then Some utility.False
-    else (if bytes_eq name (codes "echo") then Some utility.Echo
-    else (if bytes_eq name (codes "mkdir") then Some utility.MakeDir
-    else (if bytes_eq name (codes "rmdir") then Some utility.RemoveDir
-    else (if bytes_eq name (codes "rm") then Some utility.Remove
-    else (if bytes_eq name (codes "touch") then Some utility.Touch
-    else (if bytes_eq name (codes "ln") then Some utility.Link
-    else (if bytes_eq name (codes "mv") then Some utility.Move
-    else (if bytes_eq name (codes "test") then Some utility.Test
-    else (if bytes_eq name (codes "[") then Some utility.Bracket
-    else None))))))))))
 
 -- the plan where there is no reason against it
 abbrev pub unless : Option Reason → Planned → Planned

@@ -1,6 +1,6 @@
 ghost use Rattle.std.specs.Prelude.{◌≡◌, ◌<◌, ◌++◌, length, Some, None, IfOk};
 ghost use Rattle.std.specs.List.{list_any};
-ghost use Rattle.utility_calls.specs.Calls.{utility_named, echo_text, echo_rest, is_deep, begins_with_dash};
+ghost use Rattle.utility_calls.specs.Calls.{echo_text, echo_rest, is_deep, begins_with_dash};
 ghost use Rattle.utility_calls.specs.Calls.{has_backslash, echo_call};
 ghost use Rattle.utility_calls.specs.Calls.{each_call, act_call, each_behind, mkdir_each, mkdir_call, rmdir_call};
 ghost use Rattle.utility_calls.specs.Calls.{rm_call, touch_call, ln_behind, ln_call, mv_behind, mv_call};
@@ -13,68 +13,8 @@ use crate::options::{has_option, options_fit, split_options, unended};
 use crate::pairs::{read_link, read_move};
 pub use crate::planned::Planned;
 use crate::questions::{plan_bracket, plan_fault, plan_test};
-use script_names::{Bytes, List, Memory, Reason};
+use script_names::{Bytes, List, Memory, Reason, Utility, utility_named};
 use std::alloc::Global;
-
-/// A utility that a command may call.
-#[derive(Clone, Copy, Debug, PartialEq, Eq)]
-pub enum Utility {
-    /// `true` and `:`
-    True,
-    False,
-    Echo,
-    MakeDir,
-    RemoveDir,
-    Remove,
-    Touch,
-    /// `ln`
-    Link,
-    /// `mv`
-    Move,
-    Test,
-    /// `[`
-    Bracket,
-}
-
-// The utility of a name.
-fn utility_named(name: &[u8]) -> Option<Utility>
-    ensures { result ≡ utility_named name.now }
-{
-    if name == b"true".as_slice() || name == b":".as_slice() {
-        return Some(Utility::True);
-    }
-    if name == b"false".as_slice() {
-        return Some(Utility::False);
-    }
-    if name == b"echo".as_slice() {
-        return Some(Utility::Echo);
-    }
-    if name == b"mkdir".as_slice() {
-        return Some(Utility::MakeDir);
-    }
-    if name == b"rmdir".as_slice() {
-        return Some(Utility::RemoveDir);
-    }
-    if name == b"rm".as_slice() {
-        return Some(Utility::Remove);
-    }
-    if name == b"touch".as_slice() {
-        return Some(Utility::Touch);
-    }
-    if name == b"ln".as_slice() {
-        return Some(Utility::Link);
-    }
-    if name == b"mv".as_slice() {
-        return Some(Utility::Move);
-    }
-    if name == b"test".as_slice() {
-        return Some(Utility::Test);
-    }
-    if name == b"[".as_slice() {
-        return Some(Utility::Bracket);
-    }
-    None
-}
 
 // Whether the first word begins with `-`.
 fn begins_with_dash(words: &[Bytes]) -> bool
