@@ -3,3 +3,4 @@ pub mod Translated
 pub mod Shell
 pub mod Laws
 pub mod DefNames
+pub mod Specials
