@@ -26,11 +26,11 @@ command -v script >/dev/null && terminals=yes
 same() {
     cat >expected
     if cmp -s expected "$2"; then
-        echo "ok $1"
+        printf 'ok %s\n' "$1"
     else
-        echo "WRONG $1"
+        printf 'WRONG %s\n' "$1"
         diff -a expected "$2"
-        echo "$1" >>wrong
+        echo WRONG >>wrong
     fi
 }
 
@@ -136,7 +136,7 @@ refused 'colis check empty' 3 'colis: empty/list: missing' \
     'empty/list: a package has a list of its files; colis-unpack writes it'
 : >foo.deb
 refused 'colis check foo.deb' 3 'colis: foo.deb/list: missing' \
-    'foo.deb/list: foo.deb is a file, and a package is a folder here; colis-unpack FILE.deb DIR makes it'
+    'foo.deb/list: foo.deb: this is a file, and a package is a folder here; colis-unpack FILE.deb DIR makes it'
 refused 'colis translate none' 3 'colis: none: missing' 'none: there is no such file'
 refused 'colis translate p' 4 'colis: p: read failed' 'p: this is a folder, and a file is read here'
 
@@ -144,6 +144,10 @@ refused 'colis translate p' 4 'colis: p: read failed' 'p: this is a folder, and 
 
 refused 'colis chek p' 3 'colis: usage: word 1' \
     'chek is no command; the commands are check, run, translate and load (colis --help)'
+refused "colis '\\033[31m'" 3 'colis: usage: word 1' \
+    '\033[31m is no command; the commands are check, run, translate and load (colis --help)'
+refused "colis check p '\\033'" 3 'colis: usage: word 3' '\033 is one word too many (colis --help)'
+refused "colis check '\\033'" 3 'colis: \033/list: missing' '\033/list: there is no folder \033'
 refused 'colis' 3 'colis: usage: word 1' 'the commands are check, run, translate and load (colis --help)'
 refused 'colis check' 3 'colis: usage: word 2' 'check takes a folder (colis --help)'
 refused 'colis check p q' 3 'colis: usage: word 3' 'q is one word too many (colis --help)'

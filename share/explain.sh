@@ -159,7 +159,7 @@ kind() {
         option=
         case $word in --base | --tree) option=$word ;; esac
     done
-    echo "${file##*/}"
+    printf '%s\n' "${file##*/}"
 }
 
 # missing FILE: why it may be that a file is not there.
@@ -171,9 +171,9 @@ missing() {
         if [ -d "$folder" ]; then
             echo 'a package has a list of its files; colis-unpack writes it'
         elif [ -e "$folder" ]; then
-            echo "$(text "$folder") is a file, and a package is a folder here; colis-unpack FILE.deb DIR makes it"
+            say "$folder" 'this is a file, and a package is a folder here; colis-unpack FILE.deb DIR makes it'
         else
-            echo "there is no folder $(text "$folder")"
+            printf 'there is no folder %s\n' "$(text "$folder")"
         fi
         ;;
     *) echo 'there is no such file' ;;
@@ -234,14 +234,15 @@ usage() {
     case $word in
     --old=* | --base=* | --tree=* | --scenario=* | --turns=* | --limit=*)
         option=${word%%=*}
-        echo "$(text "$word") cannot stand here: where $command has $option, it takes $(values "$option"), and once"
+        printf '%s cannot stand here: where %s has %s, it takes %s, and once\n' "$(text "$word")" "$command" "$option" \
+            "$(values "$option")"
         ;;
-    -*) echo "$(text "$word") is no option of $command, or stands there twice" ;;
+    -*) printf '%s is no option of %s, or stands there twice\n' "$(text "$word")" "$command" ;;
     *)
         if [ "$command" = load ]; then
             echo 'load takes a number from 1 to 500'
         else
-            echo "$(text "$word") is one word too many"
+            printf '%s is one word too many\n' "$(text "$word")"
         fi
         ;;
     esac
