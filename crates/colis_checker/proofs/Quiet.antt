@@ -145,7 +145,7 @@ pub quiet_report : MoreTurnsSameRun → QuietReport
 quiet_report more packages turns limit scenarios layout text is =
     let none = none_of (list_any (part_has 1) is.report.parts) (list_any (part_has 2) is.report.parts) (sym is.status_is) in
     all_hold packages turns limit (λ part. HasNone 1 part × HasNone 2 part) (IsDoneEverywhere packages turns)
-    (λ scenario part of none. quiet_scenario more packages turns limit scenario part of
+    (λ scenario part is_part none. quiet_scenario more packages turns limit scenario part is_part
     (λ place entry at. done_of entry.outcome.ending (none_at (ends_so 1) part.entries none.0 place entry at)
     (none_at (ends_so 2) part.entries none.1 place entry at)))
     scenarios is.report.parts is.parts
@@ -156,6 +156,6 @@ unfailed_report more packages turns limit scenarios layout text status is other 
     let none = none_failed (list_any (part_has 1) is.report.parts) (list_any (part_has 2) is.report.parts)
     (λ failed. other (is.status_is ∙ failed)) in
     all_hold packages turns limit (HasNone 1) (FailsNowhere packages turns)
-    (λ scenario part of none. unfailed_scenario more packages turns limit scenario part of
+    (λ scenario part is_part none. unfailed_scenario more packages turns limit scenario part is_part
     (λ place entry at. unfailed_of entry.outcome.ending (none_at (ends_so 1) part.entries none place entry at)))
     scenarios is.report.parts is.parts (λ place part at. none_at (part_has 1) is.report.parts none place part at)
