@@ -1,5 +1,5 @@
 -- Words in a row, one after another.
-use Rattle.std.proofs.Common.{◌≡◌, ℕ, ◌+◌, ◌-◌, ◌≤◌, true, List, [], ◌∷◌, Option, Some, None, is_some, OnSome, IfSome, sym, ap, ◌∙◌, drop, arith}
+use Rattle.std.proofs.Common.{◌≡◌, ℕ, ◌+◌, ◌-◌, ◌≤◌, true, List, [], ◌∷◌, Option, Some, None, is_some, OnSome, IfSome, refl, sym, ap, ◌∙◌, drop, arith}
 use Rattle.std.proofs.lemmas.Bool.{true≢false}
 use Rattle.shell_lexer.specs.declared.token.RawPart.{RawPart}
 use Rattle.shell_grammar.specs.Look.{Tokens, word, behind}
