@@ -1,9 +1,10 @@
 -- The clauses of a call, from what it has to say and how that was written.
-use Rattle.std.proofs.Common.{◌≡◌, ◌⊎◌, ℕ, zero, suc, ◌<◌, ◌≤◌, List, [], Option, Some, None, Result, Ok, Err, IfSome, refl, sym, ◌∙◌, subst, ap, inl, inr, arith}
+use Rattle.std.proofs.Common.{◌≡◌, ◌⊎◌, ℕ, zero, suc, ◌<◌, ◌≤◌, List, [], Option, Some, None, Result, Ok, Err, refl, sym, ◌∙◌, subst, ap, inl, inr, arith}
 use Rattle.checker_io.specs.Faults.{Rose}
 use Rattle.checker_io.specs.Shelf.{Files, ShelfState}
 use Rattle.checker_io.specs.Sink.{SinkState, Took, TookPrefix}
 use Rattle.command_words.specs.declared.request.Request.{Request}
+use Rattle.command_words.specs.declared.request.Request.TheVariants as words
 use Rattle.checker_input.specs.declared.faults.InputRefusal.{InputRefusal}
 use Rattle.checker_input.specs.declared.task.Task.{Task}
 use Rattle.checker_input.specs.Input.{file_name}
@@ -15,7 +16,7 @@ use Rattle.colis_checker.specs.declared.deliver.Reply.TheVariants.{Text, Refused
 use Rattle.colis_checker.specs.ErrorLines.{refusal_line, write_failed_line, no_memory_line}
 use Rattle.colis_checker.specs.Delivery.{LineEnds, Delivers}
 use Rattle.colis_checker.specs.Tasks.{IsTextOf, IsTaskRefusal, CanComplete, MayEnd}
-use Rattle.colis_checker.specs.Top.{FilesGive, FilesGiveOver, IsRequestRefusal, IsAnswerText, IsRefusal, IsRefusalLine, Replies, Reported, SaidRefusal, SaidReadFailed, FailedToWrite, RanOut, NoneRose, Completes, Refuses}
+use Rattle.colis_checker.specs.Top.{FilesGive, FilesGiveOver, IsRequestRefusal, IsAnswerText, IsRefusal, IsRefusalLine, Replies, Reported, SaidRefusal, SaidReadFailed, FailedToWrite, RanOut, NoneRose, OverFiles, Completes, Refuses}
 use Rattle.colis_checker.proofs.Refused.{text_small, text_ends, text_or_refusal, refusal_or_complete}
 use Rattle.colis_checker.proofs.Took.{took_none}
 
@@ -179,15 +180,33 @@ status_cases (suc (suc (suc (suc zero)))) le = inr (inr (inl refl))
 status_cases (suc (suc (suc (suc (suc zero))))) le = inr (inr (inr (inl refl)))
 status_cases (suc (suc (suc (suc (suc (suc n)))))) le = inr (inr (inr (inr (omega arith))))
 
--- where the shelf tells, the files of a request come to one task or refusal
-told_once : OneAnswer → (request : Request) (holds : Option Files) (one : Result Task InputRefusal) (P : Result Task InputRefusal → Type 0) (other : Result Task InputRefusal)
-    → FilesGive request holds one → P one → IfSome holds (λ files. FilesGiveOver request files other → P other)
-told_once once request None one P other is p = tt
-told_once once request (Some files) one P other is p = λ gives. subst P (once request (λ file. files (file_name request file)) one other is.told gives) p
+-- over the files of a shelf, or over any, a statement follows from another, and what always holds does
+over_map : (request : Request) (holds : Option Files) (P Q : Files → Type 0) → ((files : Files) → P files → Q files)
+    → OverFiles request holds P → OverFiles request holds Q
+over_map (words.Load number limit) holds P Q q x = λ files. q files (x files)
+over_map request None P Q q x = tt
+over_map request (Some files) P Q q x = q files x
 
-told_any : (holds : Option Files) (P Q : Files → Type 0) → ((files : Files) → Q files) → IfSome holds (λ files. P files → Q files)
-told_any None P Q q = tt
-told_any (Some files) P Q q = λ _. q files
+over_all : (request : Request) (holds : Option Files) (Q : Files → Type 0) → ((files : Files) → Q files) → OverFiles request holds Q
+over_all (words.Load number limit) holds Q q = q
+over_all request None Q q = tt
+over_all request (Some files) Q q = q files
+
+-- the files of a request come to one task or refusal
+abbrev IsOnly : Request → Result Task InputRefusal → Files → Type 0
+IsOnly request one files = (other : Result Task InputRefusal) → FilesGiveOver request files other → other ≡ one
+
+comes_once : OneAnswer → (request : Request) (holds : Option Files) (one : Result Task InputRefusal) → FilesGive request holds one
+    → OverFiles request holds (IsOnly request one)
+comes_once once (words.Load number limit) holds one is = λ files other gives. sym gives ∙ is.may
+comes_once once request None one is = tt
+comes_once once request (Some files) one is = λ other gives. sym (once request (λ file. files (file_name request file)) one other is.told gives)
+
+told_once : OneAnswer → (request : Request) (holds : Option Files) (one : Result Task InputRefusal) (P : Result Task InputRefusal → Type 0) (other : Result Task InputRefusal)
+    → FilesGive request holds one → P one → OverFiles request holds (λ files. FilesGiveOver request files other → P other)
+told_once once request holds one P other is p =
+    over_map request holds (IsOnly request one) (λ files. FilesGiveOver request files other → P other)
+    (λ files only gives. subst P (sym (only other gives)) p) (comes_once once request holds one is)
 
 pub same_task : {a b : Task} → ◌≡◌ {A = Result Task InputRefusal} (Ok a) (Ok b) → a ≡ b
 same_task e = cc
@@ -198,13 +217,15 @@ task_or_fault e = cc
 -- a request whose text was written is not refused
 told_text : OneAnswer → (request : Request) (holds : Option Files) (task : Task) (text : List ℕ) (status : ℕ) (refusal : Refusal) (A : Type 0)
     → FilesGive request holds (Ok task) → IsTextOf request task text status
-    → IfSome holds (λ files. IsRequestRefusal request (FilesGiveOver request files) refusal → A)
-told_text once request None task text status refusal A is of_task = tt
-told_text once request (Some files) task text status refusal A is of_task = λ refused. elim refused [
-  | inl a ↦ absurd (task_or_fault (once request (λ file. files (file_name request file)) (Ok task) (Err a.0) is.told a.2))
-  | inr b ↦ let same = same_task (once request (λ file. files (file_name request file)) (Ok b.0) (Ok task) b.1 is.told) in
-      absurd (text_or_refusal request task text status refusal of_task (subst (λ (t : Task). IsTaskRefusal request t refusal) same b.2))
-]
+    → OverFiles request holds (λ files. IsRequestRefusal request (FilesGiveOver request files) refusal → A)
+told_text once request holds task text status refusal A is of_task =
+    over_map request holds (IsOnly request (Ok task)) (λ files. IsRequestRefusal request (FilesGiveOver request files) refusal → A)
+    (λ files only refused. elim refused [
+      | inl a ↦ absurd (task_or_fault (sym (only (Err a.0) a.2)))
+      | inr b ↦ let same = same_task (only (Ok b.0) b.1) in
+          absurd (text_or_refusal request task text status refusal of_task (subst (λ (t : Task). IsTaskRefusal request t refusal) same b.2))
+    ])
+    (comes_once once request holds (Ok task) is)
 
 pub same_request : {a b : Request} → ◌≡◌ {A = Result Request ℕ} (Ok a) (Ok b) → a ≡ b
 same_request e = cc
@@ -240,7 +261,7 @@ module _ (once : OneAnswer) (given : Result Request ℕ) (s0 s1 : ShelfState) (o
 
   -- what was refused does not come to a task that can be completed
   refused_completes : (request : Request) (task : Task) (refusal : Refusal) → IsRequestRefusal request (FilesGive request s0.holds) refusal
-      → IfSome s0.holds (λ files. FilesGiveOver request files (Ok task) → CanComplete request task → MayEnd task status ⊎ (status ≡ 6))
+      → OverFiles request s0.holds (λ files. FilesGiveOver request files (Ok task) → CanComplete request task → MayEnd task status ⊎ (status ≡ 6))
   refused_completes request task refusal (inl a) = told_once once request s0.holds (Err a.0) (CompletesWith request) (Ok task) a.2 tt
   refused_completes request task refusal (inr b) =
       told_once once request s0.holds (Ok b.0) (CompletesWith request) (Ok task) b.1
@@ -257,7 +278,8 @@ module _ (once : OneAnswer) (given : Result Request ℕ) (s0 s1 : ShelfState) (o
         | inl f ↦ absurd (none.shelf (read_failed f).rose)
         | inr g ↦ elim g [
           | inl h ↦ absurd (not_failed (write_failed h))
-          | inr i ↦ told_any s0.holds (λ _. _) (λ _. CanComplete request task → MayEnd task status ⊎ (status ≡ 6)) (λ _ can. inr i)
+          | inr i ↦ over_all request s0.holds (λ files. FilesGiveOver request files (Ok task) → CanComplete request task → MayEnd task status ⊎ (status ≡ 6))
+              (λ files gives can. inr i)
         ]
       ]
     ]
@@ -285,17 +307,19 @@ module _ (once : OneAnswer) (given : Result Request ℕ) (s0 s1 : ShelfState) (o
       ]
 
       for_requests : (request : Request) (refusal : Refusal) → given ≡ Ok request
-          → IfSome s0.holds (λ files. IsRequestRefusal request (FilesGiveOver request files) refusal → (status ≡ 3) ⊎ (status ≡ 6))
+          → OverFiles request s0.holds (λ files. IsRequestRefusal request (FilesGiveOver request files) refusal → (status ≡ 3) ⊎ (status ≡ 6))
       for_requests request refusal e = elim (status_cases status le) [
         | inl a ↦ let said = (reported a).is_text in let text = by_text request (reported a).text status e said in
             told_text once request s0.holds said.task (reported a).text status refusal ((status ≡ 3) ⊎ (status ≡ 6)) text.0 text.1
         | inr b ↦ elim b [
-          | inl c ↦ told_any s0.holds (λ _. _) (λ _. (status ≡ 3) ⊎ (status ≡ 6)) (λ _. inl c)
+          | inl c ↦ over_all request s0.holds (λ files. IsRequestRefusal request (FilesGiveOver request files) refusal → (status ≡ 3) ⊎ (status ≡ 6))
+              (λ files refuses. inl c)
           | inr d ↦ elim d [
             | inl f ↦ absurd (none.shelf (read_failed f).rose)
             | inr g ↦ elim g [
               | inl h ↦ absurd (not_failed (write_failed h))
-              | inr i ↦ told_any s0.holds (λ _. _) (λ _. (status ≡ 3) ⊎ (status ≡ 6)) (λ _. inr i)
+              | inr i ↦ over_all request s0.holds (λ files. IsRequestRefusal request (FilesGiveOver request files) refusal → (status ≡ 3) ⊎ (status ≡ 6))
+                  (λ files refuses. inr i)
             ]
           ]
         ]

@@ -6,6 +6,7 @@ use Rattle.checker_io.specs.Shelf.{Files, ShelfState, IsQuiet}
 use Rattle.checker_io.specs.Sink.{SinkState, Took, TookPrefix}
 use Rattle.checker_io.specs.Reading.{Answers, Asks, IsAnswer}
 use Rattle.command_words.specs.declared.request.Request.{Request}
+use Rattle.command_words.specs.declared.request.Request.TheVariants as words
 use Rattle.command_words.specs.Words.{form}
 use Rattle.checker_input.specs.declared.faults.InputFile.{InputFile}
 use Rattle.checker_input.specs.declared.faults.InputRefusal.{InputRefusal}
@@ -177,11 +178,17 @@ pub record NoneRose (shelf0 shelf1 : ShelfState) (out0 out1 err0 err1 : SinkStat
   pub out : Rose out0.faults out1.faults → ⊥
   pub err : Rose err0.faults err1.faults → ⊥
 
+-- The statement holds over what the shelf holds, where it tells. A load reads no file: there it holds over any files,
+-- whatever the shelf tells.
+abbrev pub OverFiles : Request → Option Files → (Files → Type 0) → Type 0
+OverFiles (words.Load number limit) holds P = (files : Files) → P files
+OverFiles request holds P = IfSome holds P
+
 -- Where no count rose, and the words and the files give a task that is not refused, its text is written, or memory is
 -- missing.
 abbrev pub Completes : Result Request ℕ → ShelfState → ℕ → Type 0
 Completes given shelf status = (request : Request) (task : Task) → given ≡ Ok request
-    → IfSome shelf.holds (λ files. FilesGiveOver request files (Ok task) → CanComplete request task
+    → OverFiles request shelf.holds (λ files. FilesGiveOver request files (Ok task) → CanComplete request task
     → MayEnd task status ⊎ (status ≡ OUT_OF_MEMORY))
 
 -- Where no count rose and a refusal applies, it is answered, or memory is missing.
@@ -189,7 +196,7 @@ abbrev pub Refuses : Result Request ℕ → ShelfState → ℕ → Type 0
 Refuses given shelf status =
     ((word : ℕ) → given ≡ Err word → (status ≡ REFUSED) ⊎ (status ≡ OUT_OF_MEMORY))
     × ((request : Request) (refusal : Refusal) → given ≡ Ok request
-    → IfSome shelf.holds (λ files. IsRequestRefusal request (FilesGiveOver request files) refusal
+    → OverFiles request shelf.holds (λ files. IsRequestRefusal request (FilesGiveOver request files) refusal
     → (status ≡ REFUSED) ⊎ (status ≡ OUT_OF_MEMORY)))
 
 -- the words were had, and this holds of what they spell

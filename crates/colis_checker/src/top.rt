@@ -115,7 +115,7 @@ pub fn run_words<R: Threads + Sync, G: Gate, S: Shelf, O: Sink, E: Sink>(
         (O.state out.old) (O.state out.new) (E.state err.old) (E.state err.new) }
 
     // Where no count rose, packages are reported or run, a script is translated, and a refusal is named, unless memory
-    // is missing.
+    // is missing; a made package is reported over any shelf, since no file is read for it.
     ensures complete { NoneRose (S.state shelf.old) (S.state shelf.new)
         (O.state out.old) (O.state out.new) (E.state err.old) (E.state err.new)
         → Completes (form words.now) (S.state shelf.old) result }

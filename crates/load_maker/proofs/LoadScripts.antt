@@ -1,16 +1,14 @@
 -- The text of each number is an accepted script.
-use Rattle.std.proofs.Common.{◌≡◌, ℕ, zero, suc, ◌+◌, ◌/◌, ◌%◌, ◌<◌, ◌≤◌, true, false, nat_eq, List, [], ◌∷◌, ◌++◌, append_assoc, append-nil, map, length, Option, None, codes, refl, sym, ap, ◌∙◌, subst, arith}
-use Rattle.std.specs.List.{list_all}
-use Rattle.std.proofs.lemmas.Bool.{and_from}
+use Rattle.std.proofs.Common.{◌≡◌, ℕ, zero, suc, ◌+◌, ◌/◌, ◌%◌, ◌<◌, ◌≤◌, true, false, List, [], ◌∷◌, ◌++◌, append_assoc, append-nil, length, Option, None, codes, refl, sym, subst, arith}
 use Rattle.command_words.specs.declared.limits.TheConstants.{MOST_LOAD}
 use Rattle.shell_syntax.specs.declared.script.Script.{Script}
 use Rattle.shell_syntax.specs.declared.syntax.Command.{Command}
 use Rattle.shell_syntax.specs.declared.syntax.Command.TheVariants as c
-use Rattle.shell_lexer.specs.declared.token.Token.{Token}
 use Rattle.shell_lexer.specs.declared.token.Lexed.{Lexed}
 use Rattle.shell_lexer.specs.FirstLine.{nul_from}
 use Rattle.shell_lexer.specs.Lexed.{Cut}
-use Rattle.shell_lexer.specs.Text.{Bytes, offset}
+use Rattle.shell_lexer.specs.Parts.{Byte, look_by}
+use Rattle.shell_lexer.specs.Text.{Bytes, kind, offset}
 use Rattle.shell_grammar.specs.Look.{Tokens}
 use Rattle.shell_grammar.specs.Spelling.{deep_64}
 use Rattle.shell_grammar.specs.Trees.{seq_of}
@@ -19,39 +17,50 @@ use Rattle.shell_forms.specs.Forms.{script_place, member}
 use Rattle.shell_forms.specs.Functions.{definitions, first_of}
 use Rattle.checker_input.specs.Script.{IsAccepted}
 use Rattle.load_maker.specs.LoadText.{three_digits, load_line, load_lines, load_text}
-use Rattle.load_maker.proofs.PlainWords.{is_harmless, nul_behind, Cuts, word_token, newline_token, cuts_end, cuts_blank, cuts_newline, cuts_word, ends_newline, ends_blank}
+use Rattle.load_maker.proofs.PlainWords.{Plain, AllPlain, is_safe, nul_behind, Cuts, word_token, newline_token, cuts_end, cuts_blank, cuts_newline, cuts_word, ends_newline, ends_blank}
 use Rattle.load_maker.proofs.PlainCommands.{plain_word, look_plain, no_word_more, word_more, command, Lines, no_line, line_more, whole_script}
 use Rattle.load_maker.proofs.PlainForms.{set_formless, mkdir_formless, Formless, formless_more, formless_list}
 
--- ---- digits
+-- ---- bytes that stand for themselves
 
-digit : (d : ℕ) → d < 10 → is_harmless (48 + d) ≡ true
-digit zero lt = refl
-digit (suc zero) lt = refl
-digit (suc (suc zero)) lt = refl
-digit (suc (suc (suc zero))) lt = refl
-digit (suc (suc (suc (suc zero)))) lt = refl
-digit (suc (suc (suc (suc (suc zero))))) lt = refl
-digit (suc (suc (suc (suc (suc (suc zero)))))) lt = refl
-digit (suc (suc (suc (suc (suc (suc (suc zero))))))) lt = refl
-digit (suc (suc (suc (suc (suc (suc (suc (suc zero)))))))) lt = refl
-digit (suc (suc (suc (suc (suc (suc (suc (suc (suc zero))))))))) lt = refl
+plain : (b : ℕ) → ((at : ℕ) (t : Bytes) → look_by at b (kind b) t ≡ Byte b t) → is_safe b ≡ true → Plain b
+plain b stands safe = record { stands = stands; safe = safe }
+
+digit : (d : ℕ) → d < 10 → Plain (48 + d)
+digit zero lt = plain 48 (λ at t. refl) refl
+digit (suc zero) lt = plain 49 (λ at t. refl) refl
+digit (suc (suc zero)) lt = plain 50 (λ at t. refl) refl
+digit (suc (suc (suc zero))) lt = plain 51 (λ at t. refl) refl
+digit (suc (suc (suc (suc zero)))) lt = plain 52 (λ at t. refl) refl
+digit (suc (suc (suc (suc (suc zero))))) lt = plain 53 (λ at t. refl) refl
+digit (suc (suc (suc (suc (suc (suc zero)))))) lt = plain 54 (λ at t. refl) refl
+digit (suc (suc (suc (suc (suc (suc (suc zero))))))) lt = plain 55 (λ at t. refl) refl
+digit (suc (suc (suc (suc (suc (suc (suc (suc zero)))))))) lt = plain 56 (λ at t. refl) refl
+digit (suc (suc (suc (suc (suc (suc (suc (suc (suc zero))))))))) lt = plain 57 (λ at t. refl) refl
 digit (suc (suc (suc (suc (suc (suc (suc (suc (suc (suc d)))))))))) lt = absurd (omega (arith, lt))
 
-harmless_more : (b : ℕ) (w : Bytes) → is_harmless b ≡ true → list_all is_harmless w ≡ true → list_all is_harmless (b ∷ w) ≡ true
-harmless_more b w e f = and_from (is_harmless b) (list_all is_harmless w) e f
+set_plain : AllPlain (codes "set")
+set_plain = (plain 115 (λ at t. refl) refl, (plain 101 (λ at t. refl) refl, (plain 116 (λ at t. refl) refl, tt)))
+
+strict_plain : AllPlain (codes "-e")
+strict_plain = (plain 45 (λ at t. refl) refl, (plain 101 (λ at t. refl) refl, tt))
+
+mkdir_plain : AllPlain (codes "mkdir")
+mkdir_plain = (plain 109 (λ at t. refl) refl, (plain 107 (λ at t. refl) refl, (plain 100 (λ at t. refl) refl, (plain 105 (λ at t. refl) refl, (plain 114 (λ at t. refl) refl, tt)))))
+
+option_plain : AllPlain (codes "-p")
+option_plain = (plain 45 (λ at t. refl) refl, (plain 112 (λ at t. refl) refl, tt))
 
 -- the path of a number
 abbrev path : ℕ → Bytes
 path k = codes "/srv/k" ++ three_digits k
 
-path_harmless : (k : ℕ) → k < 1000 → list_all is_harmless (path k) ≡ true
-path_harmless k lt =
-    let ones = (48 + k % 10) ∷ [] in
-    let tens = (48 + (k / 10) % 10) ∷ ones in
-    harmless_more (48 + k / 100) tens (digit (k / 100) (omega (arith, lt)))
-    (harmless_more (48 + (k / 10) % 10) ones (digit ((k / 10) % 10) (omega arith))
-    (harmless_more (48 + k % 10) [] (digit (k % 10) (omega arith)) refl))
+digits_plain : (k : ℕ) → k < 1000 → AllPlain (three_digits k)
+digits_plain k lt =
+    (digit (k / 100) (omega (arith, lt)), (digit ((k / 10) % 10) (omega arith), (digit (k % 10) (omega arith), tt)))
+
+path_plain : (k : ℕ) → k < 1000 → AllPlain (path k)
+path_plain k lt = (plain 47 (λ at t. refl) refl, (plain 115 (λ at t. refl) refl, (plain 114 (λ at t. refl) refl, (plain 118 (λ at t. refl) refl, (plain 47 (λ at t. refl) refl, (plain 107 (λ at t. refl) refl, digits_plain k lt))))))
 
 -- ---- lines
 
@@ -80,14 +89,14 @@ module _ (len : ℕ) where
       let all = word_token len (codes "mkdir") (32 ∷ second) ∷ options in
       let names = plain_word (offset len first) (codes "mkdir") ∷ plain_word (offset len second) (codes "-p") ∷ plain_word (offset len third) (path k) ∷ [] in
       let makes = c.Simple (offset len first) [] names in
-      let harmless = path_harmless k lt in
+      let path_is = path_plain k lt in
       record {
         tokens = all;
-        cut = cuts_word len 109 (codes "kdir") (32 ∷ second) options refl refl (ends_blank len second)
+        cut = cuts_word len 109 (codes "kdir") (32 ∷ second) options refl mkdir_plain (ends_blank len second)
             (cuts_blank len 45 (codes "p" ++ 32 ∷ third) options
-            (cuts_word len 45 (codes "p") (32 ∷ third) paths refl refl (ends_blank len third)
+            (cuts_word len 45 (codes "p") (32 ∷ third) paths refl option_plain (ends_blank len third)
             (cuts_blank len 47 (codes "srv/k" ++ (three_digits k ++ 10 ∷ rest)) paths
-            (cuts_word len 47 (codes "srv/k" ++ three_digits k) (10 ∷ rest) end refl harmless (ends_newline len rest)
+            (cuts_word len 47 (codes "srv/k" ++ three_digits k) (10 ∷ rest) end refl path_is (ends_newline len rest)
             (cuts_newline len rest good.tokens good.cut)))));
         commands = makes ∷ good.commands;
         lines = line_more deep_64 len line_at all good.tokens makes good.commands (look_plain (offset len first) (codes "mkdir") options)
@@ -96,9 +105,9 @@ module _ (len : ℕ) where
             (word_more deep_64 len (offset len third) (path k) end end [] refl (no_word_more deep_64 len line_at good.tokens))))
             good.lines;
         formless = λ f. formless_more f makes good.commands (mkdir_formless f (offset len first) (offset len second) (offset len third) (path k) (member script_place) refl) (good.formless f);
-        no_nul = nul_behind (codes "mkdir") (32 ∷ second) refl
-            (λ at. nul_behind (codes "-p") (32 ∷ third) refl
-            (λ at. nul_behind (path k) (10 ∷ rest) harmless (λ at. good.no_nul (at + 1)) (at + 1)) (at + 1));
+        no_nul = nul_behind (codes "mkdir") (32 ∷ second) mkdir_plain
+            (λ at. nul_behind (codes "-p") (32 ∷ third) option_plain
+            (λ at. nul_behind (path k) (10 ∷ rest) path_is (λ at. good.no_nul (at + 1)) (at + 1)) (at + 1));
       }
 
   all_lines : (k : ℕ) → k < 1000 → (rest : Bytes) → Good rest → Good (load_lines k ++ rest)
@@ -124,12 +133,12 @@ script_exists n most =
     let body = seq_of (sets ∷ good.commands) in
     let lexed : Lexed = record { strict = false; tokens = all; end = len } in
     let cut : Cut (load_text n) lexed = record {
-      no_nul = nul_behind (codes "set") (32 ∷ second) refl
-          (λ at. nul_behind (codes "-e") (10 ∷ rest) refl (λ at. good.no_nul (at + 1)) (at + 1)) 10;
+      no_nul = nul_behind (codes "set") (32 ∷ second) set_plain
+          (λ at. nul_behind (codes "-e") (10 ∷ rest) strict_plain (λ at. good.no_nul (at + 1)) (at + 1)) 10;
       first = refl;
-      body = cuts_word len 115 (codes "et") (32 ∷ second) options refl refl (ends_blank len second)
+      body = cuts_word len 115 (codes "et") (32 ∷ second) options refl set_plain (ends_blank len second)
           (cuts_blank len 45 (codes "e" ++ 10 ∷ rest) options
-          (cuts_word len 45 (codes "e") (10 ∷ rest) end refl refl (ends_newline len rest) (cuts_newline len rest good.tokens good.cut)));
+          (cuts_word len 45 (codes "e") (10 ∷ rest) end refl strict_plain (ends_newline len rest) (cuts_newline len rest good.tokens good.cut)));
       end = refl;
     } in
     let reads = whole_script deep_64 len line_at all good.tokens sets good.commands (look_plain (offset len first) (codes "set") options)

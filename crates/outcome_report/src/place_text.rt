@@ -55,7 +55,7 @@ fn put_counts(text: &mut Bytes, counts: &IndexMap<EndPlace, u64>) -> Result<(), 
     for i in 0usize..counts.len() {
         let (place, count) = match counts.get_index(i) {
             Some((place, count)) => (*place, *count),
-            None => return Err(Memory),
+            None => unreachable!(),
         };
         put_place(text, place, count)?;
     }

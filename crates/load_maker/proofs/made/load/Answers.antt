@@ -1,5 +1,14 @@
+use Rattle.std.proofs.Common.{sym, ◌∙◌, subst}
+use Rattle.shell_syntax.specs.declared.script.Script.{Script}
+use Rattle.checker_input.specs.Script.{IsAccepted}
+use Rattle.load_maker.proofs.LoadScripts.{script_exists}
 use Rattle.load_maker.proofs.Packages.{is_loaded}
 use Rattle.load_maker.proofs.made.load.Goals as goal
+
+pub accepted-requires : goal.accepted-requires
+accepted-requires c =
+    subst (λ text. (script : Script) × IsAccepted text script) (sym (c.as_slice.ensures ∙ c.in_ok-text.ensures))
+    (script_exists c.args.n c.requires.1)
 
 pub returns : goal.returns
 returns c =
