@@ -1,5 +1,5 @@
 -- One run from a stage to its end, and the stages that part from it on the way.
-use Rattle.std.proofs.Common.{◌≡◌, ℕ, ◌<◌, ◌≤◌, ◌+◌, ◌-◌, List, [], ◌∷◌, ◌++◌, length, length-append, get_or, append_assoc, Result, Ok, Err, Bool, true, false, IsTrue, refl, sym, ap, ◌∙◌, subst, arith}
+use Rattle.std.proofs.Common.{◌≡◌, ℕ, ◌<◌, ◌≤◌, ◌+◌, List, [], ◌∷◌, ◌++◌, length, length-append, get_or, append_assoc, Result, Ok, Err, Bool, true, false, IsTrue, refl, sym, ap, ◌∙◌, subst, arith}
 use Rattle.std.specs.Prelude.{◌↔◌, IsErrAnd}
 use Rattle.script_names.specs.declared.mark.Mark.{Mark}
 use Rattle.script_names.specs.declared.mark.Site.{Site}

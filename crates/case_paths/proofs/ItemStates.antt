@@ -1,7 +1,5 @@
 -- Items behind items: their states, and how many of them have ended.
 use Rattle.std.proofs.Common.{◌≡◌, suc, ◌≤◌, ◌+◌, List, [], ◌∷◌, ◌++◌, length, refl, ap, ◌∙◌, arith}
-use Rattle.script_names.specs.declared.mark.Mark.{Mark}
-use Rattle.feature_trees.specs.declared.value.Value.{Value}
 use Rattle.utility_calls.specs.Decisions.{Decision}
 use Rattle.case_paths.specs.declared.state.PathState.{PathState}
 use Rattle.case_paths.specs.declared.state.Found.{Found}

@@ -1,7 +1,6 @@
 -- How states part: one state gives place to those that it parts into.
 use Rattle.std.proofs.Common.{inl, inr, ◌≡◌, suc, List, [], ◌∷◌, ◌++◌, length, refl, sym, ap, ◌∙◌, subst}
 use Rattle.std.specs.Prelude.{◌⊎◌}
-use Rattle.script_names.specs.declared.mark.Mark.{Mark}
 use Rattle.feature_trees.specs.declared.value.Value.{Value}
 use Rattle.clause_solver.specs.Pairs.{HasPair}
 use Rattle.clause_solver.specs.Stands.{Alive}

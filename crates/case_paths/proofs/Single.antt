@@ -8,7 +8,7 @@ use Rattle.clause_solver.specs.Pairs.{HasPair}
 use Rattle.utility_calls.specs.Decisions.{Decision, Played, play}
 use Rattle.case_paths.specs.declared.state.PathState.{PathState}
 use Rattle.case_paths.specs.declared.state.Found.{Found}
-use Rattle.case_paths.specs.Traces.{Begins, Before, AllBegin, AllAfter, Rising}
+use Rattle.case_paths.specs.Traces.{Begins, Before, AllAfter, Rising}
 use Rattle.case_paths.specs.Paths.{EndsAs, IsAt, Once, traces, states, AllAlive, AreThePaths, AllPlayed, AreTooMany, AreFew}
 use Rattle.case_paths.specs.declared.items.Item.{Item}
 use Rattle.case_paths.specs.declared.items.Item.TheVariants.{Waiting, Ended}

@@ -1,7 +1,5 @@
 -- What is left of an exploration: stages that wait, and paths that have ended.
 use Rattle.std.specs.Prelude.{◌≡◌, ℕ, zero, suc, ◌<◌, ◌≤◌, List, [], ◌∷◌, ◌++◌, length, Result, Ok, Err}
-use Rattle.script_names.specs.declared.mark.Mark.{Mark}
-use Rattle.feature_trees.specs.declared.value.Value.{Value}
 use Rattle.utility_calls.specs.Decisions.{Decision}
 use Rattle.case_paths.specs.declared.state.PathState.{PathState}
 use Rattle.case_paths.specs.declared.state.Found.{Found}

@@ -17,7 +17,7 @@ returns-then-room-eq0 g c =
 pub rounds-init : goal.rounds-init
 rounds-init g c =
     exploring_begin (g.M.Machine.decision c.args.machine.now) c.args.store c.limit.new.self c.args.room
-    c.new-none.result c.new-items.result c.push.new.self (g.met.M.Machine.performed c.args.machine.now) c.requires.first
+    c.new-none.result c.new-items.result c.push.new.self (g.met.M.Machine.performed c.args.machine.now) c.requires.same
     (same_pairs c.args.store c.limit.new.self c.now-now.result.0 c.all.result c.all.ensures c.in_ok-left.ensures.kept.1 c.in_ok-left.ensures.exact)
     (c.in_ok-left.ensures.alive.0 c.if-not-left.false) c.new-none.ensures c.if-room-eq0.false c.new-items.ensures c.in_ok-push.ensures
 

@@ -1,4 +1,4 @@
-use Rattle.std.proofs.Common.{◌-◌, length, get_or, arith, refl, sym, ap, ◌∙◌, subst}
+use Rattle.std.proofs.Common.{length, arith, refl, sym, ap, subst}
 use Rattle.act_cases.specs.Cases.{AreCases}
 use Rattle.case_paths.proofs.Going.{begin_follows, follows_within, follows_performed, follows_leads, follows_on, pursued, pursued_beyond, no_memory, not_over, is_over}
 use Rattle.case_paths.proofs.pursuit.pursue.Goals as goal
