@@ -1,11 +1,11 @@
 -- Lines of one command of plain words each are read as those commands, one after another.
-use Rattle.std.proofs.Common.{◌≡◌, ℕ, Bool, true, false, List, [], ◌∷◌, Option, Some, None, refl, sym, ap, ◌∙◌, subst}
+use Rattle.std.proofs.Common.{◌≡◌, ℕ, Bool, true, List, [], ◌∷◌, refl, sym, ap, ◌∙◌, subst}
 use Rattle.shell_syntax.specs.declared.syntax.Command.{Command}
 use Rattle.shell_syntax.specs.declared.syntax.Command.TheVariants as c
 use Rattle.shell_syntax.specs.declared.syntax.Word.{Word}
 use Rattle.shell_syntax.specs.declared.syntax.Part.TheVariants as part
 use Rattle.shell_lexer.specs.declared.token.Token.{Token}
-use Rattle.shell_lexer.specs.declared.token.TokenKind.{TokenKind, out-TokenKind, out-roll-TokenKind}
+use Rattle.shell_lexer.specs.declared.token.TokenKind.{out-TokenKind, out-roll-TokenKind}
 use Rattle.shell_lexer.specs.declared.token.TokenKind.TheVariants as token
 use Rattle.shell_lexer.specs.declared.token.RawPart.{RawPart, out-RawPart, out-roll-RawPart}
 use Rattle.shell_lexer.specs.declared.token.RawPart.TheVariants as raw
@@ -14,12 +14,12 @@ use Rattle.shell_lexer.specs.Reading.{token_at}
 use Rattle.shell_grammar.specs.declared.items.Items.{Items}
 use Rattle.shell_grammar.specs.declared.look.Look.{Look}
 use Rattle.shell_grammar.specs.declared.look.Look.TheVariants.{AtEnd, Newline, Name, Other}
-use Rattle.shell_grammar.specs.Look.{Text, Tokens, look, word, place, kind_look, kind_word, first_look, whole_look, reserved}
+use Rattle.shell_grammar.specs.Look.{Text, Tokens, look, place, kind_look, kind_word, first_look, whole_look, reserved}
 use Rattle.shell_grammar.specs.Grammar.{Rule, Script, Body, Newlines, Members, More, Behind, AndOr, Links, Pipeline, Piped}
-use Rattle.shell_grammar.specs.Grammar.{Bars, ACommand, Named, SimpleItems, Sign, Is, AWord, Here, Of, Tree, Value, Values}
-use Rattle.shell_grammar.specs.Grammar.{Production, production}
+use Rattle.shell_grammar.specs.Grammar.{Bars, ACommand, Named, SimpleItems, Sign, AWord, Tree, Value, Values}
+use Rattle.shell_grammar.specs.Grammar.{production}
 use Rattle.shell_grammar.specs.Reading.{Whole, Faultless, plainly, IsRule, rule, IsAll, no_more, one_more, IsSign, is, a_word}
-use Rattle.shell_grammar.specs.Reading.{here, of, IsParts, no_parts, plain_part}
+use Rattle.shell_grammar.specs.Reading.{here, of, no_parts, plain_part}
 use Rattle.shell_grammar.specs.Trees.{seq_of, word_at, Continues}
 
 -- ---- how tokens look

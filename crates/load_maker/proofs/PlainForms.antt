@@ -1,7 +1,5 @@
 -- No unsupported form stands in commands of plain words.
-use Rattle.std.proofs.Common.{◌≡◌, ℕ, false, not, ◌&&◌, List, [], ◌∷◌, ◌++◌, map, Option, Some, None, codes, refl, sym, ap, ap₂, ◌∙◌}
-use Rattle.std.specs.List.{flat_map}
-use Rattle.std.specs.Str.{bytes_eq}
+use Rattle.std.proofs.Common.{◌≡◌, ℕ, List, [], ◌∷◌, ◌++◌, map, Option, Some, None, codes, refl, sym, ap, ap₂, ◌∙◌}
 use Rattle.shell_syntax.specs.declared.syntax.Command.{Command}
 use Rattle.shell_syntax.specs.declared.syntax.Command.TheVariants as c
 use Rattle.shell_syntax.specs.declared.syntax.Command.TheOpen as o
@@ -13,7 +11,7 @@ use Rattle.shell_forms.specs.declared.place.Place.{Place}
 use Rattle.shell_forms.specs.Names.{Text}
 use Rattle.shell_forms.specs.Words.{WordSays, both_bytes}
 use Rattle.shell_forms.specs.Forms.{Forms, forms_of, word_says, simple_forms, in_word, in_words, all_of, script_place, member}
-use Rattle.shell_forms.specs.Forms.{is_name, is_named, static_name, operands, is_one_flag}
+use Rattle.shell_forms.specs.Forms.{is_named, static_name, is_one_flag}
 use Rattle.shell_forms.specs.Seen.{bytes_of, layer_bytes}
 use Rattle.shell_forms.proofs.Finds.{forms_simple, forms_seq, in_parts, none_in_plain}
 use Rattle.shell_forms.proofs.Says.{static_says, flag_says}

@@ -7,7 +7,7 @@ use Rattle.shell_lexer.specs.declared.token.RawPart.TheVariants as raw
 use Rattle.shell_lexer.specs.declared.token.TokenKind.TheVariants as token
 use Rattle.shell_lexer.specs.Depth.{too_deep}
 use Rattle.shell_lexer.specs.FirstLine.{nul_from}
-use Rattle.shell_lexer.specs.Text.{Bytes, kind, skip, place, offset}
+use Rattle.shell_lexer.specs.Text.{Bytes, kind, place, offset}
 use Rattle.shell_lexer.specs.Parts.{Ends, Byte, look, look_at, look_by}
 use Rattle.shell_lexer.specs.Operators.{Word, sight, sight_at}
 use Rattle.shell_lexer.specs.Late.{first_all, is_all_word, all_args, tilde, brace, has_list, late}

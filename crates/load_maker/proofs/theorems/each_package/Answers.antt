@@ -1,5 +1,4 @@
 use Rattle.load_maker.proofs.LoadScripts.{script_exists}
-use Rattle.load_maker.specs.LoadText.{load_text}
 use Rattle.load_maker.specs.Loaded.{only_postinst}
 use Rattle.load_maker.proofs.theorems.each_package.Goals as goal
 
