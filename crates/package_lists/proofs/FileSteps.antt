@@ -4,13 +4,15 @@ use Rattle.std.specs.Prelude.{not, reverse, Result, Ok, Err, IfOk, if◌then◌e
 use Rattle.std.specs.List.{flat_map}
 use Rattle.utility_calls.specs.declared.acts.Act.{Act}
 use Rattle.dpkg_scenarios.specs.declared.scenario.Scenario.{Scenario}
-use Rattle.dpkg_scenarios.specs.declared.scenario.Scenario.TheVariants.{Install, InstallAgain, Upgrade, Remove, Purge, PurgeLater}
+use Rattle.dpkg_scenarios.specs.declared.columns.NewEntries.{NewEntries}
+use Rattle.dpkg_scenarios.specs.declared.columns.NewEntries.TheVariants.{Every, Added, NoEntry}
 use Rattle.dpkg_scenarios.specs.declared.scenario.StepWork.{StepWork}
 use Rattle.dpkg_scenarios.specs.declared.scenario.StepWork.TheVariants.{RemoveConf}
 use Rattle.package_lists.specs.declared.base.BaseLine.{BaseLine}
 use Rattle.package_lists.specs.Bases.{is_base}
 use Rattle.package_lists.specs.Entries.{EntryParts, is_folder}
-use Rattle.package_lists.specs.FileActs.{places_conf, placing, unpacked, removing, removed, removed_old, conf_gone, dir_gone, folder_gone, acts_of}
+use Rattle.package_lists.specs.EntrySets.{is_one_of}
+use Rattle.package_lists.specs.FileActs.{placing, unpacked, removing, removed, removed_old, conf_gone, dir_gone, folder_gone, acts_of}
 use Rattle.package_lists.specs.Paths.{Paths, path_text}
 
 abbrev Acts : Type 0
@@ -21,16 +23,13 @@ each_same f g same [] = refl
 each_same f g same (e ∷ es) = ap (λ l. l ++ flat_map f es) (same e) ∙ ap (λ l. g e ++ l) (each_same f g same es)
 
 module _ (f g : Paths) (same : (p : List ℕ) → f p ≡ g p) where
-  places_same : (s : Scenario) (p : List ℕ) → places_conf s f p ≡ places_conf s g p
-  places_same Install p = refl
-  places_same InstallAgain p = refl
-  places_same Upgrade p = ap not (same p)
-  places_same Remove p = refl
-  places_same Purge p = refl
-  places_same PurgeLater p = refl
+  pub one_of_same : (which : NewEntries) (p : List ℕ) → is_one_of which f p ≡ is_one_of which g p
+  one_of_same Every p = refl
+  one_of_same Added p = ap not (same p)
+  one_of_same NoEntry p = refl
 
-  pub unpacked_same : (s : Scenario) (es : List EntryParts) → flat_map (unpacked s f) es ≡ flat_map (unpacked s g) es
-  unpacked_same s es = each_same (unpacked s f) (unpacked s g) (λ e. ap (placing e.kind e.names) (places_same s (path_text e.names))) es
+  pub unpacked_same : (which : NewEntries) (es : List EntryParts) → flat_map (unpacked which f) es ≡ flat_map (unpacked which g) es
+  unpacked_same which es = each_same (unpacked which f) (unpacked which g) (λ e. ap (placing e.kind e.names) (one_of_same which (path_text e.names))) es
 
   removed_one : (e : EntryParts) → removed f e ≡ removed g e
   removed_one e = ap (removing e.kind e.names) (same (path_text e.names))

@@ -10,12 +10,14 @@ use Rattle.utility_calls.specs.Acts.{IsPerformed}
 use Rattle.dpkg_scenarios.specs.declared.scenario.Scenario.{Scenario}
 use Rattle.dpkg_scenarios.specs.declared.scenario.StepWork.{StepWork}
 use Rattle.dpkg_scenarios.specs.declared.scenario.StepWork.TheVariants.{Script, Unpack, RemoveFiles, RemoveOld, RemoveConf}
+use Rattle.dpkg_scenarios.specs.Scenarios.{columns_of}
 use Rattle.package_lists.specs.declared.base.BaseLine.{BaseLine}
 use Rattle.package_lists.specs.declared.kind.EntryKind.{EntryKind}
 use Rattle.package_lists.specs.declared.kind.EntryKind.TheVariants.{Folder, File, Conf, LinkTo}
 use Rattle.package_lists.specs.Bases.{is_base}
 use Rattle.package_lists.specs.Entries.{EntryParts, HasName, is_any, is_conf, has_at, is_folder}
-use Rattle.package_lists.specs.FileActs.{places_conf, placing, unpacked, folder_gone, removing, removed, removed_old, conf_gone, dir_gone, acts_of}
+use Rattle.package_lists.specs.EntrySets.{is_one_of}
+use Rattle.package_lists.specs.FileActs.{placing, unpacked, folder_gone, removing, removed, removed_old, conf_gone, dir_gone, acts_of}
 use Rattle.package_lists.specs.Paths.{Paths, path_text, plain_path}
 
 abbrev Done : List Act → Type 0
@@ -93,7 +95,8 @@ pub acts_performed : (s : Scenario) (work : StepWork) (new old : List EntryParts
     → All HasName new → All HasName old → Done (acts_of s work new old lines)
 acts_performed s (Script o k) new old lines n m = none_done
 acts_performed s Unpack new old lines n m =
-    each_done (unpacked s (has_at is_conf old)) (λ e named. placing_done e.names named e.kind (places_conf s (has_at is_conf old) (path_text e.names))) new n
+    let placed = (columns_of s).conffiles in
+    each_done (unpacked placed (has_at is_conf old)) (λ e named. placing_done e.names named e.kind (is_one_of placed (has_at is_conf old) (path_text e.names))) new n
 acts_performed s RemoveFiles new old lines n m =
     each_done (removed (is_base lines)) (removed_done (is_base lines)) (reverse new) (named_back new n)
 acts_performed s RemoveOld new old lines n m =

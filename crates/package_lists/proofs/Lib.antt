@@ -4,6 +4,6 @@ mod Endings
 mod Names
 mod Arrows
 mod Trims
-mod FileSteps
+pub mod FileSteps
 mod Written
 mod FilesPerformed

@@ -1,11 +1,12 @@
 -- The acts of a step that places or takes away files (Debian Policy, 6.6 and 6.8).
-use Rattle.std.specs.Prelude.{ℕ, Bool, true, false, not, List, [], ◌∷◌, ◌++◌, reverse, if◌then◌else◌}
+use Rattle.std.specs.Prelude.{ℕ, Bool, List, [], ◌∷◌, ◌++◌, reverse, if◌then◌else◌}
 use Rattle.std.specs.List.{flat_map}
+use Rattle.dpkg_scenarios.specs.declared.columns.NewEntries.{NewEntries}
 use Rattle.dpkg_scenarios.specs.declared.scenario.Scenario.{Scenario}
-use Rattle.dpkg_scenarios.specs.declared.scenario.Scenario.TheVariants as scenario
 use Rattle.dpkg_scenarios.specs.declared.scenario.StepWork.{StepWork}
 use Rattle.dpkg_scenarios.specs.declared.scenario.StepWork.TheVariants.{Script, Unpack, RemoveFiles}
 use Rattle.dpkg_scenarios.specs.declared.scenario.StepWork.TheVariants.{RemoveOld, RemoveConf}
+use Rattle.dpkg_scenarios.specs.Scenarios.{columns_of}
 use Rattle.utility_calls.specs.declared.acts.Act.{Act}
 use Rattle.utility_calls.specs.declared.acts.Act.TheVariants.{EnsureDir, PlaceFile, PlaceLink, PlaceConf, Discard}
 use Rattle.utility_calls.specs.declared.acts.Act.TheVariants.{DiscardDir}
@@ -14,17 +15,8 @@ use Rattle.package_lists.specs.declared.kind.EntryKind.TheVariants.{Folder, File
 use Rattle.package_lists.specs.Bases.{is_base}
 use Rattle.package_lists.specs.declared.base.BaseLine.{BaseLine}
 use Rattle.package_lists.specs.Entries.{EntryParts, is_any, is_conf, has_at, is_folder}
+use Rattle.package_lists.specs.EntrySets.{is_one_of}
 use Rattle.package_lists.specs.Paths.{Paths, path_text, plain_path}
-
--- whether a configuration file is put in place: in an installation; in an upgrade, unless it is one of the old package;
--- where the configuration files are there from before, none is
-abbrev pub places_conf : Scenario → Paths → List ℕ → Bool
-places_conf scenario.Install old path = true
-places_conf scenario.InstallAgain old path = false
-places_conf scenario.Upgrade old path = not (old path)
-places_conf scenario.Remove old path = false
-places_conf scenario.Purge old path = false
-places_conf scenario.PurgeLater old path = false
 
 -- the act that places an entry, by its kind, its path, and whether a configuration file is placed
 abbrev pub placing : EntryKind → List (List ℕ) → Bool → List Act
@@ -33,9 +25,9 @@ placing File names conf = PlaceFile (plain_path names) ∷ []
 placing (LinkTo target) names conf = PlaceLink (plain_path names) target ∷ []
 placing Conf names conf = if conf then PlaceConf (plain_path names) ∷ [] else []
 
--- the act that places an entry in a scenario, from the configuration files of the old package
-abbrev pub unpacked : Scenario → Paths → EntryParts → List Act
-unpacked scenario old entry = placing entry.kind entry.names (places_conf scenario old (path_text entry.names))
+-- the act that places an entry, where these configuration files are placed, from those of the old package
+abbrev pub unpacked : NewEntries → Paths → EntryParts → List Act
+unpacked conffiles old entry = placing entry.kind entry.names (is_one_of conffiles old (path_text entry.names))
 
 -- the act that takes a directory away, unless it is one of the base
 abbrev pub folder_gone : Bool → List (List ℕ) → List Act
@@ -67,10 +59,12 @@ dir_gone base entry =
     if is_folder entry.kind then folder_gone (base (path_text entry.names)) entry.names else []
 
 -- the acts of a step, from the entries of the new and of the old package and the base: placing goes in the order of the
--- list, taking away from its last entry to its first; a script has no acts of its own
+-- list, with the configuration files of the scenario's record, taking away from its last entry to its first; a script
+-- has no acts of its own
 abbrev pub acts_of : Scenario → StepWork → List EntryParts → List EntryParts → List BaseLine → List Act
 acts_of scenario (Script old script) new before base = []
-acts_of scenario Unpack new before base = flat_map (unpacked scenario (has_at is_conf before)) new
+acts_of scenario Unpack new before base =
+    flat_map (unpacked (columns_of scenario).conffiles (has_at is_conf before)) new
 acts_of scenario RemoveFiles new before base = flat_map (removed (is_base base)) (reverse new)
 acts_of scenario RemoveOld new before base =
     flat_map (removed_old (has_at is_any new) (is_base base)) (reverse before)

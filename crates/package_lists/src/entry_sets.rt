@@ -2,7 +2,7 @@
 ghost use Rattle.std.specs.Prelude.{◌≡◌, ◌&&◌, ◌||◌, ℕ, List as ListOf, true, IfOk, OnOk};
 ghost use Rattle.std.specs.Str.{bytes_eq};
 ghost use Rattle.package_lists.specs.Entries.{has_at, is_file};
-ghost use Rattle.package_lists.specs.EntrySets.{is_which};
+ghost use Rattle.package_lists.specs.EntrySets.{is_which, is_one_of};
 ghost use Rattle.package_lists.specs.Paths.{path_text as path_text_of};
 ghost use Rattle.package_lists.specs.PathSets.{has};
 
@@ -10,6 +10,7 @@ use crate::entry::Entry;
 use crate::kind::EntryKind;
 use crate::path_set::PathSet;
 use crate::paths::path_text;
+use dpkg_scenarios::NewEntries;
 use script_names::Memory;
 use std::alloc::Global;
 
@@ -80,4 +81,24 @@ pub fn has_file(alloc: Global, set: &PathSet, entry: &Entry) -> Result<bool, Mem
         return Ok(false);
     }
     has_entry(alloc, set, entry)
+}
+
+/// Whether an entry of the new package is one of these, from the paths that the old package has.
+pub fn is_one_of(
+    alloc: Global,
+    which: NewEntries,
+    old: &PathSet,
+    entry: &Entry,
+) -> Result<bool, Memory>
+    ensures { let path = path_text_of entry.now.names in
+        IfOk result (λ answer. answer ≡ is_one_of which (has old.now) path) }
+{
+    match which {
+        NewEntries::Every => Ok(true),
+        NewEntries::Added => {
+            let is_there = has_entry(alloc, old, entry)?;
+            Ok(!is_there)
+        }
+        NewEntries::NoEntry => Ok(false),
+    }
 }

@@ -27,7 +27,7 @@ pub use calls::calls_of;
 pub use conffiles::read_conffiles;
 pub use control::read_control;
 pub use entry::Entry;
-pub use entry_sets::{Which, has_entry, paths_of};
+pub use entry_sets::{Which, has_entry, is_one_of, paths_of};
 pub use fault::LineFault;
 pub use folder_names::FolderNames;
 pub use kind::EntryKind;

@@ -2,18 +2,17 @@ ghost use Rattle.std.specs.Prelude.{◌≡◌, ◌++◌, ℕ, List as ListOf, ma
 ghost use Rattle.std.specs.List.{flat_map};
 ghost use Rattle.utility_calls.specs.Acts.{IsPerformed};
 ghost use Rattle.package_lists.specs.Bases.{is_base};
-ghost use Rattle.package_lists.specs.FileActs.{places_conf, unpacked, folder_gone, removed};
+ghost use Rattle.package_lists.specs.FileActs.{unpacked, folder_gone, removed};
 ghost use Rattle.package_lists.specs.FileActs.{removed_old, conf_gone, dir_gone, acts_of};
 ghost use Rattle.package_lists.specs.Paths.{path_text as path_text_of};
 ghost use Rattle.package_lists.specs.PathSets.{has};
 
 use crate::base::Base;
 use crate::entry::{Entry, entries_are_named};
-use crate::entry_sets::{Which, has_entry, paths_of};
+use crate::entry_sets::{Which, has_entry, is_one_of, paths_of};
 use crate::kind::EntryKind;
 use crate::path_set::PathSet;
-use crate::paths::path_text;
-use dpkg_scenarios::{Scenario, StepWork};
+use dpkg_scenarios::{NewEntries, Scenario, StepWork, columns_of};
 use script_names::{Copied, List, Memory};
 use std::alloc::Global;
 use utility_calls::acts::Act;
@@ -58,7 +57,8 @@ fn acts_of_step(
         StepWork::Script { .. } => Ok(List::new(alloc)),
         StepWork::Unpack => {
             let conffiles = paths_of(alloc, Which::Conffiles, old.as_slice())?;
-            unpack(alloc, scenario, &conffiles, new.as_slice())
+            let placed = columns_of(scenario).conffiles;
+            unpack(alloc, placed, &conffiles, new.as_slice())
         }
         StepWork::RemoveFiles => {
             let back = from_last(alloc, new.as_slice())?;
@@ -76,18 +76,18 @@ fn acts_of_step(
     }
 }
 
-// The acts that place entries.
+// The acts that place entries, of the configuration files those that are `placed`, from those of the old package.
 fn unpack(
     alloc: Global,
-    scenario: Scenario,
-    conffiles: &PathSet,
+    placed: NewEntries,
+    old: &PathSet,
     entries: &[Entry],
 ) -> Result<List<Act>, Memory>
-    ensures { IfOk result (λ acts. acts ≡ flat_map (unpacked scenario (has conffiles.now)) entries.now) }
+    ensures { IfOk result (λ acts. acts ≡ flat_map (unpacked placed (has old.now)) entries.now) }
 {
     let mut acts = List::new(alloc);
     for entry in entries {
-        add_placing(alloc, &mut acts, scenario, conffiles, entry)?;
+        add_placing(alloc, &mut acts, placed, old, entry)?;
     }
     Ok(acts)
 }
@@ -96,11 +96,11 @@ fn unpack(
 fn add_placing(
     alloc: Global,
     acts: &mut List<Act>,
-    scenario: Scenario,
-    conffiles: &PathSet,
+    placed: NewEntries,
+    old: &PathSet,
     entry: &Entry,
 ) -> Result<(), Memory>
-    ensures { OnOk result (acts.new ≡ acts.old ++ unpacked scenario (has conffiles.now) entry.now) }
+    ensures { OnOk result (acts.new ≡ acts.old ++ unpacked placed (has old.now) entry.now) }
 {
     let path = entry.path().copy(alloc)?;
     match entry.kind() {
@@ -111,23 +111,12 @@ fn add_placing(
             acts.add(Act::PlaceLink { p: path, target })
         }
         EntryKind::Conf => {
-            let text = path_text(alloc, path.names())?;
-            if !places_conf(scenario, conffiles, text.as_slice()) {
+            let is_placed = is_one_of(alloc, placed, old, entry)?;
+            if !is_placed {
                 return Ok(());
             }
             acts.add(Act::PlaceConf(path))
         }
-    }
-}
-
-// Whether the configuration file with this path is put in place.
-fn places_conf(scenario: Scenario, conffiles: &PathSet, path: &[u8]) -> bool
-    ensures { result ≡ places_conf scenario (has conffiles.now) path.now }
-{
-    match scenario {
-        Scenario::Install => true,
-        Scenario::Upgrade => !conffiles.has(path),
-        Scenario::InstallAgain | Scenario::Remove | Scenario::Purge | Scenario::PurgeLater => false,
     }
 }
 

@@ -5,4 +5,4 @@ use Rattle.package_lists.specs.PathSets.{has}
 use Rattle.package_lists.proofs.step_acts.unpack.Given as goal
 
 abbrev pub invariant-loop-entry : goal.invariant-loop-entry
-invariant-loop-entry l = l.acts ≡ flat_map (unpacked l.scenario (has l.conffiles)) (take l.entry-index l.entries)
+invariant-loop-entry l = l.acts ≡ flat_map (unpacked l.placed (has l.old)) (take l.entry-index l.entries)
