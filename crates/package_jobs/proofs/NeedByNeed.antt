@@ -16,8 +16,14 @@ use Rattle.start_trees.specs.declared.need.Need.{Need}
 use Rattle.clause_solver.specs.Stands.{IsFenced}
 use Rattle.start_trees.specs.declared.need.Wanted.TheVariants as wanted
 use Rattle.start_trees.specs.Needs.{MeetsNeeds, IsStart}
+use Rattle.dpkg_scenarios.specs.declared.columns.Before.{Before}
+use Rattle.dpkg_scenarios.specs.declared.columns.Before.TheVariants as before
+use Rattle.dpkg_scenarios.specs.declared.columns.Columns.{Columns}
+use Rattle.dpkg_scenarios.specs.declared.columns.NewEntries.{NewEntries}
+use Rattle.dpkg_scenarios.specs.declared.columns.OwnFolders.{OwnFolders}
+use Rattle.dpkg_scenarios.specs.declared.columns.OwnFolders.TheVariants.{NoFolder, Dropped, Standing, Left}
 use Rattle.dpkg_scenarios.specs.declared.scenario.Scenario.{Scenario}
-use Rattle.dpkg_scenarios.specs.declared.scenario.Scenario.TheVariants as scenario
+use Rattle.dpkg_scenarios.specs.Scenarios.{columns_of}
 use Rattle.package_lists.specs.declared.base.BaseLine.{BaseLine}
 use Rattle.package_lists.specs.declared.base.BaseLine.TheVariants as base
 use Rattle.package_lists.specs.declared.kind.EntryKind.{EntryKind}
@@ -25,6 +31,7 @@ use Rattle.package_lists.specs.declared.kind.EntryKind.TheVariants.{Folder, File
 use Rattle.package_lists.specs.Bases.{is_base}
 use Rattle.package_lists.specs.Entries.{EntryParts, is_any, has_at, is_folder, names_below}
 use Rattle.package_lists.specs.Paths.{Paths, path_text, plain_path}
+use Rattle.package_lists.proofs.FileSteps.{one_of_same}
 use Rattle.checker_input.specs.declared.package.Packages.{Packages}
 use Rattle.package_jobs.specs.declared.needs.Asked.{Asked}
 use Rattle.package_jobs.specs.declared.needs.Asked.TheVariants.{Placed, KeptConf, Fit}
@@ -136,60 +143,56 @@ module _ (tree : Value) where
   entries_met : (asked : Asked) (es : Entries) → MeetsNeeds tree (flat_map (entry_needs asked) es) ↔ All (Stands (Holds asked) tree) es
   entries_met asked es = each_met (entry_needs asked) (Stands (Holds asked) tree) (λ e. asked_met asked e.kind e.names) es
 
-  before_met : (s : Scenario) (new old : Entries) → MeetsNeeds tree (needs_before s new old) ↔ AreBefore s new old tree
-  before_met scenario.Install new old = nothing_met
-  before_met scenario.InstallAgain new old = entries_met KeptConf new
-  before_met scenario.Upgrade new old = entries_met Placed old
-  before_met scenario.Remove new old = entries_met Placed new
-  before_met scenario.Purge new old = entries_met Placed new
-  before_met scenario.PurgeLater new old = entries_met KeptConf new
+  before_met : (b : Before) (new old : Entries) → MeetsNeeds tree (needs_before b new old) ↔ AreBefore b new old tree
+  before_met before.NotInstalled new old = nothing_met
+  before_met before.ConfigFiles new old = entries_met KeptConf new
+  before_met before.Installed new old = entries_met Placed new
+  before_met before.OldInstalled new old = entries_met Placed old
 
   if_met : (b : Bool) (needs : List Need) (P : Type 0) → (MeetsNeeds tree needs ↔ P)
       → MeetsNeeds tree (if b then needs else []) ↔ (IsTrue b → P)
   if_met true needs P so = ((λ m e. so.0 m), (λ h. so.1 (h refl)))
   if_met false needs P so = ((λ m e. cc), (λ h. tt))
 
-  fits_met : (s : Scenario) (lines : List BaseLine) (new old : Entries)
-      → MeetsNeeds tree (needs_to_fit s lines new old) ↔ (IsTrue (list_any is_fits lines) → All (Fits s (has_at is_any old) tree) new)
-  fits_met s lines new old =
+  fits_met : (which : NewEntries) (lines : List BaseLine) (new old : Entries)
+      → MeetsNeeds tree (needs_to_fit which lines new old) ↔ (IsTrue (list_any is_fits lines) → All (Fits which (has_at is_any old) tree) new)
+  fits_met which lines new old =
       let listed = has_at is_any old in
-      if_met (list_any is_fits lines) (flat_map (fit_needs s listed) new) _
-      (each_met (fit_needs s listed) (Fits s listed tree)
-      (λ e. if_met (is_to_fit s listed e) (entry_needs Fit e) (Stands IsFit tree e) (asked_met Fit e.kind e.names)) new)
+      if_met (list_any is_fits lines) (flat_map (fit_needs which listed) new) _
+      (each_met (fit_needs which listed) (Fits which listed tree)
+      (λ e. if_met (is_to_fit which listed e) (entry_needs Fit e) (Stands IsFit tree e) (asked_met Fit e.kind e.names)) new)
 
   -- ---- folders that hold no foreign entry
 
-  kinds_met : (s : Scenario) (names : List (List ℕ)) → MeetsNeeds tree (needed_at names (kinds_owned s)) ↔ MayStand s (kind_at names)
-  kinds_met scenario.Install names = nothing_met
-  kinds_met scenario.InstallAgain names = nothing_met
-  kinds_met scenario.Upgrade names = nothing_met
-  kinds_met scenario.Remove names = nothing_met
-  kinds_met scenario.Purge names = nothing_met
-  kinds_met scenario.PurgeLater names = one_met (plain_path names) (two Absent Dir) (absent_or_dir (kind_at names))
+  kinds_met : (own : OwnFolders) (names : List (List ℕ)) → MeetsNeeds tree (needed_at names (kinds_owned own)) ↔ MayStand own (kind_at names)
+  kinds_met NoFolder names = nothing_met
+  kinds_met Dropped names = nothing_met
+  kinds_met Standing names = nothing_met
+  kinds_met Left names = one_met (plain_path names) (two Absent Dir) (absent_or_dir (kind_at names))
 
   names_met : (names below : List (List ℕ)) → MeetsNeeds tree (names_needed names below) ↔ IsFenced (at tree names) below
   names_met names below = ((λ m. m.0), (λ f. (f, tt)))
 
-  folder_met : (s : Scenario) (entries : Entries) (e : EntryParts)
-      → MeetsNeeds tree (folder_needs s (names_below entries) e) ↔ IsOwned s entries tree e
-  folder_met s entries e =
+  folder_met : (own : OwnFolders) (entries : Entries) (e : EntryParts)
+      → MeetsNeeds tree (folder_needs own (names_below entries) e) ↔ IsOwned own entries tree e
+  folder_met own entries e =
       let below = names_below entries (path_text e.names) in
-      let both = both_met (needed_at e.names (kinds_owned s)) (names_needed e.names below) in
-      let kinds = kinds_met s e.names in
+      let both = both_met (needed_at e.names (kinds_owned own)) (names_needed e.names below) in
+      let kinds = kinds_met own e.names in
       let names = names_met e.names below in (
         (λ m. (kinds.0 (both.0 m).0, names.0 (both.0 m).1)),
         (λ o. both.1 (kinds.1 o.0, names.1 o.1)),
       )
 
-  owns_met : (s : Scenario) (lines : List BaseLine) (new old : Entries)
-      → MeetsNeeds tree (needs_to_own s lines new old) ↔ (IsTrue (list_any is_own lines) → AreOwned s lines new old tree)
-  owns_met s lines new old =
-      let entries = owner s new old in
+  owns_met : (own : OwnFolders) (lines : List BaseLine) (new old : Entries)
+      → MeetsNeeds tree (needs_to_own own lines new old) ↔ (IsTrue (list_any is_own lines) → AreOwned own lines new old tree)
+  owns_met own lines new old =
+      let entries = owner own new old in
       let based = is_base lines in
       let listed = has_at is_any new in
-      if_met (list_any is_own lines) (flat_map (own_needs s based listed (names_below entries)) entries) _
-      (each_met (own_needs s based listed (names_below entries)) (Owns s based listed entries tree)
-      (λ e. if_met (is_to_own s based listed e) (folder_needs s (names_below entries) e) (IsOwned s entries tree e) (folder_met s entries e)) entries)
+      if_met (list_any is_own lines) (flat_map (own_needs own based listed (names_below entries)) entries) _
+      (each_met (own_needs own based listed (names_below entries)) (Owns own based listed entries tree)
+      (λ e. if_met (is_to_own own based listed e) (folder_needs own (names_below entries) e) (IsOwned own entries tree e) (folder_met own entries e)) entries)
 
 -- ---- start trees
 
@@ -198,41 +201,51 @@ starts_met s p tree =
     let new = p.new_package.entries in
     let old = (old_of p).entries in
     let lines = p.base.lines in
-    let whole = both_met tree (flat_map line_needs lines) (needs_before s new old ++ (needs_to_fit s lines new old ++ needs_to_own s lines new old)) in
-    let rest = both_met tree (needs_before s new old) (needs_to_fit s lines new old ++ needs_to_own s lines new old) in
-    let last = both_met tree (needs_to_fit s lines new old) (needs_to_own s lines new old) in
+    let before = needs_before (columns_of s).before new old in
+    let fit = needs_to_fit (columns_of s).fits lines new old in
+    let own = needs_to_own (columns_of s).own lines new old in
+    let whole = both_met tree (flat_map line_needs lines) (before ++ (fit ++ own)) in
+    let rest = both_met tree before (fit ++ own) in
+    let last = both_met tree fit own in
+    let of_before = before_met tree (columns_of s).before new old in
+    let of_fits = fits_met tree (columns_of s).fits lines new old in
+    let of_own = owns_met tree (columns_of s).own lines new old in
     let of_lines = each_met tree line_needs (MeetsLine tree) (line_met tree) lines in (
       (λ start. record {
         is_tree = start.is_tree;
         base = of_lines.0 (whole.0 start.met).0;
-        before = (before_met tree s new old).0 (rest.0 (whole.0 start.met).1).0;
-        fits = (fits_met tree s lines new old).0 (last.0 (rest.0 (whole.0 start.met).1).1).0;
-        own = (owns_met tree s lines new old).0 (last.0 (rest.0 (whole.0 start.met).1).1).1;
+        before = of_before.0 (rest.0 (whole.0 start.met).1).0;
+        fits = of_fits.0 (last.0 (rest.0 (whole.0 start.met).1).1).0;
+        own = of_own.0 (last.0 (rest.0 (whole.0 start.met).1).1).1;
       }),
       (λ start. record {
         is_tree = start.is_tree;
-        met = whole.1 (of_lines.1 start.base, rest.1 ((before_met tree s new old).1 start.before, last.1 ((fits_met tree s lines new old).1 start.fits, (owns_met tree s lines new old).1 start.own)));
+        met = whole.1 (of_lines.1 start.base, rest.1 (of_before.1 start.before, last.1 (of_fits.1 start.fits, of_own.1 start.own)));
       }),
     )
 
--- what is needed, by lines and entries
-abbrev all_needs : Scenario → List BaseLine → Entries → Entries → List Need
-all_needs s lines new old = flat_map line_needs lines ++ (needs_before s new old ++ (needs_to_fit s lines new old ++ needs_to_own s lines new old))
+-- what is needed, by a record, lines and entries
+abbrev all_needs : Columns → List BaseLine → Entries → Entries → List Need
+all_needs columns lines new old =
+    flat_map line_needs lines
+    ++ (needs_before columns.before new old ++ (needs_to_fit columns.fits lines new old ++ needs_to_own columns.own lines new old))
 
 -- needs that were added one behind another
-pub needs_are : (s : Scenario) (p : Packages) (lines : List BaseLine) (new old : Entries) (none first more most all : List Need)
-    → lines ≡ p.base.lines → new ≡ p.new_package.entries → old ≡ (old_of p).entries
-    → none ≡ [] → first ≡ none ++ flat_map line_needs lines → more ≡ first ++ needs_before s new old → most ≡ more ++ needs_to_fit s lines new old → all ≡ most ++ needs_to_own s lines new old
+pub needs_are : (s : Scenario) (columns : Columns) (p : Packages) (lines : List BaseLine) (new old : Entries) (none first more most all : List Need)
+    → columns ≡ columns_of s → lines ≡ p.base.lines → new ≡ p.new_package.entries → old ≡ (old_of p).entries
+    → none ≡ [] → first ≡ none ++ flat_map line_needs lines → more ≡ first ++ needs_before columns.before new old
+    → most ≡ more ++ needs_to_fit columns.fits lines new old → all ≡ most ++ needs_to_own columns.own lines new old
     → all ≡ needs_in s p
-needs_are s p lines new old none first more most all is_lines is_new is_old e0 e1 e2 e3 e4 =
+needs_are s columns p lines new old none first more most all is_columns is_lines is_new is_old e0 e1 e2 e3 e4 =
     let of_lines = flat_map line_needs lines in
-    let before = needs_before s new old in
-    let fit = needs_to_fit s lines new old in
-    let own = needs_to_own s lines new old in
+    let before = needs_before columns.before new old in
+    let fit = needs_to_fit columns.fits lines new old in
+    let own = needs_to_own columns.own lines new old in
     e4 ∙ ap (λ l. l ++ own) (e3 ∙ ap (λ l. l ++ fit) (e2 ∙ ap (λ l. l ++ before) (e1 ∙ ap (λ l. l ++ of_lines) e0)))
     ∙ append_assoc (of_lines ++ before) fit own ∙ append_assoc of_lines before (fit ++ own)
-    ∙ ap (λ l. all_needs s l new old) is_lines ∙ ap (λ n. all_needs s p.base.lines n old) is_new
-    ∙ ap (λ o. all_needs s p.base.lines p.new_package.entries o) is_old
+    ∙ ap (λ c. all_needs c lines new old) is_columns ∙ ap (λ l. all_needs (columns_of s) l new old) is_lines
+    ∙ ap (λ n. all_needs (columns_of s) p.base.lines n old) is_new
+    ∙ ap (λ o. all_needs (columns_of s) p.base.lines p.new_package.entries o) is_old
 
 -- needs that are these
 pub needs_met : (s : Scenario) (p : Packages) (needs : List Need) → needs ≡ needs_in s p → (tree : Value) → IsStart needs tree ↔ IsStartTree s p tree
@@ -240,20 +253,12 @@ needs_met s p needs e tree = subst (λ ns. IsStart ns tree ↔ IsStartTree s p t
 
 -- ---- which entries have to fit, by sets that have the same paths
 
-module _ (s : Scenario) (f g : Paths) (same : (path : List ℕ) → f path ≡ g path) where
-  to_fit_same : (s : Scenario) (e : EntryParts) → is_to_fit s f e ≡ is_to_fit s g e
-  to_fit_same scenario.Install e = refl
-  to_fit_same scenario.InstallAgain e = refl
-  to_fit_same scenario.Upgrade e = ap not (same (path_text e.names))
-  to_fit_same scenario.Remove e = refl
-  to_fit_same scenario.Purge e = refl
-  to_fit_same scenario.PurgeLater e = refl
-
-  pub fit_needs_same : (es : Entries) → flat_map (fit_needs s f) es ≡ flat_map (fit_needs s g) es
+module _ (which : NewEntries) (f g : Paths) (same : (path : List ℕ) → f path ≡ g path) where
+  pub fit_needs_same : (es : Entries) → flat_map (fit_needs which f) es ≡ flat_map (fit_needs which g) es
   fit_needs_same [] = refl
   fit_needs_same (e ∷ es) =
-      ap (λ (b : Bool). (if b then entry_needs Fit e else []) ++ flat_map (fit_needs s f) es) (to_fit_same s e)
-      ∙ ap (λ l. fit_needs s g e ++ l) (fit_needs_same es)
+      ap (λ (b : Bool). (if b then entry_needs Fit e else []) ++ flat_map (fit_needs which f) es) (one_of_same f g same which (path_text e.names))
+      ∙ ap (λ l. fit_needs which g e ++ l) (fit_needs_same es)
 
 -- ---- which folders hold no foreign entry, by sets that have the same paths and names
 
@@ -262,17 +267,15 @@ module _ (f g b c : Paths) (m n : List ℕ → List (List ℕ)) (same : (path : 
   owned_folder_same : (e : EntryParts) → is_owned_folder b e ≡ is_owned_folder c e
   owned_folder_same e = ap (λ x. is_folder e.kind && not x) (based (path_text e.names))
 
-  to_own_same : (s : Scenario) (e : EntryParts) → is_to_own s b f e ≡ is_to_own s c g e
-  to_own_same scenario.Install e = refl
-  to_own_same scenario.InstallAgain e = refl
-  to_own_same scenario.Upgrade e = ap (λ x. x && not (f (path_text e.names))) (owned_folder_same e) ∙ ap (λ x. is_owned_folder c e && not x) (same (path_text e.names))
-  to_own_same scenario.Remove e = owned_folder_same e
-  to_own_same scenario.Purge e = owned_folder_same e
-  to_own_same scenario.PurgeLater e = owned_folder_same e
+  to_own_same : (own : OwnFolders) (e : EntryParts) → is_to_own own b f e ≡ is_to_own own c g e
+  to_own_same NoFolder e = refl
+  to_own_same Dropped e = ap (λ x. x && not (f (path_text e.names))) (owned_folder_same e) ∙ ap (λ x. is_owned_folder c e && not x) (same (path_text e.names))
+  to_own_same Standing e = owned_folder_same e
+  to_own_same Left e = owned_folder_same e
 
-  pub own_needs_same : (s : Scenario) (es : Entries) → flat_map (own_needs s b f m) es ≡ flat_map (own_needs s c g n) es
-  own_needs_same s [] = refl
-  own_needs_same s (e ∷ es) =
-      ap (λ (t : Bool). (if t then folder_needs s m e else []) ++ flat_map (own_needs s b f m) es) (to_own_same s e)
-      ∙ ap (λ below. (if is_to_own s c g e then needed_at e.names (kinds_owned s) ++ names_needed e.names below else []) ++ flat_map (own_needs s b f m) es) (names (path_text e.names))
-      ∙ ap (λ l. own_needs s c g n e ++ l) (own_needs_same s es)
+  pub own_needs_same : (own : OwnFolders) (es : Entries) → flat_map (own_needs own b f m) es ≡ flat_map (own_needs own c g n) es
+  own_needs_same own [] = refl
+  own_needs_same own (e ∷ es) =
+      ap (λ (t : Bool). (if t then folder_needs own m e else []) ++ flat_map (own_needs own b f m) es) (to_own_same own e)
+      ∙ ap (λ below. (if is_to_own own c g e then needed_at e.names (kinds_owned own) ++ names_needed e.names below else []) ++ flat_map (own_needs own b f m) es) (names (path_text e.names))
+      ∙ ap (λ l. own_needs own c g n e ++ l) (own_needs_same own es)

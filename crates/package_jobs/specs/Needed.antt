@@ -6,8 +6,13 @@ use Rattle.feature_trees.specs.declared.kind.Kind.TheVariants.{Absent, Reg, Dir}
 use Rattle.feature_trees.specs.declared.kind.Kinds.{Kinds}
 use Rattle.feature_trees.specs.Kinds.{of}
 use Rattle.utility_calls.specs.Sights.{but, two}
+use Rattle.dpkg_scenarios.specs.declared.columns.Before.{Before}
+use Rattle.dpkg_scenarios.specs.declared.columns.Before.TheVariants as before
+use Rattle.dpkg_scenarios.specs.declared.columns.NewEntries.{NewEntries}
+use Rattle.dpkg_scenarios.specs.declared.columns.OwnFolders.{OwnFolders}
+use Rattle.dpkg_scenarios.specs.declared.columns.OwnFolders.TheVariants.{NoFolder, Dropped, Standing, Left}
 use Rattle.dpkg_scenarios.specs.declared.scenario.Scenario.{Scenario}
-use Rattle.dpkg_scenarios.specs.declared.scenario.Scenario.TheVariants as scenario
+use Rattle.dpkg_scenarios.specs.Scenarios.{columns_of}
 use Rattle.start_trees.specs.declared.need.Need.{Need}
 use Rattle.start_trees.specs.declared.need.Wanted.TheVariants as wanted
 use Rattle.package_lists.specs.declared.base.BaseLine.{BaseLine}
@@ -65,52 +70,48 @@ line_needs base.Own = []
 line_needs (base.Call call) = []
 
 -- what is needed of the files that are there before a scenario, by the new and the old package's entries
-abbrev pub needs_before : Scenario → Entries → Entries → List Need
-needs_before scenario.Install new old = []
-needs_before scenario.InstallAgain new old = flat_map (entry_needs KeptConf) new
-needs_before scenario.Upgrade new old = flat_map (entry_needs Placed) old
-needs_before scenario.Remove new old = flat_map (entry_needs Placed) new
-needs_before scenario.Purge new old = flat_map (entry_needs Placed) new
-needs_before scenario.PurgeLater new old = flat_map (entry_needs KeptConf) new
+abbrev pub needs_before : Before → Entries → Entries → List Need
+needs_before before.NotInstalled new old = []
+needs_before before.ConfigFiles new old = flat_map (entry_needs KeptConf) new
+needs_before before.Installed new old = flat_map (entry_needs Placed) new
+needs_before before.OldInstalled new old = flat_map (entry_needs Placed) old
 
 -- what an entry of the new package needs to fit, if it has to
-abbrev pub fit_needs : Scenario → Paths → EntryParts → List Need
-fit_needs scenario listed entry = if is_to_fit scenario listed entry then entry_needs Fit entry else []
+abbrev pub fit_needs : NewEntries → Paths → EntryParts → List Need
+fit_needs which listed entry = if is_to_fit which listed entry then entry_needs Fit entry else []
 
 -- what is needed where the base has a line `fits`
-abbrev pub needs_to_fit : Scenario → List BaseLine → Entries → Entries → List Need
-needs_to_fit scenario lines new old =
-    if list_any is_fits lines then flat_map (fit_needs scenario (has_at is_any old)) new else []
+abbrev pub needs_to_fit : NewEntries → List BaseLine → Entries → Entries → List Need
+needs_to_fit which lines new old =
+    if list_any is_fits lines then flat_map (fit_needs which (has_at is_any old)) new else []
 
 -- the kinds that may stand where a folder of the package is that holds no foreign entry, if any are asked for
-abbrev pub kinds_owned : Scenario → Option Kinds
-kinds_owned scenario.Install = None
-kinds_owned scenario.InstallAgain = None
-kinds_owned scenario.Upgrade = None
-kinds_owned scenario.Remove = None
-kinds_owned scenario.Purge = None
-kinds_owned scenario.PurgeLater = Some (two Absent Dir)
+abbrev pub kinds_owned : OwnFolders → Option Kinds
+kinds_owned NoFolder = None
+kinds_owned Dropped = None
+kinds_owned Standing = None
+kinds_owned Left = Some (two Absent Dir)
 
 -- the need of entries under these names alone
 abbrev pub names_needed : List (List ℕ) → List (List ℕ) → List Need
 names_needed names below = record { path = plain_path names; wanted = wanted.Names below } ∷ []
 
 -- what a folder needs that holds no foreign entry, by the names of the entries below each path
-abbrev pub folder_needs : Scenario → (List ℕ → List (List ℕ)) → EntryParts → List Need
-folder_needs scenario below folder =
-    needed_at folder.names (kinds_owned scenario) ++ names_needed folder.names (below (path_text folder.names))
+abbrev pub folder_needs : OwnFolders → (List ℕ → List (List ℕ)) → EntryParts → List Need
+folder_needs own below folder =
+    needed_at folder.names (kinds_owned own) ++ names_needed folder.names (below (path_text folder.names))
 
 -- what an entry needs by `own`, if it speaks of it
-abbrev pub own_needs : Scenario → Paths → Paths → (List ℕ → List (List ℕ)) → EntryParts → List Need
-own_needs scenario based listed below entry =
-    if is_to_own scenario based listed entry then folder_needs scenario below entry else []
+abbrev pub own_needs : OwnFolders → Paths → Paths → (List ℕ → List (List ℕ)) → EntryParts → List Need
+own_needs own based listed below entry =
+    if is_to_own own based listed entry then folder_needs own below entry else []
 
 -- what is needed where the base has a line `own`
-abbrev pub needs_to_own : Scenario → List BaseLine → Entries → Entries → List Need
-needs_to_own scenario lines new old =
-    let entries = owner scenario new old in
+abbrev pub needs_to_own : OwnFolders → List BaseLine → Entries → Entries → List Need
+needs_to_own own lines new old =
+    let entries = owner own new old in
     if list_any is_own lines
-    then flat_map (own_needs scenario (is_base lines) (has_at is_any new) (names_below entries)) entries
+    then flat_map (own_needs own (is_base lines) (has_at is_any new) (names_below entries)) entries
     else []
 
 -- what is needed of a start tree
@@ -118,6 +119,8 @@ abbrev pub needs_in : Scenario → Packages → List Need
 needs_in scenario packages =
     let new = packages.new_package.entries in
     let old = (old_of packages).entries in
-    flat_map line_needs packages.base.lines
-    ++ (needs_before scenario new old
-    ++ (needs_to_fit scenario packages.base.lines new old ++ needs_to_own scenario packages.base.lines new old))
+    let lines = packages.base.lines in
+    let columns = columns_of scenario in
+    flat_map line_needs lines
+    ++ (needs_before columns.before new old
+    ++ (needs_to_fit columns.fits lines new old ++ needs_to_own columns.own lines new old))

@@ -8,17 +8,18 @@ ghost use Rattle.package_jobs.specs.Needed.{kinds_asked, entry_needs, line_needs
 ghost use Rattle.package_jobs.specs.Needed.{needs_before, fit_needs, needs_to_fit};
 ghost use Rattle.package_jobs.specs.Needed.{kinds_owned, needed_at, names_needed, folder_needs, own_needs};
 ghost use Rattle.package_jobs.specs.Needed.{needs_to_own};
-ghost use Rattle.package_jobs.specs.StartTrees.{is_fits, is_to_fit, is_own, owner, is_owned_folder, is_to_own};
+ghost use Rattle.package_jobs.specs.StartTrees.{is_fits, is_own, owner, is_owned_folder, is_to_own};
 ghost use Rattle.package_jobs.specs.StartTrees.{IsStartTree};
 ghost use Rattle.package_lists.specs.FolderNames.{names_at};
 ghost use Rattle.start_trees.specs.declared.need.Wanted.TheVariants as Wanted;
 
 use crate::sides::old_package;
 use checker_input::Packages;
-use dpkg_scenarios::Scenario;
+use dpkg_scenarios::{Before, NewEntries, OwnFolders, Scenario, columns_of};
 use feature_trees::{Kind, Kinds};
 use package_lists::{
-    BaseLine, Entry, EntryKind, FolderNames, PathSet, Which, base_paths, has_entry, paths_of,
+    BaseLine, Entry, EntryKind, FolderNames, PathSet, Which, base_paths, has_entry, is_one_of,
+    paths_of,
 };
 use script_names::{Copied, List, Memory, Name, Path};
 use start_trees::{Need, Wanted};
@@ -147,52 +148,31 @@ fn add_lines(alloc: Global, needs: &mut List<Need>, lines: &[BaseLine]) -> Resul
 fn add_before(
     alloc: Global,
     needs: &mut List<Need>,
-    scenario: Scenario,
+    before: Before,
     new: &[Entry],
     old: &[Entry],
 ) -> Result<(), Memory>
-    ensures { OnOk result (needs.new ≡ needs.old ++ needs_before scenario new.now old.now) }
+    ensures { OnOk result (needs.new ≡ needs.old ++ needs_before before new.now old.now) }
 {
-    match scenario {
-        Scenario::Install => Ok(()),
-        Scenario::Upgrade => add_entries(alloc, needs, Asked::Placed, old),
-        Scenario::Remove => add_entries(alloc, needs, Asked::Placed, new),
-        Scenario::Purge => add_entries(alloc, needs, Asked::Placed, new),
-        Scenario::InstallAgain => add_entries(alloc, needs, Asked::KeptConf, new),
-        Scenario::PurgeLater => add_entries(alloc, needs, Asked::KeptConf, new),
+    match before {
+        Before::NotInstalled => Ok(()),
+        Before::ConfigFiles => add_entries(alloc, needs, Asked::KeptConf, new),
+        Before::Installed => add_entries(alloc, needs, Asked::Placed, new),
+        Before::OldInstalled => add_entries(alloc, needs, Asked::Placed, old),
     }
 }
 
-// Whether an entry of the new package has to fit, from the paths that the old package lists.
-fn is_to_fit(
-    alloc: Global,
-    scenario: Scenario,
-    listed: &PathSet,
-    entry: &Entry,
-) -> Result<bool, Memory>
-    ensures { IfOk result (λ answer. answer ≡ is_to_fit scenario (has listed.now) entry.now) }
-{
-    match scenario {
-        Scenario::Install | Scenario::InstallAgain => Ok(true),
-        Scenario::Upgrade => {
-            let is_listed = has_entry(alloc, listed, entry)?;
-            Ok(!is_listed)
-        }
-        Scenario::Remove | Scenario::Purge | Scenario::PurgeLater => Ok(false),
-    }
-}
-
-// Adds what an entry of the new package needs to fit, if it has to.
+// Adds what an entry of the new package needs to fit, if it has to, from the paths that the old package lists.
 fn add_fit(
     alloc: Global,
     needs: &mut List<Need>,
-    scenario: Scenario,
+    which: NewEntries,
     listed: &PathSet,
     entry: &Entry,
 ) -> Result<(), Memory>
-    ensures { OnOk result (needs.new ≡ needs.old ++ fit_needs scenario (has listed.now) entry.now) }
+    ensures { OnOk result (needs.new ≡ needs.old ++ fit_needs which (has listed.now) entry.now) }
 {
-    let has_to = is_to_fit(alloc, scenario, listed, entry)?;
+    let has_to = is_one_of(alloc, which, listed, entry)?;
     if !has_to {
         return Ok(());
     }
@@ -227,19 +207,19 @@ fn is_fits(line: &BaseLine) -> bool
 fn add_fits(
     alloc: Global,
     needs: &mut List<Need>,
-    scenario: Scenario,
+    which: NewEntries,
     lines: &[BaseLine],
     new: &[Entry],
     old: &[Entry],
 ) -> Result<(), Memory>
-    ensures { OnOk result (needs.new ≡ needs.old ++ needs_to_fit scenario lines.now new.now old.now) }
+    ensures { OnOk result (needs.new ≡ needs.old ++ needs_to_fit which lines.now new.now old.now) }
 {
     if !has_fits(lines) {
         return Ok(());
     }
     let listed = paths_of(alloc, Which::All, old)?;
     for entry in new {
-        add_fit(alloc, needs, scenario, &listed, entry)?;
+        add_fit(alloc, needs, which, &listed, entry)?;
     }
     Ok(())
 }
@@ -269,13 +249,12 @@ fn is_own(line: &BaseLine) -> bool
 }
 
 // The entries of the package that `own` speaks of.
-fn owner<'a>(scenario: Scenario, new: &'a [Entry], old: &'a [Entry]) -> &'a [Entry]
-    ensures { result.now ≡ owner scenario new.now old.now }
+fn owner<'a>(own: OwnFolders, new: &'a [Entry], old: &'a [Entry]) -> &'a [Entry]
+    ensures { result.now ≡ owner own new.now old.now }
 {
-    match scenario {
-        Scenario::Upgrade => old,
-        Scenario::Install | Scenario::InstallAgain => new,
-        Scenario::Remove | Scenario::Purge | Scenario::PurgeLater => new,
+    match own {
+        OwnFolders::Dropped => old,
+        OwnFolders::NoFolder | OwnFolders::Standing | OwnFolders::Left => new,
     }
 }
 
@@ -293,34 +272,31 @@ fn is_owned_folder(alloc: Global, based: &PathSet, entry: &Entry) -> Result<bool
 // Whether `own` speaks of an entry, from the directories of the base and the paths that the new package lists.
 fn is_to_own(
     alloc: Global,
-    scenario: Scenario,
+    own: OwnFolders,
     based: &PathSet,
     listed: &PathSet,
     entry: &Entry,
 ) -> Result<bool, Memory>
-    ensures { IfOk result (λ answer. answer ≡ is_to_own scenario (has based.now) (has listed.now) entry.now) }
+    ensures { IfOk result (λ answer. answer ≡ is_to_own own (has based.now) (has listed.now) entry.now) }
 {
-    match scenario {
-        Scenario::Install | Scenario::InstallAgain => Ok(false),
-        Scenario::Upgrade => {
+    match own {
+        OwnFolders::NoFolder => Ok(false),
+        OwnFolders::Dropped => {
             let is_folder = is_owned_folder(alloc, based, entry)?;
             let is_listed = has_entry(alloc, listed, entry)?;
             Ok(is_folder & !is_listed)
         }
-        Scenario::Remove | Scenario::Purge | Scenario::PurgeLater => is_owned_folder(
-            alloc, based, entry,
-        ),
+        OwnFolders::Standing | OwnFolders::Left => is_owned_folder(alloc, based, entry),
     }
 }
 
 // The kinds that may stand where a folder is that holds no foreign entry, if any are asked for.
-fn kinds_owned(scenario: Scenario) -> Option<Kinds>
-    ensures { result ≡ kinds_owned scenario }
+fn kinds_owned(own: OwnFolders) -> Option<Kinds>
+    ensures { result ≡ kinds_owned own }
 {
-    match scenario {
-        Scenario::PurgeLater => Some(absent_or(Kind::Dir)),
-        Scenario::Install | Scenario::InstallAgain | Scenario::Upgrade => None,
-        Scenario::Remove | Scenario::Purge => None,
+    match own {
+        OwnFolders::Left => Some(absent_or(Kind::Dir)),
+        OwnFolders::NoFolder | OwnFolders::Dropped | OwnFolders::Standing => None,
     }
 }
 
@@ -343,14 +319,14 @@ fn add_kinds(
 fn add_folder(
     alloc: Global,
     needs: &mut List<Need>,
-    scenario: Scenario,
+    own: OwnFolders,
     names: List<Name>,
     folder: &Entry,
 ) -> Result<(), Memory>
     ensures { OnOk result (needs.new ≡ needs.old
-        ++ (needed_at folder.now.names (kinds_owned scenario) ++ names_needed folder.now.names names)) }
+        ++ (needed_at folder.now.names (kinds_owned own) ++ names_needed folder.now.names names)) }
 {
-    add_kinds(alloc, needs, kinds_owned(scenario), folder)?;
+    add_kinds(alloc, needs, kinds_owned(own), folder)?;
     let path = folder.path().copy(alloc)?;
     needs.add(Need {
         path,
@@ -370,34 +346,34 @@ pub struct Owning {
 fn add_own(
     alloc: Global,
     needs: &mut List<Need>,
-    scenario: Scenario,
+    own: OwnFolders,
     owning: &Owning,
     entry: &Entry,
 ) -> Result<(), Memory>
-    ensures { let own = owning.now in OnOk result (needs.new
-        ≡ needs.old ++ own_needs scenario (has own.based) (has own.listed) (names_at own.names) entry.now) }
+    ensures { let by = owning.now in OnOk result (needs.new
+        ≡ needs.old ++ own_needs own (has by.based) (has by.listed) (names_at by.names) entry.now) }
 {
-    let is_owned = is_to_own(alloc, scenario, &owning.based, &owning.listed, entry)?;
+    let is_owned = is_to_own(alloc, own, &owning.based, &owning.listed, entry)?;
     if !is_owned {
         return Ok(());
     }
     let names = owning.names.below(entry)?;
-    add_folder(alloc, needs, scenario, names, entry)
+    add_folder(alloc, needs, own, names, entry)
 }
 
 // Adds what these entries need by `own`.
 fn add_own_entries(
     alloc: Global,
     needs: &mut List<Need>,
-    scenario: Scenario,
+    own: OwnFolders,
     owning: &Owning,
     entries: &[Entry],
 ) -> Result<(), Memory>
-    ensures { let own = owning.now in OnOk result (needs.new ≡ needs.old
-        ++ flat_map (own_needs scenario (has own.based) (has own.listed) (names_at own.names)) entries.now) }
+    ensures { let by = owning.now in OnOk result (needs.new ≡ needs.old
+        ++ flat_map (own_needs own (has by.based) (has by.listed) (names_at by.names)) entries.now) }
 {
     for entry in entries {
-        add_own(alloc, needs, scenario, owning, entry)?;
+        add_own(alloc, needs, own, owning, entry)?;
     }
     Ok(())
 }
@@ -406,17 +382,17 @@ fn add_own_entries(
 fn add_owns(
     alloc: Global,
     needs: &mut List<Need>,
-    scenario: Scenario,
+    own: OwnFolders,
     lines: &[BaseLine],
     new: &[Entry],
     old: &[Entry],
 ) -> Result<(), Memory>
-    ensures { OnOk result (needs.new ≡ needs.old ++ needs_to_own scenario lines.now new.now old.now) }
+    ensures { OnOk result (needs.new ≡ needs.old ++ needs_to_own own lines.now new.now old.now) }
 {
     if !has_own(lines) {
         return Ok(());
     }
-    let entries = owner(scenario, new, old);
+    let entries = owner(own, new, old);
     let based = base_paths(alloc, lines)?;
     let listed = paths_of(alloc, Which::All, new)?;
     let names = FolderNames::of(alloc, entries)?;
@@ -425,7 +401,7 @@ fn add_owns(
         listed,
         names,
     };
-    add_own_entries(alloc, needs, scenario, &owning, entries)
+    add_own_entries(alloc, needs, own, &owning, entries)
 }
 
 /// What is needed of a tree that a scenario may begin from, a need for each path that something is known of. The trees
@@ -440,10 +416,11 @@ pub fn needs_of(
     let lines = packages.base.lines.as_slice();
     let new = packages.new_package.entries.as_slice();
     let old = old_package(packages).entries.as_slice();
+    let columns = columns_of(scenario);
     let mut needs = List::new(alloc);
     add_lines(alloc, &mut needs, lines)?;
-    add_before(alloc, &mut needs, scenario, new, old)?;
-    add_fits(alloc, &mut needs, scenario, lines, new, old)?;
-    add_owns(alloc, &mut needs, scenario, lines, new, old)?;
+    add_before(alloc, &mut needs, columns.before, new, old)?;
+    add_fits(alloc, &mut needs, columns.fits, lines, new, old)?;
+    add_owns(alloc, &mut needs, columns.own, lines, new, old)?;
     Ok(needs)
 }

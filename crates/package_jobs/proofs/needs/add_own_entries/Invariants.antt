@@ -8,4 +8,4 @@ use Rattle.package_jobs.proofs.needs.add_own_entries.Given as goal
 abbrev pub invariant-loop-entry : goal.invariant-loop-entry
 invariant-loop-entry l =
     l.needs ≡ l.initial.needs
-    ++ flat_map (own_needs l.scenario (has l.owning.based) (has l.owning.listed) (names_at l.owning.names)) (take l.entry-index l.entries)
+    ++ flat_map (own_needs l.own (has l.owning.based) (has l.owning.listed) (names_at l.owning.names)) (take l.entry-index l.entries)
