@@ -15,7 +15,7 @@ use Rattle.scenario_runs.specs.Runs.{plan_of, begun, replayed, replayed_at}
 use Rattle.scenario_runs.specs.Playing.{Came, course_at}
 use Rattle.scenario_runs.specs.Deciding.{decision_of, decision_performed, whole_plays, ending_of, ended, reached}
 use Rattle.scenario_runs.specs.Laws.{RunsAreDecided, DecisionsArePlayed, replayed_of}
-use Rattle.scenario_runs.proofs.Lines.{first}
+use Rattle.dpkg_scenarios.proofs.Walks.{first_step}
 use Rattle.scenario_runs.proofs.Walking.{IsEnd, come_to_end}
 
 at_end : (next : StepNext) (calls : List ScriptCall) (turns : ℕ) (tree : Value) (trace : List Mark) (acts : List Act) → IsEnd next
@@ -29,7 +29,7 @@ unfolding decision_of
 decisions_played forward job files tree =
     let q : Played (Came StepNext) = play (whole_plays job files).decision tree [] [] in
     let is = (whole_plays job files).plays tree [] [] in
-    let stops = come_to_end forward (plan_of job) (length (table job.scenario)) (reached (Go 1) (begun job.turns tree)) (first job.scenario, omega arith) in
+    let stops = come_to_end forward (plan_of job) (length (table job.scenario)) (reached (Go 1) (begun job.turns tree)) (first_step job.scenario, omega arith) in
     ap replayed is
     ∙ at_end q.value.value q.value.calls q.value.turns q.tree q.trace q.acts (subst (λ (x : Reached). IsEnd x.next) is stops)
     ∙ ap (λ x. Some (replayed_of x)) (sym (bind_plays (whole_plays job files).decision (λ v. Decided (ended v)) tree [] []))

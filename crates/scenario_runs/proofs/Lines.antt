@@ -5,12 +5,12 @@ use Rattle.std.specs.List.{find}
 use Rattle.std.specs.Option.{option_map}
 use Rattle.std.proofs.lemmas.Bool.{eqb-true, eqb-false, and_parts}
 use Rattle.dpkg_scenarios.specs.declared.scenario.Scenario.{Scenario}
-use Rattle.dpkg_scenarios.specs.declared.scenario.Scenario.TheVariants.{Install, InstallAgain, Upgrade, Remove, Purge, PurgeLater}
 use Rattle.dpkg_scenarios.specs.declared.scenario.StepNext.{StepNext}
 use Rattle.dpkg_scenarios.specs.declared.scenario.StepNext.TheVariants.{Go, Stop}
 use Rattle.dpkg_scenarios.specs.Scenarios.{Step, table}
 use Rattle.dpkg_scenarios.specs.Steps.{IsStep, line, follows}
 use Rattle.dpkg_scenarios.specs.Laws.{GoesForward}
+use Rattle.dpkg_scenarios.proofs.Walks.{counts, tables_count}
 use Rattle.scenario_runs.specs.declared.course.WorkEnd.{WorkEnd}
 use Rattle.scenario_runs.specs.declared.course.WorkEnd.TheVariants.{Succeeded, Failed, Over}
 use Rattle.scenario_runs.specs.Runs.{next_behind}
@@ -30,19 +30,6 @@ is_told f (Some step) a e = record { step = step; is_line = refl; told = same (f
   where
     same : {A : Type 0} (x y : A) → Some x ≡ Some y → x ≡ y
     same x y e = cc
-
--- lines are numbered one after another, from this number on
-abbrev pub counts : ℕ → List Step → Bool
-counts m [] = true
-counts m (step ∷ steps) = (step.number == m) && counts (m + 1) steps
-
-tables_count : (s : Scenario) → counts 1 (table s) ≡ true
-tables_count Install = refl
-tables_count InstallAgain = refl
-tables_count Upgrade = refl
-tables_count Remove = refl
-tables_count Purge = refl
-tables_count PurgeLater = refl
 
 pub record Finds (n : ℕ) (steps : List Step) : Type 0 where
   pub step : Step
@@ -67,14 +54,6 @@ found_in (step ∷ steps) m n c low high =
 
 pub has_line : (s : Scenario) (n : ℕ) → IsStep s n → Finds n (table s)
 has_line s n step = found_in (table s) 1 n (tables_count s) step.0 (omega (arith, step.1))
-
-pub first : (s : Scenario) → IsStep s 1
-first Install = (omega arith, omega arith)
-first InstallAgain = (omega arith, omega arith)
-first Upgrade = (omega arith, omega arith)
-first Remove = (omega arith, omega arith)
-first Purge = (omega arith, omega arith)
-first PurgeLater = (omega arith, omega arith)
 
 -- ---- what follows is later
 

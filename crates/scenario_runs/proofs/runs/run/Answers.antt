@@ -3,7 +3,7 @@ use Rattle.feature_trees.specs.Tree.{kind_of}
 use Rattle.dpkg_scenarios.specs.declared.scenario.StepNext.TheVariants.{Go, Stop}
 use Rattle.scenario_runs.specs.declared.course.Course.{Course}
 use Rattle.scenario_runs.specs.Runs.{plan_of, begun}
-use Rattle.scenario_runs.proofs.Lines.{first}
+use Rattle.dpkg_scenarios.proofs.Walks.{first_step}
 use Rattle.scenario_runs.proofs.Walking.{Comes, begins}
 use Rattle.scenario_runs.proofs.Taking.{went_on, ended}
 use Rattle.scenario_runs.proofs.runs.run.Goals as goal
@@ -13,7 +13,7 @@ steps-init c =
     let e : c.begun-course.result ≡ begun c.args.job.now.turns c.args.tree.now =
     c.begun-course.ensures ∙ ap (begun c.args.job.now.turns) c.in_ok-start.ensures in
     record {
-      step = first c.args.job.now.scenario;
+      step = first_step c.args.job.now.scenario;
       dir = ap (λ (x : Course). kind_of x.tree) e ∙ c.requires;
       comes = subst (Comes (plan_of c.args.job.now) c.args.tree.now 1) (sym e) (begins (plan_of c.args.job.now) c.args.tree.now);
     }
