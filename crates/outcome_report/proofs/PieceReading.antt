@@ -26,21 +26,13 @@ use Rattle.dpkg_scenarios.specs.declared.scenario.ScriptKind.TheVariants.{Preins
 use Rattle.scenario_runs.specs.declared.call.CallEnd.{CallEnd}
 use Rattle.scenario_runs.specs.declared.call.CallEnd.TheVariants as how
 use Rattle.scenario_runs.specs.declared.call.ScriptCall.{ScriptCall}
-use Rattle.dpkg_scenarios.specs.Names.{scenario_name, scenario_named, script_name}
+use Rattle.dpkg_scenarios.specs.Names.{scenario_name, script_name}
 use Rattle.outcome_report.specs.ReportNames.{state_name, side_name, call_end_name}
 use Rattle.outcome_report.specs.ReportText.{result_text, call_word, call_content}
 use Rattle.outcome_report.specs.PieceRead.{state_of, script_of, side_of, call_end_of, result_of_words, result_of, marks_onto, trace_of, call_with, call_of_words, call_of, is_ending, is_call}
 use Rattle.outcome_report.proofs.ShownBytes.{no_space, site_shown, mark_shown, reason_shown}
 
 -- ---- names
-
-pub scenario_read : (s : Scenario) → scenario_named (scenario_name s) ≡ Some s
-scenario_read Install = refl
-scenario_read InstallAgain = refl
-scenario_read Upgrade = refl
-scenario_read Remove = refl
-scenario_read Purge = refl
-scenario_read PurgeLater = refl
 
 state_read : (s : State) → state_of (state_name s) ≡ Some s
 state_read Installed = refl

@@ -30,12 +30,13 @@ use Rattle.outcome_report.specs.Numbered.{AreNumbered, AllNumbered}
 use Rattle.outcome_report.specs.PieceRead.{result_of, trace_of, call_of, is_ending, is_call}
 use Rattle.outcome_report.specs.PlaceText.{place_line, places_text}
 use Rattle.dpkg_scenarios.specs.Names.{scenario_name, scenario_named}
+use Rattle.dpkg_scenarios.proofs.Named.{scenario_read}
 use Rattle.outcome_report.specs.ReportText.{result_text, outcome_line, trace_mark, trace_line, confirmed_line, call_content, call_line, trees_text, entry_text}
 use Rattle.outcome_report.specs.ReportText.{scenario_line, part_text, verdict_line, report_text}
 use Rattle.outcome_report.specs.TextLaws.{TextsTellReports}
 use Rattle.outcome_report.specs.Whole.{IsRepresentableTree, IsRepresentableEntry, AllRepresentable, AllPartsRepresentable, IsWholeEntry, AllWhole, AllPartsWhole}
 use Rattle.outcome_report.proofs.Blocks.{same_behind, front_apart, line_apart, second, is_marked, lines_apart, read_apart, each_apart, wrong}
-use Rattle.outcome_report.proofs.PieceReading.{scenario_read, scenario_shown, result_read, trace_read, call_read}
+use Rattle.outcome_report.proofs.PieceReading.{scenario_shown, result_read, trace_read, call_read}
 use Rattle.outcome_report.proofs.ShownBytes.{no_space, no_newline, number_shown}
 use Rattle.outcome_report.proofs.TreeTexts.{own_lines, lines_marked, lines_spelled, lines_told}
 use Rattle.outcome_report.proofs.WholeLines.{outcome_content, outcome_lacks, trace_content, trace_lacks, confirmed_content, confirmed_lacks, is_a, calls_marked, head_content, head_lacks, is_no_h, literals_marked, is_blank}

@@ -9,8 +9,7 @@ use Rattle.feature_trees.specs.Sound.{sound}
 use Rattle.feature_trees.specs.Tree.{kind_of}
 use Rattle.tree_clauses.specs.ClauseRead.{is_clause}
 use Rattle.dpkg_scenarios.specs.declared.scenario.Scenario.{Scenario}
-use Rattle.dpkg_scenarios.specs.declared.scenario.Scenario.TheVariants.{Install, InstallAgain, Upgrade, Remove}
-use Rattle.dpkg_scenarios.specs.declared.scenario.Scenario.TheVariants.{Purge, PurgeLater}
+use Rattle.dpkg_scenarios.specs.Scenarios.{columns_of}
 use Rattle.outcome_report.specs.declared.outcome_report.ReportEntry.{ReportEntry}
 use Rattle.outcome_report.specs.declared.outcome_report.ReportPart.{ReportPart}
 use Rattle.outcome_report.specs.declared.outcome_report.Report.{Report}
@@ -70,12 +69,7 @@ AllPartsWhole (part ∷ parts) = AllWhole part.entries × AllPartsWhole parts
 
 -- the place of a scenario among all of them
 abbrev pub scenario_place : Scenario → ℕ
-scenario_place Install = 0
-scenario_place InstallAgain = 1
-scenario_place Upgrade = 2
-scenario_place Remove = 3
-scenario_place Purge = 4
-scenario_place PurgeLater = 5
+scenario_place scenario = (columns_of scenario).place
 
 -- the scenarios of the parts are different and in their order, from a place on
 abbrev pub AreInOrder : ℕ → List ReportPart → Type 0

@@ -4,6 +4,7 @@ use Rattle.std.specs.Prelude.{None, if◌then◌else◌}
 use Rattle.std.specs.Option.{option_map, option_and_then}
 use Rattle.std.proofs.lemmas.Bool.{le-leb}
 use Rattle.serde_json.specs.View.{items_of}
+use Rattle.dpkg_scenarios.proofs.Named.{scenario_read}
 use Rattle.scenario_outcomes.specs.declared.outcome.Outcome.{Outcome}
 use Rattle.outcome_report.specs.declared.outcome_report.Report.{Report}
 use Rattle.outcome_report.specs.declared.outcome_report.ReportEntry.{ReportEntry}
@@ -11,7 +12,7 @@ use Rattle.outcome_report.specs.declared.outcome_report.ReportPart.{ReportPart}
 use Rattle.outcome_report.specs.declared.replay.Replay.{Replay}
 use Rattle.outcome_report.specs.Numbered.{AreNumbered, AllNumbered}
 use Rattle.outcome_report.specs.Whole.{IsRepresentableEntry, AllRepresentable, AllPartsRepresentable, IsWholeEntry, AllWhole, AllPartsWhole, AreInOrder, scenario_place}
-use Rattle.outcome_report.proofs.PieceReading.{scenario_read, result_read, trace_read}
+use Rattle.outcome_report.proofs.PieceReading.{result_read, trace_read}
 use Rattle.report_json.specs.ReportJson.{entry_json, part_json, json_of}
 use Rattle.report_reader.specs.ReportRead.{outcome_in, replay_in, entry_in, entries_onto, part_in, from_place, parts_onto, report_in}
 use Rattle.report_reader.specs.JsonAnswers.{HasShortPaths, AllShort, AllPartsShort, IsReadable}

@@ -9,7 +9,7 @@ ghost use Rattle.report_reader.specs.ReportRead.{list_at, parts_onto, report_in}
 use crate::clauses::clause_at;
 use crate::members::{list_at, short, text_at};
 use crate::pieces::{calls_at, ending_at, trace_at, tree_at};
-use dpkg_scenarios::{Scenario, scenario_named};
+use dpkg_scenarios::{Scenario, columns_of, scenario_named};
 use outcome_report::{Replay, Report, ReportEntry, ReportPart};
 use scenario_outcomes::Outcome;
 use script_names::{List, Memory};
@@ -135,14 +135,7 @@ fn part_in(alloc: Global, value: &Value) -> Result<Option<ReportPart>, Memory>
 fn scenario_place(scenario: Scenario) -> u8
     ensures { result ≡ scenario_place scenario }
 {
-    match scenario {
-        Scenario::Install => 0,
-        Scenario::InstallAgain => 1,
-        Scenario::Upgrade => 2,
-        Scenario::Remove => 3,
-        Scenario::Purge => 4,
-        Scenario::PurgeLater => 5,
-    }
+    columns_of(scenario).place
 }
 
 // The part of a value, where its scenario has this place or a later one.

@@ -1,4 +1,5 @@
-use Rattle.outcome_report.proofs.PieceReading.{scenario_read, result_read, trace_read, call_read}
+use Rattle.dpkg_scenarios.proofs.Named.{scenario_read}
+use Rattle.outcome_report.proofs.PieceReading.{result_read, trace_read, call_read}
 use Rattle.outcome_report.proofs.theorems.pieces_read_back.Goals as goal
 
 pub returns : goal.returns
