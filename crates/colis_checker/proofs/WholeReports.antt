@@ -1,10 +1,12 @@
 -- What is reported of packages is a whole report, which its plain text tells.
-use Rattle.std.proofs.Common.{◌≡◌, ℕ, zero, suc, ◌+◌, ◌≤◌, List, [], ◌∷◌, map, Option, Some, None, refl, sym, ap, ◌∙◌, subst, arith}
-use Rattle.std.specs.Prelude.{slice_get}
+use Rattle.std.proofs.Common.{◌≡◌, ℕ, zero, suc, ◌+◌, ◌≤◌, Bool, true, ◌&&◌, List, [], ◌∷◌, map, Option, Some, None, refl, sym, ap, ◌∙◌, subst, arith}
+use Rattle.std.specs.Prelude.{slice_get, nat_le}
+use Rattle.std.proofs.lemmas.Bool.{and_parts, leb-true}
 use Rattle.feature_trees.specs.declared.value.Value.{Value}
 use Rattle.feature_trees.specs.declared.kind.Kind.TheVariants.{Dir}
 use Rattle.feature_trees.specs.Tree.{kind_of}
 use Rattle.dpkg_scenarios.specs.declared.scenario.Scenario.{Scenario}
+use Rattle.dpkg_scenarios.specs.Scenarios.{all_scenarios}
 use Rattle.checker_input.specs.declared.package.Packages.{Packages}
 use Rattle.scenario_runs.specs.declared.replayed.Replayed.{Replayed}
 use Rattle.package_jobs.specs.StartTrees.{IsStartTree}
@@ -115,10 +117,21 @@ module _ (packages : Packages) (turns limit : ℕ) where
             (subst (λ (s : Scenario). AreRising (suc (scenario_place s)) scenarios) (sym same) rising.1),
       )
 
+rises : ℕ → List Scenario → Bool
+rises least [] = true
+rises least (scenario ∷ scenarios) =
+    nat_le least (scenario_place scenario) && rises (suc (scenario_place scenario)) scenarios
+
+rising_by : (least : ℕ) (scenarios : List Scenario) → rises least scenarios ≡ true → AreRising least scenarios
+rising_by least [] e = tt
+rising_by least (scenario ∷ scenarios) e =
+    let place = scenario_place scenario in
+    let both = and_parts (nat_le least place) (rises (suc place) scenarios) e in
+    (leb-true least place both.0, rising_by (suc place) scenarios both.1)
+
 chosen_rise : (which : Option Scenario) → AreRising 0 (chosen which)
 chosen_rise (Some scenario) = (omega arith, tt)
-chosen_rise None =
-    (omega arith, (omega arith, (omega arith, (omega arith, (omega arith, (omega arith, tt))))))
+chosen_rise None = rising_by 0 all_scenarios refl
 
 pub whole_reports : WholeReports
 whole_reports packages turns limit which report are =

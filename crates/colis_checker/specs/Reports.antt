@@ -2,8 +2,7 @@
 -- is refused.
 use Rattle.std.specs.Prelude.{◌≡◌, ℕ, ◌≤◌, List, [], ◌∷◌, ◌++◌, Option, Some, None, Result, Ok, Err}
 use Rattle.dpkg_scenarios.specs.declared.scenario.Scenario.{Scenario}
-use Rattle.dpkg_scenarios.specs.declared.scenario.Scenario.TheVariants.{Install, InstallAgain, Upgrade, Remove}
-use Rattle.dpkg_scenarios.specs.declared.scenario.Scenario.TheVariants.{Purge, PurgeLater}
+use Rattle.dpkg_scenarios.specs.Scenarios.{all_scenarios}
 use Rattle.command_words.specs.declared.request.Layout.{Layout}
 use Rattle.command_words.specs.declared.request.Layout.TheVariants.{Plain, Brief, Json}
 use Rattle.checker_input.specs.declared.package.Packages.{Packages}
@@ -25,10 +24,10 @@ use Rattle.colis_checker.specs.declared.faults.TaskFault.{TaskFault}
 use Rattle.colis_checker.specs.declared.faults.TaskFault.TheVariants.{Refused, Memory}
 use Rattle.colis_checker.specs.declared.written.Written.{Written}
 
--- the scenarios that are chosen: one, or else all, in the order of the tables
+-- the scenarios that are chosen: one, or else all, in the order of their places
 abbrev pub chosen : Option Scenario → List Scenario
 chosen (Some scenario) = scenario ∷ []
-chosen None = Install ∷ InstallAgain ∷ Upgrade ∷ Remove ∷ Purge ∷ PurgeLater ∷ []
+chosen None = all_scenarios
 
 -- the text of a report in a layout
 abbrev pub layout_text : Layout → Report → List ℕ

@@ -13,7 +13,7 @@ use crate::written::Written;
 use case_pool::{Gate, map_jobs};
 use checker_input::Packages;
 use command_words::Layout;
-use dpkg_scenarios::Scenario;
+use dpkg_scenarios::{Scenario, all_scenarios};
 use outcome_report::{Report, ReportPart, make_part, render_brief, verdict};
 use package_jobs::{is_plain, job_of, needs_of};
 use report_json::render_json;
@@ -46,21 +46,9 @@ fn report_scenario(
 pub fn chosen_scenarios(alloc: Global, scenario: Option<Scenario>) -> Result<List<Scenario>, Memory>
     ensures { IfOk result (λ scenarios. scenarios ≡ chosen scenario) }
 {
-    let mut scenarios = List::new(alloc);
     match scenario {
-        Some(scenario) => {
-            scenarios.add(scenario)?;
-            Ok(scenarios)
-        }
-        None => {
-            scenarios.add(Scenario::Install)?;
-            scenarios.add(Scenario::InstallAgain)?;
-            scenarios.add(Scenario::Upgrade)?;
-            scenarios.add(Scenario::Remove)?;
-            scenarios.add(Scenario::Purge)?;
-            scenarios.add(Scenario::PurgeLater)?;
-            Ok(scenarios)
-        }
+        Some(scenario) => List::copies(alloc, &[scenario]),
+        None => List::copies(alloc, all_scenarios()),
     }
 }
 
