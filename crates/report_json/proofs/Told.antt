@@ -26,7 +26,8 @@ use Rattle.outcome_report.specs.PieceRead.{result_of, trace_of, call_of, is_call
 use Rattle.outcome_report.specs.ReportText.{result_text, call_content, call_line}
 use Rattle.outcome_report.specs.Whole.{IsRepresentableTree, IsRepresentableEntry, AllRepresentable, AllPartsRepresentable, IsWholeEntry, AllWhole, AllPartsWhole}
 use Rattle.outcome_report.proofs.Blocks.{read_apart, each_apart}
-use Rattle.outcome_report.proofs.PieceReading.{scenario_read, result_read, trace_read, call_read}
+use Rattle.dpkg_scenarios.proofs.Named.{scenario_read}
+use Rattle.outcome_report.proofs.PieceReading.{result_read, trace_read, call_read}
 use Rattle.outcome_report.proofs.TextApart.{tree_block, tree_apart, literals_spelled, calls_spelled}
 use Rattle.outcome_report.proofs.WholeLines.{is_a, is_blank, is_no_h, calls_marked, literals_marked}
 use Rattle.report_json.specs.Laws.{ValuesTellReports, JsonTextsTellReports}

@@ -1,12 +1,12 @@
 -- The outline of a report's value is the value, and its numbers are numbers, as a reader of JSON wants it.
-use Rattle.std.proofs.Common.{◌≡◌, ℕ, ◌-◌, ◌^◌, ◌<◌, ◌≤◌, Bool, true, false, List, [], ◌∷◌, map, Some, refl, arith}
+use Rattle.std.proofs.Common.{◌≡◌, ℕ, ◌-◌, ◌^◌, ◌<◌, ◌≤◌, Bool, true, false, List, [], ◌∷◌, map, Some, refl, ap, arith}
 use Rattle.std.specs.Prelude.{◌&&◌, codes}
 use Rattle.std.specs.List.{flat_map, list_all, join_with_byte}
 use Rattle.std.specs.Option.{option_map, option_and_then}
 use Rattle.std.proofs.lemmas.Bool.{and_parts, leb-true}
 use Rattle.json.specs.Tree as tree
 use Rattle.json.proofs.Printed.Decimals.{IsNumber-decimal}
-use Rattle.serde_json.specs.Data.{Data, boolean, number, string, array, object, item, no_members, put}
+use Rattle.serde_json.specs.Data.{boolean, number, string, array, object, item, no_members, put}
 use Rattle.serde_json.specs.Read.{of_json, of_items}
 use Rattle.serde_json.specs.View.{items_of}
 use Rattle.serde_json.specs.Written.{outline, items_outline}
@@ -124,26 +124,14 @@ lines_numbers text = texts_numbers (lines_in text)
 clause_numbers : (clause : Clause) → is_clause clause ≡ true → tree.HasNumbers (outline (clause_json clause))
 unfolding clause_json
 clause_numbers clause h =
-    let k = clause_parts clause h in (
-      lines_numbers (flat_map literal_text clause.literals),
-      IsNumber-decimal clause.now.0 k.now,
-      IsNumber-decimal clause.start.0 k.start,
-      tt,
-    )
+    let k = clause_parts clause h in
+    (lines_numbers (flat_map literal_text clause.literals), (IsNumber-decimal clause.now.0 k.now, (IsNumber-decimal clause.start.0 k.start, tt)))
 
 entry_numbers : (e : ReportEntry) → IsRepresentableEntry e → tree.HasNumbers (outline (entry_json e))
 unfolding entry_json
-entry_numbers e h = (
-  lines_numbers (tree_text e.replayed.after),
-  lines_numbers (flat_map call_line e.replayed.calls),
-  clause_numbers e.outcome.clause h.clause,
-  tt,
-  IsNumber-decimal e.outcome.number (omega (arith, h.number)),
-  tt,
-  lines_numbers (tree_text e.outcome.shown),
-  tt,
-  tt,
-)
+entry_numbers e h =
+    let number = IsNumber-decimal e.outcome.number (omega (arith, h.number)) in
+    (lines_numbers (tree_text e.replayed.after), (lines_numbers (flat_map call_line e.replayed.calls), (clause_numbers e.outcome.clause h.clause, (tt, (number, (tt, (lines_numbers (tree_text e.outcome.shown), (tt, tt))))))))
 
 entries_numbers : (es : List ReportEntry) → AllRepresentable es → tree.ItemsHaveNumbers (items_outline (items_of (map entry_json es)))
 entries_numbers [] h = tt
@@ -151,7 +139,7 @@ entries_numbers (e ∷ es) h = (entry_numbers e h.0, entries_numbers es h.1)
 
 part_numbers : (p : ReportPart) → AllRepresentable p.entries → tree.HasNumbers (outline (part_json p))
 unfolding part_json
-part_numbers p h = (tt, entries_numbers p.entries h, tt)
+part_numbers p h = (tt, (entries_numbers p.entries h, tt))
 
 parts_numbers : (ps : List ReportPart) → AllPartsRepresentable ps → tree.ItemsHaveNumbers (items_outline (items_of (map part_json ps)))
 parts_numbers [] h = tt
@@ -159,9 +147,5 @@ parts_numbers (p ∷ ps) h = (part_numbers p h.0, parts_numbers ps h.1)
 
 pub report_numbers : (report : Report) → IsRepresentable report → tree.HasNumbers (outline (json_of report))
 unfolding json_of
-report_numbers report r = (
-  IsNumber-decimal 1 (omega arith),
-  parts_numbers report.parts r,
-  IsNumber-decimal (verdict_of report) (verdict_small report),
-  tt,
-)
+report_numbers report r =
+    (IsNumber-decimal 1 (omega arith), (parts_numbers report.parts r, (IsNumber-decimal (verdict_of report) (verdict_small report), tt)))
