@@ -42,7 +42,7 @@ impl Counting {
 const WORKED: &[Called] = &[
     Called(&["check", "p", "--brief"], NOTHING, (0, b"", b"")),
     Called(&["check", "p"], NOTHING, (0, b"", b"")),
-    Called(&["load", "1"], &[], (1, b"", b"")),
+    Called(&["load", "2"], &[], (1, b"", b"")),
 ];
 
 fn are_same(bytes: &[u8], others: &[u8]) -> bool {
