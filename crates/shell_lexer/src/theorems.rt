@@ -10,6 +10,7 @@ ghost use Rattle.shell_lexer.specs.Laws.{PlainRunsAreLongest, QuotedRunsAreLonge
 ghost use Rattle.shell_lexer.specs.Laws.{OperatorsAreLongest, RedirectionsAreSpelled, FirstLinesAreSpelled};
 ghost use Rattle.shell_lexer.specs.Laws.{PartsAreSpelled, AllArgsAreSpelled, SubstitutionsAreSpelled};
 ghost use Rattle.shell_lexer.specs.Laws.{DoubleQuotesAreSpelled, BytesAreSpelled};
+ghost use Rattle.shell_lexer.specs.Laws.{PassedAreSpelled, WordsAreSpelled};
 ghost use Rattle.shell_lexer.specs.Laws.{EndsAreSpelled, RedirectedWordsEnd, TokensEnd};
 ghost use Rattle.shell_lexer.specs.Laws.{FaultsAreSpelled, WrongFormsAreSpelled, NulsAreSpelled};
 ghost use Rattle.shell_lexer.specs.Laws.{OtherFirstLinesAreRefused, FaultsStand};
@@ -99,6 +100,14 @@ pub fn openings_are_spelled()
 pub fn bytes_are_spelled()
     ensures outside { BytesAreSpelled look false }
     ensures inside { BytesAreSpelled inner true }
+{}
+
+/// Where a token may begin, a blank, or a comment up to its line's end, is passed over exactly where it is spelled; and
+/// what begins there is a word exactly where no blank, comment, operator or redirection does (XCU 2.3 Token
+/// Recognition).
+pub fn words_begin_as_spelled()
+    ensures passed { PassedAreSpelled }
+    ensures words { WordsAreSpelled }
 {}
 
 /// A word ends exactly at the text's end, before a blank, and before a byte that can be the first of an operator (XCU
