@@ -216,7 +216,8 @@ TokensEnd = (len : ℕ) (text : Bytes) → (sight len text ≡ End) ↔ AtTextEn
 
 -- where a token may begin, a form that is not supported is seen exactly where it is spelled, with its offset
 abbrev pub WrongFormsAreSpelled : Type 0
-WrongFormsAreSpelled = (len : ℕ) (text : Bytes) (fault : LexFault) → (sight len text ≡ Wrong fault) ↔ IsWrong len text fault
+WrongFormsAreSpelled =
+    (len : ℕ) (text : Bytes) (fault : LexFault) → (sight len text ≡ Wrong fault) ↔ IsWrong len text fault
 
 -- what the table sees in a word, or in double quotes, is a fault exactly where that fault is spelled, with its offset
 abbrev pub FaultsAreSpelled : (ℕ → Bytes → Look) → Bool → Type 0

@@ -15,8 +15,8 @@ pub data IsPassed (text rest : Bytes) : Type 0 where
   comment : (bytes : Bytes) → Stands (codes "#") text (bytes ++ rest)
       → list_all (λ b. not (nat_eq b 10)) bytes ≡ true → at_line_end rest ≡ true → IsPassed text rest
 
--- A word begins with a byte that is no blank, no `#` and not the first of an operator; and digits are no word where they
--- are the number before `<` or `>`.
+-- A word begins with a byte that is no blank, no `#` and not the first of an operator; and digits are no word where
+-- they are the number before `<` or `>`.
 pub record IsWordBegin (text : Bytes) : Type 0 where
   pub byte : ℕ
   pub rest : Bytes
