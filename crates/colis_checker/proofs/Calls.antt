@@ -7,7 +7,7 @@ use Rattle.command_words.specs.declared.request.Request.{Request}
 use Rattle.command_words.specs.declared.request.Request.TheVariants as words
 use Rattle.checker_input.specs.declared.faults.InputRefusal.{InputRefusal}
 use Rattle.checker_input.specs.declared.task.Task.{Task}
-use Rattle.checker_input.specs.Input.{file_name}
+use Rattle.checker_input.specs.Input.{file_name, input}
 use Rattle.checker_input.specs.Laws.{OneAnswer}
 use Rattle.colis_checker.specs.declared.faults.Refusal.{Refusal}
 use Rattle.colis_checker.specs.declared.faults.Refusal.TheVariants.{Usage}
@@ -198,6 +198,7 @@ IsOnly request one files = (other : Result Task InputRefusal) → FilesGiveOver 
 
 comes_once : OneAnswer → (request : Request) (holds : Option Files) (one : Result Task InputRefusal) → FilesGive request holds one
     → OverFiles request holds (IsOnly request one)
+unfolding input
 comes_once once (words.Load number limit) holds one is = λ files other gives. sym gives ∙ is.may
 comes_once once request None one is = tt
 comes_once once request (Some files) one is = λ other gives. sym (once request (λ file. files (file_name request file)) one other is.told gives)

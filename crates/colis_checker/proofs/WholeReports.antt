@@ -118,7 +118,7 @@ module _ (packages : Packages) (turns limit : ℕ) where
             (subst (λ (s : Scenario). AreRising (suc (scenario_place s)) scenarios) (sym same) rising.1),
       )
 
-rises : ℕ → List Scenario → Bool
+abbrev rises : ℕ → List Scenario → Bool
 rises least [] = true
 rises least (scenario ∷ scenarios) =
     nat_le least (scenario_place scenario) && rises (suc (scenario_place scenario)) scenarios
