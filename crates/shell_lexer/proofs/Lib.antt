@@ -25,6 +25,7 @@ mod Quotes
 mod Rests
 mod Skips
 mod SoFar
+mod SpelledBegins
 mod SpelledBytes
 pub mod SpelledCases
 mod SpelledEnds

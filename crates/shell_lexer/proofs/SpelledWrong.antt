@@ -73,7 +73,7 @@ numbered_seen len number text from (c ∷ u) pass h e =
     subst (λ at. IsSeen len text (numbered_by at number (kind c) u)) (ap (place len) e) (numbered_by_seen len c number text from u (kind c) pass h e (kind_of c))
 
 -- digits that stand behind joined lines
-digits_stand : (c : ℕ) (number text more from : Bytes) → skip text ≡ c ∷ more → is_digit c ≡ true → IsRun is_digit number (c ∷ more) from → Stands number text from
+pub digits_stand : (c : ℕ) (number text more from : Bytes) → skip text ≡ c ∷ more → is_digit c ≡ true → IsRun is_digit number (c ∷ more) from → Stands number text from
 digits_stand c [] text more from e is all = absurd (true≢false (sym is ∙ ap (begins is_digit) (sym again) ∙ ap (λ t. begins is_digit (skip t)) all.stands ∙ all.longest)) where
   again : skip (c ∷ more) ≡ c ∷ more
   again = sym (ap skip e) ∙ skip_again text ∙ e
@@ -137,11 +137,11 @@ digits_sight len (d ∷ digits) text from rest pass h b e other same =
     ∙ ap (λ t. numbered len (d ∷ digits) (skip t)) (behind_is is_digit (d ∷ digits) (d ∷ h.0) from all)
     ∙ ap (numbered len (d ∷ digits)) e ∙ ap (λ t. numbered_by (place len t) (d ∷ digits) (kind b) rest) (sym e)
 
-less_sight : (len : ℕ) (text from rest : Bytes) (n : IsNumbered (codes "<") text from rest) → sight len text ≡ less (offset len from) n.digits rest
+pub less_sight : (len : ℕ) (text from rest : Bytes) (n : IsNumbered (codes "<") text from rest) → sight len text ≡ less (offset len from) n.digits rest
 less_sight len text from rest n =
     digits_sight len n.digits text from n.stands.0 n.pass n.number 60 n.stands.1 refl (λ at. refl) ∙ ap (less (offset len from) n.digits) n.stands.2
 
-greater_sight : (len : ℕ) (text from rest : Bytes) (n : IsNumbered (codes ">") text from rest) → sight len text ≡ greater (offset len from) n.digits rest
+pub greater_sight : (len : ℕ) (text from rest : Bytes) (n : IsNumbered (codes ">") text from rest) → sight len text ≡ greater (offset len from) n.digits rest
 greater_sight len text from rest n =
     digits_sight len n.digits text from n.stands.0 n.pass n.number 62 n.stands.1 refl (λ at. refl) ∙ ap (greater (offset len from) n.digits) n.stands.2
 

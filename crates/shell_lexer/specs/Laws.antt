@@ -22,7 +22,8 @@ use Rattle.shell_lexer.specs.Text.{Bytes, skip, place, offset, ends_word}
 use Rattle.shell_lexer.specs.FirstLine.{behind_line, interpreter, nul_of}
 use Rattle.shell_lexer.specs.Lexed.{CutBy, Cut, CutAtAnyDepth, Faulty}
 use Rattle.shell_lexer.specs.Moved.{AreMoved}
-use Rattle.shell_lexer.specs.Operators.{End, Operator, Wrong, sight}
+use Rattle.shell_lexer.specs.Operators.{End, Passed, Operator, Wrong, Word, sight}
+use Rattle.shell_lexer.specs.SpelledBegins.{IsPassed, IsWordBegin}
 use Rattle.shell_lexer.specs.SpelledBytes.{IsByte}
 use Rattle.shell_lexer.specs.Parts.{Look, Ends, Byte, AllArgs, DoubleQuote, Piece, Substitution, Bad}
 use Rattle.shell_lexer.specs.SpelledEnds.{AtTextEnd, IsWordEnd}
@@ -189,6 +190,14 @@ abbrev pub BytesAreSpelled : (ℕ → Bytes → Look) → Bool → Type 0
 BytesAreSpelled sees inside =
     (len : ℕ) (text rest : Bytes) (byte : ℕ) → (sees len text ≡ Byte byte rest) ↔ IsByte inside text byte rest
 
+-- a blank or a comment is passed over exactly where one is spelled
+abbrev pub PassedAreSpelled : Type 0
+PassedAreSpelled = (len : ℕ) (text rest : Bytes) → (sight len text ≡ Passed rest) ↔ IsPassed text rest
+
+-- what begins at a place is a word exactly where one is spelled
+abbrev pub WordsAreSpelled : Type 0
+WordsAreSpelled = (len : ℕ) (text : Bytes) → (sight len text ≡ Word) ↔ IsWordBegin text
+
 -- a first line is accepted, with `-e` or without, exactly where it is spelled as one
 abbrev pub FirstLinesAreSpelled : Type 0
 FirstLinesAreSpelled = (line : Bytes) (strict : Bool) → (interpreter line ≡ Some strict) ↔ IsFirstLine strict line
@@ -207,7 +216,8 @@ TokensEnd = (len : ℕ) (text : Bytes) → (sight len text ≡ End) ↔ AtTextEn
 
 -- where a token may begin, a form that is not supported is seen exactly where it is spelled, with its offset
 abbrev pub WrongFormsAreSpelled : Type 0
-WrongFormsAreSpelled = (len : ℕ) (text : Bytes) (fault : LexFault) → (sight len text ≡ Wrong fault) ↔ IsWrong len text fault
+WrongFormsAreSpelled =
+    (len : ℕ) (text : Bytes) (fault : LexFault) → (sight len text ≡ Wrong fault) ↔ IsWrong len text fault
 
 -- what the table sees in a word, or in double quotes, is a fault exactly where that fault is spelled, with its offset
 abbrev pub FaultsAreSpelled : (ℕ → Bytes → Look) → Bool → Type 0

@@ -10,6 +10,7 @@ pub mod Parts
 pub mod Reading
 pub mod Reads
 pub mod Seen
+pub mod SpelledBegins
 pub mod SpelledBytes
 pub mod SpelledEnds
 pub mod SpelledFaults

@@ -1,6 +1,6 @@
 -- Which bytes stand for themselves in a word (POSIX.1-2017, XCU 2.2 Quoting, 2.6 Word Expansions): by the bytes that
--- stand there, where joined lines are left out. src/theorems.rt proves that the tables see a byte that stands for itself
--- exactly where one is spelled so.
+-- stand there, where joined lines are left out. src/theorems.rt proves that the tables see a byte that stands for
+-- itself exactly where one is spelled so.
 use Rattle.std.specs.Prelude.{◌≡◌, ℕ, Bool, true, false, not, ◌&&◌, ◌||◌, nat_eq, [], ◌∷◌, codes}
 use Rattle.std.specs.List.{list_any}
 use Rattle.shell_lexer.specs.Text.{Bytes, skip, is_blank, is_name_byte}

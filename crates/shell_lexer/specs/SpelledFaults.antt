@@ -131,8 +131,8 @@ beginnings form.Brace = codes "{" ∷ []
 beginnings form.SubstCase = codes "case" ∷ []
 beginnings _ = []
 
--- what stands at a fault's offset: the NUL; the quote that is open; the `${` or `$(` that is; what the form begins with;
--- the `$(` that is too deep. A first line has the offset 0.
+-- what stands at a fault's offset: the NUL; the quote that is open; the `${` or `$(` that is; what the form begins
+-- with; the `$(` that is too deep. A first line has the offset 0.
 abbrev pub FaultStands : Bytes → LexFault → Type 0
 FaultStands text (Nul at) = OneStands ((0 ∷ []) ∷ []) at text
 FaultStands text (Interpreter at) = at ≡ 0

@@ -10,6 +10,7 @@ ghost use Rattle.shell_lexer.specs.Laws.{PlainRunsAreLongest, QuotedRunsAreLonge
 ghost use Rattle.shell_lexer.specs.Laws.{OperatorsAreLongest, RedirectionsAreSpelled, FirstLinesAreSpelled};
 ghost use Rattle.shell_lexer.specs.Laws.{PartsAreSpelled, AllArgsAreSpelled, SubstitutionsAreSpelled};
 ghost use Rattle.shell_lexer.specs.Laws.{DoubleQuotesAreSpelled, BytesAreSpelled};
+ghost use Rattle.shell_lexer.specs.Laws.{PassedAreSpelled, WordsAreSpelled};
 ghost use Rattle.shell_lexer.specs.Laws.{EndsAreSpelled, RedirectedWordsEnd, TokensEnd};
 ghost use Rattle.shell_lexer.specs.Laws.{FaultsAreSpelled, WrongFormsAreSpelled, NulsAreSpelled};
 ghost use Rattle.shell_lexer.specs.Laws.{OtherFirstLinesAreRefused, FaultsStand};
@@ -92,18 +93,26 @@ pub fn openings_are_spelled()
     ensures double_quote_inside { DoubleQuotesAreSpelled inner }
 {}
 
-/// A byte of a word stands for itself exactly where it has no other meaning there (XCU 2.2 Quoting, 2.6 Word Expansions).
-/// Outside double quotes: a byte that no word ends before and that is no quote, backslash, backquote or `$`. In them: any
-/// byte but `"`, `$`, a backquote and a backslash, and these behind a backslash. A `$` that begins nothing, and a
-/// backslash that escapes nothing, stand for themselves.
+/// A byte of a word stands for itself exactly where it has no other meaning there (XCU 2.2 Quoting, 2.6 Word
+/// Expansions). Outside double quotes: a byte that no word ends before and that is no quote, backslash, backquote or
+/// `$`. In them: any byte but `"`, `$`, a backquote and a backslash, and these behind a backslash. A `$` that begins
+/// nothing, and a backslash that escapes nothing, stand for themselves.
 pub fn bytes_are_spelled()
     ensures outside { BytesAreSpelled look false }
     ensures inside { BytesAreSpelled inner true }
 {}
 
+/// Where a token may begin, a blank, or a comment up to its line's end, is passed over exactly where it is spelled; and
+/// what begins there is a word exactly where no blank, comment, operator or redirection does (XCU 2.3 Token
+/// Recognition).
+pub fn words_begin_as_spelled()
+    ensures passed { PassedAreSpelled }
+    ensures words { WordsAreSpelled }
+{}
+
 /// A word ends exactly at the text's end, before a blank, and before a byte that can be the first of an operator (XCU
-/// 2.3 Token Recognition); so does the word of a redirection. In double quotes, and where a token may begin, nothing but
-/// the text's end is an end.
+/// 2.3 Token Recognition); so does the word of a redirection. In double quotes, and where a token may begin, nothing
+/// but the text's end is an end.
 pub fn ends_are_spelled()
     ensures word { EndsAreSpelled look IsWordEnd }
     ensures redirected { RedirectedWordsEnd }
@@ -113,9 +122,9 @@ pub fn ends_are_spelled()
 
 /// A fault is seen exactly where it is spelled, with its offset. Where a token may begin: a lone `&`, `((`, `<<`, and a
 /// `<` or `>` of no supported redirection. In a word, outside double quotes and inside them: a single quote without its
-/// end, `${` of a parameter in which the text ends, a backquote, `$((`, and any other parameter form. In the whole text:
-/// the first NUL, and a first line that is not of the form. The offset of a text's fault is that of the bytes by which it
-/// is named: the quote or the `$` that is open, the `$` that is too deep, what a form begins with.
+/// end, `${` of a parameter in which the text ends, a backquote, `$((`, and any other parameter form. In the whole
+/// text: the first NUL, and a first line that is not of the form. The offset of a text's fault is that of the bytes by
+/// which it is named: the quote or the `$` that is open, the `$` that is too deep, what a form begins with.
 pub fn faults_are_spelled()
     ensures token { WrongFormsAreSpelled }
     ensures outside { FaultsAreSpelled look false }
