@@ -1,5 +1,7 @@
-ghost use Rattle.std.specs.Prelude.{◌≤◌, length, IfOk};
-ghost use Rattle.case_path_tests.specs.TwoActs.{asked_and_made};
+ghost use Rattle.std.specs.Prelude.{◌≡◌, ◌≤◌, [], ◌∷◌, ◌++◌, length, IfOk, OnOk};
+ghost use Rattle.utility_calls.specs.Acts.{row, tree_after, IsPerformed};
+ghost use Rattle.utility_calls.specs.Decisions.{mark_at};
+ghost use Rattle.case_path_tests.specs.TwoActs.{site_of, asked_and_made};
 
 use crate::asked_path::AskedPath;
 use case_paths::{Found, Machine, PathsFault, Ran, explore};
@@ -10,6 +12,30 @@ use script_names::{Copied, Done, List, Mark, Memory, Site};
 use std::alloc::Global;
 use utility_calls::acts::Act;
 
+// Does an act, and adds its mark and the act itself to those that were done before.
+fn perform(
+    alloc: Global,
+    at: u32,
+    own: Act,
+    tree: &mut Value,
+    marks: &mut List<Mark>,
+    acts: &mut List<Act>,
+) -> Result<Done, Memory>
+    requires { IsPerformed own }
+    ensures answer { IfOk result (λ done. done ≡ (row own tree.old).answer) }
+    ensures tree { OnOk result (tree.new ≡ tree_after own tree.old) }
+    ensures marks { OnOk result (marks.new ≡ marks.old ++ mark_at (site_of at) own tree.old ∷ []) }
+    ensures acts { OnOk result (acts.new ≡ acts.old ++ own ∷ []) }
+{
+    let taken = act(alloc, &own, tree)?;
+    marks.add(Mark {
+        site: Site { step: 0, at },
+        row: taken.0,
+    })?;
+    acts.add(own)?;
+    Ok(taken.1)
+}
+
 impl Machine for AskedPath {
     type End = Done;
 
@@ -17,24 +43,28 @@ impl Machine for AskedPath {
 
     fn run(&self, alloc: Global, start: &Value) -> Result<Ran<Done>, Memory> {
         let mut tree = start.copy(alloc)?;
-        let ask = Act::Exists(self.path.copy(alloc)?);
-        let make = Act::MakeDir(self.path.copy(alloc)?);
-        let asked = act(alloc, &ask, &mut tree)?;
-        let made = act(alloc, &make, &mut tree)?;
         let mut marks = List::new(alloc);
-        marks.add(Mark {
-            site: Site { step: 0, at: 0 },
-            row: asked.0,
-        })?;
-        marks.add(Mark {
-            site: Site { step: 0, at: 1 },
-            row: made.0,
-        })?;
         let mut acts = List::new(alloc);
-        acts.add(ask)?;
-        acts.add(make)?;
+        let asked = self.path.copy(alloc)?;
+        perform(
+            alloc,
+            0,
+            Act::Exists(asked),
+            &mut tree,
+            &mut marks,
+            &mut acts,
+        )?;
+        let made = self.path.copy(alloc)?;
+        let value = perform(
+            alloc,
+            1,
+            Act::MakeDir(made),
+            &mut tree,
+            &mut marks,
+            &mut acts,
+        )?;
         Ok(Ran {
-            value: made.1,
+            value,
             trace: marks,
             acts,
         })
