@@ -132,9 +132,14 @@ fn copied_text(alloc: Global, replayed: &Replayed) -> Result<Bytes, Memory> {
 
 // The text of the run of a copy of a job.
 fn copied_run(alloc: Global, job: &Job, tree: &Value) -> Result<Bytes, Memory> {
-    let copy = job.copy(alloc)?;
-    let replayed = run(alloc, &copy, tree)?;
-    copied_text(alloc, &replayed)
+    match tree {
+        Value::Dir(_) => {
+            let copy = job.copy(alloc)?;
+            let replayed = run(alloc, &copy, tree)?;
+            copied_text(alloc, &replayed)
+        }
+        _ => Err(Memory),
+    }
 }
 
 // The same text, by copies of the packages, of the job and of the run.
@@ -144,14 +149,9 @@ fn ran_by_copies(
     packages: &Packages,
     tree: &Value,
 ) -> Result<Bytes, Memory> {
-    match tree {
-        Value::Dir(_) => {
-            let copy = packages.copy(alloc)?;
-            let job = job_of(alloc, scenario, &copy, 1)?;
-            copied_run(alloc, &job, tree)
-        }
-        _ => Err(Memory),
-    }
+    let copy = packages.copy(alloc)?;
+    let job = job_of(alloc, scenario, &copy, 1)?;
+    copied_run(alloc, &job, tree)
 }
 
 // The text of a task's run, by copies.
