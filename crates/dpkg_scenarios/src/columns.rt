@@ -6,6 +6,8 @@ use crate::columns::NewEntries::{Added, Every, NoEntry};
 use crate::columns::OwnFolders::{Dropped, Left, NoFolder, Standing};
 use crate::scenario::State::{ConfigFiles, Installed, NotInstalled};
 use crate::scenario::{Scenario, State};
+use script_names::{Copied, Memory};
+use std::alloc::Global;
 
 /// What is in place before a scenario, by the state of a package (Debian Policy, 6.6 to 6.8).
 #[derive(Clone, Copy, Debug, PartialEq, Eq)]
@@ -20,6 +22,12 @@ pub enum Before {
     OldInstalled,
 }
 
+impl Copied for Before {
+    fn copy(&self, _alloc: Global) -> Result<Before, Memory> {
+        Ok(*self)
+    }
+}
+
 /// Which entries of the new package, by what the old one has.
 #[derive(Clone, Copy, Debug, PartialEq, Eq)]
 pub enum NewEntries {
@@ -29,6 +37,12 @@ pub enum NewEntries {
     Added,
     /// None.
     NoEntry,
+}
+
+impl Copied for NewEntries {
+    fn copy(&self, _alloc: Global) -> Result<NewEntries, Memory> {
+        Ok(*self)
+    }
 }
 
 /// Which folders are taken away where nothing is left in them, so that it tells what else they hold (Debian Policy, 6.6
@@ -43,6 +57,12 @@ pub enum OwnFolders {
     Standing,
     /// Those of the package, of which an earlier removal may have taken some.
     Left,
+}
+
+impl Copied for OwnFolders {
+    fn copy(&self, _alloc: Global) -> Result<OwnFolders, Memory> {
+        Ok(*self)
+    }
 }
 
 /// What a scenario does beside its steps.
@@ -61,6 +81,12 @@ pub struct Columns {
     pub conffiles: NewEntries,
     /// The folders that are its own to take away.
     pub own: OwnFolders,
+}
+
+impl Copied for Columns {
+    fn copy(&self, _alloc: Global) -> Result<Columns, Memory> {
+        Ok(*self)
+    }
 }
 
 // What a scenario does, in the order of the fields.

@@ -3,6 +3,8 @@ ghost use Rattle.std.specs.Prelude.{◌≡◌, ◌+◌, ◌-◌, ◌^◌, ◌<�
 ghost use Rattle.load_summary.specs.Counts.{count, ends_in};
 
 use dpkg_scenarios::Ending;
+use script_names::{Copied, Memory};
+use std::alloc::Global;
 
 /// A way to end, without the state or the site.
 #[derive(Clone, Copy, Debug, PartialEq, Eq)]
@@ -11,6 +13,12 @@ pub enum EndWay {
     Failed,
     Incomplete,
     Bound,
+}
+
+impl Copied for EndWay {
+    fn copy(&self, _alloc: Global) -> Result<EndWay, Memory> {
+        Ok(*self)
+    }
 }
 
 // Whether an ending is of this way.

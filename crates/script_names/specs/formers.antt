@@ -1,2 +1,3 @@
+-- How the owners of this crate stand in recursive types, also of other crates.
 pub mod boxed
 pub mod list

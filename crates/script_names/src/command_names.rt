@@ -2,6 +2,10 @@ ghost use Rattle.std.specs.Prelude.{◌≡◌};
 ghost use Rattle.script_names.specs.CommandNames.{is_one_of, special_names, utility_named, special_named};
 ghost use Rattle.script_names.specs.CommandNames.{keeps_name, is_kept_name};
 
+use crate::copied::Copied;
+use crate::memory::Memory;
+use std::alloc::Global;
+
 /// A utility that has a meaning (POSIX.1-2017, XCU 4 Utilities).
 #[derive(Clone, Copy, Debug, PartialEq, Eq)]
 pub enum Utility {
@@ -22,6 +26,12 @@ pub enum Utility {
     Bracket,
 }
 
+impl Copied for Utility {
+    fn copy(&self, _alloc: Global) -> Result<Utility, Memory> {
+        Ok(*self)
+    }
+}
+
 /// A special built-in utility that has a meaning (POSIX.1-2017, XCU 2.14 Special Built-In Utilities).
 #[derive(Clone, Copy, Debug, PartialEq, Eq)]
 pub enum SpecialBuiltIn {
@@ -34,6 +44,12 @@ pub enum SpecialBuiltIn {
     Set,
     Export,
     Unset,
+}
+
+impl Copied for SpecialBuiltIn {
+    fn copy(&self, _alloc: Global) -> Result<SpecialBuiltIn, Memory> {
+        Ok(*self)
+    }
 }
 
 impl Utility {

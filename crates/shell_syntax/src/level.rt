@@ -1,6 +1,9 @@
 ghost use Rattle.std.specs.Prelude.{◌≡◌, nat_le};
 ghost use Rattle.shell_syntax.specs.Printed.{rank, is_simple};
 
+use script_names::{Copied, Memory};
+use std::alloc::Global;
+
 /// The names of the grammar that a command's text may be without braces round it, each of which covers those before it
 /// (XCU 2.10.2 Shell Grammar Rules).
 #[derive(Clone, Copy, Debug, PartialEq, Eq)]
@@ -19,6 +22,12 @@ pub enum Level {
     AndOr,
     /// A list (XCU 2.9.3 Lists).
     List,
+}
+
+impl Copied for Level {
+    fn copy(&self, _alloc: Global) -> Result<Level, Memory> {
+        Ok(*self)
+    }
 }
 
 impl Level {

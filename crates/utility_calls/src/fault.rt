@@ -1,10 +1,17 @@
-use script_names::{Memory, Reason};
+use script_names::{Copied, Memory, Reason};
+use std::alloc::Global;
 
 /// Why a call comes to no acts: it has no specified meaning, or want of memory.
 #[derive(Clone, Copy, Debug, PartialEq, Eq)]
 pub enum CallFault {
     Because(Reason),
     Memory,
+}
+
+impl Copied for CallFault {
+    fn copy(&self, _alloc: Global) -> Result<CallFault, Memory> {
+        Ok(*self)
+    }
 }
 
 impl From<Memory> for CallFault {

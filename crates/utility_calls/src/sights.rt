@@ -6,7 +6,8 @@ ghost use Rattle.utility_calls.specs.Table.{is_source, rule_holds, row_of, stop}
 ghost use Rattle.utility_calls.specs.Acts.{link_row, slash_row};
 
 use feature_trees::{Kind, Kinds};
-use script_names::{Done, Reason};
+use script_names::{Copied, Done, Memory, Reason};
+use std::alloc::Global;
 
 /// What a row looks at on a tree: what stands at a path, and what stands below it under one name.
 #[derive(Clone, Copy, Debug, PartialEq, Eq)]
@@ -21,6 +22,12 @@ pub struct Sight {
     pub inner: Kind,
     /// Whether that is a directory with an entry.
     pub inner_filled: bool,
+}
+
+impl Copied for Sight {
+    fn copy(&self, _alloc: Global) -> Result<Sight, Memory> {
+        Ok(*self)
+    }
 }
 
 /// The condition of a row, in which V is what stands at the path, P what holds the path's last name, and W what stands
@@ -49,6 +56,12 @@ pub enum Where {
     IntoFull,
 }
 
+impl Copied for Where {
+    fn copy(&self, _alloc: Global) -> Result<Where, Memory> {
+        Ok(*self)
+    }
+}
+
 /// What a row does to the tree.
 #[derive(Clone, Copy, Debug, PartialEq, Eq)]
 pub enum Effect {
@@ -71,6 +84,12 @@ pub enum Effect {
     MovesInside,
 }
 
+impl Copied for Effect {
+    fn copy(&self, _alloc: Global) -> Result<Effect, Memory> {
+        Ok(*self)
+    }
+}
+
 /// A row of the table of the acts: its number, its condition, and what it comes to. `source` are the kinds of what is
 /// moved, where they matter.
 #[derive(Clone, Copy, Debug, PartialEq, Eq)]
@@ -82,12 +101,24 @@ pub struct Rule {
     pub effect: Effect,
 }
 
+impl Copied for Rule {
+    fn copy(&self, _alloc: Global) -> Result<Rule, Memory> {
+        Ok(*self)
+    }
+}
+
 /// What a row of an act comes to.
 #[derive(Clone, Copy, Debug, PartialEq, Eq)]
 pub struct Row {
     pub number: u8,
     pub answer: Done,
     pub effect: Effect,
+}
+
+impl Copied for Row {
+    fn copy(&self, _alloc: Global) -> Result<Row, Memory> {
+        Ok(*self)
+    }
 }
 
 // Whether a kind is that of a directory.

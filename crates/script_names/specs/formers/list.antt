@@ -1,1 +1,2 @@
+-- Lists in recursive types.
 pub mod List
