@@ -1,5 +1,6 @@
 ghost use Rattle.std.specs.Prelude.{◌≡◌, ◌≤◌, Some, None, if◌then◌else◌};
-ghost use Rattle.shell_rules.specs.Calls.{is_digit, is_status, number_behind, leave_with};
+ghost use Rattle.script_names.specs.ShellNames.{is_digit};
+ghost use Rattle.shell_rules.specs.Calls.{is_status, number_behind, leave_with};
 ghost use Rattle.colis_interp.specs.Places.{place_of};
 ghost use Rattle.colis_interp.specs.Runs.{Runs, state_of};
 

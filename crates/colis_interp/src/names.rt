@@ -1,7 +1,8 @@
 ghost use Rattle.std.specs.Prelude.{◌≡◌, ◌≤◌, take, length};
 ghost use Rattle.std.specs.List.{list_any, list_all};
 ghost use Rattle.std.specs.Str.{bytes_eq};
-ghost use Rattle.shell_rules.specs.Calls.{is_name_byte, is_name, is_changeable, cut_at_equals};
+ghost use Rattle.script_names.specs.ShellNames.{is_letter, is_name_byte, is_shell_name};
+ghost use Rattle.shell_rules.specs.Calls.{is_changeable, cut_at_equals};
 ghost use Rattle.shell_rules.specs.Calls.{export_one, export_each, unset_one, unset_each};
 ghost use Rattle.colis_meaning.specs.Meaning.{names_of};
 ghost use Rattle.colis_interp.specs.Operands.{behind_equals};
@@ -16,20 +17,27 @@ use colis_syntax::Def;
 use script_names::{Bytes, Reason};
 use std::alloc::Global;
 
+// Whether a byte is a letter or `_`.
+fn is_letter(byte: u8) -> bool
+    ensures { result ≡ is_letter byte }
+{
+    (97 <= byte && byte <= 122) || (65 <= byte && byte <= 90) || byte == 95
+}
+
 // Whether a byte may stand in a name.
 fn is_name_byte(byte: u8) -> bool
     ensures { result ≡ is_name_byte byte }
 {
-    (65 <= byte && byte <= 90) || (97 <= byte && byte <= 122) || is_digit(byte) || byte == 95
+    is_letter(byte) || is_digit(byte)
 }
 
 // Whether a text is a name.
 fn is_name(text: &[u8]) -> bool
-    ensures { result ≡ is_name text.now }
+    ensures { result ≡ is_shell_name text.now }
 {
     match text {
         [] => false,
-        [first, ..] => !is_digit(*first) && are_name_bytes(text),
+        [first, rest @ ..] => is_letter(*first) && are_name_bytes(rest),
     }
 }
 

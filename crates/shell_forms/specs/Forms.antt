@@ -1,5 +1,6 @@
 -- The forms of the shell that are not supported and stand in the syntax of a script, each with the byte offset at
--- which it is reported.
+-- which it is reported. A command under `|`, `!` or redirections, in a condition, a branch, a subshell or a
+-- substitution is looked at like any other.
 use Rattle.std.specs.Prelude.{ℕ, Bool, true, false, not, ◌&&◌, ◌||◌, List, [], ◌∷◌, ◌++◌, Option, Some, None, codes}
 use Rattle.std.specs.Prelude.{nat_lt}
 use Rattle.std.specs.List.{list_any, flat_map}

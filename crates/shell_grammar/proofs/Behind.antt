@@ -16,7 +16,8 @@ use Rattle.shell_grammar.specs.declared.look.Look.TheVariants.{AtEnd, Newline, S
 use Rattle.shell_grammar.specs.declared.look.Reserved.{Reserved}
 use Rattle.shell_grammar.specs.declared.look.Reserved.TheVariants.{Open, Close, Bang, Then, Elif, Else, Fi, Do, Done, Esac}
 use Rattle.shell_grammar.specs.Forms.{command_form, starts, is_some, is_word, is_separator, link_and, redirection, ends_arm, loop_word}
-use Rattle.shell_grammar.specs.Look.{Text, Tokens, look, word, kind_look, kind_word, word_look, begun_look, whole_look, first_look, reserved, is_name, assigns_from}
+use Rattle.script_names.specs.ShellNames.{is_shell_name}
+use Rattle.shell_grammar.specs.Look.{Text, Tokens, look, word, kind_look, kind_word, word_look, begun_look, whole_look, first_look, reserved, begins_assignment}
 use Rattle.shell_grammar.specs.PlainGrammar.{IsSeparator, semicolon, line_end, IsList, a_list, AreMembers, no_member, last_separator, one_member, IsAndOr, an_and_or, AreLinks, no_link, and_link, or_link, IsPipeline, plain_pipeline, not_pipeline, IsSequence, a_sequence, ArePiped, no_pipe, one_pipe, IsCommand, simple_command, compound_command, definition, IsCompound, brace_group, subshell, if_command, for_loop, while_loop, case_command, IsElse, no_else, elif_part, else_part, AreForWords, in_words, for_semicolon, no_in, AreArms, no_arm, last_arm, one_arm, IsArm, open_arm, arm_without_paren, IsArmRest, arm_rest, IsArmList, no_arm_list, arm_list, IsBraces, braces, IsSimple, begins_with_assignment, begins_with_redirect, begins_with_word, AreItems, no_item, assignment_item, redirect_item, word_item, IsWord, the_word}
 use Rattle.shell_grammar.proofs.Unique.{none_some}
 use Rattle.shell_lexer.proofs.PrintedBytes.{clash}
@@ -173,14 +174,14 @@ pub begun_is_word : (b : Bool) → is_word (if b then Assignment else Other) ≡
 begun_is_word true = refl
 begun_is_word false = refl
 
-pub whole_is_word : (w : Text) (r : Option Reserved) (b : Bool) → is_name w ≡ b → is_word (whole_look w r) ≡ true
+pub whole_is_word : (w : Text) (r : Option Reserved) (b : Bool) → is_shell_name w ≡ b → is_word (whole_look w r) ≡ true
 whole_is_word w (Some which) b e = refl
 whole_is_word w None true e = ap (λ b. is_word (if b then Name else begun_look w)) e
-whole_is_word w None false e = ap (λ b. is_word (if b then Name else begun_look w)) e ∙ begun_is_word (assigns_from true w)
+whole_is_word w None false e = ap (λ b. is_word (if b then Name else begun_look w)) e ∙ begun_is_word (begins_assignment w)
 
 pub seen_is_word : (r : o.RawPart-F RawPart TokenKind Token) (ps : List RawPart) → is_word (first_look r ps) ≡ true
-seen_is_word (o.Plain w) [] = whole_is_word w (reserved w) (is_name w) refl
-seen_is_word (o.Plain w) (p ∷ ps) = begun_is_word (assigns_from true w)
+seen_is_word (o.Plain w) [] = whole_is_word w (reserved w) (is_shell_name w) refl
+seen_is_word (o.Plain w) (p ∷ ps) = begun_is_word (begins_assignment w)
 seen_is_word (o.Quoted w) ps = refl
 seen_is_word (o.Param key v b) ps = refl
 seen_is_word o.All ps = refl

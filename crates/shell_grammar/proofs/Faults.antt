@@ -12,7 +12,8 @@ use Rattle.shell_grammar.specs.declared.fault.ParseFault.{ParseFault}
 use Rattle.shell_grammar.specs.declared.fault.ParseFault.TheVariants.{Deep}
 use Rattle.shell_grammar.specs.declared.look.Look.TheVariants.{AtEnd, Name, Assignment, Other}
 use Rattle.shell_grammar.specs.declared.look.Reserved.{Reserved}
-use Rattle.shell_grammar.specs.Look.{Text, Tokens, look, behind, kind_look, word_look, begun_look, whole_look, first_look, reserved, is_name, assigns_from}
+use Rattle.script_names.specs.ShellNames.{is_shell_name}
+use Rattle.shell_grammar.specs.Look.{Text, Tokens, look, behind, kind_look, word_look, begun_look, whole_look, first_look, reserved, begins_assignment}
 use Rattle.shell_grammar.specs.Forms.{is_token}
 use Rattle.shell_grammar.specs.Grammar.{Script, Body, Newlines, Is, Of, Values, production}
 use Rattle.shell_grammar.specs.Reading.{Whole, Judged, Faultless, Faulty, after, IsRule, rule, IsAll, no_more, one_more, one_stops, IsSign, is, is_not, IsParts, plain_part, run_part, run_stops, run_deep}
@@ -32,14 +33,14 @@ begun_token : (b : Bool) → is_token (if b then Assignment else Other) ≡ true
 begun_token true = refl
 begun_token false = refl
 
-whole_token : (w : Text) (r : Option Reserved) (b : Bool) → is_name w ≡ b → is_token (whole_look w r) ≡ true
+whole_token : (w : Text) (r : Option Reserved) (b : Bool) → is_shell_name w ≡ b → is_token (whole_look w r) ≡ true
 whole_token w (Some which) b e = refl
 whole_token w None true e = ap (λ b. is_token (if b then Name else begun_look w)) e
-whole_token w None false e = ap (λ b. is_token (if b then Name else begun_look w)) e ∙ begun_token (assigns_from true w)
+whole_token w None false e = ap (λ b. is_token (if b then Name else begun_look w)) e ∙ begun_token (begins_assignment w)
 
 seen_token : (r : o.RawPart-F RawPart TokenKind Token) (ps : List RawPart) → is_token (first_look r ps) ≡ true
-seen_token (o.Plain w) [] = whole_token w (reserved w) (is_name w) refl
-seen_token (o.Plain w) (p ∷ ps) = begun_token (assigns_from true w)
+seen_token (o.Plain w) [] = whole_token w (reserved w) (is_shell_name w) refl
+seen_token (o.Plain w) (p ∷ ps) = begun_token (begins_assignment w)
 seen_token (o.Quoted w) ps = refl
 seen_token (o.Param key v b) ps = refl
 seen_token o.All ps = refl

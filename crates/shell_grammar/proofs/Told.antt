@@ -11,7 +11,7 @@ use Rattle.shell_grammar.specs.declared.fault.ParseFault.{ParseFault}
 use Rattle.shell_grammar.specs.declared.fault.ParseFault.TheVariants.{Syntax, Deep}
 use Rattle.shell_grammar.specs.declared.look.Look.{Look}
 use Rattle.shell_grammar.specs.declared.look.Look.TheVariants.{Assignment, Other}
-use Rattle.shell_grammar.specs.Look.{Text, Tokens, look, word, behind, place, kind_look, kind_word, word_look, first_look, assigns_from}
+use Rattle.shell_grammar.specs.Look.{Text, Tokens, look, word, behind, place, kind_look, kind_word, word_look, first_look, begins_assignment}
 use Rattle.shell_grammar.specs.Forms.{is_token}
 use Rattle.shell_grammar.specs.WithoutRuns.{without_runs, parts_without_runs, token_without_runs}
 use Rattle.shell_grammar.specs.Grammar.{Rule, Script, Sign, Is, Opens, AWord, Here, Never, Of, Inside, Tree, Value, Values, production}
@@ -40,7 +40,7 @@ begun_no_mark w false l e m = clash (ap is_mark (sym e)) m
 
 mark_holds_seen : (d : ℕ) (r : o.RawPart-F RawPart TokenKind Token) (p : RawPart) (ps : List RawPart) (l : Look) → out-RawPart p ≡ r → first_look r ps ≡ l → is_mark l ≡ true → HoldScripts d (p ∷ ps)
 mark_holds_seen d (o.Plain w) p [] l e k m = plain_holds d p (part.Plain w) (ap plainly e)
-mark_holds_seen d (o.Plain w) p (p2 ∷ ps) l e k m = absurd (begun_no_mark w (assigns_from true w) l k m)
+mark_holds_seen d (o.Plain w) p (p2 ∷ ps) l e k m = absurd (begun_no_mark w (begins_assignment w) l k m)
 mark_holds_seen d (o.Quoted w) p ps l e k m = absurd (clash (ap is_mark (sym k)) m)
 mark_holds_seen d (o.Param key v b) p ps l e k m = absurd (clash (ap is_mark (sym k)) m)
 mark_holds_seen d o.All p ps l e k m = absurd (clash (ap is_mark (sym k)) m)

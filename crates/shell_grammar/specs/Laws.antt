@@ -10,7 +10,7 @@ use Rattle.shell_grammar.specs.Places.{Pass, FirstFault, NoFault}
 use Rattle.shell_grammar.specs.PlainGrammar.{IsScript}
 use Rattle.shell_grammar.specs.Spelling.{Spells, SpellsWithin, Stopped}
 
--- by the table tokens spell the scripts of the plain grammar, and no others
+-- by the table tokens spell the scripts of the plain grammar, and no others: one of the two is to be believed
 abbrev pub OneGrammar : Type 0
 OneGrammar = (end : ℕ) (ts : Tokens) (body : Command) → Spells end ts body ↔ IsScript end ts body
 

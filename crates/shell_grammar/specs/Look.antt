@@ -1,8 +1,11 @@
 -- What stands at the front of tokens (POSIX.1-2017, XCU 2.4 Reserved Words, 2.10.1 Shell Grammar Lexical Conventions;
 -- XBD 3.235 Name).
 use Rattle.std.specs.Prelude.{ℕ, Bool, true, false, List, [], ◌∷◌, Option, Some, None, codes}
-use Rattle.std.specs.Prelude.{if◌then◌else◌, leb, eqb}
+use Rattle.std.specs.Prelude.{if◌then◌else◌, ◌&&◌, eqb}
+use Rattle.std.specs.List.{list_any}
 use Rattle.std.specs.Str.{bytes_eq}
+use Rattle.script_names.specs.Ascii.{equals}
+use Rattle.script_names.specs.ShellNames.{is_shell_name}
 use Rattle.shell_grammar.specs.declared.look.Look.{Look}
 use Rattle.shell_grammar.specs.declared.look.Look.TheVariants.{AtEnd, Newline, Semi, DoubleSemi, AndAnd, OrOr, Bar}
 use Rattle.shell_grammar.specs.declared.look.Look.TheVariants.{LeftParen, RightParen, Redirection, Keyword, Name}
@@ -43,43 +46,23 @@ reserved w =
     (if bytes_eq w (codes "case") then Some Case else
     (if bytes_eq w (codes "esac") then Some Esac else None)))))))))))))))
 
--- `A` to `Z`, `_` and `a` to `z`
-abbrev pub is_letter : ℕ → Bool
-is_letter b =
-    if leb 65 b then (if leb b 90 then true else (if eqb b 95 then true else (if leb 97 b then leb b 122 else false)))
-    else false
+-- the bytes up to the first `=`
+abbrev pub up_to_equals : Text → Text
+up_to_equals [] = []
+up_to_equals (b ∷ bs) = if eqb b equals then [] else b ∷ up_to_equals bs
 
--- `0` to `9`
-abbrev pub is_digit : ℕ → Bool
-is_digit b = if leb 48 b then leb b 57 else false
-
--- a byte of a name; the first is no digit
-abbrev pub is_name_byte : Bool → ℕ → Bool
-is_name_byte first b = if is_letter b then true else (if first then false else is_digit b)
-
--- the bytes of a name, or what is left of one; at its beginning there is one byte at least
-abbrev pub name_from : Bool → Text → Bool
-name_from first [] = if first then false else true
-name_from first (b ∷ bs) = if is_name_byte first b then name_from false bs else false
-
--- a name (XBD 3.235)
-abbrev pub is_name : Text → Bool
-is_name w = name_from true w
-
--- a name, and a `=` behind it
-abbrev pub assigns_from : Bool → Text → Bool
-assigns_from first [] = false
-assigns_from first (b ∷ bs) =
-    if is_name_byte first b then assigns_from false bs else (if first then false else eqb b 61)
+-- a name (XBD 3.235), and a `=` behind it: what stands before the first `=` is a name
+abbrev pub begins_assignment : Text → Bool
+begins_assignment w = list_any (λ b. eqb b equals) w && is_shell_name (up_to_equals w)
 
 -- a word that begins with plain bytes: an assignment begins with a name and `=`
 abbrev pub begun_look : Text → Look
-begun_look w = if assigns_from true w then Assignment else Other
+begun_look w = if begins_assignment w then Assignment else Other
 
 -- a word of plain bytes alone: a reserved word, a name, or what its beginning says
 abbrev pub whole_look : Text → Option Reserved → Look
 whole_look w (Some which) = Keyword which
-whole_look w None = if is_name w then Name else begun_look w
+whole_look w None = if is_shell_name w then Name else begun_look w
 
 -- a word by its parts, of which the plain ones are seen
 abbrev pub seen_look : o.RawPart-F RawPart TokenKind Token → Bool → Look

@@ -1,5 +1,6 @@
 -- How a command's tree is made from those of its members.
 use Rattle.std.specs.Prelude.{ℕ, Bool, List, [], ◌∷◌, ◌++◌, if◌then◌else◌, eqb}
+use Rattle.script_names.specs.Ascii.{equals}
 use Rattle.shell_syntax.specs.declared.redirect.Redirect.{Redirect}
 use Rattle.shell_syntax.specs.declared.syntax.Command.{Command}
 use Rattle.shell_syntax.specs.declared.syntax.Command.TheVariants as c
@@ -12,7 +13,7 @@ use Rattle.shell_syntax.specs.declared.syntax.Link.{Link, roll-Link}
 use Rattle.shell_syntax.specs.declared.syntax.IfArm.{IfArm, roll-IfArm}
 use Rattle.shell_syntax.specs.declared.syntax.CaseArm.{CaseArm, roll-CaseArm}
 use Rattle.shell_grammar.specs.declared.items.Items.{Items}
-use Rattle.shell_grammar.specs.Look.{Text}
+use Rattle.shell_grammar.specs.Look.{Text, up_to_equals}
 
 -- ---- a node of a list, a pipeline, a chain or redirections is made only where it has two members, or a redirection
 
@@ -99,15 +100,10 @@ word_text w = first_text w.parts
 
 -- ---- a word NAME=.. as an assignment
 
--- the bytes up to the first `=`
-abbrev pub up_to_equals : Text → Text
-up_to_equals [] = []
-up_to_equals (b ∷ bs) = if eqb b 61 then [] else b ∷ up_to_equals bs
-
 -- the bytes behind the first `=`
 abbrev pub behind_equals : Text → Text
 behind_equals [] = []
-behind_equals (b ∷ bs) = if eqb b 61 then bs else behind_equals bs
+behind_equals (b ∷ bs) = if eqb b equals then bs else behind_equals bs
 
 -- a plain part, if it has a byte
 abbrev pub plain_part_of : Text → List Part

@@ -1,45 +1,30 @@
-mod Ahead
-mod AnyOffset
-mod BeforeNewline
-mod Begun
-mod BytesSeen
+pub mod Ahead
+pub mod Begun
 mod Causes
-mod Cells
+pub mod Cells
 pub mod CutOnce
-mod FaultPlaces
+pub mod FaultPlaces
 mod Fronts
-mod LongestRuns
-mod MovedReadings
 mod Numbers
 mod Pieces
 pub mod PrintedBytes
-pub mod PrintedNotes
-mod PrintedOperators
-mod PrintedParams
-mod PrintedQuotes
-pub mod PrintedRuns
-mod PrintedTokens
-pub mod PrintedWords
-mod QuotedBytes
 mod Quotes
-mod Rests
+pub mod Rests
 mod Skips
 mod SoFar
-mod SpelledBegins
-mod SpelledBytes
+pub mod SpelledBytes
 pub mod SpelledCases
-mod SpelledEnds
-mod SpelledFaults
-mod SpelledFronts
-mod SpelledKinds
-mod SpelledLine
-mod SpelledOperators
-mod SpelledParts
-mod SpelledRedirects
-mod SpelledRuns
-mod SpelledWrong
+pub mod SpelledEnds
+pub mod SpelledFaults
+pub mod SpelledFronts
+pub mod SpelledKinds
+pub mod SpelledLine
+pub mod SpelledOperators
+pub mod SpelledParts
+pub mod SpelledRedirects
+pub mod SpelledRuns
+pub mod SpelledWrong
 mod Steps
-mod Tiles
-mod TwoCuts
+pub mod Tiles
 mod Unique
 pub mod Unlimited

@@ -3,7 +3,8 @@ use Rattle.std.proofs.Common.{◌≡◌, ℕ, Bool, true, false, not, ◌&&◌, 
 use Rattle.std.specs.List.{list_any}
 use Rattle.shell_lexer.specs.declared.byte_kind.ByteKind.{ByteKind}
 use Rattle.shell_lexer.specs.declared.byte_kind.ByteKind.TheVariants as k
-use Rattle.shell_lexer.specs.Text.{Bytes, kind, skip, is_blank, is_letter, is_digit, is_special, is_name_byte, is_word_end}
+use Rattle.script_names.specs.ShellNames.{is_letter, is_digit, is_name_byte}
+use Rattle.shell_lexer.specs.Text.{Bytes, kind, skip, is_blank, is_special, is_word_end}
 use Rattle.shell_lexer.specs.Parts.{is_escapable}
 use Rattle.shell_lexer.specs.Spelling.{Stands}
 use Rattle.shell_lexer.specs.SpelledBytes.{is_escaped, has_meaning, begins_expansion, IsByte, ordinary, dollar, last, backslash, escaped}

@@ -13,7 +13,8 @@ use Rattle.shell_lexer.specs.declared.byte_kind.RunKind.TheVariants.{Names, Defa
 use Rattle.shell_lexer.specs.declared.token.RawPart.{RawPart}
 use Rattle.shell_lexer.specs.declared.token.RawPart.TheVariants as part
 use Rattle.shell_lexer.specs.FirstLine.{nul_from, nul_of, interpreter}
-use Rattle.shell_lexer.specs.Text.{Bytes, kind, skip, place, offset, head_is, is_name_byte, is_default_byte, run, behind}
+use Rattle.script_names.specs.ShellNames.{is_name_byte}
+use Rattle.shell_lexer.specs.Text.{Bytes, kind, skip, place, offset, head_is, is_default_byte, run, behind}
 use Rattle.shell_lexer.specs.Parts.{Look, Piece, Substitution, Bad, bad_param, closed, behind_key, behind_colon, braced_by, braced, dollar_by, dollar, has_quote, look_at, look, inner_at, inner}
 use Rattle.shell_lexer.specs.Spelling.{Stands, begins}
 use Rattle.shell_lexer.specs.SpelledEnds.{AtTextEnd}

@@ -3,7 +3,8 @@ use Rattle.std.proofs.Common.{◌≡◌, ℕ, true, false, nat_eq, refl, sym, ap
 use Rattle.std.proofs.lemmas.Grind.{common_steps}
 use Rattle.shell_lexer.specs.declared.byte_kind.ByteKind.{ByteKind}
 use Rattle.shell_lexer.specs.declared.byte_kind.ByteKind.TheVariants as k
-use Rattle.shell_lexer.specs.Text.{kind, word_kind, is_blank, is_digit, is_letter, is_special}
+use Rattle.script_names.specs.ShellNames.{is_digit, is_letter}
+use Rattle.shell_lexer.specs.Text.{kind, word_kind, is_blank, is_special}
 use Rattle.std.proofs.lemmas.Bool.{cond_both, eqb-true}
 
 abbrev pub KindOf : ℕ → ByteKind → Type 0

@@ -4,7 +4,8 @@ use Rattle.shell_lexer.specs.declared.byte_kind.ByteKind.{ByteKind}
 use Rattle.shell_lexer.specs.declared.byte_kind.ByteKind.TheVariants as k
 use Rattle.shell_lexer.specs.declared.sight.Sign.{Sign}
 use Rattle.shell_lexer.specs.declared.sight.Sign.TheVariants as s
-use Rattle.shell_lexer.specs.Text.{Bytes, kind, skip, place, tail, head_is, is_digit, cells, run_of, behind_run}
+use Rattle.script_names.specs.ShellNames.{is_digit}
+use Rattle.shell_lexer.specs.Text.{Bytes, kind, skip, place, tail, head_is, cells, run_of, behind_run}
 use Rattle.shell_lexer.specs.Operators.{Sight, Operator, sight, sight_at, sight_by, twice}
 use Rattle.shell_lexer.specs.Spelling.{Stands, IsNotNext, IsOperator}
 use Rattle.shell_lexer.proofs.SpelledKinds.{KindOf, kind_of}

@@ -13,10 +13,11 @@ use Rattle.shell_lexer.specs.declared.fault.LexFault.{LexFault}
 use Rattle.shell_lexer.specs.declared.fault.LexFault.TheVariants.{OpenQuote, Unsupported}
 use Rattle.shell_lexer.specs.declared.token.RawPart.{RawPart}
 use Rattle.shell_lexer.specs.declared.token.RawPart.TheVariants as part
-use Rattle.shell_lexer.specs.Text.{Bytes, kind, skip, place, offset, tail, head_is, is_letter, is_digit, is_special, is_name_byte, is_default_byte, run, behind}
+use Rattle.script_names.specs.ShellNames.{is_letter, is_digit, is_name_byte, is_shell_name}
+use Rattle.shell_lexer.specs.Text.{Bytes, kind, skip, place, offset, tail, head_is, is_special, is_default_byte, run, behind}
 use Rattle.shell_lexer.specs.Parts.{Look, Ends, Byte, Piece, AllArgs, DoubleQuote, Substitution, Bad, bad_param, closed, behind_colon, behind_key, braced_by, braced, parenthesis, before_quote, dollar_by, dollar, has_quote, quote_body, behind_quote, look_by, look_at, look, is_escapable, inner_escaped, inner_by, inner_at, inner}
 use Rattle.shell_lexer.specs.Spelling.{Stands, begins}
-use Rattle.shell_lexer.specs.SpelledParts.{is_variable, is_default, IsDigitOf, IsParam, name as by_name, name_braced, name_default, number as by_number, number_braced, number_default, count, count_braced, IsQuoted, single, escaped, IsPiece, IsSubstitution}
+use Rattle.shell_lexer.specs.SpelledParts.{is_default, IsDigitOf, IsParam, name as by_name, name_braced, name_default, number as by_number, number_braced, number_default, count, count_braced, IsQuoted, single, escaped, IsPiece, IsSubstitution}
 use Rattle.shell_lexer.specs.SpelledBytes.{begins_expansion, IsByte, ordinary, dollar as byte_dollar, last as byte_last, backslash as byte_backslash, escaped as byte_escaped}
 use Rattle.shell_lexer.specs.SpelledEnds.{AtTextEnd, IsWordEnd, text_ends}
 use Rattle.shell_lexer.specs.SpelledFaults.{IsKey, name as name_key_is, number as number_key_is, IsBegun, nothing, key as key_begun, colon, default as with_default, count as begun_count, EndsInParam, special, before_quote as before_a_quote, IsBad, open_quote, open_parameter, backquote, arithmetic, parameter}
@@ -37,7 +38,7 @@ letter_passes b e = by (is_letter b) e where
   by true e = refl
   by false e = absurd (false≢true e)
 
-variable_pass : (b : ℕ) (name : Bytes) → is_variable (b ∷ name) ≡ true → list_all is_name_byte (b ∷ name) ≡ true
+variable_pass : (b : ℕ) (name : Bytes) → is_shell_name (b ∷ name) ≡ true → list_all is_name_byte (b ∷ name) ≡ true
 variable_pass b name e = and_from (is_name_byte b) (list_all is_name_byte name) (letter_passes b (and_parts (is_letter b) (list_all is_name_byte name) e).0) (and_parts (is_letter b) (list_all is_name_byte name) e).1
 
 digit_passes : {number digit : ℕ} → IsDigitOf number digit → is_digit digit ≡ true
@@ -67,7 +68,7 @@ digit_of b e n = record { least = low b e n; most = high b e; digit_is = same b 
 -- ---- what is spelled is seen
 
 -- a longest name, at the next byte that counts
-name_run : (b : ℕ) (more text middle : Bytes) (name : Bytes) → is_variable (b ∷ name) ≡ true → Stands (b ∷ name) text middle → skip text ≡ b ∷ more → begins is_name_byte (skip middle) ≡ false
+name_run : (b : ℕ) (more text middle : Bytes) (name : Bytes) → is_shell_name (b ∷ name) ≡ true → Stands (b ∷ name) text middle → skip text ≡ b ∷ more → begins is_name_byte (skip middle) ≡ false
     → IsRun is_name_byte (b ∷ name) (b ∷ more) middle
 name_run b more text middle name is h e ends = record { stands = subst (λ t. Stands (b ∷ name) t middle) e (skip_stands b name text middle h); pass = variable_pass b name is; longest = ends }
 
@@ -86,7 +87,7 @@ key_default quoted at key default middle rest is h =
     ∙ ap (closed quoted at key (Some default)) p.2.1 ∙ ap (Piece (part.Param key (Some default) quoted)) p.2.2
 
 -- behind `${`
-pub name_key : (quoted : Bool) (at : ℕ) (name text middle : Bytes) → is_variable name ≡ true → Stands name text middle → begins is_name_byte (skip middle) ≡ false
+pub name_key : (quoted : Bool) (at : ℕ) (name text middle : Bytes) → is_shell_name name ≡ true → Stands name text middle → begins is_name_byte (skip middle) ≡ false
     → braced quoted at (skip text) ≡ behind_key quoted at (Named name) (skip middle)
 name_key quoted at [] text middle is h ends = absurd (false≢true is)
 name_key quoted at (b ∷ name) text middle is h ends =
@@ -101,7 +102,7 @@ digit_key quoted at number digit text more is e =
     ∙ cond-false (nat_eq digit 48) _ _ (digit_no_zero is) ∙ ap (λ n. behind_key quoted at (Arg n) (skip more)) (digit_number is)
 
 -- behind `$`
-name_part : (quoted : Bool) (at : ℕ) (name text rest : Bytes) → is_variable name ≡ true → Stands name text rest → begins is_name_byte (skip rest) ≡ false
+name_part : (quoted : Bool) (at : ℕ) (name text rest : Bytes) → is_shell_name name ≡ true → Stands name text rest → begins is_name_byte (skip rest) ≡ false
     → dollar quoted at text (skip text) ≡ Piece (part.Param (Named name) None quoted) rest
 name_part quoted at [] text rest is h ends = absurd (false≢true is)
 name_part quoted at (b ∷ name) text rest is h ends =
@@ -282,10 +283,10 @@ key_seen quoted at key text from middle (b ∷ u) o e make make_default ends =
 
 -- the run of a name that begins with a letter
 name_stands : (b : ℕ) (more text : Bytes) → skip text ≡ b ∷ more → is_letter b ≡ true
-    → (is_variable (run Names (b ∷ more)) ≡ true) × Stands (run Names (b ∷ more)) text (behind Names (b ∷ more)) × (begins is_name_byte (skip (behind Names (b ∷ more))) ≡ false)
+    → (is_shell_name (run Names (b ∷ more)) ≡ true) × Stands (run Names (b ∷ more)) text (behind Names (b ∷ more)) × (begins is_name_byte (skip (behind Names (b ∷ more))) ≡ false)
 name_stands b more text e is = by (run Names (b ∷ more)) (run_stands is_name_byte (run Names (b ∷ more)) (b ∷ more) refl) where
   by : (found : Bytes) → IsRun is_name_byte found (b ∷ more) (behind Names (b ∷ more))
-      → (is_variable found ≡ true) × Stands found text (behind Names (b ∷ more)) × (begins is_name_byte (skip (behind Names (b ∷ more))) ≡ false)
+      → (is_shell_name found ≡ true) × Stands found text (behind Names (b ∷ more)) × (begins is_name_byte (skip (behind Names (b ∷ more))) ≡ false)
   by [] all = absurd (empty (sym (ap (begins is_name_byte) again) ∙ ap (λ t. begins is_name_byte (skip t)) all.stands ∙ all.longest)) where
     again : skip (b ∷ more) ≡ b ∷ more
     again = sym (ap skip e) ∙ skip_again text ∙ e

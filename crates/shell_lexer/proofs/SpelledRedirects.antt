@@ -11,7 +11,8 @@ use Rattle.shell_lexer.specs.declared.byte_kind.ByteKind.TheVariants as k
 use Rattle.shell_lexer.specs.declared.byte_kind.RunKind.TheVariants.{Blanks, Digits}
 use Rattle.shell_lexer.specs.declared.sight.Sign.{Sign}
 use Rattle.shell_lexer.specs.declared.sight.Sign.TheVariants as s
-use Rattle.shell_lexer.specs.Text.{Bytes, kind, skip, place, tail, head_is, is_blank, is_digit, cells, run_of, behind, behind_bytes, ends_word}
+use Rattle.script_names.specs.ShellNames.{is_digit}
+use Rattle.shell_lexer.specs.Text.{Bytes, kind, skip, place, tail, head_is, is_blank, cells, run_of, behind, behind_bytes, ends_word}
 use Rattle.shell_lexer.specs.Operators.{Operator, Wrong, Word, sight, sight_by, numbered, numbered_by, less, greater, copied, redirected, out_to, in_from, copy_of, whole_word, null_word}
 use Rattle.shell_lexer.specs.Spelling.{Stands, begins, IsToNull, IsRedirected, output, output_one, append, append_one, error, append_error, input, input_zero, output_to_error, output_one_to_error, error_to_output, IsOperator}
 use Rattle.shell_lexer.proofs.SpelledKinds.{KindOf, kind_of, digit_kind}

@@ -10,7 +10,8 @@ use Rattle.shell_lexer.specs.declared.byte_kind.ByteKind.TheVariants as k
 use Rattle.shell_lexer.specs.declared.byte_kind.RunKind.TheVariants.{Blanks, Digits}
 use Rattle.shell_lexer.specs.declared.sight.Sign.{Sign}
 use Rattle.shell_lexer.specs.declared.sight.Sign.TheVariants as s
-use Rattle.shell_lexer.specs.Text.{Bytes, kind, skip, place, offset, tail, head_is, is_digit, cells, run_of, behind, behind_run}
+use Rattle.script_names.specs.ShellNames.{is_digit}
+use Rattle.shell_lexer.specs.Text.{Bytes, kind, skip, place, offset, tail, head_is, cells, run_of, behind, behind_run}
 use Rattle.shell_lexer.specs.Operators.{Sight, End, Operator, Wrong, sight, sight_at, sight_by, twice, numbered, numbered_by, less, greater, copied, redirected, out_to, in_from, copy_of, whole_word, null_word}
 use Rattle.shell_lexer.specs.Spelling.{Stands, begins, IsNotNext, IsRedirected}
 use Rattle.shell_lexer.specs.SpelledEnds.{AtTextEnd}

@@ -3,17 +3,18 @@
 use Rattle.std.specs.Prelude.{ℕ, ◌+◌, Bool, true, false, if◌then◌else◌, nat_eq, [], ◌∷◌, Option}
 use Rattle.std.specs.Prelude.{Some, None, codes}
 use Rattle.std.specs.List.{list_all}
+use Rattle.script_names.specs.Ascii.{newline, nul}
 use Rattle.shell_lexer.specs.Text.{Bytes, is_blank}
 
 -- the bytes before the first newline, and those behind it
 abbrev pub first_line : Bytes → Bytes
 first_line [] = []
-first_line (b ∷ rest) = if nat_eq b 10 then [] else b ∷ first_line rest
+first_line (b ∷ rest) = if nat_eq b newline then [] else b ∷ first_line rest
 
 -- the bytes behind the first newline
 abbrev pub behind_line : Bytes → Bytes
 behind_line [] = []
-behind_line (b ∷ rest) = if nat_eq b 10 then rest else behind_line rest
+behind_line (b ∷ rest) = if nat_eq b newline then rest else behind_line rest
 
 -- from the first byte that is no blank
 abbrev pub after_blanks : Bytes → Bytes
@@ -70,7 +71,7 @@ interpreter line = interpreter_behind (after (codes "#!") line)
 -- the place of the first NUL of a text whose first byte has this offset
 abbrev pub nul_from : ℕ → Bytes → Option ℕ
 nul_from at [] = None
-nul_from at (b ∷ rest) = if nat_eq b 0 then Some at else nul_from (at + 1) rest
+nul_from at (b ∷ rest) = if nat_eq b nul then Some at else nul_from (at + 1) rest
 
 -- the place of the first NUL of a text
 abbrev pub nul_of : Bytes → Option ℕ

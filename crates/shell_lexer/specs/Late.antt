@@ -2,6 +2,7 @@
 -- `"$@"`, a tilde, a brace, and the word `case` in a substitution. The least offset decides.
 use Rattle.std.specs.Prelude.{ℕ, zero, suc, Bool, true, false, if◌then◌else◌, ◌&&◌, ◌||◌, nat_eq, nat_le, List, []}
 use Rattle.std.specs.Prelude.{◌∷◌, Option, Some, None, codes}
+use Rattle.script_names.specs.Ascii.{brace_open, colon, equals, full_stop, tilde as tilde_byte}
 use Rattle.shell_syntax.specs.declared.form.Form.{Form}
 use Rattle.shell_syntax.specs.declared.form.Form.TheVariants as form
 use Rattle.shell_lexer.specs.declared.fault.LexFault.{LexFault}
@@ -31,21 +32,23 @@ abbrev pub tilde : Bool → List ByteNote → Option ℕ
 tilde may [] = None
 tilde may (Gap ∷ ms) = tilde false ms
 tilde may (All at quoted ∷ ms) = tilde false ms
-tilde may (Plain b at ∷ ms) = if may && nat_eq b 126 then Some at else tilde (nat_eq b 61 || nat_eq b 58) ms
+tilde may (Plain b at ∷ ms) =
+    if may && nat_eq b tilde_byte then Some at else tilde (nat_eq b equals || nat_eq b colon) ms
 
 -- whether a plain comma comes, or two plain dots side by side; `dot` says that the byte before is a plain dot
 abbrev pub has_list : Bool → List ByteNote → Bool
 has_list dot [] = false
 has_list dot (Gap ∷ ms) = has_list false ms
 has_list dot (All at quoted ∷ ms) = has_list false ms
-has_list dot (Plain b at ∷ ms) = (nat_eq b 44 || (dot && nat_eq b 46)) || has_list (nat_eq b 46) ms
+has_list dot (Plain b at ∷ ms) =
+    (nat_eq b 44 || (dot && nat_eq b full_stop)) || has_list (nat_eq b full_stop) ms
 
 -- the first plain `{`, where a comma or two dots come behind it
 abbrev pub brace : List ByteNote → Option ℕ
 brace [] = None
 brace (Gap ∷ ms) = brace ms
 brace (All at quoted ∷ ms) = brace ms
-brace (Plain b at ∷ ms) = if nat_eq b 123 then (if has_list false ms then Some at else None) else brace ms
+brace (Plain b at ∷ ms) = if nat_eq b brace_open then (if has_list false ms then Some at else None) else brace ms
 
 -- whether the word is just these plain bytes
 abbrev pub is_plainly : Bytes → List ByteNote → Bool

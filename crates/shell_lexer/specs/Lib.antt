@@ -1,16 +1,12 @@
 pub mod Depth
 pub mod FirstLine
 pub mod Late
-pub mod Laws
 pub mod Lexed
-pub mod LongestRuns
-pub mod Moved
 pub mod Operators
 pub mod Parts
 pub mod Reading
 pub mod Reads
 pub mod Seen
-pub mod SpelledBegins
 pub mod SpelledBytes
 pub mod SpelledEnds
 pub mod SpelledFaults
@@ -19,4 +15,3 @@ pub mod SpelledParts
 pub mod Spelling
 pub mod Text
 pub mod Tiled
-pub mod PrintedLaws

@@ -4,6 +4,8 @@
 use Rattle.std.specs.Prelude.{ℕ, if◌then◌else◌, ◌&&◌, ◌||◌, nat_eq, [], ◌∷◌, Option, Some}
 use Rattle.std.specs.Prelude.{None, codes}
 use Rattle.std.specs.Str.{bytes_eq}
+use Rattle.script_names.specs.Ascii.{ampersand, bar, newline, paren_open, semicolon}
+use Rattle.script_names.specs.Ascii.{greater as greater_byte, less as less_byte}
 use Rattle.shell_syntax.specs.declared.redirect.Redirect.{Redirect}
 use Rattle.shell_syntax.specs.declared.redirect.Redirect.TheVariants.{OutNull, ErrNull, InNull, OutToErr, ErrToOut}
 use Rattle.shell_syntax.specs.declared.form.Form.TheVariants as form
@@ -28,7 +30,7 @@ pub data Sight : Type 0 where
 -- a comment goes on up to the newline, whatever stands before it
 abbrev pub after_line : Bytes → Bytes
 after_line [] = []
-after_line (b ∷ rest) = if nat_eq b 10 then b ∷ rest else after_line rest
+after_line (b ∷ rest) = if nat_eq b newline then b ∷ rest else after_line rest
 
 -- ---- redirections
 
@@ -72,14 +74,14 @@ copied at number (b ∷ rest) = redirected at (copy_of number b) (whole_word (So
 -- behind `<`
 abbrev pub less : ℕ → Bytes → Bytes → Sight
 less at number rest =
-    if head_is 60 (skip rest) then Wrong (Unsupported form.Heredoc at)
+    if head_is less_byte (skip rest) then Wrong (Unsupported form.Heredoc at)
     else redirected at (in_from number) (null_word rest)
 
 -- behind `>`
 abbrev pub greater : ℕ → Bytes → Bytes → Sight
 greater at number rest =
-    if head_is 62 (skip rest) then redirected at (out_to number) (null_word (tail (skip rest)))
-    else (if head_is 38 (skip rest) then copied at number (skip (tail (skip rest)))
+    if head_is greater_byte (skip rest) then redirected at (out_to number) (null_word (tail (skip rest)))
+    else (if head_is ampersand (skip rest) then copied at number (skip (tail (skip rest)))
     else redirected at (out_to number) (null_word rest))
 
 -- behind digits: a redirection where `<` or `>` stands directly there, else a word
@@ -109,11 +111,11 @@ sight_by len at b Blank rest = Passed rest
 sight_by len at b Hash rest = Passed (after_line rest)
 sight_by len at b Newline rest = Operator sign.Newline rest
 sight_by len at b Semi rest =
-    twice 59 (skip rest) (Operator sign.DoubleSemi (tail (skip rest))) (Operator sign.Semi rest)
+    twice semicolon (skip rest) (Operator sign.DoubleSemi (tail (skip rest))) (Operator sign.Semi rest)
 sight_by len at b Amp rest =
-    twice 38 (skip rest) (Operator sign.AndAnd (tail (skip rest))) (Wrong (Unsupported form.Background at))
-sight_by len at b Bar rest = twice 124 (skip rest) (Operator sign.OrOr (tail (skip rest))) (Operator sign.Bar rest)
-sight_by len at b Open rest = twice 40 (skip rest) (Wrong (Unsupported form.Arith at)) (Operator sign.LeftParen rest)
+    twice ampersand (skip rest) (Operator sign.AndAnd (tail (skip rest))) (Wrong (Unsupported form.Background at))
+sight_by len at b Bar rest = twice bar (skip rest) (Operator sign.OrOr (tail (skip rest))) (Operator sign.Bar rest)
+sight_by len at b Open rest = twice paren_open (skip rest) (Wrong (Unsupported form.Arith at)) (Operator sign.LeftParen rest)
 sight_by len at b Close rest = Operator sign.RightParen rest
 sight_by len at b Less rest = less at [] rest
 sight_by len at b Greater rest = greater at [] rest

@@ -1,6 +1,8 @@
 -- What stands in a word, and in double quotes, by the next byte that counts (POSIX.1-2017, XCU 2.2 Quoting, 2.5
 -- Parameters and Variables, 2.6.2 Parameter Expansion, 2.6.3 Command Substitution).
 use Rattle.std.specs.Prelude.{ℕ, ◌-◌, Bool, true, false, if◌then◌else◌, ◌||◌, nat_eq, [], ◌∷◌, Option, Some, None}
+use Rattle.script_names.specs.Ascii.{brace_close, colon, hyphen, paren_open, single_quote}
+use Rattle.script_names.specs.Ascii.{dollar as dollar_byte}
 use Rattle.shell_syntax.specs.declared.form.Form.TheVariants as form
 use Rattle.shell_syntax.specs.declared.key.Key.{Key}
 use Rattle.shell_syntax.specs.declared.key.Key.TheVariants.{Named, Arg, Count}
@@ -41,23 +43,26 @@ bad_param at = Bad (Unsupported form.Param at)
 -- `${`, a key and `}`
 abbrev pub closed : Bool → ℕ → Key → Option Bytes → Bytes → Look
 closed quoted at key default [] = Bad (OpenSubstitution at)
-closed quoted at key default (b ∷ rest) = if nat_eq b 125 then Piece (Param key default quoted) rest else bad_param at
+closed quoted at key default (b ∷ rest) =
+    if nat_eq b brace_close then Piece (Param key default quoted) rest else bad_param at
 
 -- behind `${`, a key and `:`
 abbrev pub behind_colon : Bool → ℕ → Key → Bytes → Look
 behind_colon quoted at key [] = Bad (OpenSubstitution at)
 behind_colon quoted at key (b ∷ rest) =
-    if nat_eq b 45 then closed quoted at key (Some (run Defaults rest)) (skip (behind Defaults rest)) else bad_param at
+    if nat_eq b hyphen then closed quoted at key (Some (run Defaults rest)) (skip (behind Defaults rest))
+    else bad_param at
 
 -- behind `${` and a name or a number: `}`, or `:-`, a default and `}`
 abbrev pub behind_key : Bool → ℕ → Key → Bytes → Look
 behind_key quoted at key [] = Bad (OpenSubstitution at)
 behind_key quoted at key (b ∷ rest) =
-    if nat_eq b 58 then behind_colon quoted at key (skip rest) else closed quoted at key None (b ∷ rest)
+    if nat_eq b colon then behind_colon quoted at key (skip rest) else closed quoted at key None (b ∷ rest)
 
 -- `1` to `9`
 abbrev pub number_key : Bool → ℕ → ℕ → Bytes → Look
-number_key quoted at b rest = if nat_eq b 48 then bad_param at else behind_key quoted at (Arg (b - 48)) (skip rest)
+number_key quoted at b rest =
+    if nat_eq b 48 then bad_param at else behind_key quoted at (Arg (b - 48)) (skip rest)
 
 -- behind `${`, by the byte that comes next
 abbrev pub braced_by : Bool → ℕ → ℕ → ByteKind → Bytes → Look
@@ -77,17 +82,18 @@ named_part quoted text = Piece (Param (Named (run Names text)) None quoted) (beh
 
 -- `$1` to `$9`
 abbrev pub number_part : Bool → ℕ → ℕ → Bytes → Look
-number_part quoted at b rest = if nat_eq b 48 then bad_param at else Piece (Param (Arg (b - 48)) None quoted) rest
+number_part quoted at b rest =
+    if nat_eq b 48 then bad_param at else Piece (Param (Arg (b - 48)) None quoted) rest
 
 -- `$(`, unless another parenthesis follows
 abbrev pub parenthesis : ℕ → Bytes → Look
-parenthesis at rest = if head_is 40 (skip rest) then Bad (Unsupported form.Arith at) else Substitution rest
+parenthesis at rest = if head_is paren_open (skip rest) then Bad (Unsupported form.Arith at) else Substitution rest
 
 -- `$` before a quote: outside double quotes the quote begins, and the form is not supported; inside it stands for
 -- itself
 abbrev pub before_quote : Bool → ℕ → Bytes → Look
 before_quote false at rest = bad_param at
-before_quote true at rest = Byte 36 rest
+before_quote true at rest = Byte dollar_byte rest
 
 -- behind `$`, by the byte that comes next: the text behind `$`, that byte, and the text behind it
 abbrev pub dollar_by : Bool → ℕ → Bytes → ℕ → ByteKind → Bytes → Look
@@ -101,11 +107,11 @@ dollar_by quoted at rest b Special more = bad_param at
 dollar_by quoted at rest b Dollar more = bad_param at
 dollar_by quoted at rest b Single more = before_quote quoted at rest
 dollar_by quoted at rest b Double more = before_quote quoted at rest
-dollar_by quoted at rest b _ more = Byte 36 rest
+dollar_by quoted at rest b _ more = Byte dollar_byte rest
 
 -- behind `$`, from the next byte that counts on: the text behind `$`, and the same from that byte on
 abbrev pub dollar : Bool → ℕ → Bytes → Bytes → Look
-dollar quoted at rest [] = Byte 36 rest
+dollar quoted at rest [] = Byte dollar_byte rest
 dollar quoted at rest (b ∷ more) = dollar_by quoted at rest b (kind b) more
 
 -- ---- in a word
@@ -113,17 +119,17 @@ dollar quoted at rest (b ∷ more) = dollar_by quoted at rest b (kind b) more
 -- single quotes keep every byte up to the next one
 abbrev pub has_quote : Bytes → Bool
 has_quote [] = false
-has_quote (b ∷ rest) = nat_eq b 39 || has_quote rest
+has_quote (b ∷ rest) = nat_eq b single_quote || has_quote rest
 
 -- the bytes up to the next single quote
 abbrev pub quote_body : Bytes → Bytes
 quote_body [] = []
-quote_body (b ∷ rest) = if nat_eq b 39 then [] else b ∷ quote_body rest
+quote_body (b ∷ rest) = if nat_eq b single_quote then [] else b ∷ quote_body rest
 
 -- the bytes behind the next single quote
 abbrev pub behind_quote : Bytes → Bytes
 behind_quote [] = []
-behind_quote (b ∷ rest) = if nat_eq b 39 then rest else behind_quote rest
+behind_quote (b ∷ rest) = if nat_eq b single_quote then rest else behind_quote rest
 
 -- a backslash quotes the next byte; at the text's end it is itself
 abbrev pub escaped : ℕ → Bytes → Look

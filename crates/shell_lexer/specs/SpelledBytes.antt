@@ -3,7 +3,9 @@
 -- itself exactly where one is spelled so.
 use Rattle.std.specs.Prelude.{◌≡◌, ℕ, Bool, true, false, not, ◌&&◌, ◌||◌, nat_eq, [], ◌∷◌, codes}
 use Rattle.std.specs.List.{list_any}
-use Rattle.shell_lexer.specs.Text.{Bytes, skip, is_blank, is_name_byte}
+use Rattle.script_names.specs.Ascii.{backslash as backslash_byte, dollar as dollar_byte}
+use Rattle.script_names.specs.ShellNames.{is_name_byte}
+use Rattle.shell_lexer.specs.Text.{Bytes, skip, is_blank}
 use Rattle.shell_lexer.specs.Spelling.{Stands, begins}
 use Rattle.shell_lexer.specs.SpelledEnds.{begins_operator}
 
@@ -28,9 +30,9 @@ pub data IsByte (inside : Bool) (text : Bytes) : ℕ → Bytes → Type 0 where
   ordinary : {byte : ℕ} {rest : Bytes} → Stands (byte ∷ []) text rest → has_meaning inside byte ≡ false
       → IsByte inside text byte rest
   dollar : {rest : Bytes} → Stands (codes "$") text rest → begins (begins_expansion inside) (skip rest) ≡ false
-      → IsByte inside text 36 rest
-  last : Stands (codes "\\") text [] → IsByte inside text 92 []
+      → IsByte inside text dollar_byte rest
+  last : Stands (codes "\\") text [] → IsByte inside text backslash_byte []
   backslash : {rest : Bytes} → inside ≡ true → Stands (codes "\\") text rest → begins is_escaped rest ≡ false
-      → IsByte inside text 92 rest
+      → IsByte inside text backslash_byte rest
   escaped : {byte : ℕ} {rest : Bytes} → inside ≡ true → Stands (codes "\\") text (byte ∷ rest)
       → is_escaped byte ≡ true → IsByte inside text byte rest

@@ -12,10 +12,12 @@ use Rattle.shell_syntax.specs.declared.redirect.Redirect.{Redirect}
 use Rattle.shell_lexer.specs.declared.fault.LexFault.{LexFault}
 use Rattle.shell_lexer.specs.declared.fault.LexFault.TheVariants.{Nul, Interpreter, OpenQuote, OpenSubstitution}
 use Rattle.shell_lexer.specs.declared.fault.LexFault.TheVariants.{Unsupported, Deep, Memory}
-use Rattle.shell_lexer.specs.Text.{Bytes, skip, is_digit, offset}
+use Rattle.script_names.specs.Ascii.{ampersand, less, nul, single_quote}
+use Rattle.script_names.specs.ShellNames.{is_digit, is_shell_name}
+use Rattle.shell_lexer.specs.Text.{Bytes, skip, offset}
 use Rattle.shell_lexer.specs.Spelling.{Stands, IsNotNext, IsRedirected}
 use Rattle.shell_lexer.specs.SpelledEnds.{AtTextEnd}
-use Rattle.shell_lexer.specs.SpelledParts.{is_variable, is_default, IsDigitOf, IsParam}
+use Rattle.shell_lexer.specs.SpelledParts.{is_default, IsDigitOf, IsParam}
 
 -- ---- where a token may begin
 
@@ -33,13 +35,13 @@ IsNoRedirection text = (which : Redirect) (rest : Bytes) → IsRedirected which 
 -- The forms that are not supported where a token may begin, in a text of which the whole has `len` bytes: a line each.
 -- A fault of a redirection or a here-document stands at the operator, not at the number before it.
 pub data IsWrong (len : ℕ) (text : Bytes) : LexFault → Type 0 where
-  background : {rest : Bytes} → Stands (codes "&") text rest → IsNotNext 38 rest
+  background : {rest : Bytes} → Stands (codes "&") text rest → IsNotNext ampersand rest
       → IsWrong len text (Unsupported form.Background (offset len text))
   arithmetic_command : {rest : Bytes} → Stands (codes "((") text rest
       → IsWrong len text (Unsupported form.Arith (offset len text))
   here_document : {from rest : Bytes} → IsNumbered (codes "<<") text from rest
       → IsWrong len text (Unsupported form.Heredoc (offset len from))
-  input : {from rest : Bytes} → IsNumbered (codes "<") text from rest → IsNotNext 60 rest → IsNoRedirection text
+  input : {from rest : Bytes} → IsNumbered (codes "<") text from rest → IsNotNext less rest → IsNoRedirection text
       → IsWrong len text (Unsupported form.Redirect (offset len from))
   output : {from rest : Bytes} → IsNumbered (codes ">") text from rest → IsNoRedirection text
       → IsWrong len text (Unsupported form.Redirect (offset len from))
@@ -48,7 +50,7 @@ pub data IsWrong (len : ℕ) (text : Bytes) : LexFault → Type 0 where
 
 -- what names a parameter that may have a default: a name, or a digit from 1 to 9
 pub data IsKey : Bytes → Type 0 where
-  name : {name : Bytes} → is_variable name ≡ true → IsKey name
+  name : {name : Bytes} → is_shell_name name ≡ true → IsKey name
   number : {number digit : ℕ} → IsDigitOf number digit → IsKey (digit ∷ [])
 
 -- What a parameter in braces begins with, behind `${` and before its `}`: a line each.
@@ -88,7 +90,7 @@ pub data IsOtherParam (inside : Bool) (text : Bytes) : Type 0 where
 -- a line each.
 pub data IsBad (inside : Bool) (at : ℕ) (text : Bytes) : LexFault → Type 0 where
   open_quote : {rest : Bytes} → inside ≡ false → Stands (codes "'") text rest
-      → list_all (λ b. not (nat_eq b 39)) rest ≡ true → IsBad inside at text (OpenQuote at)
+      → list_all (λ b. not (nat_eq b single_quote)) rest ≡ true → IsBad inside at text (OpenQuote at)
   open_parameter : EndsInParam text → IsBad inside at text (OpenSubstitution at)
   backquote : {rest : Bytes} → Stands (codes "`") text rest → IsBad inside at text (Unsupported form.Backquote at)
   arithmetic : {rest : Bytes} → Stands (codes "$((") text rest → IsBad inside at text (Unsupported form.Arith at)
@@ -100,8 +102,8 @@ pub data IsBad (inside : Bool) (at : ℕ) (text : Bytes) : LexFault → Type 0 w
 pub record IsFirstNul (at : ℕ) (text : Bytes) : Type 0 where
   pub before : Bytes
   pub rest : Bytes
-  pub is : text ≡ before ++ 0 ∷ rest
-  pub first : list_all (λ b. not (nat_eq b 0)) before ≡ true
+  pub is : text ≡ before ++ nul ∷ rest
+  pub first : list_all (λ b. not (nat_eq b nul)) before ≡ true
   pub place : length before ≡ at
 
 -- ---- at a fault's offset
@@ -134,7 +136,7 @@ beginnings _ = []
 -- what stands at a fault's offset: the NUL; the quote that is open; the `${` or `$(` that is; what the form begins
 -- with; the `$(` that is too deep. A first line has the offset 0.
 abbrev pub FaultStands : Bytes → LexFault → Type 0
-FaultStands text (Nul at) = OneStands ((0 ∷ []) ∷ []) at text
+FaultStands text (Nul at) = OneStands ((nul ∷ []) ∷ []) at text
 FaultStands text (Interpreter at) = at ≡ 0
 FaultStands text (OpenQuote at) = OneStands (codes "'" ∷ codes "\"" ∷ []) at text
 FaultStands text (OpenSubstitution at) = OneStands (codes "${" ∷ codes "$(" ∷ []) at text

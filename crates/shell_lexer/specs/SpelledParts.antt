@@ -1,22 +1,19 @@
 -- How the parts of a word are spelled that hold no others (POSIX.1-2017, XCU 2.2 Quoting, 2.5 Parameters and
 -- Variables, 2.6.2 Parameter Expansion, 2.6.3 Command Substitution): by their bytes, where joined lines are left out
 -- but in single quotes. src/theorems.rt proves that the tables of specs/Parts.antt see exactly what is spelled so.
-use Rattle.std.specs.Prelude.{◌≡◌, ℕ, ◌+◌, ◌≤◌, Bool, true, false, not, ◌&&◌, nat_eq, [], ◌∷◌, ◌++◌, Option, Some}
+use Rattle.std.specs.Prelude.{◌≡◌, ℕ, ◌+◌, ◌≤◌, Bool, true, false, not, nat_eq, [], ◌∷◌, ◌++◌, Option, Some}
 use Rattle.std.specs.Prelude.{None, codes}
 use Rattle.std.specs.List.{list_all}
 use Rattle.shell_syntax.specs.declared.key.Key.{Key}
 use Rattle.shell_syntax.specs.declared.key.Key.TheVariants.{Named, Arg, Count}
 use Rattle.shell_lexer.specs.declared.token.RawPart.{RawPart}
 use Rattle.shell_lexer.specs.declared.token.RawPart.TheVariants as part
-use Rattle.shell_lexer.specs.Text.{Bytes, skip, is_letter, is_name_byte, is_default_byte}
+use Rattle.script_names.specs.Ascii.{paren_open, single_quote}
+use Rattle.script_names.specs.ShellNames.{is_name_byte, is_shell_name}
+use Rattle.shell_lexer.specs.Text.{Bytes, skip, is_default_byte}
 use Rattle.shell_lexer.specs.Spelling.{Stands, begins, IsNotNext}
 
 -- ---- parameters (XCU 2.6.2)
-
--- letters, digits and underscores, the first no digit (Base Definitions, 3.235 Name)
-abbrev pub is_variable : Bytes → Bool
-is_variable [] = false
-is_variable (b ∷ rest) = is_letter b && list_all is_name_byte rest
 
 -- what a default may be: bytes that stand for themselves in braces
 abbrev pub is_default : Bytes → Bool
@@ -31,13 +28,13 @@ pub record IsDigitOf (number digit : ℕ) : Type 0 where
 -- The spellings of a parameter with its key and its default: a line each. A name outside braces is the longest one
 -- there; a number has one digit.
 pub data IsParam : Key → Option Bytes → Bytes → Bytes → Type 0 where
-  name : {name text rest : Bytes} → is_variable name ≡ true
+  name : {name text rest : Bytes} → is_shell_name name ≡ true
       → Stands (codes "$" ++ name) text rest → begins is_name_byte (skip rest) ≡ false
       → IsParam (Named name) None text rest
-  name_braced : {name text rest : Bytes} → is_variable name ≡ true
+  name_braced : {name text rest : Bytes} → is_shell_name name ≡ true
       → Stands (codes "${" ++ (name ++ codes "}")) text rest
       → IsParam (Named name) None text rest
-  name_default : {name default text rest : Bytes} → is_variable name ≡ true → is_default default ≡ true
+  name_default : {name default text rest : Bytes} → is_shell_name name ≡ true → is_default default ≡ true
       → Stands (codes "${" ++ (name ++ (codes ":-" ++ (default ++ codes "}")))) text rest
       → IsParam (Named name) (Some default) text rest
   number : {number digit : ℕ} {text rest : Bytes} → IsDigitOf number digit
@@ -58,8 +55,8 @@ pub data IsParam : Key → Option Bytes → Bytes → Bytes → Type 0 where
 -- behind a backslash (2.2.1 Escape Character (Backslash)), which is no newline, since a backslash before a newline
 -- would be a joined line.
 pub data IsQuoted : Bytes → Bytes → Bytes → Type 0 where
-  single : {bytes text rest : Bytes} → list_all (λ b. not (nat_eq b 39)) bytes ≡ true
-      → Stands (codes "'") text (bytes ++ 39 ∷ rest) → IsQuoted bytes text rest
+  single : {bytes text rest : Bytes} → list_all (λ b. not (nat_eq b single_quote)) bytes ≡ true
+      → Stands (codes "'") text (bytes ++ single_quote ∷ rest) → IsQuoted bytes text rest
   escaped : {byte : ℕ} {text rest : Bytes} → Stands (codes "\\") text (byte ∷ rest) → IsQuoted (byte ∷ []) text rest
 
 -- ---- all parts that hold no others
@@ -73,4 +70,4 @@ IsPiece inside _ text rest = ⊥
 -- `$(`, unless a second parenthesis follows, which begins an arithmetic expansion (2.6.3, 2.6.4)
 pub record IsSubstitution (text rest : Bytes) : Type 0 where
   pub stands : Stands (codes "$(") text rest
-  pub single : IsNotNext 40 rest
+  pub single : IsNotNext paren_open rest

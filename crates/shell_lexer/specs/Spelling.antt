@@ -3,6 +3,7 @@
 -- src/theorems.rt proves that the tables of specs/Operators.antt see exactly what is spelled so.
 use Rattle.std.specs.Prelude.{◌≡◌, ℕ, Bool, true, false, [], ◌∷◌, ◌++◌, codes}
 use Rattle.std.specs.List.{list_all}
+use Rattle.script_names.specs.Ascii.{bar, paren_open, semicolon}
 use Rattle.shell_syntax.specs.declared.redirect.Redirect.{Redirect}
 use Rattle.shell_syntax.specs.declared.redirect.Redirect.TheVariants.{OutNull, ErrNull, InNull, OutToErr, ErrToOut}
 use Rattle.shell_lexer.specs.declared.sight.Sign.{Sign}
@@ -60,11 +61,11 @@ pub data IsRedirected : Redirect → Bytes → Bytes → Type 0 where
 -- Grouping Commands).
 abbrev pub IsOperator : Sign → Bytes → Bytes → Type 0
 IsOperator sign.Newline text rest = Stands (codes "\n") text rest
-IsOperator sign.Semi text rest = Stands (codes ";") text rest × IsNotNext 59 rest
+IsOperator sign.Semi text rest = Stands (codes ";") text rest × IsNotNext semicolon rest
 IsOperator sign.DoubleSemi text rest = Stands (codes ";;") text rest
 IsOperator sign.AndAnd text rest = Stands (codes "&&") text rest
 IsOperator sign.OrOr text rest = Stands (codes "||") text rest
-IsOperator sign.Bar text rest = Stands (codes "|") text rest × IsNotNext 124 rest
-IsOperator sign.LeftParen text rest = Stands (codes "(") text rest × IsNotNext 40 rest
+IsOperator sign.Bar text rest = Stands (codes "|") text rest × IsNotNext bar rest
+IsOperator sign.LeftParen text rest = Stands (codes "(") text rest × IsNotNext paren_open rest
 IsOperator sign.RightParen text rest = Stands (codes ")") text rest
 IsOperator (sign.Redirect which) text rest = IsRedirected which text rest

@@ -1,7 +1,12 @@
 -- Bytes as a shell reads them (POSIX.1-2017, XCU 2.2.1 Escape Character (Backslash), 2.3 Token Recognition): what a
 -- byte is, and the bytes that count, which are all but those of joined lines.
-use Rattle.std.specs.Prelude.{ℕ, ◌-◌, Bool, true, false, if◌then◌else◌, not, ◌&&◌, ◌||◌, nat_eq, nat_le, List, [], ◌∷◌}
+use Rattle.std.specs.Prelude.{ℕ, ◌-◌, Bool, true, false, if◌then◌else◌, not, ◌&&◌, ◌||◌, nat_eq, List, [], ◌∷◌}
 use Rattle.std.specs.Prelude.{length, Option, Some, None}
+use Rattle.script_names.specs.Ascii.{ampersand, backquote, backslash, bar, brace_close, brace_open, commercial_at}
+use Rattle.script_names.specs.Ascii.{dollar, double_quote, exclamation, greater, hash, hyphen, less, newline}
+use Rattle.script_names.specs.Ascii.{paren_close, paren_open, question, semicolon, single_quote, space, star, tab}
+use Rattle.script_names.specs.Ascii.{tilde}
+use Rattle.script_names.specs.ShellNames.{is_digit, is_letter, is_name_byte}
 use Rattle.shell_lexer.specs.declared.byte_kind.ByteKind.{ByteKind}
 use Rattle.shell_lexer.specs.declared.byte_kind.ByteKind.TheVariants.{Blank, Newline, Semi, Amp, Bar, Open, Close}
 use Rattle.shell_lexer.specs.declared.byte_kind.ByteKind.TheVariants.{Less, Greater, Hash, Single, Double, Back}
@@ -16,29 +21,17 @@ Bytes = List ℕ
 
 -- space or tab
 abbrev pub is_blank : ℕ → Bool
-is_blank b = nat_eq b 32 || nat_eq b 9
-
--- `0` to `9`
-abbrev pub is_digit : ℕ → Bool
-is_digit b = nat_le 48 b && nat_le b 57
-
--- a letter or `_`
-abbrev pub is_letter : ℕ → Bool
-is_letter b = (nat_le 97 b && nat_le b 122) || (nat_le 65 b && nat_le b 90) || nat_eq b 95
-
--- a byte of a name (Base Definitions, 3.235 Name)
-abbrev pub is_name_byte : ℕ → Bool
-is_name_byte b = is_letter b || is_digit b
+is_blank b = nat_eq b space || nat_eq b tab
 
 -- `*`, `?`, `!` or `-`
 abbrev pub is_special : ℕ → Bool
-is_special b = nat_eq b 42 || nat_eq b 63 || nat_eq b 33 || nat_eq b 45
+is_special b = nat_eq b star || nat_eq b question || nat_eq b exclamation || nat_eq b hyphen
 
 -- a byte that a default may have: no newline, quote, backslash, backquote, `$`, brace or `~`
 abbrev pub is_default_byte : ℕ → Bool
 is_default_byte b =
-    not (nat_eq b 10 || nat_eq b 39 || nat_eq b 34 || nat_eq b 92 || nat_eq b 96 || nat_eq b 36
-    || nat_eq b 123 || nat_eq b 125 || nat_eq b 126)
+    not (nat_eq b newline || nat_eq b single_quote || nat_eq b double_quote || nat_eq b backslash || nat_eq b backquote
+    || nat_eq b dollar || nat_eq b brace_open || nat_eq b brace_close || nat_eq b tilde)
 
 -- whether a run has the byte
 abbrev pub passes : RunKind → ℕ → Bool
@@ -50,24 +43,25 @@ passes Defaults b = is_default_byte b
 -- what a byte is to the lexer that begins no blank, operator or comment
 abbrev pub word_kind : ℕ → ByteKind
 word_kind b =
-    if nat_eq b 39 then Single else (if nat_eq b 34 then Double else (if nat_eq b 92 then Back else
-    (if nat_eq b 96 then Tick else (if nat_eq b 36 then Dollar else (if nat_eq b 123 then Brace else
-    (if nat_eq b 64 then At else (if is_special b then Special else (if is_digit b then Digit else
+    if nat_eq b single_quote then Single else (if nat_eq b double_quote then Double else
+    (if nat_eq b backslash then Back else (if nat_eq b backquote then Tick else
+    (if nat_eq b dollar then Dollar else (if nat_eq b brace_open then Brace else
+    (if nat_eq b commercial_at then At else (if is_special b then Special else (if is_digit b then Digit else
     (if is_letter b then Name else Other)))))))))
 
 -- what a byte is to the lexer
 abbrev pub kind : ℕ → ByteKind
 kind b =
-    if is_blank b then Blank else (if nat_eq b 10 then Newline else (if nat_eq b 59 then Semi else
-    (if nat_eq b 38 then Amp else (if nat_eq b 124 then Bar else (if nat_eq b 40 then Open else
-    (if nat_eq b 41 then Close else (if nat_eq b 60 then Less else (if nat_eq b 62 then Greater else
-    (if nat_eq b 35 then Hash else word_kind b)))))))))
+    if is_blank b then Blank else (if nat_eq b newline then Newline else (if nat_eq b semicolon then Semi else
+    (if nat_eq b ampersand then Amp else (if nat_eq b bar then Bar else (if nat_eq b paren_open then Open else
+    (if nat_eq b paren_close then Close else (if nat_eq b less then Less else (if nat_eq b greater then Greater else
+    (if nat_eq b hash then Hash else word_kind b)))))))))
 
 -- the text from its next byte that counts on: a backslash directly before a newline vanishes with it
 abbrev pub skip : Bytes → Bytes
 skip [] = []
 skip (a ∷ []) = a ∷ []
-skip (a ∷ b ∷ rest) = if nat_eq a 92 && nat_eq b 10 then skip rest else a ∷ b ∷ rest
+skip (a ∷ b ∷ rest) = if nat_eq a backslash && nat_eq b newline then skip rest else a ∷ b ∷ rest
 
 -- the offset of a rest of a text of len bytes
 abbrev pub place : ℕ → Bytes → ℕ
@@ -101,7 +95,7 @@ behind_bytes (b ∷ bytes) text = behind_next b (behind_bytes bytes) (skip text)
 abbrev pub cells : Bytes → List (ℕ × Bytes)
 cells [] = []
 cells (a ∷ []) = (a, []) ∷ []
-cells (a ∷ b ∷ rest) = if nat_eq a 92 && nat_eq b 10 then cells rest else (a, b ∷ rest) ∷ cells (b ∷ rest)
+cells (a ∷ b ∷ rest) = if nat_eq a backslash && nat_eq b newline then cells rest else (a, b ∷ rest) ∷ cells (b ∷ rest)
 
 -- the longest run of bytes that pass a test
 abbrev pub run_of : (ℕ → Bool) → List (ℕ × Bytes) → Bytes

@@ -3,7 +3,7 @@ pub(crate) const OPENING_BRACE: u8 = b'{';
 
 /// What a byte is to the lexer.
 #[derive(Clone, Copy, Debug, PartialEq, Eq)]
-pub(crate) enum ByteKind {
+pub enum ByteKind {
     /// Space or tab.
     Blank,
     Newline,
@@ -34,7 +34,7 @@ pub(crate) enum ByteKind {
 
 /// Which bytes a run is made of.
 #[derive(Clone, Copy, Debug, PartialEq, Eq)]
-pub(crate) enum RunKind {
+pub enum RunKind {
     Blanks,
     Digits,
     /// Letters, digits and `_`.

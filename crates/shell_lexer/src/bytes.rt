@@ -1,6 +1,7 @@
 //! Kinds of bytes, and joined lines.
 
 ghost use Rattle.std.specs.Prelude.{◌≡◌, ◌≤◌, length, drop};
+ghost use Rattle.script_names.specs.ShellNames as names;
 ghost use Rattle.shell_lexer.specs.Seen.{IsBehind};
 ghost use Rattle.shell_lexer.specs.Text as text;
 
@@ -14,13 +15,13 @@ pub(crate) fn is_blank(byte: u8) -> bool
 }
 
 fn is_digit(byte: u8) -> bool
-    ensures { result ≡ text.is_digit byte }
+    ensures { result ≡ names.is_digit byte }
 {
     b'0' <= byte && byte <= b'9'
 }
 
 fn is_letter(byte: u8) -> bool
-    ensures { result ≡ text.is_letter byte }
+    ensures { result ≡ names.is_letter byte }
 {
     (b'a' <= byte && byte <= b'z') || (b'A' <= byte && byte <= b'Z') || byte == b'_'
 }

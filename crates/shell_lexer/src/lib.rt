@@ -3,7 +3,7 @@
 //! a cut is; then specs/Reading.antt.
 #![tactic(auto)]
 
-mod byte_kind;
+pub mod byte_kind;
 mod bytes;
 mod copies;
 mod fault;
@@ -12,11 +12,9 @@ mod late;
 mod lexer;
 mod operators;
 mod parts;
-pub mod printed;
 mod runs;
 mod scan;
-mod sight;
-pub mod theorems;
+pub mod sight;
 mod token;
 
 pub use fault::LexFault;

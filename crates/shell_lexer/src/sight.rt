@@ -4,7 +4,7 @@ use shell_syntax::Redirect;
 
 /// An operator, or a whole redirection.
 #[derive(Clone, Copy, Debug, PartialEq, Eq)]
-pub(crate) enum Sign {
+pub enum Sign {
     Newline,
     Semi,
     DoubleSemi,
@@ -18,7 +18,7 @@ pub(crate) enum Sign {
 
 /// What stands where a token may begin, with the place behind it.
 #[derive(Clone, Copy)]
-pub(crate) enum Sight {
+pub enum Sight {
     End,
     /// A blank or a comment.
     Passed(usize),
@@ -29,7 +29,7 @@ pub(crate) enum Sight {
 
 /// What stands in a word or in double quotes, with the place behind it.
 #[derive(Drop)]
-pub(crate) enum Look {
+pub enum Look {
     /// The end of the word; in double quotes, of the text.
     Ends,
     /// A byte that stands for itself.
@@ -48,7 +48,7 @@ pub(crate) enum Look {
 /// What a whole word is looked over by: each plain byte with its place, each `$@` with its place and whether it is
 /// quoted, and what stands between two plain bytes that are no neighbours.
 #[derive(Clone, Copy, Debug, PartialEq, Eq)]
-pub(crate) enum ByteNote {
+pub enum ByteNote {
     Gap,
     Plain(u8, u32),
     All(u32, bool),

@@ -8,7 +8,7 @@ use Rattle.shell_syntax.specs.declared.syntax.Word.{Word}
 use Rattle.shell_syntax.specs.declared.syntax.Part.{Part}
 use Rattle.shell_syntax.specs.declared.syntax.Assign.{Assign}
 use Rattle.shell_lexer.specs.declared.token.RawPart.{RawPart, out-RawPart, out-roll-RawPart}
-use Rattle.shell_grammar.specs.Look.{Text, Tokens, look, word, behind, place}
+use Rattle.shell_grammar.specs.Look.{Text, Tokens, look, word, behind, place, up_to_equals}
 use Rattle.shell_grammar.specs.Trees as tree
 use Rattle.shell_grammar.specs.Grammar as g
 use Rattle.shell_grammar.specs.Grammar.{Rule, Sign, Is, Opens, AWord, Here, Never, Of, Inside, Tree, Value, Values, Production, production}
@@ -134,15 +134,15 @@ assign_bad d end ts raws rest l e r Memory x = tt
 seen_text : (w : Text) (ps : List Part) → tree.first_text (part.Plain w ∷ ps) ≡ w
 seen_text w ps = ap tree.plain_text (ap out-Part (sym (part.rolls-Plain w)) ∙ out-roll-Part (o.Plain w))
 
-assigned_at : (n : ℕ) (w : Text) (ps : List Part) → tree.assigned (tree.word_at n (part.Plain w ∷ ps)) ≡ assign_of (tree.up_to_equals w) (tree.word_at n (tree.plain_part_of (tree.behind_equals w) ++ ps))
-assigned_at n w ps = ap (λ t. assign_of (tree.up_to_equals t) (tree.word_at n (tree.plain_part_of (tree.behind_equals t) ++ ps))) (seen_text w ps)
+assigned_at : (n : ℕ) (w : Text) (ps : List Part) → tree.assigned (tree.word_at n (part.Plain w ∷ ps)) ≡ assign_of (up_to_equals w) (tree.word_at n (tree.plain_part_of (tree.behind_equals w) ++ ps))
+assigned_at n w ps = ap (λ t. assign_of (up_to_equals t) (tree.word_at n (tree.plain_part_of (tree.behind_equals t) ++ ps))) (seen_text w ps)
 
 -- the name and the value as the code makes them
 pub assign_ok : (d end : ℕ) (ts : Tokens) (at : ℕ) (raws rest : List RawPart) (text name value : Text) (begun all : List Part) (n : ℕ)
-    → look (drop at ts) ≡ Assignment → word (drop at ts) ≡ Some raws → rest ≡ tree.rest_of raws → text ≡ raw_text raws → name ≡ tree.up_to_equals text → value ≡ tree.behind_equals text → begun ≡ tree.plain_part_of value
+    → look (drop at ts) ≡ Assignment → word (drop at ts) ≡ Some raws → rest ≡ tree.rest_of raws → text ≡ raw_text raws → name ≡ up_to_equals text → value ≡ tree.behind_equals text → begun ≡ tree.plain_part_of value
     → PartsGiven d begun rest all → n ≡ place end (drop at ts) → Assigns d end (drop at ts) (assign_of name (tree.word_at n all)) (drop (at + 1) ts)
 assign_ok d end ts at raws rest text name value begun all n l e r t u v b x f = record {
   word = tree.word_at n (part.Plain (raw_text raws) ∷ x.parts);
   reads = a_word raws (part.Plain (raw_text raws) ∷ x.parts) e (assign_faultless d raws x.parts (sym (word_raws (drop at ts) raws e) ∙ l) (subst (λ rest. IsParts deep_64 d rest (Faultless x.parts)) r x.reads)) (ap (λ n. Whole (tree.word_at n (part.Plain (raw_text raws) ∷ x.parts)) (drop (at + 1) ts)) f ∙ ap (Whole (tree.word_at (place end (drop at ts)) (part.Plain (raw_text raws) ∷ x.parts))) (sym (step_on ts at)));
-  assigns = ap (λ l. assign_of name (tree.word_at n l)) (x.joins ∙ ap (λ l. l ++ x.parts) (b ∙ ap tree.plain_part_of (v ∙ ap tree.behind_equals t))) ∙ ap (λ m. assign_of m (tree.word_at n (tree.plain_part_of (tree.behind_equals (raw_text raws)) ++ x.parts))) (u ∙ ap tree.up_to_equals t) ∙ sym (assigned_at n (raw_text raws) x.parts);
+  assigns = ap (λ l. assign_of name (tree.word_at n l)) (x.joins ∙ ap (λ l. l ++ x.parts) (b ∙ ap tree.plain_part_of (v ∙ ap tree.behind_equals t))) ∙ ap (λ m. assign_of m (tree.word_at n (tree.plain_part_of (tree.behind_equals (raw_text raws)) ++ x.parts))) (u ∙ ap up_to_equals t) ∙ sym (assigned_at n (raw_text raws) x.parts);
 }

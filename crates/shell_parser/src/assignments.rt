@@ -1,8 +1,8 @@
 //! A word NAME=.., cut at its first `=`.
 
 ghost use Rattle.std.specs.Prelude.{◌≡◌, IfOk};
-ghost use Rattle.shell_grammar.specs.Trees.{up_to_equals as up_to_equals_of, behind_equals as behind_equals_of};
-ghost use Rattle.shell_grammar.specs.Trees.{plain_part_of, rest_of as the_rest_of};
+ghost use Rattle.shell_grammar.specs.Look.{up_to_equals as up_to_equals_of};
+ghost use Rattle.shell_grammar.specs.Trees.{behind_equals as behind_equals_of, plain_part_of, rest_of as the_rest_of};
 ghost use Rattle.shell_parser.specs.Reads.{raw_text as raw_text_of};
 
 use script_names::{Bytes, List, Memory};

@@ -1,15 +1,18 @@
 //! What stands at a place, and how a word looks.
 
-ghost use Rattle.std.specs.Prelude.{◌≡◌, ◌≤◌, length, drop, true, if◌then◌else◌, Some as Found};
+ghost use Rattle.std.specs.Prelude.{◌≡◌, ◌≤◌, length, drop, nat_eq, if◌then◌else◌, Some as Found};
+ghost use Rattle.std.specs.List.{list_all, list_any};
 ghost use Rattle.std.specs.Str.{bytes_eq};
+ghost use Rattle.script_names.specs.Ascii.{equals};
+ghost use Rattle.script_names.specs.ShellNames as names;
+ghost use Rattle.script_names.specs.ShellNames.{is_shell_name};
 ghost use Rattle.shell_grammar.specs.Look.{look as look_of, kind_look as kind_look_of, word_look as word_look_of};
 ghost use Rattle.shell_grammar.specs.Look.{seen_look, whole_look as whole_look_of, begun_look as begun_look_of};
-ghost use Rattle.shell_grammar.specs.Look.{name_from, assigns_from, is_name_byte as is_name_byte_of};
-ghost use Rattle.shell_grammar.specs.Look.{is_letter as is_letter_of, is_digit as is_digit_of};
-ghost use Rattle.shell_grammar.specs.Look.{reserved as reserved_of};
+ghost use Rattle.shell_grammar.specs.Look.{begins_assignment, reserved as reserved_of};
 ghost use Rattle.shell_lexer.specs.declared.token.TokenKind.{out-TokenKind};
 ghost use Rattle.shell_lexer.specs.declared.token.RawPart.{out-RawPart};
 
+use crate::assignments::up_to_equals;
 use shell_grammar::{Look, Reserved};
 use shell_lexer::{RawPart, Token, TokenKind};
 
@@ -91,53 +94,44 @@ fn begun_look(text: &[u8]) -> Look
     Look::Other
 }
 
-fn is_name(text: &[u8]) -> bool
-    ensures { result ≡ name_from true text.now }
-{
-    let mut first = true;
-    let mut i = 0;
-    while i < text.len() {
-        if !is_name_byte(first, text[i]) {
-            return false;
-        }
-        first = false;
-        i += 1;
-    }
-    !first
-}
-
+/// Whether a name and a `=` stand at its beginning.
 fn assigns(text: &[u8]) -> bool
-    ensures { result ≡ assigns_from true text.now }
+    ensures { result ≡ begins_assignment text.now }
 {
-    let mut first = true;
-    let mut i = 0;
-    while i < text.len() {
-        let byte = text[i];
-        if !is_name_byte(first, byte) {
-            return !first && byte == b'=';
-        }
-        first = false;
-        i += 1;
-    }
-    false
+    has_equals(text) && is_name(up_to_equals(text))
 }
 
-fn is_name_byte(first: bool, byte: u8) -> bool
-    ensures { result ≡ is_name_byte_of first byte }
+fn has_equals(text: &[u8]) -> bool
+    ensures { result ≡ list_any (λ b. nat_eq b equals) text.now }
 {
-    is_letter(byte) || (!first && is_digit(byte))
+    text.iter().any(|byte| *byte == b'=')
+}
+
+fn is_name(text: &[u8]) -> bool
+    ensures { result ≡ is_shell_name text.now }
+{
+    match text {
+        [] => false,
+        [first, rest @ ..] => is_letter(*first) && are_name_bytes(rest),
+    }
+}
+
+fn are_name_bytes(text: &[u8]) -> bool
+    ensures { result ≡ list_all names.is_name_byte text.now }
+{
+    text.iter().all(|byte| is_name_byte(*byte))
+}
+
+fn is_name_byte(byte: u8) -> bool
+    ensures { result ≡ names.is_name_byte byte }
+{
+    is_letter(byte) || (48 <= byte && byte <= 57)
 }
 
 fn is_letter(byte: u8) -> bool
-    ensures { result ≡ is_letter_of byte }
+    ensures { result ≡ names.is_letter byte }
 {
-    (65 <= byte && byte <= 90) || byte == 95 || (97 <= byte && byte <= 122)
-}
-
-fn is_digit(byte: u8) -> bool
-    ensures { result ≡ is_digit_of byte }
-{
-    48 <= byte && byte <= 57
+    (97 <= byte && byte <= 122) || (65 <= byte && byte <= 90) || byte == 95
 }
 
 /// Which reserved word it is.

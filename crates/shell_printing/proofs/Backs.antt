@@ -16,7 +16,7 @@ use Rattle.shell_lexer.specs.declared.token.RawPart.TheFolds.{fold-roll-RawPart,
 use Rattle.shell_lexer.specs.Late.{late, all_args, tilde, brace, is_plainly, found, sooner, as_fault}
 use Rattle.shell_lexer.specs.Operators.{Sight, Operator, Word, sight}
 use Rattle.shell_lexer.specs.Reading.{Out, Whole, Stop, Read, behind as preceded, token_at, kind_of_sign, opened, closes, IsItems, IsWord, word_ends, word_byte}
-use Rattle.shell_lexer.specs.PrintedLaws.{raw_text as lexed_text, holds_no_run, holds_no_all, is_last, ends_in_backslash, is_apart, operator_text, OperatorsReadBack, WordTokensReadBack, AllTokensReadBack}
+use Rattle.token_laws.specs.PrintedLaws.{raw_text as lexed_text, holds_no_run, holds_no_all, is_last, ends_in_backslash, is_apart, operator_text, OperatorsReadBack, WordTokensReadBack, AllTokensReadBack}
 use Rattle.shell_lexer.specs.Text.{Bytes}
 use Rattle.shell_grammar.specs.Look.{Tokens}
 use Rattle.shell_printing.specs.PrintedTokens.{word_token, plain_token, operator, line, redirect_token}

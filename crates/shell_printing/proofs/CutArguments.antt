@@ -4,15 +4,15 @@ use Rattle.shell_syntax.specs.declared.form.Form.{Form}
 use Rattle.shell_syntax.specs.declared.form.Form.TheVariants as form
 use Rattle.shell_lexer.specs.declared.token.RawPart.{RawPart}
 use Rattle.shell_lexer.specs.declared.token.RawPart.TheVariants as raw
-use Rattle.shell_lexer.specs.Laws.{PartsAreSpelled}
+use Rattle.token_laws.specs.Laws.{PartsAreSpelled}
 use Rattle.shell_lexer.specs.Late.{late, all_args, first_all, is_all_word, found, sooner, as_fault}
 use Rattle.shell_lexer.specs.Parts.{look, inner}
-use Rattle.shell_lexer.specs.PrintedLaws.{holds_no_all}
+use Rattle.token_laws.specs.PrintedLaws.{holds_no_all}
 use Rattle.shell_lexer.specs.Reading.{Out, Whole, Stop, Read, plain_run, quoted_run, last_run, IsWord, word_ends, word_byte, word_piece, word_all, word_double, word_run, word_wrong, word_bad_double, word_bad_run, IsInner, inner_open, inner_ends, inner_byte, inner_piece, inner_all, inner_run, inner_wrong, inner_bad_run}
 use Rattle.shell_lexer.specs.SpelledParts.{IsPiece}
 use Rattle.shell_lexer.specs.Text.{Bytes}
 use Rattle.shell_printing.proofs.Backs.{false_true}
-use Rattle.shell_lexer.proofs.PrintedNotes.{is_nil}
+use Rattle.token_laws.proofs.PrintedNotes.{is_nil}
 use Rattle.shell_printing.proofs.Offsets.{both as two}
 
 -- ---- parts without `$@`

@@ -9,14 +9,15 @@ use Rattle.shell_syntax.specs.PrintedParts.{is_active, escaped as escape, is_one
 use Rattle.shell_lexer.specs.declared.token.Token.{Token}
 use Rattle.shell_lexer.specs.declared.token.RawPart.{RawPart}
 use Rattle.shell_lexer.specs.declared.token.RawPart.TheVariants as raw
-use Rattle.shell_lexer.specs.Laws.{PartsAreSpelled, AllArgsAreSpelled, SubstitutionsAreSpelled, DoubleQuotesAreSpelled}
+use Rattle.token_laws.specs.Laws.{PartsAreSpelled, AllArgsAreSpelled, SubstitutionsAreSpelled, DoubleQuotesAreSpelled}
 use Rattle.shell_lexer.specs.Operators.{Sight, Passed, Operator, sight_by, sight_at, sight, less, greater, copied, redirected, numbered, numbered_by, out_to, in_from, copy_of, whole_word, null_word, after_line}
 use Rattle.shell_lexer.specs.Parts.{Look, Byte, look, look_at, look_by, inner, inner_at, inner_by, inner_escaped, is_escapable, dollar, escaped, has_quote}
-use Rattle.shell_lexer.specs.PrintedLaws.{raw_text as lexed_text, holds_no_run}
+use Rattle.token_laws.specs.PrintedLaws.{raw_text as lexed_text, holds_no_run}
 use Rattle.shell_lexer.specs.Reading.{Out, Whole, Stop, Read, behind, ended, plain_run, quoted_run, last_run, IsItems, items_end, items_pass, items_wrong, items_close, items_sign, items_word, items_late, items_bad, IsWord, word_ends, word_byte, word_piece, word_all, word_double, word_run, word_wrong, word_bad_double, word_bad_run, IsInner, inner_open, inner_ends, inner_byte, inner_piece, inner_all, inner_run, inner_wrong, inner_bad_run, IsSub, sub_deep, sub_items}
 use Rattle.shell_lexer.specs.Spelling.{Stands}
 use Rattle.shell_lexer.specs.SpelledParts.{IsParam, name as by_name, name_braced, name_default, number as by_number, number_braced, number_default, count as by_count, count_braced, IsQuoted, single, escaped as by_backslash, IsPiece}
-use Rattle.shell_lexer.specs.Text.{Bytes, kind, cells, run_of, behind_run, behind_bytes, behind_next, is_blank, is_digit, is_letter, is_special, skip, place, tail, head_is, ends_word}
+use Rattle.script_names.specs.ShellNames.{is_digit, is_letter}
+use Rattle.shell_lexer.specs.Text.{Bytes, kind, cells, run_of, behind_run, behind_bytes, behind_next, is_blank, is_special, skip, place, tail, head_is, ends_word}
 use Rattle.shell_printing.proofs.CleanTexts.{is_clean, IsClean}
 use Rattle.shell_printing.specs.TokenTexts.{raw_text}
 use Rattle.shell_printing.proofs.Backs.{false_true, clean_append, same_text}

@@ -3,7 +3,8 @@ use Rattle.std.proofs.Common.{◌≡◌, ℕ, ◌-◌, Bool, true, false, if◌t
 use Rattle.shell_syntax.specs.declared.key.Key.{Key}
 use Rattle.shell_syntax.specs.declared.key.Key.TheVariants.{Named, Arg, Count}
 use Rattle.shell_lexer.specs.Parts.{Look, Ends, Byte, dollar, dollar_by, before_quote, braced, braced_by, behind_key, behind_colon, closed, number_key}
-use Rattle.shell_lexer.specs.Text.{Bytes, is_name_byte, is_default_byte, cells, run_of, behind_run, is_blank, is_digit, is_letter, is_special, skip, head_is}
+use Rattle.script_names.specs.ShellNames.{is_name_byte, is_digit, is_letter}
+use Rattle.shell_lexer.specs.Text.{Bytes, is_default_byte, cells, run_of, behind_run, is_blank, is_special, skip, head_is}
 
 pub either : {A : Type 0} (Q : A → Type 0) (b : Bool) {x y : A} → Q x → Q y → Q (if b then x else y)
 either Q true h g = h

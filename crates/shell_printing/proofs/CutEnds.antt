@@ -2,16 +2,17 @@
 use Rattle.std.proofs.Common.{◌≡◌, ℕ, Bool, true, false, nat_eq, List, [], ◌∷◌, ◌++◌, append-nil, refl, sym, ap, ◌∙◌, subst}
 use Rattle.shell_lexer.specs.declared.token.RawPart.{RawPart}
 use Rattle.shell_lexer.specs.declared.token.RawPart.TheVariants as raw
-use Rattle.shell_lexer.specs.Laws.{PartsAreSpelled}
+use Rattle.token_laws.specs.Laws.{PartsAreSpelled}
 use Rattle.shell_lexer.specs.Parts.{Look, Byte, look, look_at, look_by, inner, dollar, escaped, has_quote}
-use Rattle.shell_lexer.specs.PrintedLaws.{is_last, ends_in_backslash}
+use Rattle.token_laws.specs.PrintedLaws.{is_last, ends_in_backslash}
 use Rattle.shell_lexer.specs.Reading.{Out, Whole, Stop, Read, plain_run, quoted_run, last_run, IsWord, word_ends, word_byte, word_piece, word_all, word_double, word_run, word_wrong, word_bad_double, word_bad_run, IsInner, inner_open, inner_ends, inner_byte, inner_piece, inner_all, inner_run, inner_wrong, inner_bad_run}
 use Rattle.shell_lexer.specs.SpelledParts.{IsPiece}
-use Rattle.shell_lexer.specs.Text.{Bytes, kind, is_blank, is_digit, is_letter, is_special, skip, place}
+use Rattle.script_names.specs.ShellNames.{is_digit, is_letter}
+use Rattle.shell_lexer.specs.Text.{Bytes, kind, is_blank, is_special, skip, place}
 use Rattle.shell_printing.proofs.Backs.{false_true}
 use Rattle.shell_printing.proofs.CutDollars.{either, IsDollar, dollar_seen}
 use Rattle.shell_printing.proofs.Ends.{if_case as tested}
-use Rattle.shell_lexer.proofs.PrintedWords.{not_end}
+use Rattle.token_laws.proofs.PrintedWords.{not_end}
 use Rattle.shell_printing.proofs.WordBytes.{eq_of}
 
 -- ---- what stands where a plain backslash is seen

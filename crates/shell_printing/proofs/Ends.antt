@@ -13,14 +13,15 @@ use Rattle.shell_syntax.specs.declared.syntax.Word.{Word}
 use Rattle.shell_lexer.specs.declared.token.RawPart.{RawPart, out-RawPart}
 use Rattle.shell_lexer.specs.declared.token.RawPart.TheVariants as raw
 use Rattle.shell_lexer.specs.declared.token.RawPart.TheOpen as o
-use Rattle.shell_lexer.specs.LongestRuns.{plain_runs_are_longest}
+use Rattle.token_laws.specs.LongestRuns.{plain_runs_are_longest}
 use Rattle.shell_grammar.specs.declared.items.Items.{Items}
 use Rattle.shell_grammar.specs.declared.look.Look.{Look}
 use Rattle.shell_grammar.specs.declared.look.Look.TheVariants.{AtEnd, Keyword, Name, Assignment, Other}
 use Rattle.shell_grammar.specs.declared.look.Reserved.{Reserved}
 use Rattle.shell_grammar.specs.declared.look.Reserved.TheVariants.{Case}
 use Rattle.shell_grammar.specs.Forms.{is_name_word}
-use Rattle.shell_grammar.specs.Look.{Text, Tokens, look, word, kind_look, kind_word, word_look, whole_look, reserved, is_name, assigns_from}
+use Rattle.script_names.specs.ShellNames.{is_shell_name}
+use Rattle.shell_grammar.specs.Look.{Text, Tokens, look, word, kind_look, kind_word, word_look, whole_look, reserved, begins_assignment}
 use Rattle.shell_grammar.specs.Reading.{plainly}
 use Rattle.shell_grammar.specs.Trees.{no_items, word_at, word_text, assigned}
 use Rattle.shell_grammar.specs.PlainGrammar.{AreNewlines, no_newline, newline, IsSeparator, semicolon, line_end, AreRedirects, no_redirect, one_redirect, AreMembers, no_member, last_separator, one_member, AreLinks, no_link, and_link, or_link, ArePiped, no_pipe, one_pipe, IsElse, no_else, elif_part, else_part, AreForWords, in_words, for_semicolon, no_in, AreWords, no_words, one_word, ArePatterns, no_pattern, one_pattern, AreItems, no_item, assignment_item, redirect_item, word_item, IsWord, the_word, PartsAre, no_part, a_part, a_substitution}
@@ -144,7 +145,7 @@ case_of w =
 
 pub whole_case : (w : Text) (r : Option Reserved) → whole_look w r ≡ Keyword Case → r ≡ Some Case
 whole_case w (Some which) e = ap Some cc
-whole_case w None e = absurd (by (is_name w) (assigns_from true w) e) where
+whole_case w None e = absurd (by (is_shell_name w) (begins_assignment w) e) where
   by : (a b : Bool) → (if a then Name else (if b then Assignment else Other)) ≡ Keyword Case → ⊥
   by true b e = cc e
   by false true e = cc e

@@ -8,8 +8,8 @@ use Rattle.shell_lexer.specs.declared.token.RawPart.TheVariants as raw
 use Rattle.shell_syntax.specs.declared.syntax.Part.{Part}
 use Rattle.shell_syntax.specs.declared.syntax.Part.TheVariants as part
 use Rattle.shell_lexer.specs.declared.token.RawPart.TheOpen as o
-use Rattle.shell_lexer.specs.Laws.{PlainRunsAreLongest, PartsAreSpelled}
-use Rattle.shell_lexer.specs.LongestRuns.{plain_runs_are_longest}
+use Rattle.token_laws.specs.Laws.{PlainRunsAreLongest, PartsAreSpelled}
+use Rattle.token_laws.specs.LongestRuns.{plain_runs_are_longest}
 use Rattle.shell_lexer.specs.Parts.{look, inner}
 use Rattle.shell_lexer.specs.Reading.{Out, Whole, Stop, Read, behind, ended, token_at, plain_run, quoted_run, last_run, IsItems, items_end, items_pass, items_wrong, items_close, items_sign, items_word, items_late, items_bad, IsWord, word_ends, word_byte, word_piece, word_all, word_double, word_run, word_wrong, word_bad_double, word_bad_run, IsInner, inner_open, inner_ends, inner_byte, inner_piece, inner_all, inner_run, inner_wrong, inner_bad_run, IsSub, sub_deep, sub_items}
 use Rattle.shell_lexer.specs.SpelledParts.{IsPiece}

@@ -19,7 +19,7 @@ use Rattle.shell_lexer.specs.declared.token.TokenKind.{out-TokenKind}
 use Rattle.shell_lexer.specs.declared.token.TokenKind.TheVariants as token
 use Rattle.shell_lexer.specs.declared.token.RawPart.{RawPart}
 use Rattle.shell_lexer.specs.declared.token.RawPart.TheVariants as raw
-use Rattle.shell_lexer.specs.PrintedLaws.{OperatorsReadBack, WordTokensReadBack, AllTokensReadBack}
+use Rattle.token_laws.specs.PrintedLaws.{OperatorsReadBack, WordTokensReadBack, AllTokensReadBack}
 use Rattle.shell_grammar.specs.declared.items.Items.{Items}
 use Rattle.shell_grammar.specs.declared.look.Look.{Look}
 use Rattle.shell_grammar.specs.declared.look.Look.TheVariants.{Keyword, Assignment}

@@ -5,10 +5,10 @@ use Rattle.shell_syntax.specs.Printed.{first_line, script_text}
 use Rattle.shell_lexer.specs.declared.token.Lexed.{Lexed}
 use Rattle.shell_lexer.specs.Depth.{too_deep}
 use Rattle.shell_lexer.specs.FirstLine.{first_line as line_of, behind_line, interpreter, nul_from}
-use Rattle.shell_lexer.specs.Laws.{PlainRunsAreLongest, PartsAreSpelled, AllArgsAreSpelled, SubstitutionsAreSpelled, DoubleQuotesAreSpelled}
+use Rattle.token_laws.specs.Laws.{PlainRunsAreLongest, PartsAreSpelled, AllArgsAreSpelled, SubstitutionsAreSpelled, DoubleQuotesAreSpelled}
 use Rattle.shell_lexer.specs.Lexed.{IsBody}
 use Rattle.shell_lexer.specs.Parts.{look, inner}
-use Rattle.shell_lexer.specs.PrintedLaws.{QuotedIsOnePart, ParamIsOnePart, AllIsOnePart, SubstitutionsClose, OperatorsReadBack, WordTokensReadBack, AllTokensReadBack}
+use Rattle.token_laws.specs.PrintedLaws.{QuotedIsOnePart, ParamIsOnePart, AllIsOnePart, SubstitutionsClose, OperatorsReadBack, WordTokensReadBack, AllTokensReadBack}
 use Rattle.shell_lexer.specs.Reading.{Whole, IsItems, items_end}
 use Rattle.shell_lexer.specs.Text.{Bytes}
 use Rattle.shell_grammar.proofs.FromTable.{plain_script}

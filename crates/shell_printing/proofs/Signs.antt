@@ -5,7 +5,8 @@ use Rattle.shell_lexer.specs.declared.token.TokenKind.{out-TokenKind}
 use Rattle.shell_lexer.specs.declared.token.RawPart.TheOpen as o
 use Rattle.shell_lexer.specs.Operators.{Sight, Operator, sight_by, sight_at, sight, less, greater, copied, redirected, numbered, numbered_by, out_to, in_from, copy_of, whole_word, null_word}
 use Rattle.shell_lexer.specs.Reading.{kind_of_sign}
-use Rattle.shell_lexer.specs.Text.{Bytes, kind, is_blank, is_digit, is_letter, is_special, skip, place, tail, head_is, cells, run_of, behind_run}
+use Rattle.script_names.specs.ShellNames.{is_digit, is_letter}
+use Rattle.shell_lexer.specs.Text.{Bytes, kind, is_blank, is_special, skip, place, tail, head_is, cells, run_of, behind_run}
 use Rattle.shell_grammar.specs.Look.{kind_word}
 use Rattle.shell_printing.proofs.ZeroedTokens.{seen_kind}
 use Rattle.shell_printing.proofs.CutDollars.{either}

@@ -7,8 +7,8 @@ use Rattle.shell_lexer.specs.declared.token.TokenKind.{out-TokenKind}
 use Rattle.shell_lexer.specs.declared.token.RawPart.{RawPart, roll-RawPart, out-RawPart, roll-out-RawPart}
 use Rattle.shell_lexer.specs.declared.token.RawPart.TheVariants as raw
 use Rattle.shell_lexer.specs.declared.token.RawPart.TheOpen as o
-use Rattle.shell_lexer.specs.LongestRuns.{plain_runs_are_longest}
-use Rattle.shell_lexer.specs.PrintedLaws.{ends_in_backslash}
+use Rattle.token_laws.specs.LongestRuns.{plain_runs_are_longest}
+use Rattle.token_laws.specs.PrintedLaws.{ends_in_backslash}
 use Rattle.shell_grammar.specs.Look.{Tokens, word, behind, kind_word}
 use Rattle.shell_grammar.specs.Reading.{plainly}
 use Rattle.shell_printing.specs.PrintedTokens.{word_token, raw_of}

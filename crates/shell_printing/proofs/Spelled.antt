@@ -16,7 +16,7 @@ use Rattle.shell_syntax.specs.declared.syntax.Word.{Word}
 use Rattle.shell_syntax.specs.Printed.{rank}
 use Rattle.shell_lexer.specs.declared.token.RawPart.{RawPart, out-RawPart}
 use Rattle.shell_lexer.specs.declared.token.RawPart.TheOpen as o
-use Rattle.shell_lexer.specs.LongestRuns.{plain_runs_are_longest}
+use Rattle.token_laws.specs.LongestRuns.{plain_runs_are_longest}
 use Rattle.shell_grammar.specs.declared.form.CommandForm.{CommandForm}
 use Rattle.shell_grammar.specs.declared.form.CommandForm.TheVariants as command
 use Rattle.shell_grammar.specs.declared.form.CompoundForm.{CompoundForm}

@@ -3,8 +3,9 @@ use Rattle.std.proofs.Common.{◌≡◌, ℕ, Bool, true, false, ◌||◌, nat_e
 use Rattle.shell_syntax.specs.declared.redirect.Redirect.{Redirect}
 use Rattle.shell_lexer.specs.Operators.{Sight, Word, sight_by, sight_at, sight, less, greater, copied, redirected, out_to, in_from, copy_of, whole_word, null_word}
 use Rattle.shell_lexer.specs.Parts.{Ends, look_by, look_at, look, dollar, escaped, has_quote}
-use Rattle.shell_lexer.specs.PrintedLaws.{is_apart}
-use Rattle.shell_lexer.specs.Text.{Bytes, kind, is_blank, is_digit, is_letter, is_special, skip, place, tail, head_is, cells, run_of}
+use Rattle.token_laws.specs.PrintedLaws.{is_apart}
+use Rattle.script_names.specs.ShellNames.{is_digit, is_letter}
+use Rattle.shell_lexer.specs.Text.{Bytes, kind, is_blank, is_special, skip, place, tail, head_is, cells, run_of}
 use Rattle.shell_printing.proofs.CutDollars.{either, IsDollar, dollar_seen}
 use Rattle.shell_printing.proofs.WordBytes.{After, Steady, skip_first, eq_of, neither}
 use Rattle.shell_printing.proofs.WordParts.{steady_head}

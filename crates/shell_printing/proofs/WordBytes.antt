@@ -3,7 +3,8 @@ use Rattle.std.proofs.Common.{◌≡◌, ℕ, Bool, true, false, if◌then◌els
 use Rattle.std.proofs.lemmas.Grind.{common_steps}
 use Rattle.shell_lexer.specs.Operators.{Word, numbered, numbered_by}
 use Rattle.shell_lexer.specs.Parts.{Look, Byte, look, look_at, look_by, dollar, dollar_by, braced, escaped, has_quote}
-use Rattle.shell_lexer.specs.Text.{Bytes, kind, is_blank, is_digit, is_letter, is_special, skip, place, head_is, cells, behind_run}
+use Rattle.script_names.specs.ShellNames.{is_digit, is_letter}
+use Rattle.shell_lexer.specs.Text.{Bytes, kind, is_blank, is_special, skip, place, head_is, cells, behind_run}
 use Rattle.shell_printing.proofs.CutDollars.{either, IsDollar, in_braces}
 use Rattle.shell_printing.proofs.Ends.{if_case as tested}
 

@@ -7,10 +7,10 @@ use Rattle.shell_syntax.specs.declared.syntax.Part.{Part}
 use Rattle.shell_syntax.specs.declared.syntax.Part.TheVariants as part
 use Rattle.shell_lexer.specs.declared.token.RawPart.{RawPart, out-RawPart}
 use Rattle.shell_lexer.specs.declared.token.RawPart.TheVariants as raw
-use Rattle.shell_lexer.specs.Laws.{PartsAreSpelled, AllArgsAreSpelled, SubstitutionsAreSpelled, DoubleQuotesAreSpelled}
+use Rattle.token_laws.specs.Laws.{PartsAreSpelled, AllArgsAreSpelled, SubstitutionsAreSpelled, DoubleQuotesAreSpelled}
 use Rattle.shell_lexer.specs.Operators.{Word, sight}
 use Rattle.shell_lexer.specs.Parts.{Ends, Byte, Piece, AllArgs, DoubleQuote, Substitution, look, inner}
-use Rattle.shell_lexer.specs.PrintedLaws.{QuotedIsOnePart, ParamIsOnePart, AllIsOnePart, SubstitutionsClose, ends_in_backslash, is_apart}
+use Rattle.token_laws.specs.PrintedLaws.{QuotedIsOnePart, ParamIsOnePart, AllIsOnePart, SubstitutionsClose, ends_in_backslash, is_apart}
 use Rattle.shell_lexer.specs.Reading.{Out, Whole, Stop, Read, plain_run, quoted_run, last_run, IsWord, word_ends, word_byte, word_piece, word_all, word_double, word_run, word_wrong, word_bad_double, word_bad_run, IsInner, inner_open, inner_ends, inner_byte, inner_piece, inner_all, inner_run, inner_wrong, inner_bad_run}
 use Rattle.shell_lexer.specs.SpelledParts.{IsParam, name as by_name, name_braced, name_default, number as by_number, number_braced, number_default, count as by_count, count_braced, IsQuoted, single, escaped as by_backslash, IsPiece}
 use Rattle.shell_lexer.specs.Text.{Bytes, skip}
@@ -25,7 +25,7 @@ use Rattle.shell_printing.proofs.ZeroedTokens.{seen_plain, seen_quoted, seen_par
 use Rattle.shell_printing.proofs.WordBegins.{word_front, begins_none, ends_here, apart_follows, apart_steady}
 use Rattle.shell_printing.proofs.WordBytes.{Follow, After, Steady, printed, eq_of}
 use Rattle.shell_printing.proofs.WordNotes.{inner_some}
-use Rattle.shell_lexer.proofs.PrintedWords.{some_part, no_joined, ends_right, run_ends, not_end}
+use Rattle.token_laws.proofs.PrintedWords.{some_part, no_joined, ends_right, run_ends, not_end}
 use Rattle.shell_printing.proofs.WordParts.{back_kept, one_byte_text, likes_split, One, quoted_one, param_one, all_one, run_one}
 use Rattle.shell_printing.proofs.WordShape.{Shape, shape_none, shape_of, shape_append}
 use Rattle.shell_printing.proofs.Offsets.{both as two, zeroed_raws as zeroes}

@@ -3,14 +3,14 @@ use Rattle.std.proofs.Common.{◌≡◌, ℕ, zero, suc, Bool, true, false, if�
 use Rattle.shell_syntax.specs.declared.form.Form.{Form}
 use Rattle.shell_syntax.specs.declared.form.Form.TheVariants as form
 use Rattle.shell_lexer.specs.declared.token.RawPart.{RawPart}
-use Rattle.shell_lexer.specs.Laws.{PartsAreSpelled}
+use Rattle.token_laws.specs.Laws.{PartsAreSpelled}
 use Rattle.shell_lexer.specs.Parts.{look, inner}
 use Rattle.shell_lexer.specs.Late.{late, all_args, first_all, is_all_word, tilde, brace, is_plainly, subst_case, found, sooner}
-use Rattle.shell_lexer.specs.PrintedLaws.{holds_no_all}
+use Rattle.token_laws.specs.PrintedLaws.{holds_no_all}
 use Rattle.shell_lexer.specs.Reading.{Read}
 use Rattle.shell_printing.proofs.Backs.{true_false}
 use Rattle.shell_printing.proofs.WordNotes.{no_tilde, no_brace, are_plainly, Says}
-use Rattle.shell_lexer.proofs.PrintedNotes.{is_none, nothing_found, no_fault, if_none}
+use Rattle.token_laws.proofs.PrintedNotes.{is_none, nothing_found, no_fault, if_none}
 
 none_of : {A : Type 0} (o : Option A) → is_none o ≡ true → o ≡ None
 none_of None e = refl

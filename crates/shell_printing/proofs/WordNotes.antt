@@ -2,16 +2,16 @@
 use Rattle.std.proofs.Common.{◌≡◌, ℕ, Bool, true, false, if◌then◌else◌, ◌&&◌, ◌||◌, nat_eq, not, List, [], ◌∷◌, ◌++◌, append-nil, append_assoc, Option, Some, None, refl, sym, ap, ◌∙◌, subst}
 use Rattle.shell_lexer.specs.declared.token.RawPart.{RawPart}
 use Rattle.shell_lexer.specs.declared.token.RawPart.TheVariants as raw
-use Rattle.shell_lexer.specs.Laws.{PartsAreSpelled}
+use Rattle.token_laws.specs.Laws.{PartsAreSpelled}
 use Rattle.shell_lexer.specs.Late.{first_all, tilde, has_list, brace, is_plainly}
 use Rattle.shell_lexer.specs.Parts.{look, inner}
-use Rattle.shell_lexer.specs.PrintedLaws.{holds_no_all}
+use Rattle.token_laws.specs.PrintedLaws.{holds_no_all}
 use Rattle.shell_lexer.specs.Reading.{Out, Whole, Stop, Read, plain_run, quoted_run, last_run, IsWord, word_ends, word_byte, word_piece, word_all, word_double, word_run, word_wrong, word_bad_double, word_bad_run, IsInner, inner_open, inner_ends, inner_byte, inner_piece, inner_all, inner_run, inner_wrong, inner_bad_run}
 use Rattle.shell_lexer.specs.Text.{Bytes, offset}
 use Rattle.shell_printing.proofs.Backs.{false_true}
 use Rattle.shell_printing.proofs.CutEnds.{no_plain_last, no_plain, piece_not_plain, quoted_so as not_plain_behind}
-use Rattle.shell_lexer.proofs.PrintedNotes.{run_is, is_none, tilde_run, list_run, brace_run, is_nil}
-use Rattle.shell_lexer.proofs.PrintedWords.{some_part, some_behind}
+use Rattle.token_laws.proofs.PrintedNotes.{run_is, is_none, tilde_run, list_run, brace_run, is_nil}
+use Rattle.token_laws.proofs.PrintedWords.{some_part, some_behind}
 
 -- ---- what is looked for, by the parts
 

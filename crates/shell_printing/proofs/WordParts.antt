@@ -11,14 +11,15 @@ use Rattle.shell_lexer.specs.declared.token.RawPart.{RawPart, out-RawPart}
 use Rattle.shell_lexer.specs.declared.token.RawPart.TheVariants as raw
 use Rattle.shell_lexer.specs.declared.token.RawPart.TheOpen as o
 use Rattle.shell_lexer.specs.declared.token.RawPart.TheFolds.{fold-roll-RawPart}
-use Rattle.shell_lexer.specs.Laws.{SubstitutionsAreSpelled}
+use Rattle.token_laws.specs.Laws.{SubstitutionsAreSpelled}
 use Rattle.shell_lexer.specs.Operators.{Word, sight, sight_at, numbered}
 use Rattle.shell_lexer.specs.Parts.{look, inner, inner_at}
-use Rattle.shell_lexer.specs.PrintedLaws.{IsOnePart, QuotedIsOnePart, ParamIsOnePart, AllIsOnePart, SubstitutionsClose, raw_text as lexed_text, is_apart}
+use Rattle.token_laws.specs.PrintedLaws.{IsOnePart, QuotedIsOnePart, ParamIsOnePart, AllIsOnePart, SubstitutionsClose, raw_text as lexed_text, is_apart}
 use Rattle.shell_lexer.specs.Reading.{Whole, Read, plain_run, IsWord, word_run, word_double, IsInner, inner_ends, inner_run, IsSub, sub_items}
 use Rattle.shell_lexer.specs.Spelling.{IsNotNext}
 use Rattle.shell_lexer.specs.SpelledParts.{IsParam, IsSubstitution}
-use Rattle.shell_lexer.specs.Text.{Bytes, is_digit, skip, place, offset, head_is, cells, behind_run}
+use Rattle.script_names.specs.ShellNames.{is_digit}
+use Rattle.shell_lexer.specs.Text.{Bytes, skip, place, offset, head_is, cells, behind_run}
 use Rattle.shell_grammar.specs.Look.{Tokens}
 use Rattle.shell_printing.specs.TokenTexts.{raw_layer as raw_text_layer, kind_layer as kind_text_layer, token_layer as token_text_layer, raw_text, token_text, tokens_text}
 use Rattle.shell_printing.specs.Zeroed.{raw_layer, kind_layer, token_layer, zeroed_raw, zeroed_tokens}
@@ -26,7 +27,7 @@ use Rattle.shell_printing.proofs.Backs.{false_true, true_false, ReadsBack, quote
 use Rattle.shell_printing.proofs.Sources.{Likes, likes_none, likes_same, likes_run, rolled}
 use Rattle.shell_printing.proofs.WordBytes.{Steady, NoAngle, skip_first, cells_first, eq_of}
 use Rattle.shell_printing.proofs.WordShape.{Shape, shape_none, shape_same, shape_run}
-use Rattle.shell_lexer.proofs.PrintedRuns.{grouped}
+use Rattle.token_laws.proofs.PrintedRuns.{grouped}
 
 -- ---- texts with which a word may begin
 

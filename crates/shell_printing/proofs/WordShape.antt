@@ -2,11 +2,11 @@
 use Rattle.std.proofs.Common.{◌≡◌, ℕ, Bool, false, if◌then◌else◌, ◌&&◌, ◌||◌, nat_eq, not, List, [], ◌∷◌, ◌++◌, refl, ap, ◌∙◌}
 use Rattle.shell_lexer.specs.declared.token.RawPart.{RawPart}
 use Rattle.shell_lexer.specs.declared.token.RawPart.TheVariants as raw
-use Rattle.shell_lexer.specs.PrintedLaws.{holds_no_all}
+use Rattle.token_laws.specs.PrintedLaws.{holds_no_all}
 use Rattle.shell_lexer.specs.Text.{Bytes}
 use Rattle.shell_grammar.specs.Look.{Tokens}
 use Rattle.shell_printing.proofs.WordNotes.{no_tilde, list_in, no_brace, are_plainly}
-use Rattle.shell_lexer.proofs.PrintedNotes.{brace_run, list_run, tilde_run, run_is}
+use Rattle.token_laws.proofs.PrintedNotes.{brace_run, list_run, tilde_run, run_is}
 
 -- the same parts, but for the tokens of substitutions
 pub data Shape : List RawPart → List RawPart → Type 0 where

@@ -9,10 +9,10 @@ use Rattle.shell_lexer.specs.declared.token.RawPart.{RawPart, out-RawPart}
 use Rattle.shell_lexer.specs.declared.token.RawPart.TheVariants as raw
 use Rattle.shell_lexer.specs.declared.token.RawPart.TheOpen as o
 use Rattle.shell_lexer.specs.Late.{late}
-use Rattle.shell_lexer.specs.Laws.{PartsAreSpelled, AllArgsAreSpelled, SubstitutionsAreSpelled, DoubleQuotesAreSpelled}
+use Rattle.token_laws.specs.Laws.{PartsAreSpelled, AllArgsAreSpelled, SubstitutionsAreSpelled, DoubleQuotesAreSpelled}
 use Rattle.shell_lexer.specs.Operators.{Word, sight, sight_at}
 use Rattle.shell_lexer.specs.Parts.{look, inner}
-use Rattle.shell_lexer.specs.PrintedLaws.{QuotedIsOnePart, ParamIsOnePart, AllIsOnePart, SubstitutionsClose, holds_no_run, holds_no_all, is_apart}
+use Rattle.token_laws.specs.PrintedLaws.{QuotedIsOnePart, ParamIsOnePart, AllIsOnePart, SubstitutionsClose, holds_no_run, holds_no_all, is_apart}
 use Rattle.shell_lexer.specs.Reading.{Whole, Read, behind as preceded, token_at, IsItems, items_pass, items_word, IsWord}
 use Rattle.shell_lexer.specs.Text.{Bytes, place, offset}
 use Rattle.shell_grammar.specs.Reading.{plainly}

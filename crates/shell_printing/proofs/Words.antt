@@ -1,6 +1,7 @@
 -- The words of tokens that spell a script: printed, they are read as the same, and look as they did.
-use Rattle.std.proofs.Common.{◌≡◌, ℕ, Bool, true, false, if◌then◌else◌, eqb, List, [], ◌∷◌, ◌++◌, map, Option, Some, None, refl, sym, ap, ◌∙◌, subst}
-use Rattle.std.proofs.lemmas.Bool.{eqb-true}
+use Rattle.std.proofs.Common.{◌≡◌, ℕ, Bool, true, false, if◌then◌else◌, ◌||◌, eqb, List, [], ◌∷◌, ◌++◌, map, Option, Some, None, refl, sym, ap, ◌∙◌, subst}
+use Rattle.std.proofs.lemmas.Bool.{eqb-true, and_parts}
+use Rattle.std.specs.List.{list_any}
 use Rattle.shell_syntax.specs.declared.syntax.Command.TheOpen as seen
 use Rattle.shell_syntax.specs.declared.syntax.Part.{Part, out-Part, out-roll-Part}
 use Rattle.shell_syntax.specs.declared.syntax.Part.TheVariants as part
@@ -8,14 +9,15 @@ use Rattle.shell_lexer.specs.declared.token.TokenKind.{out-TokenKind}
 use Rattle.shell_lexer.specs.declared.token.RawPart.{RawPart, roll-RawPart, out-RawPart, roll-out-RawPart}
 use Rattle.shell_lexer.specs.declared.token.RawPart.TheVariants as raw
 use Rattle.shell_lexer.specs.declared.token.RawPart.TheOpen as o
-use Rattle.shell_lexer.specs.LongestRuns.{plain_runs_are_longest}
+use Rattle.token_laws.specs.LongestRuns.{plain_runs_are_longest}
 use Rattle.shell_grammar.specs.declared.look.Look.{Look}
 use Rattle.shell_grammar.specs.declared.look.Look.TheVariants.{Name, Assignment, Other}
 use Rattle.shell_grammar.specs.declared.look.Reserved.{Reserved}
 use Rattle.shell_grammar.specs.Forms.{is_name_word}
-use Rattle.shell_grammar.specs.Look.{Text, Tokens, look, word, behind, kind_look, kind_word, word_look, seen_look, begun_look, whole_look, reserved, assigns_from, is_name, is_name_byte, none_left}
+use Rattle.script_names.specs.ShellNames.{is_shell_name}
+use Rattle.shell_grammar.specs.Look.{Text, Tokens, look, word, behind, kind_look, kind_word, word_look, seen_look, begun_look, whole_look, reserved, begins_assignment, up_to_equals, none_left}
 use Rattle.shell_grammar.specs.Reading.{plainly}
-use Rattle.shell_grammar.specs.Trees.{word_at, word_text, plain_text, up_to_equals, behind_equals, plain_part_of, assigned}
+use Rattle.shell_grammar.specs.Trees.{word_at, word_text, plain_text, behind_equals, plain_part_of, assigned}
 use Rattle.shell_grammar.proofs.Unique.{somes}
 use Rattle.shell_lexer.proofs.PrintedBytes.{clash}
 use Rattle.shell_printing.specs.Zeroed.{zeroed_part}
@@ -112,7 +114,7 @@ single_by p o.All e h = absurd (clash refl h)
 single_by p (o.Run at ts quoted) e h = absurd (clash refl h)
 
 no_single : (r : SeenPart) → is_name_word (seen_look r false) ≡ false
-no_single (o.Plain w) = begun_no_name (assigns_from true w)
+no_single (o.Plain w) = begun_no_name (begins_assignment w)
 no_single (o.Quoted w) = refl
 no_single (o.Param key default quoted) = refl
 no_single o.All = refl
@@ -135,20 +137,20 @@ pub record Assigns (raws : List RawPart) : Type 0 where
   pub parts : List RawPart
   pub is : raws ≡ part ∷ parts
   pub plain : out-RawPart part ≡ o.Plain text
-  pub begins : assigns_from true text ≡ true
+  pub begins : begins_assignment text ≡ true
 
 begun_assigns : (b : Bool) → (if b then Assignment else Other) ≡ Assignment → b ≡ true
 begun_assigns true e = refl
 begun_assigns false e = absurd (cc e)
 
-whole_assigns : (w : Text) (r : Option Reserved) (b : Bool) → is_name w ≡ b → whole_look w r ≡ Assignment → assigns_from true w ≡ true
+whole_assigns : (w : Text) (r : Option Reserved) (b : Bool) → is_shell_name w ≡ b → whole_look w r ≡ Assignment → begins_assignment w ≡ true
 whole_assigns w (Some which) b f e = absurd (cc e)
 whole_assigns w None true f e = absurd (cc (sym (ap (λ b. if b then Name else begun_look w) f) ∙ e))
-whole_assigns w None false f e = begun_assigns (assigns_from true w) (sym (ap (λ b. if b then Name else begun_look w) f) ∙ e)
+whole_assigns w None false f e = begun_assigns (begins_assignment w) (sym (ap (λ b. if b then Name else begun_look w) f) ∙ e)
 
 assigns_by : (p : RawPart) (ps : List RawPart) (r : SeenPart) (alone : Bool) → out-RawPart p ≡ r → seen_look r alone ≡ Assignment → Assigns (p ∷ ps)
-assigns_by p ps (o.Plain w) true e h = record { text = w; part = p; parts = ps; is = refl; plain = e; begins = whole_assigns w (reserved w) (is_name w) refl h }
-assigns_by p ps (o.Plain w) false e h = record { text = w; part = p; parts = ps; is = refl; plain = e; begins = begun_assigns (assigns_from true w) h }
+assigns_by p ps (o.Plain w) true e h = record { text = w; part = p; parts = ps; is = refl; plain = e; begins = whole_assigns w (reserved w) (is_shell_name w) refl h }
+assigns_by p ps (o.Plain w) false e h = record { text = w; part = p; parts = ps; is = refl; plain = e; begins = begun_assigns (begins_assignment w) h }
 assigns_by p ps (o.Quoted w) alone e h = absurd (cc h)
 assigns_by p ps (o.Param key default quoted) alone e h = absurd (cc h)
 assigns_by p ps o.All alone e h = absurd (cc h)
@@ -159,18 +161,14 @@ assigns [] h = absurd (cc h)
 assigns (p ∷ ps) h = assigns_by p ps (out-RawPart p) (none_left ps) refl h
 
 -- what stands before the `=`, it, and what stands behind it
-split_equals : (first : Bool) (t : Text) → assigns_from first t ≡ true → up_to_equals t ++ 61 ∷ behind_equals t ≡ t
-split_equals first [] h = absurd (clash refl h)
-split_equals first (b ∷ t) h = by (eqb b 61) (is_name_byte first b) refl h (split_equals false t) where
-  by : (is name : Bool) → eqb b 61 ≡ is → (if name then assigns_from false t else (if first then false else eqb b 61)) ≡ true
-      → (assigns_from false t ≡ true → up_to_equals t ++ 61 ∷ behind_equals t ≡ t)
+split_equals : (t : Text) → list_any (λ b. eqb b 61) t ≡ true → up_to_equals t ++ 61 ∷ behind_equals t ≡ t
+split_equals [] h = absurd (clash refl h)
+split_equals (b ∷ t) h = by (eqb b 61) refl h (split_equals t) where
+  by : (is : Bool) → eqb b 61 ≡ is → (is || list_any (λ b. eqb b 61) t) ≡ true
+      → (list_any (λ b. eqb b 61) t ≡ true → up_to_equals t ++ 61 ∷ behind_equals t ≡ t)
       → (if eqb b 61 then [] else b ∷ up_to_equals t) ++ 61 ∷ (if eqb b 61 then t else behind_equals t) ≡ b ∷ t
-  by true name e h more = ap (λ it. (if it then [] else b ∷ up_to_equals t) ++ 61 ∷ (if it then t else behind_equals t)) e ∙ ap (λ x. x ∷ t) (sym (eqb-true b 61 e))
-  by false true e h more = ap (λ it. (if it then [] else b ∷ up_to_equals t) ++ 61 ∷ (if it then t else behind_equals t)) e ∙ ap (λ t. b ∷ t) (more h)
-  by false false e h more = absurd (clash (by_first first (eqb b 61) e) h) where
-    by_first : (f it : Bool) → it ≡ false → (if f then false else it) ≡ false
-    by_first true it e = refl
-    by_first false it e = e
+  by true e h more = ap (λ it. (if it then [] else b ∷ up_to_equals t) ++ 61 ∷ (if it then t else behind_equals t)) e ∙ ap (λ x. x ∷ t) (sym (eqb-true b 61 e))
+  by false e h more = ap (λ it. (if it then [] else b ∷ up_to_equals t) ++ 61 ∷ (if it then t else behind_equals t)) e ∙ ap (λ t. b ∷ t) (more h)
 
 seen_other : (name : Text) (r : SeenPart) (p : RawPart) (ps : List RawPart) → plain_of r ≡ None → assign_seen name r p ps ≡ raw.Plain (name ++ 61 ∷ []) ∷ p ∷ ps
 seen_other name (o.Plain w) p ps e = absurd (cc e)
@@ -191,7 +189,7 @@ rejoined name (b ∷ value) xs n =
 pub word_text_plain : (at : ℕ) (t : Text) (xs : List Part) → word_text (word_at at (part.Plain t ∷ xs)) ≡ t
 word_text_plain at t xs = ap plain_text (ap out-Part (sym (part.rolls-Plain t)) ∙ out-roll-Part (seen.Plain t))
 
-pub assign_same : (at : ℕ) (t : Text) (xs : List Part) → assigns_from true t ≡ true → NotPlain (map raw_of xs)
+pub assign_same : (at : ℕ) (t : Text) (xs : List Part) → begins_assignment t ≡ true → NotPlain (map raw_of xs)
     → assign_raws (assigned (word_at at (part.Plain t ∷ xs))) ≡ word_raws (word_at at (part.Plain t ∷ xs))
 assign_same at t xs h n =
     let w = word_at at (part.Plain t ∷ xs) in
@@ -199,7 +197,7 @@ assign_same at t xs h n =
     ∙ ap (assign_parts (up_to_equals (word_text w))) (phrase_the_word at (plain_part_of (behind_equals (word_text w)) ++ xs))
     ∙ ap (λ t. assign_parts (up_to_equals t) (map raw_of (plain_part_of (behind_equals t) ++ xs))) (word_text_plain at t xs)
     ∙ rejoined (up_to_equals t) (behind_equals t) xs n
-    ∙ ap (λ t. raw.Plain t ∷ map raw_of xs) (split_equals true t h)
+    ∙ ap (λ t. raw.Plain t ∷ map raw_of xs) (split_equals t (and_parts (list_any (λ b. eqb b 61) t) (is_shell_name (up_to_equals t)) h).0)
     ∙ ap (λ p. p ∷ map raw_of xs) (sym (phrase_plain t))
     ∙ sym (phrase_the_word at (part.Plain t ∷ xs))
 

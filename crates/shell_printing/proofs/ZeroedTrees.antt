@@ -14,7 +14,8 @@ use Rattle.shell_syntax.specs.declared.syntax.Link.{Link}
 use Rattle.shell_syntax.specs.declared.syntax.Word.{Word}
 use Rattle.shell_grammar.specs.declared.items.Items.{Items}
 use Rattle.shell_grammar.specs.Look.{Text}
-use Rattle.shell_grammar.specs.Trees.{seq_of, pipe_of, chain_of, redirected, link, if_arm, case_arm, word_at, simple, plain_text, first_text, word_text, up_to_equals, behind_equals, plain_part_of, rest_of, assigned}
+use Rattle.shell_grammar.specs.Look.{up_to_equals}
+use Rattle.shell_grammar.specs.Trees.{seq_of, pipe_of, chain_of, redirected, link, if_arm, case_arm, word_at, simple, plain_text, first_text, word_text, behind_equals, plain_part_of, rest_of, assigned}
 use Rattle.shell_printing.specs.Zeroed.{command_layer, part_layer, assign_layer, case_arm_layer, if_arm_layer, link_layer, word_layer, zeroed, zeroed_part, zeroed_assign, zeroed_case_arm, zeroed_if_arm, zeroed_link, zeroed_word}
 use Rattle.shell_printing.proofs.ZeroedLayers.{zeroed_simple, zeroed_redirected, zeroed_pipe, zeroed_chain, zeroed_seq, zeroed_the_assign, zeroed_the_case_arm, zeroed_the_if_arm, zeroed_the_link, zeroed_the_word, zeroed_plain}
 

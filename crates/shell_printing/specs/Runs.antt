@@ -6,7 +6,7 @@ use Rattle.shell_lexer.specs.declared.token.Token.{Token}
 use Rattle.shell_lexer.specs.declared.token.TokenKind.{out-TokenKind}
 use Rattle.shell_lexer.specs.declared.token.RawPart.{RawPart, out-RawPart}
 use Rattle.shell_lexer.specs.declared.token.RawPart.TheOpen as o
-use Rattle.shell_lexer.specs.LongestRuns.{plain_runs_are_longest}
+use Rattle.token_laws.specs.LongestRuns.{plain_runs_are_longest}
 use Rattle.shell_grammar.specs.Look.{Tokens, kind_word}
 use Rattle.shell_grammar.specs.Reading.{plainly}
 

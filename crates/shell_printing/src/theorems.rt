@@ -4,10 +4,10 @@ ghost use Rattle.shell_printing.specs.Laws.{CutRunsAreLongest, OffsetsDoNotMatte
 ghost use Rattle.shell_printing.specs.Laws.{PrintedScriptsReadBack};
 ghost use Rattle.shell_printing.specs.Laws.{PrintedTextsAreTokens, PrintedTokensSpell, PrintedTokensSpellAgain};
 
-use shell_lexer::printed::{
+use token_laws::printed::{
     expansions_read_back, operators_read_back, quoted_bytes_read_back, word_tokens_read_back,
 };
-use shell_lexer::theorems::{openings_are_spelled, parts_are_spelled, runs_are_longest};
+use token_laws::theorems::{openings_are_spelled, parts_are_spelled, runs_are_longest};
 
 /// What tokens spell does not depend on where they stand (XCU 2.10 Shell Grammar): tokens that are the same but for
 /// their offsets spell, within 64 levels, the same script but for its offsets.

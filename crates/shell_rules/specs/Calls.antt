@@ -6,11 +6,13 @@ use Rattle.std.specs.Prelude.{Option, Some, None, option_map, codes, if◌then�
 use Rattle.std.specs.List.{list_any, list_all}
 use Rattle.std.specs.Str.{bytes_eq}
 use Rattle.std.specs.FinMap as map
+use Rattle.script_names.specs.Ascii.{equals}
 use Rattle.script_names.specs.declared.mark.Mark.{Mark}
 use Rattle.script_names.specs.declared.reason.Done.{Done}
 use Rattle.script_names.specs.declared.reason.Done.TheVariants as done
 use Rattle.script_names.specs.declared.reason.Reason.TheVariants as reason
 use Rattle.script_names.specs.CommandNames as names
+use Rattle.script_names.specs.ShellNames.{is_digit, is_shell_name}
 use Rattle.utility_calls.specs.declared.acts.Act.{Act}
 use Rattle.utility_calls.specs.declared.planned.Planned.{Planned}
 use Rattle.utility_calls.specs.declared.planned.Planned.TheVariants.{Known, Ask, Print, Change, Unspecified}
@@ -132,10 +134,6 @@ do_function at body words p s =
 
 -- ---- `exit` and `return` (XCU 2.14 exit, return)
 
--- a decimal digit
-abbrev pub is_digit : ℕ → Bool
-is_digit b = nat_le 48 b && nat_le b 57
-
 -- the number of some digits, behind those that were read
 abbrev pub number_behind : ℕ → Text → ℕ
 number_behind n [] = n
@@ -169,19 +167,9 @@ do_return at words p s = do_leave Returned words (at_command at p) s
 
 -- ---- `export` and `unset` (XCU 2.14 export, unset)
 
--- a byte of a name: a letter, a digit or `_`
-abbrev pub is_name_byte : ℕ → Bool
-is_name_byte b =
-    (nat_le 65 b && nat_le b 90) || (nat_le 97 b && nat_le b 122) || is_digit b || nat_eq b 95
-
--- a name: such bytes, of which the first is no digit (XBD 3.235 Name)
-abbrev pub is_name : Text → Bool
-is_name [] = false
-is_name (b ∷ rest) = not (is_digit b) && list_all is_name_byte (b ∷ rest)
-
 -- a name whose variable may be changed: any but IFS
 abbrev pub is_changeable : Text → Bool
-is_changeable name = is_name name && not (bytes_eq name (codes "IFS"))
+is_changeable name = is_shell_name name && not (bytes_eq name (codes "IFS"))
 
 -- a byte before the first `=`, and what the rest is cut into
 abbrev pub before_cut : ℕ → Text × Option Text → Text × Option Text
@@ -190,7 +178,7 @@ before_cut b cut = (b ∷ cut.0, cut.1)
 -- a field cut at its first `=`: what stands before it, and what stands behind it where there is one
 abbrev pub cut_at_equals : Text → Text × Option Text
 cut_at_equals [] = ([], None)
-cut_at_equals (b ∷ rest) = if nat_eq b 61 then ([], Some rest) else before_cut b (cut_at_equals rest)
+cut_at_equals (b ∷ rest) = if nat_eq b equals then ([], Some rest) else before_cut b (cut_at_equals rest)
 
 -- a variable gets a value where there is one
 abbrev pub assign_some : Text → Option Text → State → State

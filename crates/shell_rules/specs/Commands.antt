@@ -26,7 +26,8 @@ do_lax p s = Go tt (with_status true (with_strict false s))
 
 -- ---- the strict flag (XCU 2.14 set -e)
 
--- how a failure leaves the shell; in a substitution shells differ
+-- how a failure leaves the shell; in a substitution, where shells differ, the run stops. That is said of the place,
+-- and not of whether output is captured
 abbrev pub left_by_failure : Place → Leave
 left_by_failure p = if p.inner then Stopped reason.Strict (site_of p) else Exited
 

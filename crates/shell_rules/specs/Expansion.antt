@@ -4,6 +4,7 @@ use Rattle.std.specs.Prelude.{ℕ, ◌-◌, true, false, List, [], ◌∷◌, �
 use Rattle.std.specs.Prelude.{Option, Some, None, Result, Ok, Err, if◌then◌else◌}
 use Rattle.std.specs.Fmt.{decimal}
 use Rattle.std.specs.FinMap as map
+use Rattle.script_names.specs.Ascii.{newline}
 use Rattle.script_names.specs.declared.reason.Reason.{Reason}
 use Rattle.script_names.specs.declared.reason.Reason.TheVariants as reason
 use Rattle.shell_words.specs.declared.fault.WordFault.{WordFault}
@@ -82,7 +83,7 @@ do_short string p s = then_do (string p s) (λ text s. given (short text) p s)
 
 -- a byte before a text; a newline is dropped where nothing stands behind it
 abbrev pub before_trimmed : ℕ → Text → Text
-before_trimmed b [] = if nat_eq b 10 then [] else b ∷ []
+before_trimmed b [] = if nat_eq b newline then [] else b ∷ []
 before_trimmed b (c ∷ rest) = b ∷ c ∷ rest
 
 -- a text without the newlines at its end

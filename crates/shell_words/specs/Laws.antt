@@ -1,6 +1,8 @@
--- What holds of fields and of patterns: what their definitions must say, if they are those of the standard.
+-- What holds of fields and of patterns: what their definitions must say, if they are those of the standard. Where a
+-- word of several pieces is cut, what `?` and a set match, and the shapes that are left out have to be read there.
 use Rattle.std.specs.Prelude.{◌≡◌, ◌↔◌, ℕ, true, false, not, List, [], ◌∷◌, ◌++◌, Bool, ◌||◌, All, Result, Ok, Err}
 use Rattle.std.specs.List.{filter, list_any, concat}
+use Rattle.script_names.specs.Ascii.{bracket_open, question, star}
 use Rattle.shell_words.specs.declared.letter.Letter.{Letter}
 use Rattle.shell_words.specs.declared.fault.WordFault.{WordFault}
 use Rattle.shell_words.specs.Pieces.{PieceParts}
@@ -42,7 +44,7 @@ QuotedMatchesItself =
 
 -- whether a letter is an unquoted `*`, `?` or `[`
 abbrev pub is_special : Letter → Bool
-is_special x = is_unquoted 42 x || is_unquoted 63 x || is_unquoted 91 x
+is_special x = is_unquoted star x || is_unquoted question x || is_unquoted bracket_open x
 
 -- a pattern without an unquoted `*`, `?` and `[` is left out only for a `\` that an expansion gave, and matches the
 -- bytes of its pieces and no other string
@@ -55,5 +57,5 @@ PlainMatchesItself =
 -- an unquoted `*` alone has no shape that is left out, and matches every string
 abbrev pub StarMatchesAll : Type 0
 StarMatchesAll =
-    (piece : PieceParts) (text : List ℕ) → piece.quoted ≡ false → piece.text ≡ 42 ∷ []
+    (piece : PieceParts) (text : List ℕ) → piece.quoted ≡ false → piece.text ≡ star ∷ []
     → (is_left_out (pattern_letters (piece ∷ [])) ≡ false) × Matches (items (pattern_letters (piece ∷ []))) text

@@ -4,6 +4,8 @@ use Rattle.std.specs.Prelude.{map}
 use Rattle.std.specs.Prelude.{Bool, true, false, not, ◌||◌, ◌&&◌, IsTrue, if◌then◌else◌}
 use Rattle.std.specs.Prelude.{Option, Some, None, option_map, Result, Ok, Err}
 use Rattle.std.specs.List.{list_any}
+use Rattle.script_names.specs.Ascii.{backslash, bracket_close, bracket_open, circumflex, colon, equals, exclamation}
+use Rattle.script_names.specs.Ascii.{full_stop, hyphen, question, star}
 use Rattle.shell_words.specs.declared.letter.Letter.{Letter}
 use Rattle.shell_words.specs.declared.letter.Letter.TheVariants.{Quote, Quoted, Plain, Split}
 use Rattle.shell_words.specs.declared.pattern.Item.{Item}
@@ -28,7 +30,7 @@ code (Split b) = b
 -- where the first unquoted `]` stands, counted from 0
 abbrev pub closes_at : List Letter → Option ℕ
 closes_at [] = None
-closes_at (x ∷ rest) = if is_unquoted 93 x then Some 0 else option_map suc (closes_at rest)
+closes_at (x ∷ rest) = if is_unquoted bracket_close x then Some 0 else option_map suc (closes_at rest)
 
 -- whether an unquoted byte comes first
 abbrev pub begins_with : ℕ → List Letter → Bool
@@ -37,7 +39,7 @@ begins_with byte (x ∷ rest) = is_unquoted byte x
 
 -- how many letters the `!` of a negated set takes behind its `[`: an unquoted `!` that comes first is one
 abbrev pub negation_size : List Letter → ℕ
-negation_size rest = if begins_with 33 rest then 1 else 0
+negation_size rest = if begins_with exclamation rest then 1 else 0
 
 -- how many letters the set has that begins with these: the first is one whatever it is, a `]` too, and then all before
 -- the next unquoted `]`
@@ -47,18 +49,19 @@ set_size (x ∷ rest) = option_map suc (closes_at rest)
 
 -- the set behind a `[`, and how many letters it takes behind the `[`; a `[` that no `]` closes stands for itself
 abbrev pub set_of : List Letter → Option ℕ → Item × ℕ
-set_of rest None = (Byte 91, 0)
+set_of rest None = (Byte bracket_open, 0)
 set_of rest (Some n) =
-    (Set (begins_with 33 rest) (take n (drop (negation_size rest) rest)), negation_size rest + suc n)
+    (Set (begins_with exclamation rest) (take n (drop (negation_size rest) rest)), negation_size rest + suc n)
 
 -- the item that a letter begins, by the letters behind it, and how many of those it takes
 abbrev pub item_at : Letter → List Letter → Item × ℕ
 item_at x rest =
-    if is_unquoted 42 x
+    if is_unquoted star x
     then (Star, 0)
-    else (if is_unquoted 63 x
+    else (if is_unquoted question x
     then (Any, 0)
-    else (if is_unquoted 91 x then set_of rest (set_size (drop (negation_size rest) rest)) else (Byte (code x), 0)))
+    else (if is_unquoted bracket_open x then set_of rest (set_size (drop (negation_size rest) rest))
+    else (Byte (code x), 0)))
 
 -- the items of a pattern from left to right, behind letters that the item before has taken
 abbrev pub items_behind : ℕ → List Letter → List Item
@@ -77,7 +80,7 @@ ranges [] = []
 ranges (x ∷ []) = (code x, code x) ∷ []
 ranges (x ∷ y ∷ []) = (code x, code x) ∷ (code y, code y) ∷ []
 ranges (x ∷ y ∷ z ∷ rest) =
-    if is_unquoted 45 y then (code x, code z) ∷ ranges rest else (code x, code x) ∷ ranges (y ∷ z ∷ rest)
+    if is_unquoted hyphen y then (code x, code z) ∷ ranges rest else (code x, code x) ∷ ranges (y ∷ z ∷ rest)
 
 -- whether a byte is in a range
 abbrev pub is_within : ℕ → ℕ × ℕ → Bool
@@ -110,7 +113,7 @@ abbrev pub is_split_backslash : Letter → Bool
 is_split_backslash Quote = false
 is_split_backslash (Quoted b) = false
 is_split_backslash (Plain b) = false
-is_split_backslash (Split b) = nat_eq b 92
+is_split_backslash (Split b) = nat_eq b backslash
 
 -- a range whose end comes before its begin
 abbrev pub is_falling : ℕ × ℕ → Bool
@@ -122,13 +125,15 @@ is_left_out_item (Byte c) = false
 is_left_out_item Any = false
 is_left_out_item Star = false
 is_left_out_item (Set negated letters) =
-    has_pair 91 58 letters || has_pair 91 46 letters || has_pair 91 61 letters || list_any is_falling (ranges letters)
+    has_pair bracket_open colon letters || has_pair bracket_open full_stop letters
+    || has_pair bracket_open equals letters || list_any is_falling (ranges letters)
 
 -- a pattern with a shape that is left out, because shells read it differently: `[^` anywhere, a `\` that an expansion
 -- gave, or such a set
 abbrev pub is_left_out : List Letter → Bool
 is_left_out letters =
-    has_pair 91 94 letters || list_any is_split_backslash letters || list_any is_left_out_item (items letters)
+    has_pair bracket_open circumflex letters || list_any is_split_backslash letters
+    || list_any is_left_out_item (items letters)
 
 -- the answer on a pattern and a string: Pattern exactly where a shape is left out, else whether the pattern matches
 abbrev pub Decides : Result Bool WordFault → List Letter → List ℕ → Type 0

@@ -1,6 +1,7 @@
 -- A word after its expansions, letter by letter (POSIX.1-2017, XCU 2.6).
 use Rattle.std.specs.Prelude.{ℕ, Bool, false, List, [], ◌∷◌, ◌++◌, map, nat_eq, ◌||◌, ◌&&◌, if◌then◌else◌}
 use Rattle.std.specs.List.{list_any}
+use Rattle.script_names.specs.Ascii.{bracket_close, bracket_open, newline, question, space, star, tab}
 use Rattle.shell_words.specs.declared.letter.Letter.{Letter}
 use Rattle.shell_words.specs.declared.letter.Letter.TheVariants.{Quote, Quoted, Plain, Split}
 use Rattle.shell_words.specs.Pieces.{PieceParts}
@@ -24,7 +25,7 @@ abbrev pub is_blank : Letter → Bool
 is_blank Quote = false
 is_blank (Quoted b) = false
 is_blank (Plain b) = false
-is_blank (Split b) = nat_eq b 32 || nat_eq b 9 || nat_eq b 10
+is_blank (Split b) = nat_eq b space || nat_eq b tab || nat_eq b newline
 
 -- the given byte, and not quoted
 abbrev pub is_unquoted : ℕ → Letter → Bool
@@ -50,5 +51,6 @@ bytes_of (x ∷ rest) = byte_of x ++ bytes_of rest
 abbrev pub has_glob : List Letter → Bool
 has_glob [] = false
 has_glob (x ∷ rest) =
-    is_unquoted 42 x || is_unquoted 63 x || (is_unquoted 91 x && list_any (is_unquoted 93) rest)
+    is_unquoted star x || is_unquoted question x
+    || (is_unquoted bracket_open x && list_any (is_unquoted bracket_close) rest)
     || has_glob rest

@@ -16,7 +16,8 @@ is_function name (Some defined) = bytes_eq defined.0 name
 abbrev pub defines : List Command → Text → Bool
 defines members name = list_any (λ member. is_function name (defined_by member)) members
 
--- the stated calls that count in a script, by its body: of their names it defines no function (POSIX.1-2017, XCU
--- 2.9.5 Function Definition Command; in an accepted script all definitions are members of the script's list)
+-- the stated calls that count in a script, by its body: of their names it defines no function, before the command or
+-- behind it (POSIX.1-2017, XCU 2.9.5 Function Definition Command; in an accepted script all definitions are members
+-- of the script's list)
 abbrev pub in_script : Command → List StatedCall → List StatedCall
 in_script body calls = filter (λ call. not (defines (members_of body) call.name)) calls

@@ -1,4 +1,5 @@
--- What a script and its program have in common under stated calls.
+-- What a script and its program have in common under stated calls. The script so read is no `Accepted` in general: of
+-- `a b` with `a` stated the words `true` and `b` stand at 0 and 2, which no text has.
 use Rattle.std.specs.Prelude.{◌≡◌, List, []}
 use Rattle.shell_syntax.specs.declared.script.Script.{Script}
 use Rattle.shell_forms.specs.First.{script_forms}

@@ -1,5 +1,7 @@
--- A script that is read under stated calls: each simple command of a stated name is read as `true` or `false`, with its
--- own assignments, operands and redirections.
+-- A script that is read under stated calls: each simple command of a stated name is read as `true` or `false`, with
+-- its own assignments, operands and redirections. `db_stop`, `'db_stop'` and `db_"stop"` are one name; `$x` is none,
+-- whatever its value, and an operand, a pattern or an assignment is no call. Each command and each word keeps its
+-- offset.
 use Rattle.std.specs.Prelude.{List, [], ◌∷◌, Option, Some, None}
 use Rattle.shell_syntax.specs.declared.script.Script.{Script}
 use Rattle.shell_syntax.specs.declared.syntax.Command.{Command}

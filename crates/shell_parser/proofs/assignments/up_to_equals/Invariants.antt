@@ -1,5 +1,5 @@
 use Rattle.std.proofs.Common.{◌≡◌, ◌≤◌, ◌-◌, ◌++◌, length, drop, take}
-use Rattle.shell_grammar.specs.Trees.{up_to_equals}
+use Rattle.shell_grammar.specs.Look.{up_to_equals}
 use Rattle.shell_parser.proofs.assignments.up_to_equals.Given as goal
 
 abbrev pub invariant-loop-i : goal.invariant-loop-i

@@ -1,5 +1,0 @@
-use Rattle.shell_lexer.proofs.PrintedQuotes.{quoted_is_one_part}
-use Rattle.shell_lexer.proofs.printed.quoted_bytes_read_back.Goals as goal
-
-pub returns : goal.returns
-returns c = quoted_is_one_part

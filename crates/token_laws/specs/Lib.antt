@@ -1,0 +1,5 @@
+pub mod Moved
+pub mod LongestRuns
+pub mod SpelledBegins
+pub mod Laws
+pub mod PrintedLaws
