@@ -55,7 +55,7 @@ alive_iff vars best now small order is tree start = (
   λ some. let s = some.2 in satisfied vars best some.1 order is s.values (fits_from vars some.1 order s.values s.met),
 )
 
-opened_none : (vars : List Variable) (marks : List Bool) (i : ℕ) → IsTrue (opened vars marks i) → (var_at vars i).fence ≡ None
+pub opened_none : (vars : List Variable) (marks : List Bool) (i : ℕ) → IsTrue (opened vars marks i) → (var_at vars i).fence ≡ None
 opened_none vars marks i h = unfenced_none vars i (and_parts (mark_at marks i) (unfenced vars i) h).1
 
 -- the tree that is built is a start tree

@@ -1,4 +1,4 @@
--- The links along derived directories hold as variables are added and limited.
+-- The links along derived directories hold as variables are added and narrowed.
 use Rattle.std.proofs.Common.{◌≡◌, ℕ, zero, suc, ◌+◌, ◌<◌, ◌≤◌, inl, inr, Option, None, Some, List, [], ◌∷◌, ◌++◌, length, refl, sym, ap, ◌∙◌, arith, subst}
 use Rattle.feature_trees.specs.Tree.{entry}
 use Rattle.clause_solver.specs.declared.kin.Kin.{Kin}

@@ -21,12 +21,12 @@ use Rattle.clause_solver.specs.Appends.{IsAppended, IsSingle, LeadsTo}
 use Rattle.clause_solver.specs.Decided.{AreDecided}
 use Rattle.clause_solver.specs.Emptied.{IsWithin}
 use Rattle.clause_solver.specs.Fresh.{fresh}
-use Rattle.clause_solver.specs.Variables.{AllFit, Earlier, OnlyDir, IsChild, defined, limited, filled}
+use Rattle.clause_solver.specs.Variables.{AllFit, Earlier, OnlyDir, IsChild, defined, narrowed, filled}
 use Rattle.clause_solver.specs.Written.{var}
 use Rattle.clause_solver.specs.Drafts.{place_in, Narrows, IsSteady, Says, IsPut, Adds, Makes}
 use Rattle.clause_solver.proofs.Drafting.{narrows_nothing}
 use Rattle.clause_solver.proofs.Filled.{filled_fits, fits_filled, filled_only}
-use Rattle.clause_solver.proofs.Limited.{limited_fits, fits_limited, limited_only}
+use Rattle.clause_solver.proofs.Narrowed.{narrowed_fits, fits_narrowed, narrowed_only}
 use Rattle.clause_solver.proofs.Names.{nat_cases}
 use Rattle.clause_solver.proofs.OneMore.{longer, append_only, append_down, append_up, sound_push, sound_take, defined_sound}
 
@@ -45,14 +45,14 @@ module _ (a : Draft) (x : Var) (n : ℕ) (steady : IsSteady a) (at : place_in a 
   inside : n < length a.lists.vars
   inside = steady.inside x.0 n at
 
-  pub limited_says : (k : Kinds) (lists : Lists) → lists.vars ≡ limited a.lists.vars n k → AreDecided lists → Says a (record a { lists = lists }) (L.Kind x k)
-  limited_says k lists e decided =
-      let new : List Variable = limited a.lists.vars n k in
+  pub narrowed_says : (k : Kinds) (lists : Lists) → lists.vars ≡ narrowed a.lists.vars n k → AreDecided lists → Says a (record a { lists = lists }) (L.Kind x k)
+  narrowed_says k lists e decided =
+      let new : List Variable = narrowed a.lists.vars n k in
       record {
         here = L.Kind (var n) k;
         same = refl;
         steady = record { decided = decided; inside = λ y m p. rw (e, length-set) (steady.inside y m p) };
-        narrows = rw e (narrows_by a.lists.vars new (λ g. IsTrue (has k (kind_of (value_of_variable g n)))) (length-set a.lists.vars n _) (limited_only a.lists.vars n k inside 0) (limited_fits a.lists.vars n k inside) (fits_limited a.lists.vars n k inside));
+        narrows = rw e (narrows_by a.lists.vars new (λ g. IsTrue (has k (kind_of (value_of_variable g n)))) (length-set a.lists.vars n _) (narrowed_only a.lists.vars n k inside 0) (narrowed_fits a.lists.vars n k inside) (fits_narrowed a.lists.vars n k inside));
         is = λ g h agrees. (λ t. rw (agrees x.0 n at) t, λ t. rw (agrees x.0 n at) at t);
       }
 
@@ -84,7 +84,7 @@ module _ (a : Draft) (x : Var) (n : ℕ) (steady : IsSteady a) (at : place_in a 
       }
 
 -- one more variable is a place of the case
-pub appended_adds : (a b c : Draft) (v y : ℕ) (d : Definition) → IsSteady a → Earlier a.lists.vars (length a.lists.vars) d → IsSingle a.lists.vars d → b.places ≡ a.places → IsAppended a.lists.vars a.lists.best a.lists.kin d b.lists.vars b.lists.best b.lists.kin y → AreDecided b.lists → IsPut b c v y → Adds a c v d
+pub appended_adds : (a b c : Draft) (v y : ℕ) (d : Definition) → IsSteady a → Earlier a.lists.vars (length a.lists.vars) d → IsSingle a.lists.vars d → b.places ≡ a.places → IsAppended a.lists d b.lists y → AreDecided b.lists → IsPut b c v y → Adds a c v d
 appended_adds a b c v y d steady before single places is decided put =
     let order = steady.decided.order in
     let long = longer a.lists.vars order d before in

@@ -10,12 +10,12 @@ use Rattle.clause_solver.specs.declared.variable.MadeValue.{MadeValue}
 use Rattle.clause_solver.specs.declared.variable.MadeValue.TheVariants as made
 use Rattle.clause_solver.specs.declared.variable.Definition.TheVariants.{Derived, Ensured, Made}
 use Rattle.clause_solver.specs.declared.variable.Variable.{Variable}
-use Rattle.clause_solver.specs.Variables.{var_at, Listed, member, defined, made_value, limited, AllFit, Ordered}
+use Rattle.clause_solver.specs.Variables.{var_at, Listed, member, defined, made_value, narrowed, AllFit, Ordered}
 use Rattle.clause_solver.specs.Emptied.{IsNarrower, ComesTo, IsEmptied, vars_past, names_past}
 use Rattle.clause_solver.proofs.Names.{name_cases, listed_from_member, member_from_listed}
 use Rattle.tree_clauses.proofs.KindSets.{of_absent}
 use Rattle.clause_solver.proofs.Pairs.{sound_at}
-use Rattle.clause_solver.proofs.Limited.{limited_definition, limited_kinds, limited_fits, fits_limited, limited_order}
+use Rattle.clause_solver.proofs.Narrowed.{narrowed_definition, narrowed_has, narrowed_fits, fits_narrowed, narrowed_order}
 
 pub listed_more : (h f : List ℕ) (names : List (List ℕ)) → Listed h names → Listed h (names ++ f ∷ [])
 listed_more h f [] l = absurd l
@@ -49,13 +49,13 @@ comes_to_itself vars x fence order inside = record {
   back = λ g s fits none. none;
 }
 
-narrower_limited : (old vars : List Variable) (y : ℕ) → y < length vars → IsNarrower old vars → IsNarrower old (limited vars y (of' kind.Absent))
-narrower_limited old vars y inside n = record {
+narrower_narrowed : (old vars : List Variable) (y : ℕ) → y < length vars → IsNarrower old vars → IsNarrower old (narrowed vars y (of' kind.Absent))
+narrower_narrowed old vars y inside n = record {
   long = length-set vars y _ ∙ n.long;
-  order = limited_order vars y (of' kind.Absent) inside n.order;
-  definition = λ i. limited_definition vars y (of' kind.Absent) inside i ∙ n.definition i;
-  fits = λ g h. n.fits g (limited_fits vars y (of' kind.Absent) inside g h).0;
-  kinds = λ i k h. n.kinds i k (limited_kinds vars y (of' kind.Absent) inside i k h);
+  order = narrowed_order vars y (of' kind.Absent) inside n.order;
+  definition = λ i. narrowed_definition vars y (of' kind.Absent) inside i ∙ n.definition i;
+  fits = λ g h. n.fits g (narrowed_fits vars y (of' kind.Absent) inside g h).0;
+  kinds = λ i k h. n.kinds i k (narrowed_has vars y (of' kind.Absent) inside i k h);
 }
 
 module _ (old : List Variable) (x : ℕ) (fence : List (List ℕ)) (vars : List Variable) (here : ℕ) (names : List (List ℕ)) (to : ComesTo old x fence vars here names) where
@@ -108,18 +108,18 @@ module _ (old : List Variable) (x : ℕ) (fence : List (List ℕ)) (vars : List 
     absent_fits : (g : Valuation) → value_of_variable g y ≡ value.Absent → IsTrue (has (of' kind.Absent) (kind_of (value_of_variable g y)))
     absent_fits g a = rw a refl
 
-    past_new : ¬ (Listed f names) → ComesTo old x fence (limited vars y (of' kind.Absent)) of (names ++ f ∷ [])
+    past_new : ¬ (Listed f names) → ComesTo old x fence (narrowed vars y (of' kind.Absent)) of (names ++ f ∷ [])
     past_new new = record {
-      narrower = narrower_limited old vars y past_inside.2 to.narrower;
+      narrower = narrower_narrowed old vars y past_inside.2 to.narrower;
       inside = rw length-set past_inside.1;
       there = λ g s fits none.
           let r = to.there g s fits none in
           let a = sym (same_here g s r.0) ∙ r.1 f new in (
-            fits_limited vars y (of' kind.Absent) past_inside.2 g r.0 (absent_fits g a),
+            fits_narrowed vars y (of' kind.Absent) past_inside.2 g r.0 (absent_fits g a),
             λ h out. sym (same_other g h s r.0 (λ q. out (subst (λ z. Listed z (names ++ f ∷ [])) q (listed_last f names)))) ∙ r.1 h (λ l. out (listed_more h f names l)),
           );
       back = λ g s fits none.
-          let parts = limited_fits vars y (of' kind.Absent) past_inside.2 g fits in
+          let parts = narrowed_fits vars y (of' kind.Absent) past_inside.2 g fits in
           let a : value_of_variable g y ≡ value.Absent = absent_kind (value_of_variable g y) (of_absent _ parts.1) in
           to.back g s parts.0 (λ h out. elim (name_cases f h) [
             | inl q ↦ subst (λ z. entry (value_of_variable g here) z ≡ value.Absent) q.0 (same_here g s parts.0 ∙ a)
@@ -127,7 +127,7 @@ module _ (old : List Variable) (x : ℕ) (fence : List (List ℕ)) (vars : List 
           ]);
     }
 
-    past_by : (b : Bool) → member f names ≡ b → ComesTo old x fence (if b then vars else limited vars y (of' kind.Absent)) of (if b then names else (names ++ f ∷ []))
+    past_by : (b : Bool) → member f names ≡ b → ComesTo old x fence (if b then vars else narrowed vars y (of' kind.Absent)) of (if b then names else (names ++ f ∷ []))
     past_by true m = past_listed (listed_from_member f names m)
     past_by false m = past_new (λ l. let t : member f names ≡ true = member_from_listed f names l in let bad : true ≡ false = sym t ∙ m in cc)
 

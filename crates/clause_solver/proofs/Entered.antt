@@ -56,12 +56,12 @@ known_still a b n f m child =
     let less = m.more in
     (child.0, (omega (arith, w, less), ap (λ (v : Variable). v.definition) (m.old_at child.0 w) ∙ child.1.1))
 
-module _ (a b : Lists) (n : ℕ) (f : List ℕ) (y : ℕ) (t : AreDecided a) (inside : n < length a.vars) (node : IsTrue (is_node (var_at a.vars n).definition)) (name : IsTrue (is_name f)) (none : (i : ℕ) → ¬ (IsChild a.vars n f i)) (is : IsAppended a.vars a.best a.kin (Child n f) b.vars b.best b.kin y) where
+module _ (a b : Lists) (n : ℕ) (f : List ℕ) (y : ℕ) (t : AreDecided a) (inside : n < length a.vars) (node : IsTrue (is_node (var_at a.vars n).definition)) (name : IsTrue (is_name f)) (none : (i : ℕ) → ¬ (IsChild a.vars n f i)) (is : IsAppended a (Child n f) b y) where
   before : Earlier a.vars (length a.vars) (Child n f)
   before = (inside, node, name)
 
-  pub entered_decided : b.filled ≡ a.filled → b.alive ≡ a.alive → AreDecided b
-  entered_decided numbers live = appended_decided a b y (Child n f) t before (child_single a.vars n f none) is numbers live
+  pub entered_decided : AreDecided b
+  entered_decided = appended_decided a b y (Child n f) t before (child_single a.vars n f none) is
 
   pub entered_more : HasMore a.vars b.vars
   entered_more =

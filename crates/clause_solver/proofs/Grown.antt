@@ -19,7 +19,8 @@ use Rattle.clause_solver.specs.declared.variable.Definition.TheVariants.{Start, 
 use Rattle.clause_solver.specs.declared.variable.Variable.{Variable}
 use Rattle.tree_clauses.specs.Literals.{Valuation, value_of_variable, IsSound}
 use Rattle.clause_solver.specs.Variables.{var_at, Listed, allowed, defined, made_value, AllFit, is_node, Earlier, Ordered}
-use Rattle.clause_solver.specs.Greatest.{kind_at, is_dir, best_by, IsBest, HasEntryOutside, free, child_present, here, below, kept, IsSatisfied}
+use Rattle.clause_solver.specs.Greatest.{kind_at, is_dir, best_by, IsBest, HasEntryOutside, free, child_present, here, below, kept, IsSatisfied, unfenced_if}
+use Rattle.clause_solver.specs.Opens.{IsRoot, itself, derived, ensured}
 use Rattle.clause_solver.specs.Grown.{grown, add, children, extra, values}
 use Rattle.clause_solver.proofs.Names.{nat_cases, bool_cases, eq_cases, same_yes, name_cases}
 use Rattle.clause_solver.proofs.GreatestKinds.{is_dir_cases}
@@ -157,6 +158,13 @@ children_skip p h (c ∷ cs) (t ∷ ts) first n s r never =
 
 extra_find : (z : List ℕ) → find (extra true z) z ≡ Reg
 extra_find z = ap (λ o. by_order o Absent (value_of (node_of Reg)) Absent) (tied_itself ord z) ∙ value_of-node_of Reg tt
+
+extra_only : (b : Bool) (z h : List ℕ) → find (extra b z) h ≢ Absent → IsTrue b × (h ≡ z)
+extra_only false z h some = absurd (some refl)
+extra_only true z h some = elim (name_cases z h) [
+  | inl e ↦ (refl, sym e.0)
+  | inr n ↦ absurd (some (find-update_other [] z h Reg (rises_of [] refl) n.0))
+]
 
 grown_entry : (b : Kind) (es : List Entry) (h : List ℕ) → entry (grown b es) h ≢ Absent → find es h ≢ Absent
 grown_entry kind.Absent es h some = absurd (some refl)
@@ -404,6 +412,54 @@ module _ (vars : List Variable) (best : List Kind) (open_at : ℕ → Bool) (z :
       let before = rw e at (order.earlier i w) in
       let deep = has_entry_is rest1 (omega (arith, before)) out in
       (deep.0, deep.1, λ q. deep.2 (sym (ap (λ v. entry v deep.0) (is_by i w (Ensured x) e) ∙ entry_is (value_of_variable whole x) deep.0) ∙ q))
+
+  -- a child's value is the entry of its place
+  pub child_is : (i j : ℕ) (h : List ℕ) → j < length vars → (var_at vars j).definition ≡ Child i h → value_of_variable whole j ≡ entry (value_of_variable whole i) h
+  child_is i j h w e = is_by j w (Child i h) e
+
+  -- an entry of a place is that of a variable, or the new one where the place is open
+  pub place_entry : (i : ℕ) (h : List ℕ) → i < length vars → IsTrue (is_node (var_at vars i).definition) → entry (value_of_variable whole i) h ≢ Absent → ((j : ℕ) × (j < length vars) × ((var_at vars j).definition ≡ Child i h) × (kind_at best j ≢ kind.Absent)) ⊎ (IsTrue (open_at i) × (h ≡ z))
+  place_entry i h w node some =
+      let zz : 0 + i ≡ i = omega arith in
+      elim (only_values best open_at z zn 0 h vars i (all_named vars order) w (λ q. some (ap (λ v. entry v h) (node_is i w node) ∙ q))) [
+        | inl r ↦
+            let e : (var_at vars r.0).definition ≡ Child i h = rw zz at r.2 in
+            inl (r.0, r.1, e, λ q. present_kind (value_of_variable vals r.0) r.3 (vals_kind r.0 r.1 ∙ q))
+        | inr r ↦ inr (extra_only (open_at i) z h (rw zz at r))
+      ]
+
+  -- the new entry is a regular file
+  pub place_new : (i : ℕ) → i < length vars → IsTrue (is_node (var_at vars i).definition) → IsTrue (open_at i) → entry (value_of_variable whole i) z ≢ Absent → entry (value_of_variable whole i) z ≡ Reg
+  place_new i w node o some =
+      let zz : 0 + i ≡ i = omega arith in
+      let dir : kind_at best i ≡ kind.Dir = elim (entry_of_dir (value_of_variable whole i) z) [
+        | inl d ↦ sym (kind_is i w) ∙ d
+        | inr a ↦ absurd (some a)
+      ] in
+      ap (λ v. entry v z) (node_is i w node) ∙ fresh_values best open_at z zn 0 vars i (all_named vars order) w (rw zz o) (rw zz dir) new_child
+
+  -- where a variable has no entry but for open places, its one entry is the new one
+  pub only_new : {i r : ℕ} → IsRoot vars i r → (ds : List (List ℕ)) → i < length vars → ¬ (HasEntryOutside vars best (unfenced_if vars false) i ds) → (h : List ℕ) → ¬ (Listed h ds) → entry (value_of_variable whole i) h ≢ Absent → h ≡ z
+  only_new {i} (itself node) ds w none h out some = elim (place_entry i h w node some) [
+    | inl r ↦ absurd (none (child_present r.0 h r.1 r.2 r.3 out))
+    | inr r ↦ r.1
+  ]
+  only_new {i} (derived x f y e root) ds w none h out some =
+      let before = rw e at (order.earlier i w) in
+      elim (name_cases f h) [
+        | inl same ↦
+            let at_f : entry (value_of_variable whole i) f ≡ value_of_variable whole y = ap (λ v. entry v f) (is_by i w (Derived x f y) e) ∙ derived_same (value_of_variable whole x) (value_of_variable whole y) f (sound_at whole whole_sound x) in
+            let there : value_of_variable whole y ≢ Absent = λ q. some (ap (entry (value_of_variable whole i)) (sym same.0) ∙ at_f ∙ q) in
+            let kind_there : kind_at best y ≢ kind.Absent = λ q. there (absent_kind (value_of_variable whole y) (kind_is y (omega (arith, before.1)) ∙ q)) in
+            absurd (none (here x f y e kind_there (λ l. out (subst (λ n. Listed n ds) same.0 l))))
+        | inr other ↦
+            let at_h : entry (value_of_variable whole i) h ≡ entry (value_of_variable whole x) h = ap (λ v. entry v h) (is_by i w (Derived x f y) e) ∙ derived_other (value_of_variable whole x) (value_of_variable whole y) f h (sound_at whole whole_sound x) other.0 in
+            only_new root (f ∷ ds) (omega (arith, before.0)) (λ l. none (below x f y e l)) h (λ l. elim l [ inl q ↦ other.0 (sym q) | inr q ↦ out q ]) (λ q. some (at_h ∙ q))
+      ]
+  only_new {i} (ensured x e root) ds w none h out some =
+      let before = rw e at (order.earlier i w) in
+      let at_h : entry (value_of_variable whole i) h ≡ entry (value_of_variable whole x) h = ap (λ v. entry v h) (is_by i w (Ensured x) e) ∙ entry_is (value_of_variable whole x) h in
+      only_new root ds (omega (arith, before)) (λ l. none (kept x e l)) h out (λ q. some (at_h ∙ q))
 
   pub all_fit : IsSatisfied vars best open_at → AllFit vars whole
   all_fit satisfied i w = record {

@@ -4,11 +4,12 @@ pub mod HasEntries
 pub mod Pairs
 pub mod OneMore
 pub mod Unique
-pub mod Limited
+pub mod Narrowed
 pub mod Least
 pub mod Grown
 pub mod NewNames
 pub mod Alive
+pub mod Bare
 pub mod Leads
 pub mod Downward
 pub mod Links

@@ -1,4 +1,4 @@
--- The links between the entries of a place hold as variables are added and limited, and lead past each entry.
+-- The links between the entries of a place hold as variables are added and narrowed, and lead past each entry.
 use Rattle.std.proofs.Common.{◌≡◌, ◌≢◌, ◌⊎◌, ℕ, zero, suc, ◌+◌, ◌<◌, ◌≤◌, inl, inr, Option, None, Some, List, [], ◌∷◌, ◌++◌, length, refl, sym, ap, ◌∙◌, arith, subst, length-set, get_or-set_other, get_or-set_same, set}
 use Rattle.std.proofs.lemmas.List.{length-append, get_or_append_left}
 use Rattle.std.proofs.Math.Seq.{get_or-append_seam}
@@ -8,13 +8,13 @@ use Rattle.clause_solver.specs.declared.kin.Link.{Link}
 use Rattle.clause_solver.specs.declared.variable.Definition.{Definition}
 use Rattle.clause_solver.specs.declared.variable.Definition.TheVariants.{Start, Child, Derived, Ensured, Made}
 use Rattle.clause_solver.specs.declared.variable.Variable.{Variable}
-use Rattle.clause_solver.specs.Variables.{var_at, no_variable, limited, Earlier, Ordered}
+use Rattle.clause_solver.specs.Variables.{var_at, no_variable, narrowed, Earlier, Ordered}
 use Rattle.clause_solver.specs.Fresh.{fresh}
 use Rattle.clause_solver.specs.Linked.{other_kin, no_kin, kin_at, link_at, IsChildOf, IsLastChild, LeadsToEntry, AreLinks, IsEnd, AreLinkedDown, AreLinked, with_entry, WithVariable}
 use Rattle.clause_solver.proofs.Downward.{IsKept, same_down, ended_down, derived_down, ensured_down, first_down}
 use Rattle.clause_solver.proofs.Names.{nat_cases, last_cases}
 use Rattle.clause_solver.proofs.OneMore.{longer, old_at, new_at}
-use Rattle.clause_solver.proofs.Limited.{limited_definition}
+use Rattle.clause_solver.proofs.Narrowed.{narrowed_definition}
 
 pub below_or : (i n : ℕ) → (i < n) ⊎ (n ≤ i)
 below_or i zero = inr (omega arith)
@@ -60,8 +60,8 @@ same_linked vars new kin long same linked = record {
   below = same_down vars new kin long same linked.below;
 }
 
-pub limited_linked : (vars : List Variable) (kin : List Kin) (x : ℕ) (k : Kinds) → x < length vars → AreLinked vars kin → AreLinked (limited vars x k) kin
-limited_linked vars kin x k inside linked = same_linked vars (limited vars x k) kin (length-set vars x _) (limited_definition vars x k inside) linked
+pub narrowed_linked : (vars : List Variable) (kin : List Kin) (x : ℕ) (k : Kinds) → x < length vars → AreLinked vars kin → AreLinked (narrowed vars x k) kin
+narrowed_linked vars kin x k inside linked = same_linked vars (narrowed vars x k) kin (length-set vars x _) (narrowed_definition vars x k inside) linked
 
 at_end : (vars : List Variable) (v : Variable) (i : ℕ) → i ≡ length vars → var_at (vars ++ v ∷ []) i ≡ v
 at_end vars v i e = ap (var_at (vars ++ v ∷ [])) e ∙ get_or-append_seam vars v [] no_variable

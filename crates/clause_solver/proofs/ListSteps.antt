@@ -28,7 +28,7 @@ use Rattle.clause_solver.proofs.OneMore.{longer, append_order, append_best, appe
 
 -- ---- one more variable
 
-module _ (a b : Lists) (y : ℕ) (d : Definition) (all : AreDecided a) (before : Earlier a.vars (length a.vars) d) (single : IsSingle a.vars d) (is : IsAppended a.vars a.best a.kin d b.vars b.best b.kin y) where
+module _ (a b : Lists) (y : ℕ) (d : Definition) (all : AreDecided a) (before : Earlier a.vars (length a.vars) d) (single : IsSingle a.vars d) (is : IsAppended a d b y) where
   abbrev more : List Variable
   more = a.vars ++ fresh d ∷ []
 
@@ -52,15 +52,15 @@ module _ (a b : Lists) (y : ℕ) (d : Definition) (all : AreDecided a) (before :
         ),
   )
 
-  pub appended_decided : b.filled ≡ a.filled → b.alive ≡ a.alive → AreDecided b
-  appended_decided numbers live = record {
+  pub appended_decided : AreDecided b
+  appended_decided = record {
     order = rw is.variable (append_order a.vars all.order d before single);
     same = rw (is.variable, is.kind, length-append, length-append) (ap (λ n. n + 1) all.same);
     best = rw (is.variable, is.kind) (append_best a.vars all.order d before a.best _ all.same all.best refl);
     linked = rw is.variable (variable_linked a.vars a.kin b.kin all.order all.linked d before is.links);
     small = rw (is.variable, more_long) (let r = is.room in omega arith);
-    filled = rw (is.variable, numbers) (filled_more a.vars (fresh d) a.filled refl all.filled);
-    alive = rw (is.variable, live) (λ t. more_left.0 (all.alive.0 t), λ g. all.alive.1 (more_left.1 g));
+    filled = rw (is.variable, is.filled) (filled_more a.vars (fresh d) a.filled refl all.filled);
+    alive = rw (is.variable, is.alive) (λ t. more_left.0 (all.alive.0 t), λ g. all.alive.1 (more_left.1 g));
   }
 
 -- ---- a variable that has an entry

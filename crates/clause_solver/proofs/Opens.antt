@@ -1,5 +1,5 @@
 -- Which places are shown with one more entry: enough of them, and only places without a fence.
-use Rattle.std.proofs.Common.{◌≡◌, ℕ, ◌+◌, ◌<◌, Bool, true, false, IsTrue, inl, inr, List, [], length, set, get_or-set_same, refl, sym, subst, ◌∙◌}
+use Rattle.std.proofs.Common.{◌≡◌, ℕ, ◌+◌, ◌<◌, Bool, true, false, IsTrue, ◌⊎◌, inl, inr, List, [], length, set, get_or-set_same, get_or-set_other, refl, sym, subst, ◌∙◌}
 use Rattle.feature_trees.specs.declared.kind.Kind.{Kind}
 use Rattle.clause_solver.specs.declared.variable.MadeValue.{MadeValue}
 use Rattle.clause_solver.specs.declared.variable.Definition.TheVariants.{Derived, Ensured, Made}
@@ -7,8 +7,8 @@ use Rattle.clause_solver.specs.declared.variable.Variable.{Variable}
 use Rattle.clause_solver.specs.Variables.{var_at, is_node}
 use Rattle.clause_solver.specs.Greatest.{IsSatisfied, unfenced, unfenced_if, HasEntryOutside, free, child_present, here, below, kept}
 use Rattle.clause_solver.specs.Decided.{AreFilled, number_at}
-use Rattle.clause_solver.specs.Opens.{mark_at, opened, IsRoot, itself, derived, ensured}
-use Rattle.clause_solver.proofs.Names.{last_cases}
+use Rattle.clause_solver.specs.Opens.{mark_at, opened, IsRoot, itself, derived, ensured, IsOpenedFor, AreReasoned}
+use Rattle.clause_solver.proofs.Names.{last_cases, nat_cases}
 use Rattle.std.proofs.lemmas.Bool.{and_parts, and_from}
 
 -- with more open places no entry is lost
@@ -81,3 +81,14 @@ satisfied_opened vars best numbers marks listed satisfied looked i w = record {
 
 pub mark_same : (marks : List Bool) (r : ℕ) → r < length marks → mark_at (set marks r true) r ≡ true
 mark_same marks r w = get_or-set_same marks r true false w
+
+-- a further mark has its reason
+pub reasoned_more : (vars : List Variable) (best : List Kind) (old new : List Bool) (i : ℕ) → AreReasoned vars best old → ((n : ℕ) → IsTrue (mark_at new n) → IsTrue (mark_at old n) ⊎ IsOpenedFor vars best n i) → AreReasoned vars best new
+reasoned_more vars best old new i before more n t = elim (more n t) [ inl b ↦ before n b | inr o ↦ (i, o) ]
+
+-- one mark more is at its place alone
+pub mark_set : (marks : List Bool) (r n : ℕ) → IsTrue (mark_at (set marks r true) n) → IsTrue (mark_at marks n) ⊎ (n ≡ r)
+mark_set marks r n t = elim (nat_cases n r) [
+  | inl e ↦ inr e
+  | inr ne ↦ inl (rw get_or-set_other at t)
+]

@@ -37,8 +37,8 @@ view (absent y ny r) = is_absent ny refl r
 view (reg y ny r) = is_reg ny refl r
 view (link y target ny r) = (ny, r)
 view (dir {literals = more} y ny r) = is_dir more ny refl refl r
-view (same y x kx ny limited r) = is_same refl kx ny r
-view (replaced {literals = more} y f x z kx ny kz limited r) = is_replaced f z more refl refl kx kz ny r
+view (same y x kx ny bounded r) = is_same refl kx ny r
+view (replaced {literals = more} y f x z kx ny kz bounded r) = is_replaced f z more refl refl kx kz ny r
 view (kinds x ks kx r) = is_known kx r
 view (empty x kx r) = (refl, kx, r)
 view (filled x kx r) = (kx, r)

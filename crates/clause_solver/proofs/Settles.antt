@@ -18,7 +18,7 @@ use Rattle.clause_solver.proofs.OneMore.{seen_of, longer, append_order, append_o
 use Rattle.clause_solver.proofs.Leads.{absent_entry, child_entry}
 use Rattle.clause_solver.proofs.ListSteps.{appended_decided}
 
-module _ (a b : Inside) (y : ℕ) (d : Definition) (inv : IsSettled a) (before : Earlier a.lists.vars (length a.lists.vars) d) (none : IsSingle a.lists.vars d) (now : b.current ≡ a.current) (is : IsAppended a.lists.vars a.lists.best a.lists.kin d b.lists.vars b.lists.best b.lists.kin y) where
+module _ (a b : Inside) (y : ℕ) (d : Definition) (inv : IsSettled a) (before : Earlier a.lists.vars (length a.lists.vars) d) (none : IsSingle a.lists.vars d) (now : b.current ≡ a.current) (is : IsAppended a.lists d b.lists y) where
   new_order : Ordered (a.lists.vars ++ fresh d ∷ [])
   new_order = append_order a.lists.vars inv.decided.order d before none
 
@@ -34,11 +34,11 @@ module _ (a b : Inside) (y : ℕ) (d : Definition) (inv : IsSettled a) (before :
   pub appended_known : y < (seen b).count
   appended_known = rw (is.variable, is.at, longer a.lists.vars inv.decided.order d before) (omega arith)
 
-pub appended_settled : (a b : Inside) (y : ℕ) (d : Definition) (inv : IsSettled a) (before : Earlier a.lists.vars (length a.lists.vars) d) (none : IsSingle a.lists.vars d) (now : b.current ≡ a.current) (numbers : b.lists.filled ≡ a.lists.filled) (live : b.lists.alive ≡ a.lists.alive) (is : IsAppended a.lists.vars a.lists.best a.lists.kin d b.lists.vars b.lists.best b.lists.kin y) → IsSettled b
-appended_settled a b y d inv before none now numbers live is =
+pub appended_settled : (a b : Inside) (y : ℕ) (d : Definition) (inv : IsSettled a) (before : Earlier a.lists.vars (length a.lists.vars) d) (none : IsSingle a.lists.vars d) (now : b.current ≡ a.current) (is : IsAppended a.lists d b.lists y) → IsSettled b
+appended_settled a b y d inv before none now is =
     let long = longer a.lists.vars inv.decided.order d before in
     record {
-      decided = appended_decided a.lists b.lists y d inv.decided before none is numbers live;
+      decided = appended_decided a.lists b.lists y d inv.decided before none is;
       now_known = rw (is.variable, long, now) (let r = inv.now_known in omega arith);
       now_tree = rw (is.variable, now) (append_always a.lists.vars inv.decided.order d before a.current inv.now_known inv.now_tree);
       start_tree = rw is.variable (append_only a.lists.vars inv.decided.order d before 0 inv.decided.order.some inv.start_tree);
@@ -56,14 +56,14 @@ child_single vars n f none x g i e h =
     let eg : f ≡ g = cc in
     none i (rw (ex, eg) h)
 
-pub absent_is_entry : (a b : Inside) (y x : ℕ) (f : List ℕ) → IsSettled a → x < length a.lists.vars → b.current ≡ a.current → IsAppended a.lists.vars a.lists.best a.lists.kin (Made made.Absent) b.lists.vars b.lists.best b.lists.kin y → LeadsTo a.lists.vars x f Nothing → HasEntry (seen b) x f y
+pub absent_is_entry : (a b : Inside) (y x : ℕ) (f : List ℕ) → IsSettled a → x < length a.lists.vars → b.current ≡ a.current → IsAppended a.lists (Made made.Absent) b.lists y → LeadsTo a.lists.vars x f Nothing → HasEntry (seen b) x f y
 absent_is_entry a b y x f inv inside now is leads =
     rw (is.variable, now, is.at) (absent_entry a.lists.vars a.current x f inv.decided.order inside (append_order a.lists.vars inv.decided.order (Made made.Absent) tt (made_single a.lists.vars made.Absent)) leads)
 
 pub child_before : (vars : List Variable) (x n : ℕ) (f : List ℕ) → IsTrue (is_name f) → LeadsTo vars x f (At n) → Earlier vars (length vars) (Child n f)
 child_before vars x n f name leads = (leads.0, leads.1, name)
 
-pub child_is_entry : (a b : Inside) (y x n : ℕ) (f : List ℕ) → IsSettled a → x < length a.lists.vars → IsTrue (is_name f) → ((i : ℕ) → ¬ (IsChild a.lists.vars n f i)) → b.current ≡ a.current → IsAppended a.lists.vars a.lists.best a.lists.kin (Child n f) b.lists.vars b.lists.best b.lists.kin y → LeadsTo a.lists.vars x f (At n) → HasEntry (seen b) x f y
+pub child_is_entry : (a b : Inside) (y x n : ℕ) (f : List ℕ) → IsSettled a → x < length a.lists.vars → IsTrue (is_name f) → ((i : ℕ) → ¬ (IsChild a.lists.vars n f i)) → b.current ≡ a.current → IsAppended a.lists (Child n f) b.lists y → LeadsTo a.lists.vars x f (At n) → HasEntry (seen b) x f y
 child_is_entry a b y x n f inv inside name none now is leads =
     let before = child_before a.lists.vars x n f name leads in
     rw (is.variable, now, is.at) (child_entry a.lists.vars a.current x f inv.decided.order inside n before (append_order a.lists.vars inv.decided.order (Child n f) before (child_single a.lists.vars n f none)) leads)
@@ -71,7 +71,7 @@ child_is_entry a b y x n f inv inside name none now is leads =
 pub derived_before : (vars : List Variable) (x y : ℕ) (f : List ℕ) → x < length vars → y < length vars → IsTrue (is_name f) → Earlier vars (length vars) (Derived x f y)
 derived_before vars x y f known value name = (known, value, name)
 
-pub derived_is_put : (a b : Inside) (z x y : ℕ) (f : List ℕ) → IsSettled a → x < length a.lists.vars → y < length a.lists.vars → IsTrue (is_name f) → b.current ≡ a.current → IsAppended a.lists.vars a.lists.best a.lists.kin (Derived x f y) b.lists.vars b.lists.best b.lists.kin z → HasPut (seen b) x f y z
+pub derived_is_put : (a b : Inside) (z x y : ℕ) (f : List ℕ) → IsSettled a → x < length a.lists.vars → y < length a.lists.vars → IsTrue (is_name f) → b.current ≡ a.current → IsAppended a.lists (Derived x f y) b.lists z → HasPut (seen b) x f y z
 derived_is_put a b z x y f inv inside known name now is =
     let before = derived_before a.lists.vars x y f inside known name in
     let single = derived_single a.lists.vars x y f in
@@ -80,7 +80,7 @@ derived_is_put a b z x y f inv inside known name now is =
       is = appended_is a b z (Derived x f y) inv before single now is;
     }
 
-pub made_is_value : (a b : Inside) (y : ℕ) (m : MadeValue) → IsSettled a → b.current ≡ a.current → IsAppended a.lists.vars a.lists.best a.lists.kin (Made m) b.lists.vars b.lists.best b.lists.kin y → HasValue (seen b) y (made_value m)
+pub made_is_value : (a b : Inside) (y : ℕ) (m : MadeValue) → IsSettled a → b.current ≡ a.current → IsAppended a.lists (Made m) b.lists y → HasValue (seen b) y (made_value m)
 made_is_value a b y m inv now is = record {
   known = appended_known a b y (Made m) inv tt (made_single a.lists.vars m) now is;
   is = appended_is a b y (Made m) inv tt (made_single a.lists.vars m) now is;
@@ -89,7 +89,7 @@ made_is_value a b y m inv now is = record {
 pub ensured_single : (vars : List Variable) (x : ℕ) → IsSingle vars (Ensured x)
 ensured_single vars x p g i e = let bad : Ensured x ≡ Child p g = e in cc
 
-pub ensured_has : (a b : Inside) (y x : ℕ) → IsSettled a → x < length a.lists.vars → b.current ≡ a.current → IsAppended a.lists.vars a.lists.best a.lists.kin (Ensured x) b.lists.vars b.lists.best b.lists.kin y → HasEntriesOf (seen b) x y
+pub ensured_has : (a b : Inside) (y x : ℕ) → IsSettled a → x < length a.lists.vars → b.current ≡ a.current → IsAppended a.lists (Ensured x) b.lists y → HasEntriesOf (seen b) x y
 ensured_has a b y x inv inside now is = record {
   known = appended_known a b y (Ensured x) inv inside (ensured_single a.lists.vars x) now is;
   is = appended_is a b y (Ensured x) inv inside (ensured_single a.lists.vars x) now is;

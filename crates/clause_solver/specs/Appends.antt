@@ -1,6 +1,5 @@
 -- One more variable, and where an entry of a variable is found.
 use Rattle.std.specs.Prelude.{◌≡◌, ℕ, ◌<◌, List, [], ◌∷◌, ◌++◌, length, IsTrue}
-use Rattle.feature_trees.specs.declared.kind.Kind.{Kind}
 use Rattle.feature_trees.specs.declared.value.Value.TheVariants as value
 use Rattle.feature_trees.specs.Kinds.{all}
 use Rattle.feature_trees.specs.Tree.{entry}
@@ -15,16 +14,17 @@ use Rattle.clause_solver.specs.Variables.{var_at, is_node, AllFit, IsChild}
 use Rattle.clause_solver.specs.Greatest.{best_by}
 use Rattle.clause_solver.specs.Fresh.{fresh}
 use Rattle.clause_solver.specs.Linked.{WithVariable}
-use Rattle.clause_solver.specs.declared.kin.Kin.{Kin}
+use Rattle.clause_solver.specs.declared.lists.Lists.{Lists}
 
--- the variable y was added, with its greatest kind and its links
-pub record IsAppended (vars : List Variable) (best : List Kind) (kin : List Kin) (d : Definition)
-    (new_vars : List Variable) (new_best : List Kind) (new_kin : List Kin) (y : ℕ) : Type 0 where
-  pub at : y ≡ length vars
-  pub room : length vars < MOST_VARIABLES
-  pub variable : new_vars ≡ vars ++ fresh d ∷ []
-  pub kind : new_best ≡ best ++ best_by vars best all d ∷ []
-  pub links : WithVariable vars kin d new_kin
+-- the variable y was added to the lists, with its greatest kind and its links
+pub record IsAppended (old : Lists) (d : Definition) (new : Lists) (y : ℕ) : Type 0 where
+  pub at : y ≡ length old.vars
+  pub room : length old.vars < MOST_VARIABLES
+  pub variable : new.vars ≡ old.vars ++ fresh d ∷ []
+  pub kind : new.best ≡ old.best ++ best_by old.vars old.best all d ∷ []
+  pub links : WithVariable old.vars old.kin d new.kin
+  pub filled : new.filled ≡ old.filled
+  pub alive : new.alive ≡ old.alive
 
 -- a definition names known variables
 abbrev pub Within : List Variable → Definition → Type 0

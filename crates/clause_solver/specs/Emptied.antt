@@ -10,14 +10,14 @@ use Rattle.feature_trees.specs.Kinds.{has, of}
 use Rattle.feature_trees.specs.Tree.{entry}
 use Rattle.tree_clauses.specs.Literals.{Valuation, value_of_variable, IsSound}
 use Rattle.clause_solver.specs.declared.variable.Variable.{Variable}
-use Rattle.clause_solver.specs.Variables.{var_at, Listed, member, allowed, limited, is_node, AllFit, Ordered, IsChild}
+use Rattle.clause_solver.specs.Variables.{var_at, Listed, member, allowed, narrowed, is_node, AllFit, Ordered, IsChild}
 use Rattle.clause_solver.specs.Variables.{OnlyDir}
 
 -- the value has no entry under another name than these
 abbrev pub HasNoneOutside : Value → List (List ℕ) → Type 0
 HasNoneOutside v names = (f : List ℕ) → ¬ (Listed f names) → entry v f ≡ value.Absent
 
--- the same variables, with kinds that are limited further
+-- the same variables, with kinds that are narrowed further
 pub record IsNarrower (old new : List Variable) : Type 0 where
   pub long : length new ≡ length old
   pub order : Ordered new
@@ -51,7 +51,7 @@ EndsAt old x fence new names (Some n) =
 
 -- past an entry that is replaced: where its name is not among these, nothing stands there
 abbrev pub vars_past : List Variable → List (List ℕ) → List ℕ → ℕ → List Variable
-vars_past vars names f y = if member f names then vars else limited vars y (of kind.Absent)
+vars_past vars names f y = if member f names then vars else narrowed vars y (of kind.Absent)
 
 -- past an entry that is replaced: its name is among the names from then on
 abbrev pub names_past : List (List ℕ) → List ℕ → List (List ℕ)

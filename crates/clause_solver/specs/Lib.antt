@@ -14,6 +14,7 @@ pub mod Gathered
 pub mod NewNames
 pub mod Pairs
 pub mod Opens
+pub mod Bare
 pub mod Builds
 pub mod Adds
 pub mod Settled

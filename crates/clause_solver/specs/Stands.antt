@@ -15,7 +15,8 @@ pub record Seen : Type 0 where
   pub current : ℕ
 
 -- the store stands for a start tree and a valuation: one value of the file tree for each variable, the start tree for
--- variable 0, a directory there and for the tree now, and all literals met
+-- variable 0, a directory there and for the tree now, and all literals met. For one start tree there is one valuation
+-- at most (`Store::now`), since each variable is defined from earlier ones
 pub record Stands (s : Seen) (t : Value) (g : Valuation) : Type 0 where
   pub counted : length g ≡ s.count
   pub starts : value_of_variable g 0 ≡ t

@@ -117,13 +117,13 @@ fixed_in (Derived x f y) k = has k kind.Dir
 fixed_in (Ensured x) k = has k kind.Dir
 fixed_in (Made m) k = has k (kind_of (made_value m))
 
--- the kinds of a variable that is limited to a set; where its definition says as much, they stay
-abbrev pub narrowed : Variable → Kinds → Kinds
-narrowed v k = if fixed_in v.definition k then v.kinds else both v.kinds k
+-- the kinds of a variable that is narrowed to a set; where its definition says as much, they stay
+abbrev pub narrowed_kinds : Variable → Kinds → Kinds
+narrowed_kinds v k = if fixed_in v.definition k then v.kinds else both v.kinds k
 
--- the variable at a place is limited to a set
-abbrev pub limited : List Variable → ℕ → Kinds → List Variable
-limited vars x k = slice_set vars x (record (var_at vars x) { kinds = narrowed (var_at vars x) k })
+-- the variable at a place is narrowed to a set
+abbrev pub narrowed : List Variable → ℕ → Kinds → List Variable
+narrowed vars x k = slice_set vars x (record (var_at vars x) { kinds = narrowed_kinds (var_at vars x) k })
 
 -- the variable at a place has an entry
 abbrev pub filled : List Variable → ℕ → List Variable

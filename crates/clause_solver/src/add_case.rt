@@ -79,7 +79,7 @@ fn pass_kinds<'a>(
     ensures fewer { IfOk result (λ more. length more.now ≤ length rest.now) }
 {
     if draft.has(x) {
-        draft.limit(alloc, x, kinds)?;
+        draft.narrow(alloc, x, kinds)?;
         return Ok(rest);
     }
     if kinds.has(Kind::Absent) {

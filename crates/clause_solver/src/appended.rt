@@ -1,12 +1,14 @@
 ghost use Rattle.std.specs.Prelude.{◌≡◌, ℕ, ◌<◌, ◌≤◌, List, length, IfOk, OnErr, OnOk};
 ghost use Rattle.clause_solver.specs.Variables.{Ordered, var_at};
 ghost use Rattle.clause_solver.specs.Appends.{IsAppended, LeadsTo, Within};
+ghost use Rattle.clause_solver.specs.Decided.{AreDecided};
 ghost use Rattle.clause_solver.specs.Linked.{AreLinked, IsEnd, WithVariable};
 
 use crate::children::{add_entry, behind, kin_at, links_of};
 use crate::derivations::{add_derived, add_end, add_ensured, value_under};
 use crate::greatest::greatest_by;
 use crate::kin::Kin;
+use crate::lists::Lists;
 use crate::places::definition_at;
 use crate::variable::{Definition, MOST_VARIABLES, Variable};
 use feature_trees::{Kind, Kinds};
@@ -22,26 +24,77 @@ pub(crate) enum Found {
     At(u32),
 }
 
-/// Follows an entry through the definitions.
-pub(crate) fn resolve(vars: &Shared<Variable>, kin: &Shared<Kin>, x: u32, f: &Name) -> Found
-    requires linked { AreLinked vars.now kin.now }
-    requires order { Ordered vars.now }
-    requires inside { x < length vars.now }
-    ensures { LeadsTo vars.now x f.now result }
-{
-    let end = kin_at(kin, x as usize).end;
-    let mut here = kin_at(kin, x as usize).top;
-    'directories: loop {
-        match here {
-            None => return found_at(vars, end),
-            Some(m) => {
-                let definition = definition_at(vars, m as usize);
-                if let Some(y) = value_under(definition, f) {
-                    return Found::Known(y);
+impl Lists {
+    /// Follows an entry through the definitions.
+    pub(crate) fn resolve(&self, x: u32, f: &Name) -> Found
+        requires linked { AreLinked self.now.vars self.now.kin }
+        requires order { Ordered self.now.vars }
+        requires inside { x < length self.now.vars }
+        ensures { LeadsTo self.now.vars x f.now result }
+    {
+        let end = kin_at(&self.kin, x as usize).end;
+        let mut here = kin_at(&self.kin, x as usize).top;
+        'directories: loop {
+            match here {
+                None => return found_at(&self.vars, end),
+                Some(m) => {
+                    let definition = definition_at(&self.vars, m as usize);
+                    if let Some(y) = value_under(definition, f) {
+                        return Found::Known(y);
+                    }
+                    here = behind(definition, &self.kin, m, f);
                 }
-                here = behind(definition, kin, m, f);
             }
         }
+    }
+
+    /// Adds a variable; for want of memory, or of numbers for variables, all is as before.
+    pub(crate) fn append(&mut self, alloc: Global, definition: Definition) -> Result<u32, Memory>
+        requires decided { AreDecided self.old }
+        requires within { Within self.old.vars definition }
+        ensures ok { IfOk result (IsAppended self.old definition self.new) }
+        ensures kept { OnErr result (self.new ≡ self.old) }
+    {
+        let best = fork_alone(&self.best)?;
+        let kin = fork_alone(&self.kin)?;
+        match self.append_in_place(alloc, definition) {
+            Ok(y) => Ok(y),
+            Err(Memory) => {
+                self.best = best;
+                self.kin = kin;
+                Err(Memory)
+            }
+        }
+    }
+
+    /// Adds a variable in place. For want of memory, or of numbers for variables, all but the greatest kinds and the
+    /// links is as before.
+    pub(crate) fn append_in_place(
+        &mut self,
+        alloc: Global,
+        definition: Definition,
+    ) -> Result<u32, Memory>
+        requires decided { AreDecided self.old }
+        requires within { Within self.old.vars definition }
+        ensures ok { IfOk result (IsAppended self.old definition self.new) }
+        ensures kept { OnErr result (record self.new { best = self.old.best; kin = self.old.kin } ≡ self.old) }
+    {
+        let y = self.vars.len();
+        if y >= MOST_VARIABLES {
+            return Err(Memory);
+        }
+        let kind = greatest_by(&self.vars, &self.best, Kinds::all(), &definition);
+        push_alone(&mut self.best, kind)?;
+        add_kin(alloc, &self.vars, &mut self.kin, &definition)?;
+        let definition = Common::new(alloc, definition)?;
+        let variable = Variable {
+            definition,
+            kinds: Kinds::all(),
+            fence: None,
+            not_empty: false,
+        };
+        push_alone(&mut self.vars, variable)?;
+        Ok(y as u32)
     }
 }
 
@@ -58,63 +111,6 @@ fn found_at(vars: &Shared<Variable>, end: u32) -> Found
         Definition::Ensured(_) => Found::Nothing,
         Definition::Made(_) => Found::Nothing,
     }
-}
-
-/// Adds a variable; for want of memory, or of numbers for variables, all is as before.
-pub(crate) fn append(
-    alloc: Global,
-    vars: &mut Shared<Variable>,
-    best: &mut Shared<Kind>,
-    kin: &mut Shared<Kin>,
-    definition: Definition,
-) -> Result<u32, Memory>
-    requires same { length best.old ≡ length vars.old }
-    requires linked { AreLinked vars.old kin.old }
-    requires within { Within vars.old definition }
-    requires small { length vars.old ≤ MOST_VARIABLES }
-    ensures ok { IfOk result (IsAppended vars.old best.old kin.old definition vars.new best.new kin.new) }
-    ensures kept { OnErr result ((vars.new ≡ vars.old) × (best.new ≡ best.old) × (kin.new ≡ kin.old)) }
-{
-    let mut kinds = fork_alone(best)?;
-    let mut links = fork_alone(kin)?;
-    let y = append_in_place(alloc, vars, &mut kinds, &mut links, definition)?;
-    *best = kinds;
-    *kin = links;
-    Ok(y)
-}
-
-/// Adds a variable in place. For want of memory, or of numbers for variables, the variables are as before, but their
-/// kinds and links may not be.
-pub(crate) fn append_in_place(
-    alloc: Global,
-    vars: &mut Shared<Variable>,
-    best: &mut Shared<Kind>,
-    kin: &mut Shared<Kin>,
-    definition: Definition,
-) -> Result<u32, Memory>
-    requires same { length best.old ≡ length vars.old }
-    requires linked { AreLinked vars.old kin.old }
-    requires within { Within vars.old definition }
-    requires small { length vars.old ≤ MOST_VARIABLES }
-    ensures ok { IfOk result (IsAppended vars.old best.old kin.old definition vars.new best.new kin.new) }
-    ensures kept { OnErr result (vars.new ≡ vars.old) }
-{
-    let y = vars.len();
-    if y >= MOST_VARIABLES {
-        return Err(Memory);
-    }
-    let kind = greatest_by(vars, best, Kinds::all(), &definition);
-    push_alone(best, kind)?;
-    add_kin(alloc, vars, kin, &definition)?;
-    let definition = Common::new(alloc, definition)?;
-    let variable = Variable {
-        definition,
-        kinds: Kinds::all(),
-        fence: None,
-        not_empty: false,
-    };
-    push_alone(vars, variable)?;
-    Ok(y as u32)
 }
 
 // Adds the links of one variable more.

@@ -11,6 +11,7 @@ ghost use Rattle.clause_solver.specs.Linked.{more_links, more_places, other_kin,
 
 use crate::difference::difference;
 use crate::kin::{Kin, Link};
+use crate::lists::Lists;
 use crate::places::definition_at;
 use crate::variable::{Definition, MOST_VARIABLES, Variable};
 use script_names::{Common, List, Memory, Name};
@@ -97,22 +98,25 @@ pub(crate) fn behind(definition: &Definition, kin: &Shared<Kin>, m: u32, f: &Nam
     }
 }
 
-/// The variable of an entry of a place, where there is one.
-pub(crate) fn find(vars: &Shared<Variable>, kin: &Shared<Kin>, of: u32, f: &Name) -> Option<u32>
-    requires inside { of < length vars.now }
-    requires linked { AreLinked vars.now kin.now }
-    ensures { MatchOption result ((i : ℕ) → ¬ (IsChild vars.now of f.now i)) (λ i. IsChild vars.now of f.now i) }
-{
-    let mut here = kin_at(kin, of as usize).youngest;
-    'entries: loop {
-        match here {
-            None => return None,
-            Some(m) => {
-                let definition = definition_at(vars, m as usize);
-                if is_child(definition, of, f) {
-                    return Some(m);
+impl Lists {
+    /// The variable of an entry of a place, where there is one.
+    pub(crate) fn find(&self, of: u32, f: &Name) -> Option<u32>
+        requires inside { of < length self.now.vars }
+        requires linked { AreLinked self.now.vars self.now.kin }
+        ensures { let vars = self.now.vars in
+            MatchOption result ((i : ℕ) → ¬ (IsChild vars of f.now i)) (λ i. IsChild vars of f.now i) }
+    {
+        let mut here = kin_at(&self.kin, of as usize).youngest;
+        'entries: loop {
+            match here {
+                None => return None,
+                Some(m) => {
+                    let definition = definition_at(&self.vars, m as usize);
+                    if is_child(definition, of, f) {
+                        return Some(m);
+                    }
+                    here = behind(definition, &self.kin, m, f);
                 }
-                here = behind(definition, kin, m, f);
             }
         }
     }

@@ -8,9 +8,7 @@ ghost use Rattle.clause_solver.specs.Variables.{Earlier};
 ghost use Rattle.clause_solver.specs.Drafts.{place_in, IsPlaced, IsSteady, Says, IsPut, Adds, Makes};
 ghost use Rattle.clause_solver.specs.Appends.{IsSingle};
 
-use crate::appended::{Found, append_in_place, resolve};
-use crate::children::find;
-use crate::emptying::without_entries;
+use crate::appended::Found;
 use crate::lists::Lists;
 use crate::variable::{Definition, MadeValue};
 use feature_trees::Kinds;
@@ -59,13 +57,13 @@ impl Draft {
     }
 
     /// A variable is of one of these kinds.
-    pub(crate) fn limit(&mut self, alloc: Global, x: Var, k: Kinds) -> Result<(), Memory>
+    pub(crate) fn narrow(&mut self, alloc: Global, x: Var, k: Kinds) -> Result<(), Memory>
         requires steady { IsSteady self.old }
         requires placed { IsPlaced (place_in self.old x.0) }
         ensures { OnOk result (Says self.old self.new (literal.Kind x k)) }
     {
         let n = self.place(x);
-        self.lists.limit(alloc, n, k)?;
+        self.lists.narrow(alloc, n, k)?;
         Ok(())
     }
 
@@ -87,7 +85,7 @@ impl Draft {
         ensures { OnOk result (Says self.old self.new (literal.Fence x [])) }
     {
         let n = self.place(x);
-        let new = without_entries(alloc, &self.lists, n)?;
+        let new = self.lists.without_entries(alloc, n)?;
         self.lists = new;
         Ok(())
     }
@@ -107,13 +105,7 @@ impl Draft {
         requires single { IsSingle self.old.lists.vars d }
         ensures { OnOk result (Adds self.old self.new v.0 d) }
     {
-        let y = append_in_place(
-            alloc,
-            &mut self.lists.vars,
-            &mut self.lists.best,
-            &mut self.lists.kin,
-            d,
-        )?;
+        let y = self.lists.append_in_place(alloc, d)?;
         self.put(v, y)?;
         Ok(())
     }
@@ -126,7 +118,7 @@ impl Draft {
     {
         f.is_sound();
         let n = self.place(x);
-        match resolve(&self.lists.vars, &self.lists.kin, n, f) {
+        match self.lists.resolve(n, f) {
             Found::Known(y) => {
                 self.put(v, y)?;
                 Ok(())
@@ -136,7 +128,7 @@ impl Draft {
                 Ok(())
             }
             Found::At(m) => {
-                if let Some(y) = find(&self.lists.vars, &self.lists.kin, m, f) {
+                if let Some(y) = self.lists.find(m, f) {
                     self.put(v, y)?;
                     return Ok(());
                 }

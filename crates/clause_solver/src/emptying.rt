@@ -7,8 +7,6 @@ ghost use Rattle.clause_solver.specs.Decided.{AreDecided};
 ghost use Rattle.clause_solver.specs.Emptied.{EndsAt, HasItsVariable, HasMore, IsClosed, IsWithin};
 ghost use Rattle.clause_solver.specs.Emptied.{fenced, let_in, names_past, vars_past};
 
-use crate::appended::append_in_place;
-use crate::children::find;
 use crate::greatest::{allows, is_member};
 use crate::lists::{Lists, have_entries};
 use crate::places::var_at;
@@ -29,115 +27,162 @@ pub(crate) struct WayDown {
     pub(crate) place: Option<u32>,
 }
 
-// Goes past an entry that is replaced: where its name is a new one, nothing stands there.
-fn go_past(
-    alloc: Global,
-    lists: &mut Lists,
-    names: &mut List<Name>,
-    f: &Name,
-    y: u32,
-) -> Result<(), Memory>
-    requires decided { AreDecided lists.old }
-    requires inside { y < length lists.old.vars }
-    ensures decided { OnOk result (AreDecided lists.new) }
-    ensures vars { OnOk result (lists.new.vars ≡ vars_past lists.old.vars names.old f.now y) }
-    ensures names { OnOk result (names.new ≡ names_past names.old f.now) }
-{
-    if is_member(names.as_slice(), f) {
-        return Ok(());
+impl Lists {
+    // Goes past an entry that is replaced: where its name is a new one, nothing stands there.
+    fn go_past(
+        &mut self,
+        alloc: Global,
+        names: &mut List<Name>,
+        f: &Name,
+        y: u32,
+    ) -> Result<(), Memory>
+        requires decided { AreDecided self.old }
+        requires inside { y < length self.old.vars }
+        ensures decided { OnOk result (AreDecided self.new) }
+        ensures vars { OnOk result (self.new.vars ≡ vars_past self.old.vars names.old f.now y) }
+        ensures names { OnOk result (names.new ≡ names_past names.old f.now) }
+    {
+        if is_member(names.as_slice(), f) {
+            return Ok(());
+        }
+        self.narrow(alloc, y, Kinds::of(Kind::Absent))?;
+        let name = f.copy(alloc)?;
+        names.add(name)?;
+        Ok(())
     }
-    lists.limit(alloc, y, Kinds::of(Kind::Absent))?;
-    let name = f.copy(alloc)?;
-    names.add(name)?;
-    Ok(())
-}
 
-/// The way down from a variable that has entries under the names of a fence alone.
-pub(crate) fn way_down(
-    alloc: Global,
-    lists: &Lists,
-    x: u32,
-    fence: &List<Name>,
-) -> Result<WayDown, Memory>
-    requires decided { AreDecided lists.now }
-    requires inside { x < length lists.now.vars }
-    ensures decided { IfOk result (λ way. AreDecided way.lists) }
-    ensures ends { IfOk result (λ way. EndsAt lists.now.vars x fence.now way.lists.vars way.names way.place) }
-{
-    let mut new = lists.fork()?;
-    let mut names = fence.copy(alloc)?;
-    let mut here = x;
-    'down: loop {
-        let definition = var_at(&new.vars, here as usize).definition.fork()?;
-        match definition.get() {
-            Definition::Start => {
-                return Ok(WayDown {
-                    lists: new,
-                    names,
-                    place: Some(here),
-                });
-            }
-            Definition::Child(_, _) => {
-                return Ok(WayDown {
-                    lists: new,
-                    names,
-                    place: Some(here),
-                });
-            }
-            Definition::Derived(of, f, y) => {
-                go_past(alloc, &mut new, &mut names, f, *y)?;
-                here = *of;
-            }
-            Definition::Ensured(of) => here = *of,
-            Definition::Made(_) => {
-                return Ok(WayDown {
-                    lists: new,
-                    names,
-                    place: None,
-                });
+    /// The way down from a variable that has entries under the names of a fence alone.
+    pub(crate) fn way_down(
+        &self,
+        alloc: Global,
+        x: u32,
+        fence: &List<Name>,
+    ) -> Result<WayDown, Memory>
+        requires decided { AreDecided self.now }
+        requires inside { x < length self.now.vars }
+        ensures decided { IfOk result (λ way. AreDecided way.lists) }
+        ensures ends { IfOk result (λ way. EndsAt self.now.vars x fence.now way.lists.vars way.names way.place) }
+    {
+        let mut new = self.fork()?;
+        let mut names = fence.copy(alloc)?;
+        let mut here = x;
+        'down: loop {
+            let definition = var_at(&new.vars, here as usize).definition.fork()?;
+            match definition.get() {
+                Definition::Start => {
+                    return Ok(WayDown {
+                        lists: new,
+                        names,
+                        place: Some(here),
+                    });
+                }
+                Definition::Child(_, _) => {
+                    return Ok(WayDown {
+                        lists: new,
+                        names,
+                        place: Some(here),
+                    });
+                }
+                Definition::Derived(of, f, y) => {
+                    new.go_past(alloc, &mut names, f, *y)?;
+                    here = *of;
+                }
+                Definition::Ensured(of) => here = *of,
+                Definition::Made(_) => {
+                    return Ok(WayDown {
+                        lists: new,
+                        names,
+                        place: None,
+                    });
+                }
             }
         }
     }
-}
 
-// Gives an entry of a place its variable, where it has none.
-fn enter(alloc: Global, lists: &mut Lists, n: u32, f: &Name) -> Result<(), Memory>
-    requires decided { AreDecided lists.old }
-    requires inside { n < length lists.old.vars }
-    requires node { IsTrue (is_node (var_at lists.old.vars n).definition) }
-    ensures decided { OnOk result (AreDecided lists.new) }
-    ensures more { OnOk result (HasMore lists.old.vars lists.new.vars) }
-    ensures known { OnOk result (HasItsVariable lists.new.vars n f.now) }
-{
-    f.is_sound();
-    if let Some(_) = find(&lists.vars, &lists.kin, n, f) {
-        return Ok(());
+    // Gives an entry of a place its variable, where it has none.
+    fn enter(&mut self, alloc: Global, n: u32, f: &Name) -> Result<(), Memory>
+        requires decided { AreDecided self.old }
+        requires inside { n < length self.old.vars }
+        requires node { IsTrue (is_node (var_at self.old.vars n).definition) }
+        ensures decided { OnOk result (AreDecided self.new) }
+        ensures more { OnOk result (HasMore self.old.vars self.new.vars) }
+        ensures known { OnOk result (HasItsVariable self.new.vars n f.now) }
+    {
+        f.is_sound();
+        if let Some(_) = self.find(n, f) {
+            return Ok(());
+        }
+        let name = f.copy(alloc)?;
+        let _y = self.append_in_place(alloc, Definition::Child(n, name))?;
+        Ok(())
     }
-    let name = f.copy(alloc)?;
-    let _y = append_in_place(
-        alloc,
-        &mut lists.vars,
-        &mut lists.best,
-        &mut lists.kin,
-        Definition::Child(n, name),
-    )?;
-    Ok(())
-}
 
-// Gives the entries of a place under these names their variables.
-fn with_entries(alloc: Global, lists: &Lists, n: u32, names: &[Name]) -> Result<Lists, Memory>
-    requires decided { AreDecided lists.now }
-    requires inside { n < length lists.now.vars }
-    requires node { IsTrue (is_node (var_at lists.now.vars n).definition) }
-    ensures decided { IfOk result (λ new. AreDecided new) }
-    ensures more { IfOk result (λ new. HasMore lists.now.vars new.vars) }
-    ensures known { IfOk result (λ new. (f : List ℕ) → Listed f names.now → HasItsVariable new.vars n f) }
-{
-    let mut new = lists.fork()?;
-    for i in 0..names.len() {
-        enter(alloc, &mut new, n, &names[i])?;
+    // Gives the entries of a place under these names their variables.
+    fn with_entries(&self, alloc: Global, n: u32, names: &[Name]) -> Result<Lists, Memory>
+        requires decided { AreDecided self.now }
+        requires inside { n < length self.now.vars }
+        requires node { IsTrue (is_node (var_at self.now.vars n).definition) }
+        ensures decided { IfOk result (λ new. AreDecided new) }
+        ensures more { IfOk result (λ new. HasMore self.now.vars new.vars) }
+        ensures known { IfOk result (λ new. (f : List ℕ) → Listed f names.now → HasItsVariable new.vars n f) }
+    {
+        let mut new = self.fork()?;
+        for i in 0..names.len() {
+            new.enter(alloc, n, &names[i])?;
+        }
+        Ok(new)
     }
-    Ok(new)
+
+    // The lists, with further variables, where a place has entries under these names alone.
+    fn closed(&self, alloc: Global, n: u32, names: &[Name]) -> Result<Lists, Memory>
+        requires decided { AreDecided self.now }
+        requires inside { n < length self.now.vars }
+        requires node { IsTrue (is_node (var_at self.now.vars n).definition) }
+        ensures decided { IfOk result (λ new. AreDecided new) }
+        ensures closed { IfOk result (λ new. IsClosed self.now.vars n names.now new.vars) }
+    {
+        let mut new = self.with_entries(alloc, n, names)?;
+        enclose(alloc, &mut new.vars, n as usize, names)?;
+        let best = fork_alone(&new.best)?;
+        let settled = settle_entries(&new.vars, &new.kin, best, n as usize)?;
+        let have = have_entries(&new.vars, &settled.best, &new.kin, &new.filled);
+        new.alive = (new.alive & settled.fits) & have;
+        new.best = settled.best;
+        Ok(new)
+    }
+
+    /// The lists, with further variables, where x has no entry.
+    pub(crate) fn without_entries(&self, alloc: Global, x: u32) -> Result<Lists, Memory>
+        requires decided { AreDecided self.now }
+        requires inside { x < length self.now.vars }
+        ensures decided { IfOk result (λ new. AreDecided new) }
+        ensures within { IfOk result (λ new. IsWithin self.now.vars x [] new.vars) }
+    {
+        let none = List::new(alloc);
+        self.with_fence(alloc, x, &none)
+    }
+
+    /// The lists, with further variables, where x has entries under the names of a fence alone.
+    pub(crate) fn with_fence(
+        &self,
+        alloc: Global,
+        x: u32,
+        fence: &List<Name>,
+    ) -> Result<Lists, Memory>
+        requires decided { AreDecided self.now }
+        requires inside { x < length self.now.vars }
+        ensures decided { IfOk result (λ new. AreDecided new) }
+        ensures within { IfOk result (λ new. IsWithin self.now.vars x fence.now new.vars) }
+    {
+        let way = self.way_down(alloc, x, fence)?;
+        match way.place {
+            Some(n) => {
+                let new = way.lists.closed(alloc, n, way.names.as_slice())?;
+                Ok(new)
+            }
+            None => Ok(way.lists),
+        }
+    }
 }
 
 // The names that a fence lets in.
@@ -189,55 +234,4 @@ fn enclosed_at(
         fence: Some(fence),
         not_empty: v.not_empty,
     })
-}
-
-// The lists, with further variables, where a place has entries under these names alone.
-fn closed(alloc: Global, lists: &Lists, n: u32, names: &[Name]) -> Result<Lists, Memory>
-    requires decided { AreDecided lists.now }
-    requires inside { n < length lists.now.vars }
-    requires node { IsTrue (is_node (var_at lists.now.vars n).definition) }
-    ensures decided { IfOk result (λ new. AreDecided new) }
-    ensures closed { IfOk result (λ new. IsClosed lists.now.vars n names.now new.vars) }
-{
-    let mut new = with_entries(alloc, lists, n, names)?;
-    enclose(alloc, &mut new.vars, n as usize, names)?;
-    let best = fork_alone(&new.best)?;
-    let settled = settle_entries(&new.vars, &new.kin, best, n as usize)?;
-    let have = have_entries(&new.vars, &settled.best, &new.kin, &new.filled);
-    new.alive = (new.alive & settled.fits) & have;
-    new.best = settled.best;
-    Ok(new)
-}
-
-/// The lists, with further variables, where x has no entry.
-pub(crate) fn without_entries(alloc: Global, lists: &Lists, x: u32) -> Result<Lists, Memory>
-    requires decided { AreDecided lists.now }
-    requires inside { x < length lists.now.vars }
-    ensures decided { IfOk result (λ new. AreDecided new) }
-    ensures within { IfOk result (λ new. IsWithin lists.now.vars x [] new.vars) }
-{
-    let none = List::new(alloc);
-    with_fence(alloc, lists, x, &none)
-}
-
-/// The lists, with further variables, where x has entries under the names of a fence alone.
-pub(crate) fn with_fence(
-    alloc: Global,
-    lists: &Lists,
-    x: u32,
-    fence: &List<Name>,
-) -> Result<Lists, Memory>
-    requires decided { AreDecided lists.now }
-    requires inside { x < length lists.now.vars }
-    ensures decided { IfOk result (λ new. AreDecided new) }
-    ensures within { IfOk result (λ new. IsWithin lists.now.vars x fence.now new.vars) }
-{
-    let way = way_down(alloc, lists, x, fence)?;
-    match way.place {
-        Some(n) => {
-            let new = closed(alloc, &way.lists, n, way.names.as_slice())?;
-            Ok(new)
-        }
-        None => Ok(way.lists),
-    }
 }

@@ -1,7 +1,7 @@
 //! What becomes known of a variable: its kinds, and that it has an entry.
 
 ghost use Rattle.std.specs.Prelude.{◌≡◌, ◌<◌, length, IfOk, OnOk, IsTrue, true};
-ghost use Rattle.clause_solver.specs.Variables.{filled, fixed_in, limited, narrowed, var_at};
+ghost use Rattle.clause_solver.specs.Variables.{filled, fixed_in, narrowed, narrowed_kinds, var_at};
 
 use crate::greatest::kind_made;
 use crate::places::var_at;
@@ -11,7 +11,7 @@ use script_names::{Copied, Memory};
 use shared_table::{Shared, set_alone};
 use std::alloc::Global;
 
-/// Limits the variable at a place to a set of kinds; for want of memory all is as before.
+/// Narrows the variable at a place to a set of kinds; for want of memory all is as before.
 pub(crate) fn narrow(
     alloc: Global,
     vars: &mut Shared<Variable>,
@@ -19,7 +19,7 @@ pub(crate) fn narrow(
     k: Kinds,
 ) -> Result<(), Memory>
     requires { x < length vars.old }
-    ensures { OnOk result (vars.new ≡ limited vars.old x k) }
+    ensures { OnOk result (vars.new ≡ narrowed vars.old x k) }
 {
     if keeps_kinds(vars, x, k) {
         return Ok(());
@@ -29,13 +29,13 @@ pub(crate) fn narrow(
     Ok(())
 }
 
-// Whether the limit to a set of kinds leaves the variable at a place as it is.
+// Whether narrowing to a set of kinds leaves the variable at a place as it is.
 fn keeps_kinds(vars: &Shared<Variable>, x: usize, k: Kinds) -> bool
     requires { x < length vars.now }
-    ensures { IsTrue result → limited vars.now x k ≡ vars.now }
+    ensures { IsTrue result → narrowed vars.now x k ≡ vars.now }
 {
     let v = var_at(vars, x);
-    are_same(narrowed(v, k), v.kinds)
+    are_same(narrowed_kinds(v, k), v.kinds)
 }
 
 // Whether two sets of kinds are the same.
@@ -45,7 +45,7 @@ fn are_same(a: Kinds, b: Kinds) -> bool
     a == b
 }
 
-// The variable at a place, limited to a set of kinds.
+// The variable at a place, narrowed to a set of kinds.
 fn narrowed_at(
     alloc: Global,
     vars: &Shared<Variable>,
@@ -53,14 +53,14 @@ fn narrowed_at(
     k: Kinds,
 ) -> Result<Variable, Memory>
     requires { x < length vars.now }
-    ensures { IfOk result (λ v. v ≡ record (var_at vars.now x) { kinds = narrowed (var_at vars.now x) k }) }
+    ensures { IfOk result (λ v. v ≡ record (var_at vars.now x) { kinds = narrowed_kinds (var_at vars.now x) k }) }
 {
     let v = var_at(vars, x);
     let definition = v.definition.fork()?;
     let fence = v.fence.copy(alloc)?;
     Ok(Variable {
         definition,
-        kinds: narrowed(v, k),
+        kinds: narrowed_kinds(v, k),
         fence,
         not_empty: v.not_empty,
     })
@@ -92,9 +92,9 @@ fn filled_at(alloc: Global, vars: &Shared<Variable>, x: usize) -> Result<Variabl
     })
 }
 
-// The kinds of a variable that is limited to a set; where its definition says as much, they stay.
-fn narrowed(v: &Variable, k: Kinds) -> Kinds
-    ensures { result ≡ narrowed v.now k }
+// The kinds of a variable that is narrowed to a set; where its definition says as much, they stay.
+fn narrowed_kinds(v: &Variable, k: Kinds) -> Kinds
+    ensures { result ≡ narrowed_kinds v.now k }
 {
     if fixed_in(v.definition.get(), k) {
         v.kinds

@@ -2,7 +2,7 @@
 //! and looks at nothing but what it changes, and at the variables that have to have an entry.
 
 ghost use Rattle.std.specs.Prelude.{◌≡◌, ◌↔◌, ◌<◌, length, IfOk, OnOk, IsTrue};
-ghost use Rattle.clause_solver.specs.Variables.{Ordered, filled, limited};
+ghost use Rattle.clause_solver.specs.Variables.{Ordered, filled, narrowed};
 ghost use Rattle.clause_solver.specs.Linked.{AreLinked};
 ghost use Rattle.clause_solver.specs.Decided.{AreDecided, AreFilled, HaveEntries, number_at};
 
@@ -48,11 +48,11 @@ impl Lists {
         })
     }
 
-    /// Limits a variable to a set of kinds.
-    pub(crate) fn limit(&mut self, alloc: Global, x: u32, k: Kinds) -> Result<(), Memory>
+    /// Narrows a variable to a set of kinds.
+    pub(crate) fn narrow(&mut self, alloc: Global, x: u32, k: Kinds) -> Result<(), Memory>
         requires decided { AreDecided self.old }
         requires inside { x < length self.old.vars }
-        ensures limited { OnOk result (self.new.vars ≡ limited self.old.vars x k) }
+        ensures narrowed { OnOk result (self.new.vars ≡ narrowed self.old.vars x k) }
         ensures decided { OnOk result (AreDecided self.new) }
     {
         let x = x as usize;

@@ -1,20 +1,18 @@
-ghost use Rattle.std.specs.Prelude.{◌≡◌, ℕ, ◌<◌, ◌≤◌, List, [], length, map, IsTrue, OnOk, IfOk, IfSome, Some};
+ghost use Rattle.std.specs.Prelude.{◌≡◌, ◌⊎◌, ℕ, ◌<◌, List, [], length, map, IsTrue, OnOk, IfOk, IfSome, Some};
 ghost use Rattle.feature_trees.specs.declared.value.Value.TheVariants as value;
 ghost use Rattle.tree_clauses.specs.Literals.{value_of_variable};
 ghost use Rattle.clause_solver.specs.Variables.{Ordered, var_at};
 ghost use Rattle.clause_solver.specs.Greatest.{IsSatisfied, HasEntryOutside, unfenced, kind_at};
-ghost use Rattle.clause_solver.specs.Linked.{AreLinked};
-ghost use Rattle.clause_solver.specs.Decided.{AreFilled};
+ghost use Rattle.clause_solver.specs.Decided.{AreDecided};
 ghost use Rattle.clause_solver.specs.Grown.{values, grown, some_target, extra};
 ghost use Rattle.clause_solver.specs.NewNames.{beginning, begins, name_used, IsNew};
-ghost use Rattle.clause_solver.specs.Opens.{mark_at, opened, IsRoot};
+ghost use Rattle.clause_solver.specs.Opens.{mark_at, opened, AreReasoned, IsOpenedFor, IsRoot};
 ghost use Rattle.clause_solver.specs.Gathered.{gathered};
 ghost use Rattle.clause_solver.specs.Builds.{AreWithoutChildren, laid_by, ParentBelow};
 
 use crate::greatest::{ReplacedNames, has_entry_outside};
 use crate::growing::Growing;
-use crate::kin::Kin;
-use crate::lists::number_at;
+use crate::lists::{Lists, number_at};
 use crate::places::{definition_at, kind_at, var_at};
 use crate::variable::{Definition, Variable};
 use feature_trees::{Entries, Kind, Value};
@@ -99,39 +97,13 @@ fn move_to_parent<'a>(
     }
 }
 
-/// The start tree in which each place has its greatest kind, with one more entry of a new name at the marked places.
-/// The values are made from the last variable to the first, and each is moved into its parent once.
-pub(crate) fn grow(
-    alloc: Global,
-    vars: &Shared<Variable>,
-    best: &Shared<Kind>,
-    marks: &[bool],
-    z: &Name,
-) -> Result<Value, Memory>
-    requires same { length best.now ≡ length vars.now }
-    requires marks { length marks.now ≡ length vars.now }
-    requires order { Ordered vars.now }
-    ensures { IfOk result (λ v.
-        v ≡ value_of_variable (values best.now (opened vars.now marks.now) z.now 0 vars.now) 0) }
-{
-    let mut places = places_without_children(alloc, vars, best, marks, z)?;
-    while let Some(last) = places.pop() {
-        let v = last.finish()?;
-        let i = places.len();
-        if i == 0 {
-            return Ok(v);
-        }
-        move_to_parent(&mut places, definition_at(vars, i), v)?;
-    }
-    unreachable!()
-}
-
 // The place of the start tree that a variable is made from, where there is one.
 fn root(vars: &Shared<Variable>, x: usize) -> Option<usize>
     requires order { Ordered vars.now }
     requires inside { x < length vars.now }
     ensures within { IfSome result (λ r. r < length vars.now) }
     ensures root { (r : ℕ) → IsRoot vars.now x r → result ≡ Some r }
+    ensures found { IfSome result (IsRoot vars.now x) }
 {
     let mut here = x;
     loop {
@@ -145,60 +117,69 @@ fn root(vars: &Shared<Variable>, x: usize) -> Option<usize>
     }
 }
 
-// Marks the place that a variable is made from, where the variable needs an entry and has none otherwise.
-fn open_for(
-    vars: &Shared<Variable>,
-    best: &Shared<Kind>,
-    kin: &Shared<Kin>,
-    marks: &mut [bool],
-    i: usize,
-)
-    requires same { length best.now ≡ length vars.now }
-    requires marks { length marks.old ≡ length vars.now }
-    requires order { Ordered vars.now }
-    requires linked { AreLinked vars.now kin.now }
-    requires inside { i < length vars.now }
-    requires has_entry { IsTrue (var_at vars.now i).not_empty
-        → HasEntryOutside vars.now best.now (unfenced vars.now) i [] }
-    ensures same { length marks.new ≡ length marks.old }
-    ensures more { (n : ℕ) → IsTrue (mark_at marks.old n) → IsTrue (mark_at marks.new n) }
-    ensures filled { IsTrue (var_at vars.now i).not_empty
-        → HasEntryOutside vars.now best.now (opened vars.now marks.new) i [] }
-{
-    if !var_at(vars, i).not_empty {
-        return;
+impl Lists {
+    /// The start tree in which each place has its greatest kind, with one more entry of a new name at the marked
+    /// places. The values are made from the last variable to the first, and each is moved into its parent once.
+    pub(crate) fn grow(&self, alloc: Global, marks: &[bool], z: &Name) -> Result<Value, Memory>
+        requires decided { AreDecided self.now }
+        requires marks { length marks.now ≡ length self.now.vars }
+        ensures { let vars = self.now.vars in IfOk result (λ v.
+            v ≡ value_of_variable (values self.now.best (opened vars marks.now) z.now 0 vars) 0) }
+    {
+        let mut places = places_without_children(alloc, &self.vars, &self.best, marks, z)?;
+        while let Some(last) = places.pop() {
+            let v = last.finish()?;
+            let i = places.len();
+            if i == 0 {
+                return Ok(v);
+            }
+            move_to_parent(&mut places, definition_at(&self.vars, i), v)?;
+        }
+        unreachable!()
     }
-    let replaced = ReplacedNames::Nothing;
-    if has_entry_outside(vars, best, kin, false, i, &replaced) {
-        return;
-    }
-    let r = match root(vars, i) {
-        Some(r) => r,
-        None => return,
-    };
-    marks[r] = true;
-}
 
-/// Marks for the places that have to be shown with one more entry, so that each variable has one that needs it.
-pub(crate) fn open_places(
-    alloc: Global,
-    vars: &Shared<Variable>,
-    best: &Shared<Kind>,
-    kin: &Shared<Kin>,
-    filled: &Shared<u32>,
-) -> Result<Vec<bool>, Memory>
-    requires same { length best.now ≡ length vars.now }
-    requires order { Ordered vars.now }
-    requires linked { AreLinked vars.now kin.now }
-    requires filled { AreFilled vars.now filled.now }
-    requires satisfied { IsSatisfied vars.now best.now (unfenced vars.now) }
-    ensures same { IfOk result (λ v. length v.items ≡ length vars.now) }
-    ensures satisfied { IfOk result (λ v. IsSatisfied vars.now best.now (opened vars.now v.items)) }
-{
-    let mut marks = vec![in alloc; false; vars.len()]?;
-    for k in 0..filled.len() {
-        let x = number_at(filled, k) as usize;
-        open_for(vars, best, kin, &mut marks, x);
+    // Marks the place that a variable is made from, where the variable needs an entry and has none otherwise.
+    fn open_for(&self, marks: &mut [bool], i: usize)
+        requires decided { AreDecided self.now }
+        requires marks { length marks.old ≡ length self.now.vars }
+        requires inside { i < length self.now.vars }
+        requires has_entry { let vars = self.now.vars in IsTrue (var_at vars i).not_empty
+            → HasEntryOutside vars self.now.best (unfenced vars) i [] }
+        ensures same { length marks.new ≡ length marks.old }
+        ensures more { (n : ℕ) → IsTrue (mark_at marks.old n) → IsTrue (mark_at marks.new n) }
+        ensures filled { let vars = self.now.vars in IsTrue (var_at vars i).not_empty
+            → HasEntryOutside vars self.now.best (opened vars marks.new) i [] }
+        ensures reasoned { (n : ℕ) → IsTrue (mark_at marks.new n)
+            → IsTrue (mark_at marks.old n) ⊎ IsOpenedFor self.now.vars self.now.best n i }
+    {
+        if !var_at(&self.vars, i).not_empty {
+            return;
+        }
+        let replaced = ReplacedNames::Nothing;
+        if has_entry_outside(&self.vars, &self.best, &self.kin, false, i, &replaced) {
+            return;
+        }
+        let r = match root(&self.vars, i) {
+            Some(r) => r,
+            None => return,
+        };
+        marks[r] = true;
     }
-    Ok(marks)
+
+    /// Marks for the places that have to be shown with one more entry, so that each variable has one that needs it.
+    pub(crate) fn open_places(&self, alloc: Global) -> Result<Vec<bool>, Memory>
+        requires decided { AreDecided self.now }
+        requires satisfied { IsSatisfied self.now.vars self.now.best (unfenced self.now.vars) }
+        ensures same { IfOk result (λ v. length v.items ≡ length self.now.vars) }
+        ensures satisfied { let vars = self.now.vars in
+            IfOk result (λ v. IsSatisfied vars self.now.best (opened vars v.items)) }
+        ensures reasoned { IfOk result (λ v. AreReasoned self.now.vars self.now.best v.items) }
+    {
+        let mut marks = vec![in alloc; false; self.vars.len()]?;
+        for k in 0..self.filled.len() {
+            let x = number_at(&self.filled, k) as usize;
+            self.open_for(&mut marks, x);
+        }
+        Ok(marks)
+    }
 }

@@ -8,6 +8,7 @@ ghost use Rattle.tree_clauses.specs.Literals.{Valuation, value_of_variable, Cove
 ghost use Rattle.tree_clauses.specs.Plain.{IsPlain};
 ghost use Rattle.tree_clauses.specs.Solved.{IsSolved};
 ghost use Rattle.clause_solver.specs.Adds.{AddsCase, LeadsNowhere};
+ghost use Rattle.clause_solver.specs.Bare.{IsBare};
 ghost use Rattle.clause_solver.specs.Pairs.{HasPair};
 ghost use Rattle.clause_solver.specs.Stands.{Seen, Stands, Alive, Extends, HasEntry, IsDirectory, HasPut, HasValue};
 ghost use Rattle.clause_solver.specs.Stands.{Empties, Fences, HasEntriesOf, HasSome};
@@ -16,16 +17,14 @@ ghost use Rattle.clause_solver.specs.Variables.{possible, possible_by, var_at};
 ghost use Rattle.feature_trees.specs.declared.value.Value.TheVariants as value;
 
 use crate::add_case::drafted;
-use crate::appended::{Found, append, resolve};
-use crate::children::{find, other_kin};
-use crate::emptying::{with_fence, without_entries};
+use crate::appended::Found;
+use crate::children::other_kin;
 use crate::greatest::kind_made;
 use crate::lists::Lists;
 use crate::literals::write_literals;
 use crate::looking::is_excluded;
 use crate::new_name::new_name;
 use crate::places::var_at;
-use crate::start_tree::{grow, open_places};
 use crate::variable::{Definition, MadeValue, Variable};
 use feature_trees::{Kind, Kinds, Value};
 use script_names::{Bytes, Common, Copied, List as Names, Memory, Name};
@@ -110,7 +109,7 @@ impl Store {
         Var(self.current)
     }
 
-    /// Limits a variable to a set of kinds, and says whether a pair is left. For want of memory the store is as
+    /// Narrows a variable to a set of kinds, and says whether a pair is left. For want of memory the store is as
     /// before.
     pub fn limit(&mut self, x: Var, k: Kinds) -> Result<bool, Memory>
         requires { x.0 < self.old.count }
@@ -121,7 +120,7 @@ impl Store {
         ensures unchanged { OnErr result (self.new ≡ self.old) }
     {
         let mut new = self.lists.fork()?;
-        new.limit(self.alloc, x.0, k)?;
+        new.narrow(self.alloc, x.0, k)?;
         let left = new.alive;
         self.lists = new;
         Ok(left)
@@ -142,11 +141,11 @@ impl Store {
         requires { x.0 < self.now.count }
         ensures { IfSome result (λ y. HasEntry self.now x.0 f.now y.0) }
     {
-        match resolve(&self.lists.vars, &self.lists.kin, x.0, f) {
+        match self.lists.resolve(x.0, f) {
             Found::Known(y) => Some(Var(y)),
             Found::Nothing => None,
             Found::At(n) => {
-                if let Some(y) = find(&self.lists.vars, &self.lists.kin, n, f) {
+                if let Some(y) = self.lists.find(n, f) {
                     return Some(Var(y));
                 }
                 None
@@ -163,31 +162,19 @@ impl Store {
         ensures count { self.new.count ≤ self.old.count + 1 }
     {
         f.is_sound();
-        match resolve(&self.lists.vars, &self.lists.kin, x.0, f) {
+        match self.lists.resolve(x.0, f) {
             Found::Known(y) => Ok(Var(y)),
             Found::Nothing => {
                 let made = Definition::Made(MadeValue::Absent);
-                let y = append(
-                    self.alloc,
-                    &mut self.lists.vars,
-                    &mut self.lists.best,
-                    &mut self.lists.kin,
-                    made,
-                )?;
+                let y = self.lists.append(self.alloc, made)?;
                 Ok(Var(y))
             }
             Found::At(n) => {
-                if let Some(y) = find(&self.lists.vars, &self.lists.kin, n, f) {
+                if let Some(y) = self.lists.find(n, f) {
                     return Ok(Var(y));
                 }
                 let name = f.copy(self.alloc)?;
-                let y = append(
-                    self.alloc,
-                    &mut self.lists.vars,
-                    &mut self.lists.best,
-                    &mut self.lists.kin,
-                    Definition::Child(n, name),
-                )?;
+                let y = self.lists.append(self.alloc, Definition::Child(n, name))?;
                 Ok(Var(y))
             }
         }
@@ -206,13 +193,7 @@ impl Store {
         f.is_sound();
         let name = f.copy(self.alloc)?;
         let derived = Definition::Derived(x.0, name, y.0);
-        let z = append(
-            self.alloc,
-            &mut self.lists.vars,
-            &mut self.lists.best,
-            &mut self.lists.kin,
-            derived,
-        )?;
+        let z = self.lists.append(self.alloc, derived)?;
         Ok(Var(z))
     }
 
@@ -266,13 +247,7 @@ impl Store {
         ensures kept { OnErr result (self.new ≡ self.old) }
         ensures count { self.new.count ≤ self.old.count + 1 }
     {
-        let y = append(
-            self.alloc,
-            &mut self.lists.vars,
-            &mut self.lists.best,
-            &mut self.lists.kin,
-            Definition::Ensured(x.0),
-        )?;
+        let y = self.lists.append(self.alloc, Definition::Ensured(x.0))?;
         Ok(Var(y))
     }
 
@@ -301,7 +276,7 @@ impl Store {
         ensures alive { IfOk result (λ left. IsTrue left ↔ Alive self.new) }
         ensures unchanged { OnErr result (self.new ≡ self.old) }
     {
-        let new = without_entries(self.alloc, &self.lists, x.0)?;
+        let new = self.lists.without_entries(self.alloc, x.0)?;
         let left = new.alive;
         self.lists = new;
         Ok(left)
@@ -315,7 +290,7 @@ impl Store {
         ensures alive { IfOk result (λ left. IsTrue left ↔ Alive self.new) }
         ensures unchanged { OnErr result (self.new ≡ self.old) }
     {
-        let new = with_fence(self.alloc, &self.lists, x.0, names)?;
+        let new = self.lists.with_fence(self.alloc, x.0, names)?;
         let left = new.alive;
         self.lists = new;
         Ok(left)
@@ -362,13 +337,7 @@ impl Store {
         ensures kept { OnErr result (self.new ≡ self.old) }
         ensures count { self.new.count ≤ self.old.count + 1 }
     {
-        let y = append(
-            self.alloc,
-            &mut self.lists.vars,
-            &mut self.lists.best,
-            &mut self.lists.kin,
-            Definition::Made(value),
-        )?;
+        let y = self.lists.append(self.alloc, Definition::Made(value))?;
         Ok(Var(y))
     }
 
@@ -383,20 +352,15 @@ impl Store {
     }
 
     /// A start tree of some pair, the same at each run. A directory of it has an entry that no variable stands for
-    /// only where some directory has to have one.
+    /// only where some directory that is made from it has to have one, and has no other.
     pub fn start_tree(&self, alloc: Global) -> Result<Value, Memory>
         requires { Alive self.now }
-        ensures { IfOk result (λ t. (g : Valuation) × Stands self.now t g) }
+        ensures pair { IfOk result (λ t. (g : Valuation) × Stands self.now t g) }
+        ensures bare { IfOk result (λ t. (g : Valuation) → Stands self.now t g → IsBare self.now t g) }
     {
-        let marks = open_places(
-            alloc,
-            &self.lists.vars,
-            &self.lists.best,
-            &self.lists.kin,
-            &self.lists.filled,
-        )?;
+        let marks = self.lists.open_places(alloc)?;
         let z = new_name(alloc, &self.lists.vars)?;
-        let tree = grow(alloc, &self.lists.vars, &self.lists.best, &marks, &z)?;
+        let tree = self.lists.grow(alloc, &marks, &z)?;
         Ok(tree)
     }
 

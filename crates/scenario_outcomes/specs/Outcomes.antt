@@ -55,7 +55,8 @@ Rising (outcome ∷ next ∷ rest) = TraceBelow outcome.trace next.trace × Risi
 
 -- ---- exact
 
--- the outcomes are exact for the runs from the start trees
+-- The outcomes are exact for the runs from the start trees. So from each start tree the run ends as its one outcome
+-- says, and where no outcome is failed, incomplete or bound it is done from all.
 pub record IsExact (run : Value → Option Replayed) (start : Value → Type 0) (outcomes : List Outcome) : Type 0 where
   -- each start tree is covered by one of them alone
   pub once : (tree : Value) → start tree → CoversOnce outcomes tree

@@ -199,7 +199,7 @@ abbrev pub replayed : Reached → Option Replayed
 replayed r = replayed_at r.next r.course
 
 -- The run of a plan's scenario from a tree. Each step is followed by a later one or by the end, so it has at most as
--- many steps as the scenario's table.
+-- many steps as the scenario's table. None where none of these ended it, which is so of no job (RunsAreDecided).
 abbrev pub run_of : Plan → Value → Option Replayed
 run_of plan tree =
     let first : Reached = record { next = Go 1; course = begun plan.turns tree } in

@@ -9,7 +9,7 @@ loop-at-init g c = record {
   room = (let a = c.new-lower.ensures in let b = c.new-higher.ensures in let r = c.requires.room in omega (arith, ap length a, ap length b, r));
   follows = begin_follows (g.M.Machine.decision c.args.machine.now) c.args.stage c.in_ok-start.start
       c.in_ok-value.field-0.value c.as_slice-marks.result.now c.as_slice-acts.result.now c.in_ok-value.field-0 c.new-lower.result c.new-higher.result c.requires.stage c.requires.alive
-      c.in_ok-start.ensures c.in_ok-value.ensures refl c.as_slice-marks.ensures c.as_slice-acts.ensures c.new-lower.ensures c.new-higher.ensures;
+      c.in_ok-start.ensures.pair c.in_ok-value.ensures refl c.as_slice-marks.ensures c.as_slice-acts.ensures c.new-lower.ensures c.new-higher.ensures;
 }
 
 pub bounds-acts-at : goal.bounds-acts-at

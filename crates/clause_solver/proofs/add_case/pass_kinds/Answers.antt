@@ -4,7 +4,7 @@ use Rattle.clause_solver.proofs.Turns.{kinds_go, absent_goes, reg_goes, dir_goes
 use Rattle.clause_solver.proofs.add_case.pass_kinds.Goals as goal
 
 pub returns-then-has-clause-goes : goal.returns-then-has-clause-goes
-returns-then-has-clause-goes c = kinds_go c.args.draft.now c.limit.new.self c.args.x c.args.kinds c.args.rest.now (c.has.ensures.0 c.if-has.true) c.in_ok-limit.ensures
+returns-then-has-clause-goes c = kinds_go c.args.draft.now c.narrow.new.self c.args.x c.args.kinds c.args.rest.now (c.has.ensures.0 c.if-has.true) c.in_ok-narrow.ensures
 
 pub returns-then-has-2-clause-goes : goal.returns-then-has-2-clause-goes
 returns-then-has-2-clause-goes c =

@@ -6,6 +6,7 @@ abbrev pub invariant-loop-of : goal.invariant-loop-of
 invariant-loop-of l = record {
   inside : l.here < length l.vars;
   same : (r : ℕ) → IsRoot l.vars l.x r → IsRoot l.vars l.here r;
+  back : (r : ℕ) → IsRoot l.vars l.here r → IsRoot l.vars l.x r;
 }
 
 abbrev pub decreases-loop-of : goal.decreases-loop-of

@@ -8,5 +8,5 @@ returns c = record {
   ending = refl;
   trace = refl;
   covers = c.in_ok-clause.ensures.covers;
-  shown = (value_of_variable c.in_ok-shown.ensures.0 c.args.path.state.store.current, (c.in_ok-shown.ensures.0, c.in_ok-shown.ensures.1, refl));
+  shown = (value_of_variable c.in_ok-shown.ensures.pair.0 c.args.path.state.store.current, (c.in_ok-shown.ensures.pair.0, c.in_ok-shown.ensures.pair.1, refl));
 }

@@ -22,7 +22,7 @@ returns-in-Some-clause-entry c =
 
 module _ (c : goal.In_ok-y-in-Nothing) where
   abbrev new_absent : Inside
-  new_absent = record { lists = record { vars = c.append.new.vars; best = c.append.new.best; kin = c.append.new.kin; filled = c.self.inside.lists.filled; alive = c.self.inside.lists.alive }; current = c.self.inside.current; alloc = c.self.inside.alloc }
+  new_absent = record { lists = c.append.new.self; current = c.self.inside.current; alloc = c.self.inside.alloc }
 
   known_absent : c.args.x.0 < length c.self.inside.lists.vars
   known_absent = rw (← c.self.view_is) at c.requires
@@ -30,11 +30,11 @@ module _ (c : goal.In_ok-y-in-Nothing) where
   leads_absent : LeadsTo c.self.inside.lists.vars c.args.x.0 c.args.f.now Nothing
   leads_absent = c.in-Nothing.ensures
 
-  is_absent : IsAppended c.self.inside.lists.vars c.self.inside.lists.best c.self.inside.lists.kin (Made made.Absent) c.append.new.vars c.append.new.best c.append.new.kin c.in_ok-y-in-Nothing.y
+  is_absent : IsAppended c.self.inside.lists (Made made.Absent) c.append.new.self c.in_ok-y-in-Nothing.y
   is_absent = c.in_ok-y-in-Nothing.ensures.ok
 
 pub invariant_of-self-in-Nothing : goal.invariant_of-self-in-Nothing
-invariant_of-self-in-Nothing c = appended_settled c.self.inside (new_absent c) c.in_ok-y-in-Nothing.y (Made made.Absent) c.self.invariant tt (made_single c.self.inside.lists.vars made.Absent) refl refl refl (is_absent c)
+invariant_of-self-in-Nothing c = appended_settled c.self.inside (new_absent c) c.in_ok-y-in-Nothing.y (Made made.Absent) c.self.invariant tt (made_single c.self.inside.lists.vars made.Absent) refl (is_absent c)
 
 pub returns-in_ok-y-in-Nothing-clause-extends : goal.returns-in_ok-y-in-Nothing-clause-extends
 returns-in_ok-y-in-Nothing-clause-extends c = rw (← c.self.view_is) (appended_extends c.self.inside (new_absent c) c.in_ok-y-in-Nothing.y (Made made.Absent) c.self.invariant tt (made_single c.self.inside.lists.vars made.Absent) refl (is_absent c))
@@ -44,7 +44,7 @@ returns-in_ok-y-in-Nothing-clause-entry c = absent_is_entry c.self.inside (new_a
 
 module _ (c : goal.In_ok-y-in-At) where
   abbrev new_child : Inside
-  new_child = record { lists = record { vars = c.append-in-At.new.vars; best = c.append-in-At.new.best; kin = c.append-in-At.new.kin; filled = c.self.inside.lists.filled; alive = c.self.inside.lists.alive }; current = c.self.inside.current; alloc = c.self.inside.alloc }
+  new_child = record { lists = c.append-in-At.new.self; current = c.self.inside.current; alloc = c.self.inside.alloc }
 
   known_child : c.args.x.0 < length c.self.inside.lists.vars
   known_child = rw (← c.self.view_is) at c.requires
@@ -55,7 +55,7 @@ module _ (c : goal.In_ok-y-in-At) where
   name_is : c.in_ok-name-in-At.name ≡ c.args.f.now
   name_is = c.in_ok-name-in-At.ensures
 
-  is_child : IsAppended c.self.inside.lists.vars c.self.inside.lists.best c.self.inside.lists.kin (Child c.in-At.n c.args.f.now) c.append-in-At.new.vars c.append-in-At.new.best c.append-in-At.new.kin c.in_ok-y-in-At.y
+  is_child : IsAppended c.self.inside.lists (Child c.in-At.n c.args.f.now) c.append-in-At.new.self c.in_ok-y-in-At.y
   is_child = rw name_is at c.in_ok-y-in-At.ensures.ok
 
   none : (i : ℕ) → ¬ (IsChild c.self.inside.lists.vars c.in-At.n c.args.f.now i)
@@ -68,7 +68,7 @@ module _ (c : goal.In_ok-y-in-At) where
   single = child_single c.self.inside.lists.vars c.in-At.n c.args.f.now none
 
 pub invariant_of-self-in-At : goal.invariant_of-self-in-At
-invariant_of-self-in-At c = appended_settled c.self.inside (new_child c) c.in_ok-y-in-At.y (Child c.in-At.n c.args.f.now) c.self.invariant (before c) (single c) refl refl refl (is_child c)
+invariant_of-self-in-At c = appended_settled c.self.inside (new_child c) c.in_ok-y-in-At.y (Child c.in-At.n c.args.f.now) c.self.invariant (before c) (single c) refl (is_child c)
 
 pub returns-in_ok-y-in-At-clause-extends : goal.returns-in_ok-y-in-At-clause-extends
 returns-in_ok-y-in-At-clause-extends c = rw (← c.self.view_is) (appended_extends c.self.inside (new_child c) c.in_ok-y-in-At.y (Child c.in-At.n c.args.f.now) c.self.invariant (before c) (single c) refl (is_child c))

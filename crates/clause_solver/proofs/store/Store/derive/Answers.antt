@@ -8,12 +8,12 @@ use Rattle.clause_solver.proofs.store.Store.derive.Goals as goal
 
 module _ (c : goal.In_ok-z) where
   abbrev after : Inside
-  after = record { lists = record { vars = c.append.new.vars; best = c.append.new.best; kin = c.append.new.kin; filled = c.self.inside.lists.filled; alive = c.self.inside.lists.alive }; current = c.self.inside.current; alloc = c.self.inside.alloc }
+  after = record { lists = c.append.new.self; current = c.self.inside.current; alloc = c.self.inside.alloc }
 
   inside : (c.args.x.0 < length c.self.inside.lists.vars) × (c.args.y.0 < length c.self.inside.lists.vars)
   inside = rw (← c.self.view_is) at c.requires.known
 
-  is : IsAppended c.self.inside.lists.vars c.self.inside.lists.best c.self.inside.lists.kin (Derived c.args.x.0 c.args.f.now c.args.y.0) c.append.new.vars c.append.new.best c.append.new.kin c.in_ok-z.z
+  is : IsAppended c.self.inside.lists (Derived c.args.x.0 c.args.f.now c.args.y.0) c.append.new.self c.in_ok-z.z
   is = rw c.in_ok-name.ensures at c.in_ok-z.ensures.ok
 
   before : Earlier c.self.inside.lists.vars (length c.self.inside.lists.vars) (Derived c.args.x.0 c.args.f.now c.args.y.0)
@@ -23,7 +23,7 @@ module _ (c : goal.In_ok-z) where
   single = derived_single c.self.inside.lists.vars c.args.x.0 c.args.y.0 c.args.f.now
 
 pub invariant_of-self-2 : goal.invariant_of-self-2
-invariant_of-self-2 c = appended_settled c.self.inside (after c) c.in_ok-z.z (Derived c.args.x.0 c.args.f.now c.args.y.0) c.self.invariant (before c) (single c) refl refl refl (is c)
+invariant_of-self-2 c = appended_settled c.self.inside (after c) c.in_ok-z.z (Derived c.args.x.0 c.args.f.now c.args.y.0) c.self.invariant (before c) (single c) refl (is c)
 
 pub returns-clause-extends : goal.returns-clause-extends
 returns-clause-extends c = rw (← c.self.view_is) (appended_extends c.self.inside (after c) c.in_ok-z.z (Derived c.args.x.0 c.args.f.now c.args.y.0) c.self.invariant (before c) (single c) refl (is c))

@@ -7,16 +7,16 @@ use Rattle.clause_solver.proofs.store.Store.ensure.Goals as goal
 
 module _ (c : goal.In_ok-y) where
   abbrev after : Inside
-  after = record { lists = record { vars = c.append.new.vars; best = c.append.new.best; kin = c.append.new.kin; filled = c.self.inside.lists.filled; alive = c.self.inside.lists.alive }; current = c.self.inside.current; alloc = c.self.inside.alloc }
+  after = record { lists = c.append.new.self; current = c.self.inside.current; alloc = c.self.inside.alloc }
 
   inside : c.args.x.0 < length c.self.inside.lists.vars
   inside = rw (← c.self.view_is) at c.requires.known
 
-  is : IsAppended c.self.inside.lists.vars c.self.inside.lists.best c.self.inside.lists.kin (Ensured c.args.x.0) c.append.new.vars c.append.new.best c.append.new.kin c.in_ok-y.y
+  is : IsAppended c.self.inside.lists (Ensured c.args.x.0) c.append.new.self c.in_ok-y.y
   is = c.in_ok-y.ensures.ok
 
 pub invariant_of-self-2 : goal.invariant_of-self-2
-invariant_of-self-2 c = appended_settled c.self.inside (after c) c.in_ok-y.y (Ensured c.args.x.0) c.self.invariant (inside c) (ensured_single c.self.inside.lists.vars c.args.x.0) refl refl refl (is c)
+invariant_of-self-2 c = appended_settled c.self.inside (after c) c.in_ok-y.y (Ensured c.args.x.0) c.self.invariant (inside c) (ensured_single c.self.inside.lists.vars c.args.x.0) refl (is c)
 
 pub returns-clause-extends : goal.returns-clause-extends
 returns-clause-extends c = rw (← c.self.view_is) (appended_extends c.self.inside (after c) c.in_ok-y.y (Ensured c.args.x.0) c.self.invariant (inside c) (ensured_single c.self.inside.lists.vars c.args.x.0) refl (is c))

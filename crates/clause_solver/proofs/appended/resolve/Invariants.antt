@@ -1,9 +1,0 @@
-use Rattle.clause_solver.proofs.Following.{IsFollowed}
-use Rattle.clause_solver.proofs.Links.{left_of}
-use Rattle.clause_solver.proofs.appended.resolve.Given as goal
-
-abbrev pub invariant-directories : goal.invariant-directories
-invariant-directories l = IsFollowed l.vars l.kin l.x l.f l.here
-
-abbrev pub decreases-directories : goal.decreases-directories
-decreases-directories l = left_of l.here
