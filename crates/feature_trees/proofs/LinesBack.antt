@@ -7,7 +7,7 @@ use Rattle.std.proofs.lemmas.Bool.{and_parts, and_from, lt-ltb, le-leb}
 use Rattle.script_names.specs.Names.{is_name}
 use Rattle.shown_texts.specs.Parts.{parts, lacks}
 use Rattle.shown_texts.specs.Show.{is_shown, show, are_bytes}
-use Rattle.shown_texts.specs.Lines.{line, lines_text, is_line}
+use Rattle.shown_texts.specs.Lines.{is_line}
 use Rattle.shown_texts.specs.Paths.{after_slash, path_of}
 use Rattle.shown_texts.proofs.Lists.{all_weaker, all_both}
 use Rattle.shown_texts.proofs.Cuts.{joined_cut}
@@ -28,10 +28,10 @@ use Rattle.feature_trees.specs.Shape.{count_all, entry_weight_of}
 use Rattle.feature_trees.specs.Sound.{before, sound_all, sound_node}
 use Rattle.feature_trees.specs.Readable.{greatest, depth_layer, entry_depth_layer, node_depth, entries_depth, bytes_layer, entry_bytes_layer, node_bytes, entries_bytes, of_bytes}
 use Rattle.feature_trees.specs.TreeLines.{line_of_names, line_at, line_of_words, line_says}
-use Rattle.feature_trees.specs.TreeText.{path_below, entry_text, entries_text, node_text, value_text}
+use Rattle.feature_trees.specs.TreeText.{path_below, entry_lines, entries_lines, node_lines, value_lines}
 use Rattle.feature_trees.proofs.Kept.{node_of-value_of, value_there, sound_entries}
 use Rattle.feature_trees.proofs.Laws.{sound_value}
-use Rattle.feature_trees.proofs.Printed.{entry_text_of, node_text_of}
+use Rattle.feature_trees.proofs.Printed.{entry_lines_of, node_lines_of}
 use Rattle.feature_trees.proofs.TreeAdds.{leaf, below, adds, weight_of}
 
 -- ---- how deep, and of which numbers
@@ -177,11 +177,11 @@ line_whole (Dir es) path t h g = g
 
 -- ---- the lines of entries
 
-abbrev pub tree_lines : ℕ → List (List ℕ) → List Entry → List (List ℕ)
-tree_lines zero p es = []
-tree_lines (suc k) p [] = []
-tree_lines (suc k) p (e ∷ es) =
-    value_line (value_of e.node) (spelled (p ++ e.name ∷ [])) ∷ (tree_lines k (p ++ e.name ∷ []) (entries_of (value_of e.node)) ++ tree_lines k p es)
+abbrev pub listed : ℕ → List (List ℕ) → List Entry → List (List ℕ)
+listed zero p es = []
+listed (suc k) p [] = []
+listed (suc k) p (e ∷ es) =
+    value_line (value_of e.node) (spelled (p ++ e.name ∷ [])) ∷ (listed k (p ++ e.name ∷ []) (entries_of (value_of e.node)) ++ listed k p es)
 
 abbrev pub under : List (List ℕ) → TreeLine → TreeLine
 under p x = record { names = p ++ x.names; value = x.value }
@@ -237,7 +237,7 @@ first_of_all p e es h =
     }
 
 -- each line says what it should
-pub lines_back : (k : ℕ) (p : List (List ℕ)) (es : List Entry) → AreReadable p es → map line_says (tree_lines k p es) ≡ map Some (map (under p) (adds k es))
+pub lines_back : (k : ℕ) (p : List (List ℕ)) (es : List Entry) → AreReadable p es → map line_says (listed k p es) ≡ map Some (map (under p) (adds k es))
 lines_back zero p es h = refl
 lines_back (suc k) p [] h = refl
 lines_back (suc k) p (e ∷ es) h =
@@ -247,7 +247,7 @@ lines_back (suc k) p (e ∷ es) h =
     let first = line_back w (p ++ f ∷ []) (value_there e.node) one.bytes one.step one.fit in
     let inner = lines_back k (p ++ f ∷ []) (entries_of w) one.inner ∙ ap (map Some) (under_below p f (adds k (entries_of w))) in
     let later = lines_back k p es one.later in
-    let joined = map_both line_says (tree_lines k (p ++ f ∷ []) (entries_of w)) (tree_lines k p es) in
+    let joined = map_both line_says (listed k (p ++ f ∷ []) (entries_of w)) (listed k p es) in
     let said : TreeLine = record { names = p ++ f ∷ []; value = leaf w } in
     let split =
     sym (ap (map Some) (map_both (under p) (map (below f) (adds k (entries_of w))) (adds k es))
@@ -255,7 +255,7 @@ lines_back (suc k) p (e ∷ es) h =
     (λ i. first i ∷ joined i) ∙ (λ i. Some said ∷ (inner i ++ later i)) ∙ ap (λ l. Some said ∷ l) split
 
 -- each is a line
-pub lines_whole : (k : ℕ) (p : List (List ℕ)) (es : List Entry) → AreReadable p es → list_all is_line (tree_lines k p es) ≡ true
+pub lines_whole : (k : ℕ) (p : List (List ℕ)) (es : List Entry) → AreReadable p es → list_all is_line (listed k p es) ≡ true
 lines_whole zero p es h = refl
 lines_whole (suc k) p [] h = refl
 lines_whole (suc k) p (e ∷ es) h =
@@ -263,48 +263,42 @@ lines_whole (suc k) p (e ∷ es) h =
     let q = p ++ e.name ∷ [] in
     let one = first_of_all p e es h in
     and_from (is_line (value_line w (spelled q))) _ (line_whole w (spelled q) (value_there e.node) one.bytes (no_newline (spelled q) (spelled_shown q one.step)))
-    (all_both is_line (tree_lines k q (entries_of w)) (tree_lines k p es) (lines_whole k q (entries_of w) one.inner) (lines_whole k p es one.later))
+    (all_both is_line (listed k q (entries_of w)) (listed k p es) (lines_whole k q (entries_of w) one.inner) (lines_whole k p es one.later))
 
--- ---- the text of entries is that of their lines
+-- ---- the lines of entries, by how many there are
 
-lines_both : (ls ms : List (List ℕ)) → lines_text (ls ++ ms) ≡ lines_text ls ++ lines_text ms
-lines_both [] ms = refl
-lines_both (l ∷ ls) ms = ap (λ t. line l ++ t) (lines_both ls ms) ∙ sym (append_assoc (line l) (lines_text ls) (lines_text ms))
-
-pub entry_is : (e : Entry) (path : List ℕ) → entry_text e path ≡ value_text (value_of e.node) (path_below path e.name)
+pub entry_is : (e : Entry) (path : List ℕ) → entry_lines e path ≡ value_lines (value_of e.node) (path_below path e.name)
 entry_is e path =
-    entry_text_of e path ∙ ap (λ n. node_text n (path_below path e.name)) (sym (node_of-value_of e.node))
-    ∙ node_text_of (value_of e.node) (path_below path e.name) (value_there e.node)
+    entry_lines_of e path ∙ ap (λ n. node_lines n (path_below path e.name)) (sym (node_of-value_of e.node))
+    ∙ node_lines_of (value_of e.node) (path_below path e.name) (value_there e.node)
 
 -- a value's lines: its own, and those of its entries
-value_spelled : (w : Value) (path : List ℕ) (more : List (List ℕ)) → IsThere w → ((ds : List Entry) → w ≡ Dir ds → lines_text more ≡ entries_text ds path)
-    → (entries_of w ≡ [] → more ≡ []) → line (value_line w path) ++ lines_text more ≡ value_text w path
-value_spelled Absent path more t d n = absurd t
-value_spelled Reg path more t d n = ap (λ ls. line (value_line Reg path) ++ lines_text ls) (n refl) ∙ append-nil (line (value_line Reg path))
-value_spelled (Link b) path more t d n = ap (λ ls. line (value_line (Link b) path) ++ lines_text ls) (n refl) ∙ append-nil (line (value_line (Link b) path))
-value_spelled Other path more t d n = ap (λ ls. line (value_line Other path) ++ lines_text ls) (n refl) ∙ append-nil (line (value_line Other path))
-value_spelled (Dir ds) path more t d n = ap (λ t. line (value_line (Dir ds) path) ++ t) (d ds refl)
+value_listed : (w : Value) (path : List ℕ) (more : List (List ℕ)) → IsThere w → ((ds : List Entry) → w ≡ Dir ds → more ≡ entries_lines ds path)
+    → (entries_of w ≡ [] → more ≡ []) → value_line w path ∷ more ≡ value_lines w path
+value_listed Absent path more t d n = absurd t
+value_listed Reg path more t d n = ap (λ ls. value_line Reg path ∷ ls) (n refl)
+value_listed (Link b) path more t d n = ap (λ ls. value_line (Link b) path ∷ ls) (n refl)
+value_listed Other path more t d n = ap (λ ls. value_line Other path ∷ ls) (n refl)
+value_listed (Dir ds) path more t d n = ap (λ ls. value_line (Dir ds) path ∷ ls) (d ds refl)
 
-no_lines : (k : ℕ) (p : List (List ℕ)) (es : List Entry) → es ≡ [] → tree_lines k p es ≡ []
+no_lines : (k : ℕ) (p : List (List ℕ)) (es : List Entry) → es ≡ [] → listed k p es ≡ []
 no_lines zero p es e = refl
 no_lines (suc k) p [] e = refl
 no_lines (suc k) p (x ∷ es) e = cc
 
-pub lines_spelled : (k : ℕ) (p : List (List ℕ)) (es : List Entry) → count_all es ≤ k → lines_text (tree_lines k p es) ≡ entries_text es (spelled p)
-lines_spelled zero p [] h = refl
-lines_spelled zero p (e ∷ es) h = absurd (omega (arith, entry_weight_of e))
-lines_spelled (suc k) p [] h = refl
-lines_spelled (suc k) p (e ∷ es) h =
+pub lines_listed : (k : ℕ) (p : List (List ℕ)) (es : List Entry) → count_all es ≤ k → listed k p es ≡ entries_lines es (spelled p)
+lines_listed zero p [] h = refl
+lines_listed zero p (e ∷ es) h = absurd (omega (arith, entry_weight_of e))
+lines_listed (suc k) p [] h = refl
+lines_listed (suc k) p (e ∷ es) h =
     let w = value_of e.node in
     let f = e.name in
     let q = p ++ f ∷ [] in
-    let inner = tree_lines k q (entries_of w) in
-    let first : line (value_line w (spelled q)) ++ lines_text inner ≡ value_text w (spelled q) =
-    value_spelled w (spelled q) inner (value_there e.node)
-    (λ ds d. ap (λ v. lines_text (tree_lines k q (entries_of v))) d ∙ lines_spelled k q ds (omega (arith, h, entry_weight_of e, weight_of e ds d)))
+    let inner = listed k q (entries_of w) in
+    let first : value_line w (spelled q) ∷ inner ≡ value_lines w (spelled q) =
+    value_listed w (spelled q) inner (value_there e.node)
+    (λ ds d. ap (λ v. listed k q (entries_of v)) d ∙ lines_listed k q ds (omega (arith, h, entry_weight_of e, weight_of e ds d)))
     (no_lines k q (entries_of w)) in
-    let own = first ∙ ap (value_text w) (spelled_grown p f) ∙ sym (entry_is e (spelled p)) in
-    let later = lines_spelled k p es (omega (arith, h, entry_weight_of e)) in
-    ap (λ t. line (value_line w (spelled q)) ++ t) (lines_both inner (tree_lines k p es))
-    ∙ sym (append_assoc (line (value_line w (spelled q))) (lines_text inner) (lines_text (tree_lines k p es)))
-    ∙ λ i. own i ++ later i
+    let own = first ∙ ap (value_lines w) (spelled_grown p f) ∙ sym (entry_is e (spelled p)) in
+    let later = lines_listed k p es (omega (arith, h, entry_weight_of e)) in
+    λ i. own i ++ later i

@@ -17,9 +17,9 @@ use Rattle.feature_trees.specs.Shape.{count_all}
 use Rattle.feature_trees.specs.Sound.{IsTree, sound_all}
 use Rattle.feature_trees.specs.Readable.{depth, of_bytes, entries_depth, entries_bytes}
 use Rattle.feature_trees.specs.TreeLines.{is_there, whole_lines, text_lines, line_says, with_line, and_then, with_lines, tree_of}
-use Rattle.feature_trees.specs.TreeText.{entries_text, tree_text}
+use Rattle.feature_trees.specs.TreeText.{entries_lines, tree_text}
 use Rattle.feature_trees.proofs.TreeAdds.{add, add_all, adds, adds_build}
-use Rattle.feature_trees.proofs.LinesBack.{AreReadable, tree_lines, under, lines_back, lines_whole, lines_spelled}
+use Rattle.feature_trees.proofs.LinesBack.{AreReadable, listed, under, lines_back, lines_whole, lines_listed}
 
 -- lines that end in a newline are the lines
 whole_is : (ps ls : List (List ℕ)) → but_last ps ≡ Some ls → whole_lines ps ≡ ls
@@ -66,13 +66,13 @@ under_none : (xs : List TreeLine) → map (under []) xs ≡ xs
 under_none [] = refl
 under_none (x ∷ xs) = ap (λ l. x ∷ l) (under_none xs)
 
-entries_back : (es : List Entry) → sound_all es ≡ true → entries_bytes es ≡ true → entries_depth es ≤ MOST_NAMES → tree_of (entries_text es []) ≡ Ok (Dir es)
+entries_back : (es : List Entry) → sound_all es ≡ true → entries_bytes es ≡ true → entries_depth es ≤ MOST_NAMES → tree_of (lines_text (entries_lines es [])) ≡ Ok (Dir es)
 entries_back es s b d =
     let k = count_all es in
-    let ls = tree_lines k [] es in
+    let ls = listed k [] es in
     let readable : AreReadable [] es = (refl, s, b, omega (arith, d)) in
     let lines : text_lines (lines_text ls) ≡ ls = whole_is (parts 10 (lines_text ls)) ls (lines_read ls (lines_whole k [] es readable)) in
-    ap tree_of (sym (lines_spelled k [] es (omega arith)))
+    ap (λ ls. tree_of (lines_text ls)) (sym (lines_listed k [] es (omega arith)))
     ∙ ap (with_lines 1 (Dir [])) lines
     ∙ all_stand 1 (Dir []) (Dir es) ls (adds k es) (lines_back k [] es readable ∙ ap (map Some) (under_none (adds k es))) (adds_build k es s (omega arith))
 

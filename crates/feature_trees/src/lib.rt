@@ -13,7 +13,7 @@ pub mod theorems;
 mod value;
 
 pub use kind::{Kind, Kinds};
-pub use print::{print_tree, put_tree};
+pub use print::{print_tree, put_tree, tree_lines};
 pub use put::PutFault;
 pub use read::{MOST_NAMES, TreeFault, read_tree};
 pub use value::{Entries, Value};

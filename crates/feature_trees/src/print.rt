@@ -1,29 +1,37 @@
 ghost use Rattle.std.specs.Prelude.{◌≡◌, ◌++◌, ◌∷◌, [], ℕ, List, IfOk, OnOk, OnErr, codes};
 ghost use Rattle.std.specs.List.{flat_map};
 ghost use Rattle.feature_trees.specs.View.{seen, AllThere};
-ghost use Rattle.shown_texts.specs.Lines.{line};
 ghost use Rattle.shown_texts.specs.Show.{show};
-ghost use Rattle.feature_trees.specs.TreeText.{path_below, entries_text, value_text, tree_text};
+ghost use Rattle.feature_trees.specs.TreeText.{path_below, entries_lines, value_lines, tree_lines, tree_text};
 
 use crate::value::{NamedValue, Value};
-use script_names::{Bytes, Memory, Name};
-use shown_texts::{push_line, push_name, push_shown};
+use script_names::{Bytes, List, Memory, Name};
+use shown_texts::{push_lines, push_name, push_shown};
 use std::alloc::Global;
 
-/// The text of a tree: one line per entry but the root, by names in byte order, a directory before its entries.
-/// A line is `d PATH`, `f PATH`, `o PATH` or `l PATH TARGET`; a path is `/` and its shown names joined by `/`.
-/// A value that is no directory has no entries, so its text has no lines.
+/// The lines of a tree, without their newlines: one per entry but the root, by names in byte order, a directory before
+/// its entries. A line is `d PATH`, `f PATH`, `o PATH` or `l PATH TARGET`; a path is `/` and its shown names joined by
+/// `/`. A value that is no directory has no entries, so it has no lines.
+pub fn tree_lines(alloc: Global, tree: &Value) -> Result<List<Bytes>, Memory>
+    ensures { IfOk result (λ lines. lines ≡ tree_lines tree.now) }
+{
+    let mut lines = List::new(alloc);
+    match tree {
+        Value::Dir(entries) => {
+            add_entries(alloc, &mut lines, b"", entries.items.as_slice())?;
+            Ok(lines)
+        }
+        _ => Ok(lines),
+    }
+}
+
+/// The text of a tree: its lines, each with its newline.
 pub fn print_tree(alloc: Global, tree: &Value) -> Result<Bytes, Memory>
     ensures { IfOk result (λ text. text ≡ tree_text tree.now) }
 {
     let mut text = Bytes::new(alloc);
-    match tree {
-        Value::Dir(entries) => {
-            put_entries(alloc, &mut text, b"", entries.items.as_slice())?;
-            Ok(text)
-        }
-        _ => Ok(text),
-    }
+    put_tree(alloc, &mut text, tree)?;
+    Ok(text)
 }
 
 /// Adds the text of a tree to a text; for want of memory the text is as before.
@@ -31,41 +39,46 @@ pub fn put_tree(alloc: Global, text: &mut Bytes, tree: &Value) -> Result<(), Mem
     ensures ok { OnOk result (text.new ≡ text.old ++ tree_text tree.now) }
     ensures kept { OnErr result (text.new ≡ text.old) }
 {
-    let more = print_tree(alloc, tree)?;
-    text.extend(more.as_slice())
+    let lines = tree_lines(alloc, tree)?;
+    push_lines(text, lines.as_slice())
 }
 
 // Adds the lines of entries below a path.
 #[cycle(printing)]
-fn put_entries(
+fn add_entries(
     alloc: Global,
-    text: &mut Bytes,
+    lines: &mut List<Bytes>,
     path: &[u8],
     items: &[NamedValue],
 ) -> Result<(), Memory>
     requires { AllThere items.now }
-    ensures { OnOk result (text.new ≡ text.old ++ entries_text (seen items.now) path.now) }
+    ensures { OnOk result (lines.new ≡ lines.old ++ entries_lines (seen items.now) path.now) }
 {
     for item in items {
         let below = make_path(alloc, path, &item.name)?;
-        put_value(alloc, text, below.as_slice(), &item.value)?;
+        add_value(alloc, lines, below.as_slice(), &item.value)?;
     }
     Ok(())
 }
 
 // Adds the lines of a value at a path.
 #[cycle(printing)]
-fn put_value(alloc: Global, text: &mut Bytes, path: &[u8], value: &Value) -> Result<(), Memory>
-    ensures { OnOk result (text.new ≡ text.old ++ value_text value.now path.now) }
+fn add_value(
+    alloc: Global,
+    lines: &mut List<Bytes>,
+    path: &[u8],
+    value: &Value,
+) -> Result<(), Memory>
+    ensures { OnOk result (lines.new ≡ lines.old ++ value_lines value.now path.now) }
 {
     match value {
         Value::Absent => Ok(()),
-        Value::Reg => put_line(text, b"f ", path),
-        Value::Link(target) => put_link(text, path, target.as_slice()),
-        Value::Other => put_line(text, b"o ", path),
+        Value::Reg => add_line(alloc, lines, b"f ", path),
+        Value::Link(target) => add_link(alloc, lines, path, target.as_slice()),
+        Value::Other => add_line(alloc, lines, b"o ", path),
         Value::Dir(entries) => {
-            put_line(text, b"d ", path)?;
-            put_entries(alloc, text, path, entries.items.as_slice())
+            add_line(alloc, lines, b"d ", path)?;
+            add_entries(alloc, lines, path, entries.items.as_slice())
         }
     }
 }
@@ -80,20 +93,31 @@ fn make_path(alloc: Global, path: &[u8], name: &Name) -> Result<Bytes, Memory>
 }
 
 // Adds a line of a letter and a path.
-fn put_line(text: &mut Bytes, letter: &[u8], path: &[u8]) -> Result<(), Memory>
-    ensures { OnOk result (text.new ≡ text.old ++ line (letter.now ++ path.now)) }
+fn add_line(
+    alloc: Global,
+    lines: &mut List<Bytes>,
+    letter: &[u8],
+    path: &[u8],
+) -> Result<(), Memory>
+    ensures { OnOk result (lines.new ≡ lines.old ++ (letter.now ++ path.now) ∷ []) }
 {
-    text.extend(letter)?;
-    push_line(text, path)
+    let mut line = Bytes::from_slice(alloc, letter)?;
+    line.extend(path)?;
+    lines.add(line)
 }
 
 // Adds the line of a link.
-fn put_link(text: &mut Bytes, path: &[u8], target: &[u8]) -> Result<(), Memory>
-    ensures { OnOk result (text.new ≡ text.old ++ line (codes "l " ++ path.now ++ codes " " ++ show target.now)) }
+fn add_link(
+    alloc: Global,
+    lines: &mut List<Bytes>,
+    path: &[u8],
+    target: &[u8],
+) -> Result<(), Memory>
+    ensures { OnOk result (lines.new ≡ lines.old ++ (codes "l " ++ path.now ++ codes " " ++ show target.now) ∷ []) }
 {
-    text.extend(b"l ")?;
-    text.extend(path)?;
-    text.extend(b" ")?;
-    push_shown(text, target)?;
-    text.extend(b"\n")
+    let mut line = Bytes::from_slice(alloc, b"l ")?;
+    line.extend(path)?;
+    line.extend(b" ")?;
+    push_shown(&mut line, target)?;
+    lines.add(line)
 }

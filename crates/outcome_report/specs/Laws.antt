@@ -1,4 +1,4 @@
--- What holds of parts of a report and of brief texts, whatever the outcomes are.
+-- What holds of parts of a report, whatever the outcomes are.
 use Rattle.std.specs.Prelude.{◌≡◌, ℕ, List, map, Option, Result}
 use Rattle.script_names.specs.declared.mark.Mark.{Mark}
 use Rattle.feature_trees.specs.declared.value.Value.{Value}
@@ -9,10 +9,7 @@ use Rattle.scenario_outcomes.specs.declared.outcome.OutcomesFault.{OutcomesFault
 use Rattle.scenario_outcomes.specs.Laws.{AreSame}
 use Rattle.outcome_report.specs.declared.outcome_report.ReportEntry.{ReportEntry}
 use Rattle.outcome_report.specs.declared.outcome_report.ReportPart.{ReportPart}
-use Rattle.outcome_report.specs.declared.outcome_report.Report.{Report}
-use Rattle.outcome_report.specs.Numbered.{AllNumbered}
 use Rattle.outcome_report.specs.OutcomeReport.{IsPart, PartAnswers}
-use Rattle.outcome_report.specs.BriefText.{brief_text}
 
 -- ---- parts do not depend on how runs and start trees are said
 
@@ -24,7 +21,7 @@ PartsCarryOver run other start from =
     → PartAnswers run start limit result
     → PartAnswers other from limit result
 
--- ---- endings and traces tell the brief text
+-- ---- parts end alike
 
 -- how an outcome ends, and its acts
 abbrev pub ending_and_trace : ReportEntry → Ending × List Mark
@@ -39,9 +36,3 @@ abbrev pub PartsEndAlike : (Value → Option Replayed) → (Value → Type 0) �
 PartsEndAlike run start =
     (one other : ReportPart) → IsPart run start one → IsPart run start other → one.scenario ≡ other.scenario
     → scenario_and_endings one ≡ scenario_and_endings other
-
--- reports on the same scenarios, whose outcomes have the same endings and traces, have one brief text
-abbrev pub EndingsTellBriefTexts : Type 0
-EndingsTellBriefTexts = (a b : Report) → AllNumbered a.parts → AllNumbered b.parts
-    → map scenario_and_endings a.parts ≡ map scenario_and_endings b.parts
-    → brief_text a ≡ brief_text b

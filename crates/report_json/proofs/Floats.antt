@@ -1,26 +1,25 @@
 -- The value of a report has no float.
 use Rattle.std.proofs.Common.{◌≡◌, ℕ, List, [], ◌∷◌, Bool, false, map, refl, ap₂}
 use Rattle.std.specs.Prelude.{◌||◌}
-use Rattle.std.specs.List.{flat_map}
 use Rattle.serde_json.specs.Data.{Data, string}
 use Rattle.serde_json.specs.View.{items_of}
 use Rattle.serde_json.specs.Written.{has_float, items_have_float}
-use Rattle.feature_trees.specs.TreeText.{tree_text}
+use Rattle.feature_trees.specs.TreeText.{tree_lines}
 use Rattle.tree_clauses.specs.declared.clause.Clause.{Clause}
-use Rattle.tree_clauses.specs.ClauseText.{literal_text}
+use Rattle.tree_clauses.specs.ClauseText.{literal_content}
 use Rattle.outcome_report.specs.declared.outcome_report.ReportEntry.{ReportEntry}
 use Rattle.outcome_report.specs.declared.outcome_report.ReportPart.{ReportPart}
 use Rattle.outcome_report.specs.declared.outcome_report.Report.{Report}
-use Rattle.outcome_report.specs.ReportText.{call_line}
-use Rattle.report_json.specs.ReportJson.{clause_json, entry_json, part_json, json_of, lines_in, lines_json}
+use Rattle.report_text.specs.ReportText.{call_content}
+use Rattle.report_json.specs.ReportJson.{texts_json, clause_json, entry_json, part_json, json_of}
 
 -- a list of values without floats
 items_plain : {X : Type 0} (f : X → Data) → ((x : X) → has_float (f x) ≡ false) → (xs : List X) → items_have_float (items_of (map f xs)) ≡ false
 items_plain f plain [] = refl
 items_plain f plain (x ∷ xs) = ap₂ (λ a b. a || b) (plain x) (items_plain f plain xs)
 
-lines_plain : (text : List ℕ) → has_float (lines_json text) ≡ false
-lines_plain text = items_plain string (λ t. refl) (lines_in text)
+texts_plain : (texts : List (List ℕ)) → has_float (texts_json texts) ≡ false
+texts_plain texts = items_plain string (λ t. refl) texts
 
 -- one more without floats
 behind : (a b : Bool) → a ≡ false → b ≡ false → (a || b) ≡ false
@@ -28,14 +27,14 @@ behind a b e f = ap₂ (λ a b. a || b) e f
 
 clause_plain : (clause : Clause) → has_float (clause_json clause) ≡ false
 unfolding clause_json
-clause_plain clause = behind _ _ (lines_plain (flat_map literal_text clause.literals)) refl
+clause_plain clause = behind _ _ (texts_plain (map literal_content clause.literals)) refl
 
 entry_plain : (entry : ReportEntry) → has_float (entry_json entry) ≡ false
 unfolding entry_json
 entry_plain entry =
-    behind _ _ (lines_plain (tree_text entry.replayed.after))
-    (behind _ _ (lines_plain (flat_map call_line entry.replayed.calls))
-    (behind _ _ (clause_plain entry.outcome.clause) (behind _ _ (lines_plain (tree_text entry.outcome.shown)) refl)))
+    behind _ _ (texts_plain (tree_lines entry.replayed.after))
+    (behind _ _ (texts_plain (map call_content entry.replayed.calls))
+    (behind _ _ (clause_plain entry.outcome.clause) (behind _ _ (texts_plain (tree_lines entry.outcome.shown)) refl)))
 
 part_plain : (part : ReportPart) → has_float (part_json part) ≡ false
 unfolding part_json

@@ -1,7 +1,7 @@
-pub mod LineTexts
+pub mod Ascii
+mod MarkTexts
 pub mod Floats
 pub mod NewlineRead
-pub mod LineLists
 pub mod ValueDepth
 pub mod ValueRead
 pub mod Told

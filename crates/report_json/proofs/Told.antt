@@ -1,20 +1,19 @@
 -- The value of a whole report tells the report, and the JSON text tells the value.
 use Rattle.std.proofs.Common.{◌≡◌, ℕ, true, List, [], ◌∷◌, ◌++◌, map, refl, sym, ap, ◌∙◌, append-nil}
-use Rattle.std.specs.Prelude.{◌&&◌, codes, Option, Some}
+use Rattle.std.specs.Prelude.{codes, Option, Some}
 use Rattle.std.specs.List.{flat_map, list_all, join_with_byte}
-use Rattle.std.proofs.lemmas.Bool.{and_parts}
 use Rattle.serde_json.specs.Data.{unsigned, Data, number, string, array, Items, item}
 use Rattle.serde_json.specs.Read.{read}
 use Rattle.serde_json.specs.View.{items_of}
 use Rattle.script_names.specs.declared.mark.Mark.{Mark}
-use Rattle.shown_texts.specs.Lines.{line, lines_text, is_line}
+use Rattle.shown_texts.specs.Lines.{line, lines_text}
 use Rattle.shown_texts.specs.Marks.{mark_text}
 use Rattle.feature_trees.specs.declared.kind.Kind.TheVariants as kind
 use Rattle.feature_trees.specs.declared.value.Value.{Value}
 use Rattle.feature_trees.specs.Tree.{kind_of}
-use Rattle.feature_trees.specs.TreeText.{tree_text}
+use Rattle.feature_trees.specs.TreeText.{tree_lines, tree_text}
 use Rattle.tree_clauses.specs.declared.clause.Clause.{Clause}
-use Rattle.tree_clauses.specs.ClauseRead.{is_var, is_literal, is_clause, clause_of}
+use Rattle.tree_clauses.specs.ClauseRead.{is_clause, clause_of}
 use Rattle.tree_clauses.specs.ClauseText.{var_text, literal_content, literal_text, clause_text}
 use Rattle.tree_clauses.proofs.ClauseLaw.{clause_read}
 use Rattle.dpkg_scenarios.specs.Names.{scenario_name, scenario_named}
@@ -22,17 +21,15 @@ use Rattle.scenario_runs.specs.declared.call.ScriptCall.{ScriptCall}
 use Rattle.outcome_report.specs.declared.outcome_report.Report.{Report}
 use Rattle.outcome_report.specs.declared.outcome_report.ReportEntry.{ReportEntry}
 use Rattle.outcome_report.specs.declared.outcome_report.ReportPart.{ReportPart}
-use Rattle.outcome_report.specs.PieceRead.{result_of, trace_of, call_of, is_call}
-use Rattle.outcome_report.specs.ReportText.{result_text, call_content, call_line}
-use Rattle.outcome_report.specs.Whole.{IsRepresentableTree, IsRepresentableEntry, AllRepresentable, AllPartsRepresentable, IsWholeEntry, AllWhole, AllPartsWhole}
-use Rattle.outcome_report.proofs.Blocks.{read_apart, each_apart}
+use Rattle.report_text.specs.PieceRead.{result_of, trace_of, call_of, is_call}
+use Rattle.report_text.specs.ReportText.{result_text, call_content}
+use Rattle.report_text.specs.Whole.{IsRepresentableTree, IsRepresentableEntry, AllRepresentable, AllPartsRepresentable, IsWholeEntry, AllWhole, AllPartsWhole}
+use Rattle.report_text.proofs.Blocks.{read_apart, each_apart}
 use Rattle.dpkg_scenarios.proofs.Named.{scenario_read}
-use Rattle.outcome_report.proofs.PieceReading.{result_read, trace_read, call_read}
-use Rattle.outcome_report.proofs.TextApart.{tree_block, tree_apart, literals_spelled, calls_spelled}
-use Rattle.outcome_report.proofs.WholeLines.{is_a, is_blank, is_no_h, calls_marked, literals_marked}
+use Rattle.report_text.proofs.PieceReading.{result_read, trace_read, call_read}
+use Rattle.report_text.proofs.TextApart.{tree_apart, literals_spelled}
 use Rattle.report_json.specs.Laws.{ValuesTellReports, JsonTextsTellReports}
-use Rattle.report_json.specs.ReportJson.{lines_in, lines_json, clause_json, entry_json, part_json, json_of, json_text}
-use Rattle.report_json.proofs.LineLists.{marked_are_lines, lines_are}
+use Rattle.report_json.specs.ReportJson.{texts_json, clause_json, entry_json, part_json, json_of, json_text}
 use Rattle.report_json.proofs.NewlineRead.{text_read}
 use Rattle.report_json.proofs.ValueDepth.{report_depth}
 use Rattle.report_json.proofs.ValueRead.{report_same, report_numbers}
@@ -74,58 +71,39 @@ any : (texts : List (List ℕ)) → Each string (λ t. Unit {0}) texts
 any [] = tt
 any (t ∷ texts) = (tt, any texts)
 
--- texts that are made of lines, by their lists of lines
-lines_told : (text other : List ℕ) (ls ms : List (List ℕ)) → lines_text ls ≡ text → lines_text ms ≡ other
-    → list_all is_line ls ≡ true → list_all is_line ms ≡ true → lines_json text ≡ lines_json other → ls ≡ ms
-lines_told text other ls ms e f h g same =
-    sym (lines_are text ls e h)
-    ∙ items_told string (λ t. Unit {0}) (λ t u p q s. same_string s) (lines_in text) (lines_in other) (any (lines_in text)) (any (lines_in other)) (same_array same)
-    ∙ lines_are other ms f g
+texts_told : (ts us : List (List ℕ)) → texts_json ts ≡ texts_json us → ts ≡ us
+texts_told ts us same = items_told string (λ t. Unit {0}) (λ t u p q s. same_string s) ts us (any ts) (any us) (same_array same)
 
 -- ---- trees, calls and clauses
 
 tree_told : (v w : Value) → kind_of v ≡ kind.Dir → kind_of w ≡ kind.Dir → IsRepresentableTree v → IsRepresentableTree w
-    → lines_json (tree_text v) ≡ lines_json (tree_text w) → v ≡ w
+    → texts_json (tree_lines v) ≡ texts_json (tree_lines w) → v ≡ w
 tree_told v w d c h g same =
-    let a = tree_block v d h in
-    let b = tree_block w c g in
-    let lines = lines_told (tree_text v) (tree_text w) a.lines b.lines a.text b.text (marked_are_lines is_blank a.lines a.marked) (marked_are_lines is_blank b.lines b.marked) same in
-    let text = sym a.text ∙ ap lines_text lines ∙ b.text in
+    let text : tree_text v ≡ tree_text w = ap lines_text (texts_told (tree_lines v) (tree_lines w) same) in
     (tree_apart v w [] [] d c h g refl refl (append-nil (tree_text v) ∙ text ∙ sym (append-nil (tree_text w)))).0
 
 calls_told : (xs ys : List ScriptCall) → list_all is_call xs ≡ true → list_all is_call ys ≡ true
-    → lines_json (flat_map call_line xs) ≡ lines_json (flat_map call_line ys) → xs ≡ ys
+    → texts_json (map call_content xs) ≡ texts_json (map call_content ys) → xs ≡ ys
 calls_told xs ys h g same =
-    let ls = map call_content xs in
-    let ms = map call_content ys in
-    each_apart call_content call_of is_call call_read xs ys h g
-    (lines_told (flat_map call_line xs) (flat_map call_line ys) ls ms (sym (calls_spelled xs)) (sym (calls_spelled ys))
-    (marked_are_lines is_a ls (calls_marked xs h)) (marked_are_lines is_a ms (calls_marked ys g)) same)
+    each_apart call_content call_of is_call call_read xs ys h g (texts_told (map call_content xs) (map call_content ys) same)
 
 -- the first line of a clause with these numbers of variables
 abbrev head_line : ℕ → ℕ → List ℕ
 head_line start now = line (codes "clause start " ++ var_text (record { 0 = start }) ++ codes " now " ++ var_text (record { 0 = now }))
 
 record SameMembers (c d : Clause) : Type 0 where
-  lines : lines_json (flat_map literal_text c.literals) ≡ lines_json (flat_map literal_text d.literals)
+  literals : texts_json (map literal_content c.literals) ≡ texts_json (map literal_content d.literals)
   now : c.now.0 ≡ d.now.0
   start : c.start.0 ≡ d.start.0
 
 clause_members : (c d : Clause) → clause_json c ≡ clause_json d → SameMembers c d
 unfolding clause_json
-clause_members c d e = record { lines = cc; now = cc; start = cc }
+clause_members c d e = record { literals = cc; now = cc; start = cc }
 
 clause_told : (c d : Clause) → is_clause c ≡ true → is_clause d ≡ true → clause_json c ≡ clause_json d → c ≡ d
 clause_told c d h g e =
     let same = clause_members c d e in
-    let k = and_parts (is_var c.start) (is_var c.now && list_all is_literal c.literals) h in
-    let l = and_parts (is_var c.now) (list_all is_literal c.literals) k.1 in
-    let m = and_parts (is_var d.start) (is_var d.now && list_all is_literal d.literals) g in
-    let n = and_parts (is_var d.now) (list_all is_literal d.literals) m.1 in
-    let ls = map literal_content c.literals in
-    let ms = map literal_content d.literals in
-    let contents = lines_told (flat_map literal_text c.literals) (flat_map literal_text d.literals) ls ms (sym (literals_spelled c.literals)) (sym (literals_spelled d.literals))
-    (marked_are_lines is_no_h ls (literals_marked c.literals l.1)) (marked_are_lines is_no_h ms (literals_marked d.literals n.1)) same.lines in
+    let contents = texts_told (map literal_content c.literals) (map literal_content d.literals) same.literals in
     let lines = literals_spelled c.literals ∙ ap lines_text contents ∙ sym (literals_spelled d.literals) in
     let text : clause_text c ≡ clause_text d = λ i. head_line (same.start i) (same.now i) ++ lines i in
     read_apart clause_text clause_of c d (clause_read c h) (clause_read d g) text
@@ -133,12 +111,12 @@ clause_told c d h g e =
 -- ---- entries
 
 record SameParts (e f : ReportEntry) : Type 0 where
-  after : lines_json (tree_text e.replayed.after) ≡ lines_json (tree_text f.replayed.after)
-  calls : lines_json (flat_map call_line e.replayed.calls) ≡ lines_json (flat_map call_line f.replayed.calls)
+  after : texts_json (tree_lines e.replayed.after) ≡ texts_json (tree_lines f.replayed.after)
+  calls : texts_json (map call_content e.replayed.calls) ≡ texts_json (map call_content f.replayed.calls)
   clause : clause_json e.outcome.clause ≡ clause_json f.outcome.clause
   number : e.outcome.number ≡ f.outcome.number
   result : result_text e.outcome.ending ≡ result_text f.outcome.ending
-  shown : lines_json (tree_text e.outcome.shown) ≡ lines_json (tree_text f.outcome.shown)
+  shown : texts_json (tree_lines e.outcome.shown) ≡ texts_json (tree_lines f.outcome.shown)
   trace : join_with_byte 32 (map mark_text e.outcome.trace) ≡ join_with_byte 32 (map mark_text f.outcome.trace)
 
 entry_members : (e f : ReportEntry) → entry_json e ≡ entry_json f → SameParts e f

@@ -1,32 +1,31 @@
 -- How deep the value of a report is.
 use Rattle.std.proofs.Common.{◌≡◌, ℕ, ◌≤◌, List, [], ◌∷◌, map, refl, arith}
-use Rattle.std.specs.List.{flat_map}
 use Rattle.serde_json.specs.Data.{Data, string, depth, items_depth}
 use Rattle.serde_json.specs.View.{items_of}
-use Rattle.feature_trees.specs.TreeText.{tree_text}
+use Rattle.feature_trees.specs.TreeText.{tree_lines}
 use Rattle.tree_clauses.specs.declared.clause.Clause.{Clause}
-use Rattle.tree_clauses.specs.ClauseText.{literal_text}
+use Rattle.tree_clauses.specs.ClauseText.{literal_content}
 use Rattle.outcome_report.specs.declared.outcome_report.Report.{Report}
 use Rattle.outcome_report.specs.declared.outcome_report.ReportEntry.{ReportEntry}
 use Rattle.outcome_report.specs.declared.outcome_report.ReportPart.{ReportPart}
-use Rattle.outcome_report.specs.ReportText.{call_line}
-use Rattle.report_json.specs.ReportJson.{lines_in, lines_json, clause_json, entry_json, part_json, json_of}
+use Rattle.report_text.specs.ReportText.{call_content}
+use Rattle.report_json.specs.ReportJson.{texts_json, clause_json, entry_json, part_json, json_of}
 
 texts_depth : (texts : List (List ℕ)) → items_depth (items_of (map string texts)) ≡ 0
 texts_depth [] = refl
 texts_depth (t ∷ texts) = rw (texts_depth texts) refl
 
-lines_depth : (text : List ℕ) → depth (lines_json text) ≤ 1
-lines_depth text = omega (arith, texts_depth (lines_in text))
+list_depth : (texts : List (List ℕ)) → depth (texts_json texts) ≤ 1
+list_depth texts = omega (arith, texts_depth texts)
 
 clause_depth : (clause : Clause) → depth (clause_json clause) ≤ 2
 unfolding clause_json
-clause_depth clause = omega (arith, lines_depth (flat_map literal_text clause.literals))
+clause_depth clause = omega (arith, list_depth (map literal_content clause.literals))
 
 entry_depth : (e : ReportEntry) → depth (entry_json e) ≤ 3
 unfolding entry_json
 entry_depth e =
-    omega (arith, lines_depth (tree_text e.replayed.after), lines_depth (flat_map call_line e.replayed.calls), clause_depth e.outcome.clause, lines_depth (tree_text e.outcome.shown))
+    omega (arith, list_depth (tree_lines e.replayed.after), list_depth (map call_content e.replayed.calls), clause_depth e.outcome.clause, list_depth (tree_lines e.outcome.shown))
 
 items_shallow : {X : Type 0} (f : X → Data) (n : ℕ) → ((x : X) → depth (f x) ≤ n) → (xs : List X) → items_depth (items_of (map f xs)) ≤ n
 items_shallow f n low [] = omega arith

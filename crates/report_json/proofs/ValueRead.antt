@@ -1,7 +1,7 @@
 -- The outline of a report's value is the value, and its numbers are numbers, as a reader of JSON wants it.
 use Rattle.std.proofs.Common.{◌≡◌, ℕ, ◌-◌, ◌^◌, ◌<◌, ◌≤◌, Bool, true, false, List, [], ◌∷◌, map, Some, refl, ap, arith}
 use Rattle.std.specs.Prelude.{◌&&◌, codes}
-use Rattle.std.specs.List.{flat_map, list_all, join_with_byte}
+use Rattle.std.specs.List.{list_all, join_with_byte}
 use Rattle.std.specs.Option.{option_map, option_and_then}
 use Rattle.std.proofs.lemmas.Bool.{and_parts, leb-true}
 use Rattle.json.specs.Tree as tree
@@ -12,28 +12,25 @@ use Rattle.serde_json.specs.View.{items_of}
 use Rattle.serde_json.specs.Written.{outline, items_outline}
 use Rattle.serde_json.proofs.Numbers.{number_of-decimal}
 use Rattle.shown_texts.specs.Marks.{mark_text}
-use Rattle.feature_trees.specs.TreeText.{tree_text}
+use Rattle.feature_trees.specs.TreeText.{tree_lines}
 use Rattle.tree_clauses.specs.declared.clause.Clause.{Clause}
 use Rattle.tree_clauses.specs.ClauseRead.{is_var, is_literal, is_clause}
-use Rattle.tree_clauses.specs.ClauseText.{literal_text}
+use Rattle.tree_clauses.specs.ClauseText.{literal_content}
 use Rattle.outcome_report.specs.declared.outcome_report.Report.{Report}
 use Rattle.outcome_report.specs.declared.outcome_report.ReportEntry.{ReportEntry}
 use Rattle.outcome_report.specs.declared.outcome_report.ReportPart.{ReportPart}
 use Rattle.outcome_report.specs.OutcomeReport.{verdict_of, report_has}
 use Rattle.dpkg_scenarios.specs.Verdicts.{joint_verdict}
 use Rattle.dpkg_scenarios.specs.Names.{scenario_name}
-use Rattle.outcome_report.specs.ReportText.{result_text, call_line}
-use Rattle.outcome_report.specs.Whole.{IsRepresentableEntry, AllRepresentable, AllPartsRepresentable, IsRepresentable}
-use Rattle.report_json.specs.ReportJson.{lines_in, lines_json, clause_json, entry_json, part_json, json_of}
+use Rattle.report_text.specs.ReportText.{result_text, call_content}
+use Rattle.report_text.specs.Whole.{IsRepresentableEntry, AllRepresentable, AllPartsRepresentable, IsRepresentable}
+use Rattle.report_json.specs.ReportJson.{clause_json, entry_json, part_json, json_of}
 
--- ---- lines
+-- ---- texts
 
 texts_same : (texts : List (List ℕ)) → of_items (items_outline (items_of (map string texts))) ≡ Some (items_of (map string texts))
 texts_same [] = refl
 texts_same (t ∷ texts) = ap (option_map (item (string t))) (texts_same texts)
-
-lines_same : (text : List ℕ) → of_items (items_outline (items_of (map string (lines_in text)))) ≡ Some (items_of (map string (lines_in text)))
-lines_same text = texts_same (lines_in text)
 
 -- ---- clauses
 
@@ -63,7 +60,7 @@ clause_same clause h =
     let now = number_of-decimal clause.now.0 k.now in
     λ i. option_map object (option_and_then (λ d. option_and_then (λ e. option_and_then (λ f.
     Some (put (codes "start") f (put (codes "now") e (put (codes "literals") d no_members))))
-    (option_map number (start i))) (option_map number (now i))) (option_map array (lines_same (flat_map literal_text clause.literals) i)))
+    (option_map number (start i))) (option_map number (now i))) (option_map array (texts_same (map literal_content clause.literals) i)))
 
 -- ---- entries
 
@@ -75,8 +72,8 @@ entry_same e h =
     Some (put (codes "trace") (string (join_with_byte 32 (map mark_text e.outcome.trace))) (put (codes "shown") shown
     (put (codes "result") (string (result_text e.outcome.ending)) (put (codes "number") count (put (codes "confirmed") (boolean e.confirmed)
     (put (codes "clause") clause (put (codes "calls") calls (put (codes "after") after no_members)))))))))
-    (option_map array (lines_same (tree_text e.outcome.shown) i))) (option_map number (n i))) (clause_same e.outcome.clause h.clause i))
-    (option_map array (lines_same (flat_map call_line e.replayed.calls) i))) (option_map array (lines_same (tree_text e.replayed.after) i)))
+    (option_map array (texts_same (tree_lines e.outcome.shown) i))) (option_map number (n i))) (clause_same e.outcome.clause h.clause i))
+    (option_map array (texts_same (map call_content e.replayed.calls) i))) (option_map array (texts_same (tree_lines e.replayed.after) i)))
 
 entries_same : (es : List ReportEntry) → AllRepresentable es → of_items (items_outline (items_of (map entry_json es))) ≡ Some (items_of (map entry_json es))
 entries_same [] h = refl
@@ -118,20 +115,17 @@ texts_numbers : (texts : List (List ℕ)) → tree.ItemsHaveNumbers (items_outli
 texts_numbers [] = tt
 texts_numbers (t ∷ texts) = (tt, texts_numbers texts)
 
-lines_numbers : (text : List ℕ) → tree.HasNumbers (outline (lines_json text))
-lines_numbers text = texts_numbers (lines_in text)
-
 clause_numbers : (clause : Clause) → is_clause clause ≡ true → tree.HasNumbers (outline (clause_json clause))
 unfolding clause_json
 clause_numbers clause h =
     let k = clause_parts clause h in
-    (lines_numbers (flat_map literal_text clause.literals), (IsNumber-decimal clause.now.0 k.now, (IsNumber-decimal clause.start.0 k.start, tt)))
+    (texts_numbers (map literal_content clause.literals), (IsNumber-decimal clause.now.0 k.now, (IsNumber-decimal clause.start.0 k.start, tt)))
 
 entry_numbers : (e : ReportEntry) → IsRepresentableEntry e → tree.HasNumbers (outline (entry_json e))
 unfolding entry_json
 entry_numbers e h =
     let number = IsNumber-decimal e.outcome.number (omega (arith, h.number)) in
-    (lines_numbers (tree_text e.replayed.after), (lines_numbers (flat_map call_line e.replayed.calls), (clause_numbers e.outcome.clause h.clause, (tt, (number, (tt, (lines_numbers (tree_text e.outcome.shown), (tt, tt))))))))
+    (texts_numbers (tree_lines e.replayed.after), (texts_numbers (map call_content e.replayed.calls), (clause_numbers e.outcome.clause h.clause, (tt, (number, (tt, (texts_numbers (tree_lines e.outcome.shown), (tt, tt))))))))
 
 entries_numbers : (es : List ReportEntry) → AllRepresentable es → tree.ItemsHaveNumbers (items_outline (items_of (map entry_json es)))
 entries_numbers [] h = tt

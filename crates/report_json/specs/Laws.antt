@@ -1,7 +1,7 @@
 -- What the JSON value of a report tells, and its text.
 use Rattle.std.specs.Prelude.{◌≡◌}
 use Rattle.outcome_report.specs.declared.outcome_report.Report.{Report}
-use Rattle.outcome_report.specs.Whole.{IsRepresentable, IsWhole}
+use Rattle.report_text.specs.Whole.{IsRepresentable, IsWhole}
 use Rattle.report_json.specs.ReportJson.{json_of, json_text}
 
 -- two whole reports that the program's types represent, with the same value, are the same

@@ -1,44 +1,35 @@
 -- The JSON value of a report, and its text.
-use Rattle.std.specs.Prelude.{ℕ, List, ◌-◌, length, take, map, codes}
-use Rattle.std.specs.List.{flat_map, join_with_byte}
+use Rattle.std.specs.Prelude.{ℕ, List, map, codes}
+use Rattle.std.specs.List.{join_with_byte}
 use Rattle.serde_json.specs.Data.{unsigned, Data, boolean, number, string, array, object, no_members, member}
 use Rattle.serde_json.specs.View.{items_of}
 use Rattle.serde_json.specs.Written.{compact_text}
 use Rattle.script_names.specs.declared.mark.Mark.{Mark}
 use Rattle.shown_texts.specs.Lines.{line}
 use Rattle.shown_texts.specs.Marks.{mark_text}
-use Rattle.shown_texts.specs.Parts.{parts}
-use Rattle.feature_trees.specs.TreeText.{tree_text}
+use Rattle.feature_trees.specs.TreeText.{tree_lines}
 use Rattle.tree_clauses.specs.declared.clause.Clause.{Clause}
-use Rattle.tree_clauses.specs.ClauseText.{literal_text}
+use Rattle.tree_clauses.specs.ClauseText.{literal_content}
 use Rattle.outcome_report.specs.declared.outcome_report.ReportEntry.{ReportEntry}
 use Rattle.outcome_report.specs.declared.outcome_report.ReportPart.{ReportPart}
 use Rattle.outcome_report.specs.declared.outcome_report.Report.{Report}
 use Rattle.outcome_report.specs.OutcomeReport.{verdict_of}
 use Rattle.dpkg_scenarios.specs.Names.{scenario_name}
-use Rattle.outcome_report.specs.ReportText.{result_text, call_line}
-
--- the lines of a text: what stands before each of its newlines
-abbrev pub lines_in : List ℕ → List (List ℕ)
-lines_in text = let cut = parts 10 text in take (length cut - 1) cut
+use Rattle.report_text.specs.ReportText.{result_text, call_content}
 
 -- a list of texts
 abbrev pub texts_json : List (List ℕ) → Data
 texts_json texts = array (items_of (map string texts))
 
--- the list of the lines of a text
-abbrev pub lines_json : List ℕ → Data
-lines_json text = texts_json (lines_in text)
-
 -- the marks of the acts that were done, with a space between each two
 abbrev pub trace_json : List Mark → Data
 trace_json trace = string (join_with_byte 32 (map mark_text trace))
 
--- a clause: the lines of its literals, and the numbers of its two variables
+-- a clause: its literals, and the numbers of its two variables
 unfoldable pub clause_json : Clause → Data
 clause_json clause =
     object
-    (member (codes "literals") (lines_json (flat_map literal_text clause.literals))
+    (member (codes "literals") (texts_json (map literal_content clause.literals))
     (member (codes "now") (number (unsigned clause.now.0))
     (member (codes "start") (number (unsigned clause.start.0)) no_members)))
 
@@ -46,13 +37,13 @@ clause_json clause =
 unfoldable pub entry_json : ReportEntry → Data
 entry_json entry =
     object
-    (member (codes "after") (lines_json (tree_text entry.replayed.after))
-    (member (codes "calls") (lines_json (flat_map call_line entry.replayed.calls))
+    (member (codes "after") (texts_json (tree_lines entry.replayed.after))
+    (member (codes "calls") (texts_json (map call_content entry.replayed.calls))
     (member (codes "clause") (clause_json entry.outcome.clause)
     (member (codes "confirmed") (boolean entry.confirmed)
     (member (codes "number") (number (unsigned entry.outcome.number))
     (member (codes "result") (string (result_text entry.outcome.ending))
-    (member (codes "shown") (lines_json (tree_text entry.outcome.shown))
+    (member (codes "shown") (texts_json (tree_lines entry.outcome.shown))
     (member (codes "trace") (trace_json entry.outcome.trace) no_members))))))))
 
 -- a scenario and its outcomes

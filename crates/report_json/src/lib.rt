@@ -1,10 +1,10 @@
 //! The JSON text of a report (RFC 8259): one line, no blanks, the keys of each object in byte order.
-//! It stands on outcome_report, and on serde_json, whose own definition says which text a value has. Begin with
+//! It stands on report_text, and on serde_json, whose own definition says which text a value has. Begin with
 //! specs/ReportJson.antt, which has the value of a report, key by key, and with `render_json`.
 #![tactic(auto)]
 
-mod lines;
 mod render;
+mod texts;
 pub mod theorems;
 mod values;
 

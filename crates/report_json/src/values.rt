@@ -1,62 +1,68 @@
 // The JSON value of a report, from the bottom up.
-ghost use Rattle.std.specs.Prelude.{◌≡◌, IfOk, map};
-ghost use Rattle.std.specs.List.{flat_map};
-ghost use Rattle.serde_json.specs.Data.{array, string};
+ghost use Rattle.std.specs.Prelude.{◌≡◌, All, IfOk, IsUtf8, map};
+ghost use Rattle.serde_json.specs.Data.{array};
 ghost use Rattle.serde_json.specs.View.{view, items_of};
-ghost use Rattle.feature_trees.specs.TreeText.{tree_text};
-ghost use Rattle.tree_clauses.specs.ClauseText.{literal_text};
-ghost use Rattle.outcome_report.specs.ReportText.{result_text, call_line};
-ghost use Rattle.report_json.specs.ReportJson.{lines_json, clause_json, entry_json, part_json, json_of};
+ghost use Rattle.feature_trees.specs.TreeText.{tree_lines};
+ghost use Rattle.tree_clauses.specs.ClauseText.{literal_content};
+ghost use Rattle.report_text.specs.ReportText.{call_content};
+ghost use Rattle.report_json.specs.ReportJson.{texts_json, clause_json, entry_json, part_json, json_of};
 
-use crate::lines::{later_lines_value, lines_value, text_value, trace_value};
-use dpkg_scenarios::{Ending, scenario_name};
-use feature_trees::{Value as Tree, print_tree};
-use outcome_report::{Report, ReportEntry, ReportPart, put_calls, put_result, verdict};
+use crate::texts::{call_value, literal_value, result_value, text_value, trace_value};
+use dpkg_scenarios::scenario_name;
+use feature_trees::{Value as Tree, tree_lines};
+use outcome_report::{Report, ReportEntry, ReportPart, verdict};
+use report_text::is_representable_tree;
 use scenario_runs::ScriptCall;
 use script_names::{Bytes, Memory};
 use serde_json::{Map, Value, put};
 use std::alloc::Global;
-use tree_clauses::{Clause, print_clause};
+use tree_clauses::{Clause, Literal};
+
+// Texts.
+fn texts_value(alloc: Global, texts: &[Bytes]) -> Result<Value, Memory>
+    requires { All IsUtf8 texts.now }
+    ensures { IfOk result (λ value. view value ≡ texts_json texts.now) }
+{
+    let mut list = Vec::new(alloc);
+    for text in texts {
+        let value = text_value(alloc, text.as_slice())?;
+        list.push(value)?;
+    }
+    Ok(Value::Array(list))
+}
 
 // The lines of a tree.
 fn tree_value(alloc: Global, tree: &Tree) -> Result<Value, Memory>
-    ensures { IfOk result (λ value. view value ≡ lines_json (tree_text tree.now)) }
+    ensures { IfOk result (λ value. view value ≡ texts_json (tree_lines tree.now)) }
 {
-    let text = print_tree(alloc, tree)?;
-    let value = lines_value(alloc, text.as_slice())?;
+    is_representable_tree(tree);
+    let lines = tree_lines(alloc, tree)?;
+    let value = texts_value(alloc, lines.as_slice())?;
     Ok(value)
 }
 
-// The lines of calls.
+// Calls.
 fn calls_value(alloc: Global, calls: &[ScriptCall]) -> Result<Value, Memory>
-    ensures { IfOk result (λ value. view value ≡ lines_json (flat_map call_line calls.now)) }
+    ensures { IfOk result (λ value. view value ≡ texts_json (map call_content calls.now)) }
 {
-    let mut text = Bytes::new(alloc);
-    put_calls(&mut text, calls)?;
-    let value = lines_value(alloc, text.as_slice())?;
-    Ok(value)
+    let mut list = Vec::new(alloc);
+    for call in calls {
+        let value = call_value(alloc, call)?;
+        list.push(value)?;
+    }
+    Ok(Value::Array(list))
 }
 
-// How a scenario ended.
-fn result_value(alloc: Global, ending: Ending) -> Result<Value, Memory>
-    ensures { IfOk result (λ value. view value ≡ string (result_text ending)) }
+// The literals of a clause.
+fn literals_value(alloc: Global, literals: &[Literal]) -> Result<Value, Memory>
+    ensures { IfOk result (λ value. view value ≡ texts_json (map literal_content literals.now)) }
 {
-    let mut text = Bytes::new(alloc);
-    put_result(&mut text, ending)?;
-    let value = text_value(alloc, text.as_slice())?;
-    Ok(value)
-}
-
-// The lines of the literals of a clause.
-fn literals_value(alloc: Global, clause: &Clause) -> Result<Value, Memory>
-    ensures { IfOk result
-        (λ value. view value ≡ lines_json (flat_map literal_text clause.entry.now.literals)) }
-{
-    let _start = clause.start.0;
-    let _now = clause.now.0;
-    let text = print_clause(alloc, clause)?;
-    let value = later_lines_value(alloc, text.as_slice())?;
-    Ok(value)
+    let mut list = Vec::new(alloc);
+    for literal in literals {
+        let value = literal_value(alloc, literal)?;
+        list.push(value)?;
+    }
+    Ok(Value::Array(list))
 }
 
 // A clause.
@@ -64,7 +70,7 @@ fn literals_value(alloc: Global, clause: &Clause) -> Result<Value, Memory>
 fn clause_value(alloc: Global, clause: &Clause) -> Result<Value, Memory>
     ensures { IfOk result (λ value. view value ≡ clause_json clause.entry.now) }
 {
-    let literals = literals_value(alloc, clause)?;
+    let literals = literals_value(alloc, clause.literals.as_slice())?;
     let mut map = Map::new(alloc);
     put(&mut map, alloc, "literals", literals)?;
     put(&mut map, alloc, "now", Value::from(clause.now.0))?;
@@ -112,7 +118,7 @@ fn entries_value(alloc: Global, entries: &[ReportEntry]) -> Result<Value, Memory
 fn part_value(alloc: Global, part: &ReportPart) -> Result<Value, Memory>
     ensures { IfOk result (λ value. view value ≡ part_json part.now) }
 {
-    let name = text_value(alloc, scenario_name(part.scenario).as_bytes())?;
+    let name = Value::try_from_str(alloc, scenario_name(part.scenario))?;
     let outcomes = entries_value(alloc, part.entries.as_slice())?;
     let mut map = Map::new(alloc);
     put(&mut map, alloc, "name", name)?;

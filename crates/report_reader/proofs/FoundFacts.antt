@@ -22,10 +22,10 @@ use Rattle.outcome_report.specs.declared.outcome_report.Report.{Report}
 use Rattle.outcome_report.specs.declared.outcome_report.ReportEntry.{ReportEntry}
 use Rattle.outcome_report.specs.declared.outcome_report.ReportPart.{ReportPart}
 use Rattle.outcome_report.specs.declared.replay.Replay.{Replay}
-use Rattle.outcome_report.specs.Numbered.{AreNumbered, AllNumbered}
+use Rattle.report_text.specs.Numbered.{AreNumbered, AllNumbered}
 use Rattle.dpkg_scenarios.specs.Names.{scenario_named}
-use Rattle.outcome_report.specs.PieceRead.{result_of, trace_of, is_ending, is_call}
-use Rattle.outcome_report.specs.Whole.{IsRepresentableEntry, AllRepresentable, AllPartsRepresentable, IsWholeEntry, AllWhole, AllPartsWhole, AreInOrder, scenario_place}
+use Rattle.report_text.specs.PieceRead.{result_of, trace_of, is_ending, is_call}
+use Rattle.report_text.specs.Whole.{IsRepresentableEntry, AllRepresentable, AllPartsRepresentable, IsWholeEntry, AllWhole, AllPartsWhole, AreInOrder, scenario_place}
 use Rattle.report_reader.specs.ReportRead.{text_at, list_at, short, number_at, lines_at, tree_found, tree_at, calls_onto, calls_at, ending_at, trace_at, if_text, clause_from, clause_in}
 use Rattle.report_reader.specs.ReportRead.{outcome_in, replay_in, entry_in, entries_onto, part_in, from_place, parts_onto, report_in}
 use Rattle.report_reader.specs.JsonAnswers.{HasShortPaths, AllShort, AllPartsShort, IsReadable}

@@ -7,7 +7,5 @@ pub mod PieceFacts
 pub mod MemberLaws
 pub mod ReportLaws
 pub mod FoundFacts
-pub mod LowTexts
-pub mod LowPieces
 pub mod ValueLaws
 pub mod ReadBack

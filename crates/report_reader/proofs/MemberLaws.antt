@@ -13,31 +13,28 @@ use Rattle.feature_trees.specs.declared.value.Value.{Value}
 use Rattle.feature_trees.specs.Readable.{depth}
 use Rattle.feature_trees.specs.Tree.{kind_of}
 use Rattle.feature_trees.specs.TreeLines.{tree_of}
-use Rattle.feature_trees.specs.TreeText.{tree_text}
+use Rattle.feature_trees.specs.TreeText.{tree_lines}
 use Rattle.feature_trees.proofs.ReadBack.{read_back}
 use Rattle.tree_clauses.specs.declared.clause.Clause.{Clause}
 use Rattle.tree_clauses.specs.ClauseRead.{is_var, is_literal, is_clause}
 use Rattle.tree_clauses.specs.ClauseText.{var_text, literal_content, literal_text, clause_text}
 use Rattle.scenario_runs.specs.declared.call.ScriptCall.{ScriptCall}
-use Rattle.outcome_report.specs.PieceRead.{is_call}
-use Rattle.outcome_report.specs.ReportText.{call_content, call_line}
-use Rattle.outcome_report.specs.Whole.{IsRepresentableTree}
-use Rattle.outcome_report.proofs.PieceReading.{call_read}
-use Rattle.outcome_report.proofs.TextApart.{tree_block, literals_spelled, calls_spelled}
-use Rattle.outcome_report.proofs.WholeLines.{is_a, is_blank, is_no_h, calls_marked, literals_marked}
-use Rattle.report_json.specs.ReportJson.{lines_in, clause_json}
+use Rattle.report_text.specs.PieceRead.{is_call}
+use Rattle.report_text.specs.ReportText.{call_content}
+use Rattle.report_text.specs.Whole.{IsRepresentableTree}
+use Rattle.report_text.proofs.PieceReading.{call_read}
+use Rattle.report_text.proofs.TextApart.{literals_spelled}
+use Rattle.report_json.specs.ReportJson.{clause_json}
 use Rattle.report_reader.specs.ReportRead.{lines_onto, tree_found, calls_onto, clause_with, clause_from, clause_in}
 use Rattle.report_reader.proofs.ClauseFacts.{short_is, clause_found}
-use Rattle.report_json.proofs.LineLists.{marked_are_lines, lines_are}
 use Rattle.report_reader.proofs.LineLaws.{lines_back}
 
 -- ---- trees
 
 pub tree_back : (v : Value) → kind_of v ≡ kind.Dir → IsRepresentableTree v → depth v ≤ MOST_NAMES
-    → option_and_then (λ text. tree_found (tree_of text)) (lines_onto [] (items_of (map string (lines_in (tree_text v))))) ≡ Some v
+    → option_and_then (λ text. tree_found (tree_of text)) (lines_onto [] (items_of (map string (tree_lines v)))) ≡ Some v
 tree_back v d h low =
-    let block = tree_block v d h in
-    ap (option_and_then (λ text. tree_found (tree_of text))) (lines_back (tree_text v) block.lines block.text (marked_are_lines is_blank block.lines block.marked))
+    ap (option_and_then (λ text. tree_found (tree_of text))) (lines_back (tree_lines v))
     ∙ ap tree_found (read_back v (record { dir = d; sound = h.sound }) low h.bytes)
 
 -- ---- calls
@@ -50,13 +47,8 @@ calls_added done (call ∷ calls) h =
     ap (option_and_then (λ (found : ScriptCall). calls_onto (done ++ found ∷ []) (items_of (map string (map call_content calls))))) (call_read call k.0)
     ∙ calls_added (done ++ call ∷ []) calls k.1 ∙ ap Some (append_assoc done (call ∷ []) calls)
 
-pub calls_back : (calls : List ScriptCall) → list_all is_call calls ≡ true
-    → calls_onto [] (items_of (map string (lines_in (flat_map call_line calls)))) ≡ Some calls
-calls_back calls h =
-    let ls = map call_content calls in
-    ap (λ ps. calls_onto [] (items_of (map string ps)))
-    (lines_are (flat_map call_line calls) ls (sym (calls_spelled calls)) (marked_are_lines is_a ls (calls_marked calls h)))
-    ∙ calls_added [] calls h
+pub calls_back : (calls : List ScriptCall) → list_all is_call calls ≡ true → calls_onto [] (items_of (map string (map call_content calls))) ≡ Some calls
+calls_back calls h = calls_added [] calls h
 
 -- ---- clauses
 
@@ -72,7 +64,6 @@ clause_back clause h =
     let r = and_parts (is_var clause.now) (list_all is_literal clause.literals) k.1 in
     let start = short_is clause.start.0 (omega (arith, leb-true clause.start.0 (2 ^ 32 - 1) k.0)) in
     let now = short_is clause.now.0 (omega (arith, leb-true clause.now.0 (2 ^ 32 - 1) r.0)) in
-    let ls = map literal_content clause.literals in
-    let lines = lines_back (flat_map literal_text clause.literals) ls (sym (literals_spelled clause.literals)) (marked_are_lines is_no_h ls (literals_marked clause.literals r.1)) in
+    let lines = lines_back (map literal_content clause.literals) ∙ ap Some (sym (literals_spelled clause.literals)) in
     (λ i. option_and_then (λ start. option_and_then (λ now. option_and_then (clause_from start now) (lines i)) (now i)) (start i))
     ∙ clause_joined clause ∙ clause_found clause h

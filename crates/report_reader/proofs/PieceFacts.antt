@@ -21,7 +21,7 @@ use Rattle.dpkg_scenarios.specs.declared.scenario.ScriptKind.{ScriptKind}
 use Rattle.dpkg_scenarios.specs.declared.scenario.State.{State}
 use Rattle.scenario_runs.specs.declared.call.CallEnd.{CallEnd}
 use Rattle.scenario_runs.specs.declared.call.ScriptCall.{ScriptCall}
-use Rattle.outcome_report.specs.PieceRead.{state_of, script_of, side_of, call_end_of, result_of_two, result_of_stop, result_of_words, result_of, marks_onto, trace_of, call_with, call_from, call_of_words, call_of, is_ending, is_call}
+use Rattle.report_text.specs.PieceRead.{state_of, script_of, side_of, call_end_of, result_of_two, result_of_stop, result_of_words, result_of, marks_onto, trace_of, call_with, call_from, call_of_words, call_of, is_ending, is_call}
 use Rattle.report_reader.specs.ReportRead.{calls_onto}
 use Rattle.report_reader.proofs.TextFacts.{got, made, shown_bytes, site_fits, mark_fits}
 

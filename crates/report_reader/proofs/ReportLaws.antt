@@ -10,9 +10,9 @@ use Rattle.outcome_report.specs.declared.outcome_report.Report.{Report}
 use Rattle.outcome_report.specs.declared.outcome_report.ReportEntry.{ReportEntry}
 use Rattle.outcome_report.specs.declared.outcome_report.ReportPart.{ReportPart}
 use Rattle.outcome_report.specs.declared.replay.Replay.{Replay}
-use Rattle.outcome_report.specs.Numbered.{AreNumbered, AllNumbered}
-use Rattle.outcome_report.specs.Whole.{IsRepresentableEntry, AllRepresentable, AllPartsRepresentable, IsWholeEntry, AllWhole, AllPartsWhole, AreInOrder, scenario_place}
-use Rattle.outcome_report.proofs.PieceReading.{result_read, trace_read}
+use Rattle.report_text.specs.Numbered.{AreNumbered, AllNumbered}
+use Rattle.report_text.specs.Whole.{IsRepresentableEntry, AllRepresentable, AllPartsRepresentable, IsWholeEntry, AllWhole, AllPartsWhole, AreInOrder, scenario_place}
+use Rattle.report_text.proofs.PieceReading.{result_read, trace_read}
 use Rattle.report_json.specs.ReportJson.{entry_json, part_json, json_of}
 use Rattle.report_reader.specs.ReportRead.{outcome_in, replay_in, entry_in, entries_onto, part_in, from_place, parts_onto, report_in}
 use Rattle.report_reader.specs.JsonAnswers.{HasShortPaths, AllShort, AllPartsShort, IsReadable}

@@ -1,53 +1,42 @@
 -- The text of a readable report is UTF-8, and read as its value.
-use Rattle.std.proofs.Common.{◌≡◌, ℕ, ◌^◌, ◌<◌, true, List, [], ◌∷◌, map, refl, sym, subst, arith, IsUtf8}
-use Rattle.std.specs.Prelude.{nat_lt, codes}
-use Rattle.std.specs.List.{flat_map, list_all, join_with_byte}
-use Rattle.std.proofs.lemmas.Bool.{and_parts, and_from}
+use Rattle.std.proofs.Common.{◌≡◌, ℕ, ◌^◌, ◌<◌, true, List, [], ◌∷◌, map, refl, arith, IsUtf8}
+use Rattle.std.specs.Prelude.{codes}
+use Rattle.std.specs.List.{list_all, join_with_byte}
+use Rattle.std.proofs.lemmas.Bool.{and_parts}
 use Rattle.json.proofs.Printed.Utf8.{are_ascii, IsUtf8-are_ascii}
 use Rattle.serde_json.specs.Data.{string}
 use Rattle.serde_json.specs.View.{items_of}
-use Rattle.shown_texts.specs.Lines.{lines_text, is_line}
 use Rattle.shown_texts.specs.Marks.{mark_text}
-use Rattle.feature_trees.specs.TreeText.{tree_text}
+use Rattle.feature_trees.specs.declared.value.Value.{Value}
+use Rattle.feature_trees.specs.TreeText.{tree_lines}
 use Rattle.tree_clauses.specs.declared.clause.Clause.{Clause}
 use Rattle.tree_clauses.specs.ClauseRead.{is_clause}
-use Rattle.tree_clauses.specs.ClauseText.{literal_content, literal_text}
+use Rattle.tree_clauses.specs.ClauseText.{literal_content}
 use Rattle.outcome_report.specs.declared.outcome_report.Report.{Report}
 use Rattle.outcome_report.specs.declared.outcome_report.ReportEntry.{ReportEntry}
 use Rattle.outcome_report.specs.declared.outcome_report.ReportPart.{ReportPart}
 use Rattle.dpkg_scenarios.specs.Names.{scenario_name}
-use Rattle.outcome_report.specs.ReportText.{result_text, call_content, call_line}
-use Rattle.outcome_report.specs.Whole.{IsRepresentableEntry, AllRepresentable, AllPartsRepresentable, IsWholeEntry, AllWhole, AllPartsWhole}
-use Rattle.outcome_report.proofs.PieceReading.{scenario_shown}
-use Rattle.outcome_report.proofs.TextApart.{literals_spelled, calls_spelled}
-use Rattle.outcome_report.proofs.WholeLines.{is_a, is_no_h, calls_marked, literals_marked}
-use Rattle.report_json.specs.ReportJson.{lines_json, clause_json, entry_json, part_json, json_of, json_text}
-use Rattle.report_json.proofs.LineLists.{marked_are_lines, lines_are}
+use Rattle.report_text.specs.ReportText.{result_text, call_content}
+use Rattle.report_text.specs.Whole.{IsRepresentableTree, IsRepresentableEntry, AllRepresentable, AllPartsRepresentable}
+use Rattle.report_text.proofs.PieceReading.{scenario_shown}
+use Rattle.report_text.proofs.TextApart.{tree_low}
+use Rattle.report_json.specs.ReportJson.{texts_json, clause_json, entry_json, part_json, json_of, json_text}
+use Rattle.report_json.proofs.Ascii.{low_utf8}
 use Rattle.report_json.proofs.ValueDepth.{report_depth}
 use Rattle.report_json.proofs.ValueRead.{clause_parts, verdict_small, report_same}
-use Rattle.report_reader.specs.JsonAnswers.{Reads, HasShortPaths, AllShort, AllPartsShort, IsReadable}
+use Rattle.report_reader.specs.JsonAnswers.{Reads, IsReadable}
 use Rattle.report_reader.proofs.JsonLaws.{Tame, TameItems, value_read}
-use Rattle.report_reader.proofs.LowPieces.{result_low, trace_low, calls_low, literals_low, lines_of_tree}
-use Rattle.report_reader.proofs.LowTexts.{is_low, low, shown_low}
+use Rattle.report_text.proofs.LowPieces.{result_low, trace_low, calls_low, literals_low}
+use Rattle.report_text.proofs.LowTexts.{low, shown_low}
 
 -- ---- texts
-
-low_ascii : (text : List ℕ) → low text ≡ true → are_ascii text ≡ true
-low_ascii [] h = refl
-low_ascii (b ∷ text) h = let k = and_parts (is_low b) (low text) h in and_from (nat_lt b 128) (are_ascii text) k.0 (low_ascii text k.1)
-
-text_tame : (text : List ℕ) → low text ≡ true → IsUtf8 text
-text_tame text h = IsUtf8-are_ascii text (low_ascii text h)
 
 key_tame : (key : List ℕ) → are_ascii key ≡ true → IsUtf8 key
 key_tame key h = IsUtf8-are_ascii key h
 
 texts_tame : (texts : List (List ℕ)) → list_all low texts ≡ true → TameItems (items_of (map string texts))
 texts_tame [] h = tt
-texts_tame (t ∷ texts) h = let k = and_parts (low t) (list_all low texts) h in (text_tame t k.0, texts_tame texts k.1)
-
-lines_tame : (text : List ℕ) (ls : List (List ℕ)) → lines_text ls ≡ text → list_all is_line ls ≡ true → list_all low ls ≡ true → Tame (lines_json text)
-lines_tame text ls e h l = subst (λ ps. TameItems (items_of (map string ps))) (sym (lines_are text ls e h)) (texts_tame ls l)
+texts_tame (t ∷ texts) h = let k = and_parts (low t) (list_all low texts) h in (low_utf8 t k.0, texts_tame texts k.1)
 
 -- ---- clauses
 
@@ -55,29 +44,21 @@ clause_tame : (clause : Clause) → is_clause clause ≡ true → Tame (clause_j
 unfolding clause_json
 clause_tame clause h =
     let k = clause_parts clause h in
-    let ls = map literal_content clause.literals in
-    let lines = lines_tame (flat_map literal_text clause.literals) ls (sym (literals_spelled clause.literals))
-    (marked_are_lines is_no_h ls (literals_marked clause.literals k.literals)) (literals_low clause.literals k.literals) in
-    (key_tame (codes "literals") refl, lines, (key_tame (codes "now") refl, k.now, (key_tame (codes "start") refl, k.start, tt)))
+    let literals = texts_tame (map literal_content clause.literals) (literals_low clause.literals k.literals) in
+    (key_tame (codes "literals") refl, literals, (key_tame (codes "now") refl, k.now, (key_tame (codes "start") refl, k.start, tt)))
 
 -- ---- entries
 
-tree_tame : (e : ReportEntry) → IsRepresentableEntry e → IsWholeEntry e → HasShortPaths e → Tame (lines_json (tree_text e.outcome.shown)) × Tame (lines_json (tree_text e.replayed.after))
-tree_tame e h w s =
-    let shown = lines_of_tree e.outcome.shown w.shown h.shown s.shown in
-    let after = lines_of_tree e.replayed.after w.after h.after s.after in
-    (lines_tame (tree_text e.outcome.shown) shown.lines shown.text shown.whole shown.low, lines_tame (tree_text e.replayed.after) after.lines after.text after.whole after.low)
+tree_tame : (v : Value) → IsRepresentableTree v → Tame (texts_json (tree_lines v))
+tree_tame v h = texts_tame (tree_lines v) (tree_low v h)
 
-entry_tame : (e : ReportEntry) → IsRepresentableEntry e → IsWholeEntry e → HasShortPaths e → Tame (entry_json e)
+entry_tame : (e : ReportEntry) → IsRepresentableEntry e → Tame (entry_json e)
 unfolding entry_json
-entry_tame e h w s =
-    let trees = tree_tame e h w s in
-    let cs = map call_content e.replayed.calls in
-    let calls = lines_tame (flat_map call_line e.replayed.calls) cs (sym (calls_spelled e.replayed.calls))
-    (marked_are_lines is_a cs (calls_marked e.replayed.calls h.calls)) (calls_low e.replayed.calls h.calls) in
+entry_tame e h =
+    let calls = texts_tame (map call_content e.replayed.calls) (calls_low e.replayed.calls h.calls) in
     let number : e.outcome.number < 2 ^ 64 = omega (arith, h.number) in (
       key_tame (codes "after") refl,
-      trees.1,
+      tree_tame e.replayed.after h.after,
       (
         key_tame (codes "calls") refl,
         calls,
@@ -92,11 +73,11 @@ entry_tame e h w s =
               number,
               (
                 key_tame (codes "result") refl,
-                text_tame (result_text e.outcome.ending) (result_low e.outcome.ending h.ending),
+                low_utf8 (result_text e.outcome.ending) (result_low e.outcome.ending h.ending),
                 (
                   key_tame (codes "shown") refl,
-                  trees.0,
-                  (key_tame (codes "trace") refl, text_tame (join_with_byte 32 (map mark_text e.outcome.trace)) (trace_low e.outcome.trace h.trace), tt),
+                  tree_tame e.outcome.shown h.shown,
+                  (key_tame (codes "trace") refl, low_utf8 (join_with_byte 32 (map mark_text e.outcome.trace)) (trace_low e.outcome.trace h.trace), tt),
                 ),
               ),
             ),
@@ -105,23 +86,23 @@ entry_tame e h w s =
       ),
     )
 
-entries_tame : (es : List ReportEntry) → AllRepresentable es → AllWhole es → AllShort es → TameItems (items_of (map entry_json es))
-entries_tame [] h w s = tt
-entries_tame (e ∷ es) h w s = (entry_tame e h.0 w.0 s.0, entries_tame es h.1 w.1 s.1)
+entries_tame : (es : List ReportEntry) → AllRepresentable es → TameItems (items_of (map entry_json es))
+entries_tame [] h = tt
+entries_tame (e ∷ es) h = (entry_tame e h.0, entries_tame es h.1)
 
 -- ---- parts
 
-part_tame : (p : ReportPart) → AllRepresentable p.entries → AllWhole p.entries → AllShort p.entries → Tame (part_json p)
+part_tame : (p : ReportPart) → AllRepresentable p.entries → Tame (part_json p)
 unfolding part_json
-part_tame p h w s = (
+part_tame p h = (
   key_tame (codes "name") refl,
-  text_tame (scenario_name p.scenario) (shown_low (scenario_name p.scenario) (scenario_shown p.scenario)),
-  (key_tame (codes "outcomes") refl, entries_tame p.entries h w s, tt),
+  low_utf8 (scenario_name p.scenario) (shown_low (scenario_name p.scenario) (scenario_shown p.scenario)),
+  (key_tame (codes "outcomes") refl, entries_tame p.entries h, tt),
 )
 
-parts_tame : (ps : List ReportPart) → AllPartsRepresentable ps → AllPartsWhole ps → AllPartsShort ps → TameItems (items_of (map part_json ps))
-parts_tame [] h w s = tt
-parts_tame (p ∷ ps) h w s = (part_tame p h.0 w.0 s.0, parts_tame ps h.1 w.1 s.1)
+parts_tame : (ps : List ReportPart) → AllPartsRepresentable ps → TameItems (items_of (map part_json ps))
+parts_tame [] h = tt
+parts_tame (p ∷ ps) h = (part_tame p h.0, parts_tame ps h.1)
 
 -- ---- the report
 
@@ -132,7 +113,7 @@ report_tame report r = (
   small,
   (
     key_tame (codes "scenarios") refl,
-    parts_tame report.parts r.representable r.whole.entries r.short,
+    parts_tame report.parts r.representable,
     (key_tame (codes "verdict") refl, verdict_small report, tt),
   ),
 )

@@ -7,7 +7,7 @@ use Rattle.feature_trees.specs.Readable.{depth}
 use Rattle.outcome_report.specs.declared.outcome_report.Report.{Report}
 use Rattle.outcome_report.specs.declared.outcome_report.ReportEntry.{ReportEntry}
 use Rattle.outcome_report.specs.declared.outcome_report.ReportPart.{ReportPart}
-use Rattle.outcome_report.specs.Whole.{IsRepresentable, IsWhole}
+use Rattle.report_text.specs.Whole.{IsRepresentable, IsWhole}
 use Rattle.report_json.specs.ReportJson.{json_of}
 use Rattle.report_reader.specs.declared.read.JsonFault.{JsonFault}
 use Rattle.report_reader.specs.declared.read.JsonFault.TheVariants as fault

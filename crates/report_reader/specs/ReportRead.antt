@@ -22,8 +22,8 @@ use Rattle.outcome_report.specs.declared.outcome_report.ReportEntry.{ReportEntry
 use Rattle.outcome_report.specs.declared.outcome_report.ReportPart.{ReportPart}
 use Rattle.outcome_report.specs.declared.replay.Replay.{Replay}
 use Rattle.dpkg_scenarios.specs.Names.{scenario_named}
-use Rattle.outcome_report.specs.PieceRead.{result_of, trace_of, call_of}
-use Rattle.outcome_report.specs.Whole.{scenario_place}
+use Rattle.report_text.specs.PieceRead.{result_of, trace_of, call_of}
+use Rattle.report_text.specs.Whole.{scenario_place}
 
 -- ---- members
 

@@ -6,7 +6,7 @@ ghost use Rattle.serde_json.specs.View.{view};
 ghost use Rattle.report_reader.specs.ReportRead.{clause_with, clause_from, clause_in};
 
 use crate::members::{lines_at, number_at};
-use outcome_report::is_representable_clause;
+use report_text::is_representable_clause;
 use script_names::{List, Memory};
 use serde_json::Value;
 use std::alloc::Global;

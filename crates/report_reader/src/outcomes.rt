@@ -2,7 +2,7 @@
 ghost use Rattle.std.specs.Prelude.{◌≡◌, [], IfOk};
 ghost use Rattle.std.specs.Option.{option_and_then};
 ghost use Rattle.serde_json.specs.View.{view, items_view};
-ghost use Rattle.outcome_report.specs.Whole.{scenario_place};
+ghost use Rattle.report_text.specs.Whole.{scenario_place};
 ghost use Rattle.report_reader.specs.ReportRead.{outcome_in, replay_in, entry_in, entries_onto, part_in, from_place};
 ghost use Rattle.report_reader.specs.ReportRead.{list_at, parts_onto, report_in};
 

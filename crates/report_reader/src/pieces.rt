@@ -2,9 +2,9 @@
 ghost use Rattle.std.specs.Prelude.{◌≡◌, [], map, IfOk};
 ghost use Rattle.serde_json.specs.View.{view, items_view};
 ghost use Rattle.feature_trees.specs.TreeLines.{tree_of};
-ghost use Rattle.outcome_report.specs.PieceRead.{state_of, script_of, side_of, call_end_of};
-ghost use Rattle.outcome_report.specs.PieceRead.{result_of_two, result_of_stop, result_of_words, result_of};
-ghost use Rattle.outcome_report.specs.PieceRead.{marks_onto, trace_of, call_with, call_from, call_of_words, call_of};
+ghost use Rattle.report_text.specs.PieceRead.{state_of, script_of, side_of, call_end_of};
+ghost use Rattle.report_text.specs.PieceRead.{result_of_two, result_of_stop, result_of_words, result_of};
+ghost use Rattle.report_text.specs.PieceRead.{marks_onto, trace_of, call_with, call_from, call_of_words, call_of};
 ghost use Rattle.report_reader.specs.ReportRead.{tree_found, tree_at, calls_onto, calls_at, ending_at, trace_at};
 
 use crate::members::{lines_at, list_at, text_at, text_of};

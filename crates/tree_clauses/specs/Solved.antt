@@ -100,6 +100,7 @@ pub data Solves : List ℕ → List Literal → List ℕ → Type 0 where
   fact : {known after : List ℕ} {literals : List Literal} (literal : Literal) → AllKnown known literal
       → Solves known literals after → Solves known (literal ∷ literals) after
 
--- the clause is in solved order: its start is known, and in the end the tree now is
+-- the clause is in solved order: its start is known, and in the end the tree now is. So whoever has a start tree can
+-- compute the values one after another, and check the other literals on the way, without search
 abbrev pub IsSolved : Clause → Type 0
 IsSolved clause = (known : List ℕ) × Solves (clause.start.0 ∷ []) clause.literals known × Contains known clause.now.0

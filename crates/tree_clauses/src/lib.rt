@@ -23,4 +23,4 @@ pub use case::Case;
 pub use clause::{Clause, Literal, Var};
 pub use deciding::{meets, subject};
 pub use read::{ClauseFault, read_clause};
-pub use text::{print_clause, put_clause};
+pub use text::{print_clause, print_literal, put_clause};

@@ -31,6 +31,15 @@ pub fn put_clause(alloc: Global, text: &mut Bytes, clause: &Clause) -> Result<()
     text.extend(more.as_slice())
 }
 
+/// The text of a literal, without the newline of its line.
+pub fn print_literal(alloc: Global, literal: &Literal) -> Result<Bytes, Memory>
+    ensures { IfOk result (λ text. text ≡ literal_content literal.now) }
+{
+    let mut text = Bytes::new(alloc);
+    put_literal(&mut text, literal)?;
+    Ok(text)
+}
+
 // Adds the lines of literals.
 fn put_literals(text: &mut Bytes, literals: &[Literal]) -> Result<(), Memory>
     ensures { OnOk result (text.new ≡ text.old ++ flat_map literal_text literals.now) }

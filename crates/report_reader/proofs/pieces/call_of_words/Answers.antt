@@ -2,7 +2,7 @@ use Rattle.std.proofs.Common.{◌≡◌, ℕ, ◌≤◌, ◌-◌, List, [], ◌�
 use Rattle.std.proofs.lemmas.List.{take_rest}
 use Rattle.script_names.specs.declared.memory.Memory.{Memory}
 use Rattle.scenario_runs.specs.declared.call.ScriptCall.{ScriptCall}
-use Rattle.outcome_report.specs.PieceRead.{call_from, call_of_words}
+use Rattle.report_text.specs.PieceRead.{call_from, call_of_words}
 use Rattle.report_reader.proofs.pieces.call_of_words.Goals as goal
 
 words_are : (ws : List (Bor (List ℕ))) (d e : Bor (List ℕ)) → 3 ≤ length ws

@@ -1,5 +1,5 @@
 use Rattle.std.proofs.Common.{◌≡◌, [], length, map}
-use Rattle.outcome_report.specs.PieceRead.{call_with}
+use Rattle.report_text.specs.PieceRead.{call_with}
 use Rattle.report_reader.proofs.pieces.call_with.Given as goal
 
 abbrev pub invariant-loop-left : goal.invariant-loop-left

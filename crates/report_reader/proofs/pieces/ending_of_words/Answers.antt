@@ -1,5 +1,5 @@
 use Rattle.std.proofs.Common.{◌≡◌, ℕ, ◌≤◌, List, [], ◌∷◌, length, map, None, Bor, refl, arith}
-use Rattle.outcome_report.specs.PieceRead.{result_of_words}
+use Rattle.report_text.specs.PieceRead.{result_of_words}
 use Rattle.report_reader.proofs.pieces.ending_of_words.Goals as goal
 
 few : (ws : List (Bor (List ℕ))) → length ws ≤ 1 → None ≡ result_of_words (map (λ word. word.now) ws)

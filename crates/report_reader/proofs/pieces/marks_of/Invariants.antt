@@ -1,5 +1,5 @@
 use Rattle.std.proofs.Common.{◌≡◌, [], drop, map}
-use Rattle.outcome_report.specs.PieceRead.{marks_onto}
+use Rattle.report_text.specs.PieceRead.{marks_onto}
 use Rattle.report_reader.proofs.pieces.marks_of.Given as goal
 
 abbrev pub invariant-loop-text : goal.invariant-loop-text

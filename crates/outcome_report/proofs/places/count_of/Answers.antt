@@ -1,8 +1,0 @@
-use Rattle.outcome_report.proofs.Counted.{count_here, none_here}
-use Rattle.outcome_report.proofs.places.count_of.Goals as goal
-
-pub returns-in-Some : goal.returns-in-Some
-returns-in-Some c = count_here c.args.counts.now.entries c.args.place.now _ c.in-Some.ensures.value
-
-pub returns-in-None : goal.returns-in-None
-returns-in-None c = none_here c.args.counts.now.entries c.args.place.now c.in-None.ensures.value

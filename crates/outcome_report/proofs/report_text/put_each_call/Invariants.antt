@@ -1,7 +1,0 @@
-use Rattle.std.proofs.Common.{◌≡◌, ◌++◌, take}
-use Rattle.std.specs.List.{flat_map}
-use Rattle.outcome_report.specs.ReportText.{call_line}
-use Rattle.outcome_report.proofs.report_text.put_each_call.Given as goal
-
-abbrev pub invariant-loop-call : goal.invariant-loop-call
-invariant-loop-call l = l.text ≡ l.initial.text ++ flat_map call_line (take l.call-index l.calls)

@@ -1,7 +1,0 @@
-use Rattle.std.proofs.Common.{◌≡◌, ◌++◌, take}
-use Rattle.std.specs.List.{flat_map}
-use Rattle.outcome_report.specs.ReportText.{part_text}
-use Rattle.outcome_report.proofs.report_text.put_parts.Given as goal
-
-abbrev pub invariant-loop-part : goal.invariant-loop-part
-invariant-loop-part l = l.text ≡ l.initial.text ++ flat_map part_text (take l.part-index l.parts)

@@ -1,9 +1,0 @@
-use Rattle.std.proofs.Common.{length}
-use Rattle.scenario_runs.specs.Runs.{scenario_run}
-use Rattle.outcome_report.proofs.Telling.{ToldSoFar, begun}
-use Rattle.outcome_report.proofs.told_part.tell_paths.Given as goal
-
-abbrev pub invariant-loop-path : goal.invariant-loop-path
-invariant-loop-path l =
-    ToldSoFar (scenario_run l.job) l.fn.paths l.yielded l.path-iterator.rest.items (begun l.job.scenario (length l.fn.paths))
-    l.number l.told l.places

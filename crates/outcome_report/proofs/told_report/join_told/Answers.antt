@@ -1,9 +1,0 @@
-use Rattle.std.proofs.Common.{ap, ◌∙◌}
-use Rattle.outcome_report.specs.Told.{told_verdict}
-use Rattle.outcome_report.proofs.Joined.{text_so}
-use Rattle.outcome_report.proofs.told_report.join_told.Goals as goal
-
-pub returns : goal.returns
-returns c = λ report are.
-    text_so report c.args.told c.in_ok-text.text c.put_verdict_line.new.text c.parts_verdict-verdict.result are c.in_ok-text.ensures
-    (c.parts_verdict-verdict.ensures ∙ ap told_verdict c.as_slice.ensures) c.in_ok-put_verdict_line.ensures

@@ -1,7 +1,0 @@
-use Rattle.std.proofs.Common.{◌≡◌, ◌++◌, take}
-use Rattle.std.specs.List.{flat_map}
-use Rattle.outcome_report.specs.ReportText.{trace_mark}
-use Rattle.report_json.proofs.lines.put_marks.Given as goal
-
-abbrev pub invariant-loop-mark : goal.invariant-loop-mark
-invariant-loop-mark l = l.text ≡ l.initial.text ++ flat_map trace_mark (take l.mark-index l.marks)

@@ -1,0 +1,7 @@
+use Rattle.std.proofs.Common.{◌∙◌}
+use Rattle.report_text.proofs.LowPieces.{trace_low}
+use Rattle.report_json.proofs.Ascii.{same_utf8}
+use Rattle.report_json.proofs.texts.trace_value.Goals as goal
+
+pub text_value-requires : goal.text_value-requires
+text_value-requires c = same_utf8 _ _ (c.as_slice.ensures ∙ c.in_ok-text.ensures) (trace_low c.args.trace.now c.are_representable_marks.ensures)

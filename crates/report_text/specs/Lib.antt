@@ -1,0 +1,14 @@
+pub mod Numbered
+pub mod ReportNames
+pub mod Places
+pub mod Counting
+pub mod PlaceText
+pub mod ReportText
+pub mod BriefText
+pub mod RunText
+pub mod PieceRead
+pub mod PieceLaws
+pub mod Whole
+pub mod TextLaws
+pub mod Told
+pub mod Telling
