@@ -1,3 +1,5 @@
+mod FileSteps
+mod FilesPerformed
 mod NeedByNeed
 mod Plans
 mod WrittenTurns

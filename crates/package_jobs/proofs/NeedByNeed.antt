@@ -1,7 +1,7 @@
 -- What is needed, need by need, is what a start tree has.
-use Rattle.std.proofs.Common.{◌≡◌, ◌≢◌, ◌⊎◌, ◌↔◌, ℕ, Bool, true, false, List, [], ◌∷◌, ◌++◌, All, inl, inr, refl, sym, ap, subst, ◌∙◌}
+use Rattle.std.proofs.Common.{◌≡◌, ◌≢◌, ◌⊎◌, ◌↔◌, ℕ, Bool, true, false, List, [], ◌∷◌, ◌++◌, map, All, inl, inr, refl, sym, ap, subst, ◌∙◌}
 use Rattle.std.specs.Prelude.{IsTrue, not, ◌&&◌, if◌then◌else◌}
-use Rattle.std.specs.List.{flat_map, list_any}
+use Rattle.std.specs.List.{flat_map}
 use Rattle.std.proofs.lemmas.List.{append_assoc}
 use Rattle.std.proofs.lemmas.List.Elements.{All-nil, All-cons, All-head, All-tail}
 use Rattle.feature_trees.specs.declared.value.Value.{Value}
@@ -23,21 +23,21 @@ use Rattle.dpkg_scenarios.specs.declared.columns.OwnFolders.{OwnFolders}
 use Rattle.dpkg_scenarios.specs.declared.columns.OwnFolders.TheVariants.{NoFolder, Dropped, Standing, Left}
 use Rattle.dpkg_scenarios.specs.declared.scenario.Scenario.{Scenario}
 use Rattle.dpkg_scenarios.specs.Scenarios.{columns_of}
-use Rattle.package_lists.specs.declared.base.BaseLine.{BaseLine}
-use Rattle.package_lists.specs.declared.base.BaseLine.TheVariants as base
+use Rattle.system_base.specs.declared.base.Base.{Base}
+use Rattle.system_base.specs.declared.base.KnownPath.{KnownPath}
 use Rattle.package_lists.specs.declared.kind.EntryKind.{EntryKind}
 use Rattle.package_lists.specs.declared.kind.EntryKind.TheVariants.{Folder, File, Conf, LinkTo}
-use Rattle.package_lists.specs.Bases.{is_base}
+use Rattle.system_base.specs.Bases.{is_base}
 use Rattle.package_lists.specs.Entries.{EntryParts, is_any, has_at, is_folder, names_below}
 use Rattle.package_lists.specs.Paths.{Paths, path_text, plain_path}
-use Rattle.package_lists.proofs.FileSteps.{one_of_same}
+use Rattle.package_jobs.proofs.FileSteps.{one_of_same}
 use Rattle.checker_input.specs.declared.package.Packages.{Packages}
 use Rattle.package_jobs.specs.declared.needs.Asked.{Asked}
 use Rattle.package_jobs.specs.declared.needs.Asked.TheVariants.{Placed, KeptConf, Fit}
 use Rattle.package_jobs.specs.Sides.{old_of}
-use Rattle.package_jobs.specs.StartTrees.{Entries, MeetsLine, Stands, AreBefore, IsFit, Fits, is_fits, is_to_fit, IsStartTree}
-use Rattle.package_jobs.specs.StartTrees.{is_own, owner, is_owned_folder, is_to_own, MayStand, IsOwned, Owns, AreOwned}
-use Rattle.package_jobs.specs.Needed.{Holds, kinds_asked, needed_at, entry_needs, line_needs, needs_before, fit_needs, needs_to_fit, needs_in}
+use Rattle.package_jobs.specs.StartTrees.{Entries, IsKnown, Stands, AreBefore, IsFit, Fits, is_to_fit, IsStartTree}
+use Rattle.package_jobs.specs.StartTrees.{owner, is_owned_folder, is_to_own, MayStand, IsOwned, Owns, AreOwned}
+use Rattle.package_jobs.specs.Needed.{Holds, kinds_asked, needed_at, entry_needs, known_need, needs_before, fit_needs, needs_to_fit, needs_in}
 use Rattle.package_jobs.specs.Needed.{kinds_owned, names_needed, folder_needs, own_needs, needs_to_own}
 
 -- ---- sets of kinds
@@ -48,20 +48,6 @@ of_dir Reg = ((λ e. cc), (λ e. cc))
 of_dir Link = ((λ e. cc), (λ e. cc))
 of_dir Other = ((λ e. cc), (λ e. cc))
 of_dir Dir = ((λ e. refl), (λ e. refl))
-
-of_reg : (k : Kind) → IsTrue (has (of Reg) k) ↔ (k ≡ Reg)
-of_reg Absent = ((λ e. cc), (λ e. cc))
-of_reg Reg = ((λ e. refl), (λ e. refl))
-of_reg Link = ((λ e. cc), (λ e. cc))
-of_reg Other = ((λ e. cc), (λ e. cc))
-of_reg Dir = ((λ e. cc), (λ e. cc))
-
-of_absent : (k : Kind) → IsTrue (has (of Absent) k) ↔ (k ≡ Absent)
-of_absent Absent = ((λ e. refl), (λ e. refl))
-of_absent Reg = ((λ e. cc), (λ e. cc))
-of_absent Link = ((λ e. cc), (λ e. cc))
-of_absent Other = ((λ e. cc), (λ e. cc))
-of_absent Dir = ((λ e. cc), (λ e. cc))
 
 but_dir : (k : Kind) → IsTrue (has (but Dir) k) ↔ (k ≢ Dir)
 but_dir Absent = ((λ e f. cc), (λ e. refl))
@@ -113,7 +99,7 @@ module _ (tree : Value) where
         (λ a. both.1 ((so x).1 (All-head P x xs a), rest.1 (All-tail P x xs a))),
       )
 
-  -- ---- entries and lines
+  -- ---- entries and known paths
 
   asked_met : (asked : Asked) (kind : EntryKind) (names : List (List ℕ))
       → MeetsNeeds tree (needed_at names (kinds_asked asked kind)) ↔ Holds asked kind (kind_of (at tree names))
@@ -130,14 +116,13 @@ module _ (tree : Value) where
   asked_met Fit Conf names = one_met (plain_path names) (two Absent Reg) (absent_or_reg (kind_at names))
   asked_met Fit (LinkTo target) names = one_met (plain_path names) (but Dir) (but_dir (kind_at names))
 
-  line_met : (line : BaseLine) → MeetsNeeds tree (line_needs line) ↔ MeetsLine tree line
-  line_met (base.Folder path) = one_met path (of Dir) (of_dir (kind_at path.names))
-  line_met (base.File path) = one_met path (of Reg) (of_reg (kind_at path.names))
-  line_met (base.Gone path) = one_met path (of Absent) (of_absent (kind_at path.names))
-  line_met (base.NoFolder path) = one_met path (but Dir) (but_dir (kind_at path.names))
-  line_met base.Fits = nothing_met
-  line_met base.Own = nothing_met
-  line_met (base.Call call) = nothing_met
+  known_met : (ks : List KnownPath) → MeetsNeeds tree (map known_need ks) ↔ All (IsKnown tree) ks
+  known_met [] = ((λ m. All-nil (IsKnown tree)), (λ a. tt))
+  known_met (k ∷ ks) =
+      let rest = known_met ks in (
+        (λ m. All-cons (IsKnown tree) k ks m.0 (rest.0 m.1)),
+        (λ a. (All-head (IsKnown tree) k ks a, rest.1 (All-tail (IsKnown tree) k ks a))),
+      )
 
   entries_met : (asked : Asked) (es : Entries) → MeetsNeeds tree (flat_map (entry_needs asked) es) ↔ All (Stands (Holds asked) tree) es
   entries_met asked es = each_met (entry_needs asked) (Stands (Holds asked) tree) (λ e. asked_met asked e.kind e.names) es
@@ -153,11 +138,11 @@ module _ (tree : Value) where
   if_met true needs P so = ((λ m e. so.0 m), (λ h. so.1 (h refl)))
   if_met false needs P so = ((λ m e. cc), (λ h. tt))
 
-  fits_met : (which : NewEntries) (lines : List BaseLine) (new old : Entries)
-      → MeetsNeeds tree (needs_to_fit which lines new old) ↔ (IsTrue (list_any is_fits lines) → All (Fits which (has_at is_any old) tree) new)
-  fits_met which lines new old =
+  fits_met : (which : NewEntries) (fits : Bool) (new old : Entries)
+      → MeetsNeeds tree (needs_to_fit which fits new old) ↔ (IsTrue fits → All (Fits which (has_at is_any old) tree) new)
+  fits_met which fits new old =
       let listed = has_at is_any old in
-      if_met (list_any is_fits lines) (flat_map (fit_needs which listed) new) _
+      if_met fits (flat_map (fit_needs which listed) new) _
       (each_met (fit_needs which listed) (Fits which listed tree)
       (λ e. if_met (is_to_fit which listed e) (entry_needs Fit e) (Stands IsFit tree e) (asked_met Fit e.kind e.names)) new)
 
@@ -183,13 +168,13 @@ module _ (tree : Value) where
         (λ o. both.1 (kinds.1 o.0, names.1 o.1)),
       )
 
-  owns_met : (own : OwnFolders) (lines : List BaseLine) (new old : Entries)
-      → MeetsNeeds tree (needs_to_own own lines new old) ↔ (IsTrue (list_any is_own lines) → AreOwned own lines new old tree)
-  owns_met own lines new old =
+  owns_met : (own : OwnFolders) (base : Base) (new old : Entries)
+      → MeetsNeeds tree (needs_to_own own base new old) ↔ (IsTrue base.own → AreOwned own base new old tree)
+  owns_met own base new old =
       let entries = owner own new old in
-      let based = is_base lines in
+      let based = is_base base in
       let listed = has_at is_any new in
-      if_met (list_any is_own lines) (flat_map (own_needs own based listed (names_below entries)) entries) _
+      if_met base.own (flat_map (own_needs own based listed (names_below entries)) entries) _
       (each_met (own_needs own based listed (names_below entries)) (Owns own based listed entries tree)
       (λ e. if_met (is_to_own own based listed e) (folder_needs own (names_below entries) e) (IsOwned own entries tree e) (folder_met own entries e)) entries)
 
@@ -199,52 +184,52 @@ pub starts_met : (s : Scenario) (p : Packages) (tree : Value) → IsStart (needs
 starts_met s p tree =
     let new = p.new_package.entries in
     let old = (old_of p).entries in
-    let lines = p.base.lines in
+    let base = p.base in
     let before = needs_before (columns_of s).before new old in
-    let fit = needs_to_fit (columns_of s).fits lines new old in
-    let own = needs_to_own (columns_of s).own lines new old in
-    let whole = both_met tree (flat_map line_needs lines) (before ++ (fit ++ own)) in
+    let fit = needs_to_fit (columns_of s).fits base.fits new old in
+    let own = needs_to_own (columns_of s).own base new old in
+    let whole = both_met tree (map known_need base.known) (before ++ (fit ++ own)) in
     let rest = both_met tree before (fit ++ own) in
     let last = both_met tree fit own in
     let of_before = before_met tree (columns_of s).before new old in
-    let of_fits = fits_met tree (columns_of s).fits lines new old in
-    let of_own = owns_met tree (columns_of s).own lines new old in
-    let of_lines = each_met tree line_needs (MeetsLine tree) (line_met tree) lines in (
+    let of_fits = fits_met tree (columns_of s).fits base.fits new old in
+    let of_own = owns_met tree (columns_of s).own base new old in
+    let of_known = known_met tree base.known in (
       (λ start. record {
         is_tree = start.is_tree;
-        base = of_lines.0 (whole.0 start.met).0;
+        base = of_known.0 (whole.0 start.met).0;
         before = of_before.0 (rest.0 (whole.0 start.met).1).0;
         fits = of_fits.0 (last.0 (rest.0 (whole.0 start.met).1).1).0;
         own = of_own.0 (last.0 (rest.0 (whole.0 start.met).1).1).1;
       }),
       (λ start. record {
         is_tree = start.is_tree;
-        met = whole.1 (of_lines.1 start.base, rest.1 (of_before.1 start.before, last.1 (of_fits.1 start.fits, of_own.1 start.own)));
+        met = whole.1 (of_known.1 start.base, rest.1 (of_before.1 start.before, last.1 (of_fits.1 start.fits, of_own.1 start.own)));
       }),
     )
 
--- what is needed, by a record, lines and entries
-abbrev all_needs : Columns → List BaseLine → Entries → Entries → List Need
-all_needs columns lines new old =
-    flat_map line_needs lines
-    ++ (needs_before columns.before new old ++ (needs_to_fit columns.fits lines new old ++ needs_to_own columns.own lines new old))
+-- what is needed, by a record, a base and entries
+abbrev all_needs : Columns → Base → Entries → Entries → List Need
+all_needs columns base new old =
+    map known_need base.known
+    ++ (needs_before columns.before new old ++ (needs_to_fit columns.fits base.fits new old ++ needs_to_own columns.own base new old))
 
 -- needs that were added one behind another
-pub needs_are : (s : Scenario) (columns : Columns) (p : Packages) (lines : List BaseLine) (new old : Entries) (none first more most all : List Need)
-    → columns ≡ columns_of s → lines ≡ p.base.lines → new ≡ p.new_package.entries → old ≡ (old_of p).entries
-    → none ≡ [] → first ≡ none ++ flat_map line_needs lines → more ≡ first ++ needs_before columns.before new old
-    → most ≡ more ++ needs_to_fit columns.fits lines new old → all ≡ most ++ needs_to_own columns.own lines new old
+pub needs_are : (s : Scenario) (columns : Columns) (p : Packages) (known : List KnownPath) (new old : Entries) (none first more most all : List Need)
+    → columns ≡ columns_of s → known ≡ p.base.known → new ≡ p.new_package.entries → old ≡ (old_of p).entries
+    → none ≡ [] → first ≡ none ++ map known_need known → more ≡ first ++ needs_before columns.before new old
+    → most ≡ more ++ needs_to_fit columns.fits p.base.fits new old → all ≡ most ++ needs_to_own columns.own p.base new old
     → all ≡ needs_in s p
-needs_are s columns p lines new old none first more most all is_columns is_lines is_new is_old e0 e1 e2 e3 e4 =
-    let of_lines = flat_map line_needs lines in
+needs_are s columns p known new old none first more most all is_columns is_known is_new is_old e0 e1 e2 e3 e4 =
+    let of_known = map known_need p.base.known in
     let before = needs_before columns.before new old in
-    let fit = needs_to_fit columns.fits lines new old in
-    let own = needs_to_own columns.own lines new old in
-    e4 ∙ ap (λ l. l ++ own) (e3 ∙ ap (λ l. l ++ fit) (e2 ∙ ap (λ l. l ++ before) (e1 ∙ ap (λ l. l ++ of_lines) e0)))
-    ∙ append_assoc (of_lines ++ before) fit own ∙ append_assoc of_lines before (fit ++ own)
-    ∙ ap (λ c. all_needs c lines new old) is_columns ∙ ap (λ l. all_needs (columns_of s) l new old) is_lines
-    ∙ ap (λ n. all_needs (columns_of s) p.base.lines n old) is_new
-    ∙ ap (λ o. all_needs (columns_of s) p.base.lines p.new_package.entries o) is_old
+    let fit = needs_to_fit columns.fits p.base.fits new old in
+    let own = needs_to_own columns.own p.base new old in
+    e4 ∙ ap (λ l. l ++ own) (e3 ∙ ap (λ l. l ++ fit) (e2 ∙ ap (λ l. l ++ before) (e1 ∙ ap (λ l. l ++ map known_need known) e0 ∙ ap (map known_need) is_known)))
+    ∙ append_assoc (of_known ++ before) fit own ∙ append_assoc of_known before (fit ++ own)
+    ∙ ap (λ c. all_needs c p.base new old) is_columns
+    ∙ ap (λ n. all_needs (columns_of s) p.base n old) is_new
+    ∙ ap (λ o. all_needs (columns_of s) p.base p.new_package.entries o) is_old
 
 -- needs that are these
 pub needs_met : (s : Scenario) (p : Packages) (needs : List Need) → needs ≡ needs_in s p → (tree : Value) → IsStart needs tree ↔ IsStartTree s p tree

@@ -1,5 +1,5 @@
 -- The plan of a job is the written one.
-use Rattle.std.proofs.Common.{◌≡◌, ℕ, Bool, true, false, List, Option, sym, ap}
+use Rattle.std.proofs.Common.{◌≡◌, ℕ, Bool, true, false, List, Option, sym, ap, subst}
 use Rattle.std.specs.Prelude.{option_map}
 use Rattle.feature_trees.specs.declared.value.Value.{Value}
 use Rattle.dpkg_scenarios.specs.declared.scenario.Scenario.{Scenario}
@@ -10,12 +10,14 @@ use Rattle.colis_syntax.specs.WellFormed.{ProgramParts}
 use Rattle.shell_to_colis.specs.Laws.{DoesTheSame}
 use Rattle.checker_input.specs.declared.package.Packages.{Packages}
 use Rattle.checker_input.specs.declared.package.Scripts as texts
+use Rattle.checker_input.specs.declared.package.Package as side
+use Rattle.scenario_runs.specs.declared.job.Scripts.{Scripts}
+use Rattle.scenario_runs.specs.declared.job.Package.{Package}
 use Rattle.scenario_runs.specs.declared.job.Job.{Job}
 use Rattle.scenario_runs.specs.Runs.{Plan, plan_of, run_of, scenario_run, program_meaning, script_of as program_of, package_of}
 use Rattle.package_jobs.specs.Made.{DoTheSame, IsMade}
 use Rattle.package_jobs.specs.Sides.{old_of}
 use Rattle.utility_calls.specs.declared.stated_call.StatedCall.{StatedCall}
-use Rattle.package_lists.specs.Bases.{calls_of}
 use Rattle.package_jobs.specs.Written.{script_of, side_of, script_meaning, stated_meaning, is_plain, files_of, written_plan, written_run}
 
 -- a program that does what a script does has the script's meaning
@@ -35,14 +37,21 @@ kinds_same calls scripts a b c d e f g h Postinst = f
 kinds_same calls scripts a b c d e f g h Prerm = g
 kinds_same calls scripts a b c d e f g h Postrm = h
 
+-- a package with these programs in place of its scripts
+pub made_with : (calls : List StatedCall) (written : side.Package) (made : Package) (programs : Scripts)
+    → made.version ≡ written.version → made.scripts ≡ programs → DoTheSame calls written.scripts programs
+    → IsMade calls written made
+made_with calls written made programs version scripts same =
+    record { version = version; scripts = subst (DoTheSame calls written.scripts) (sym scripts) same }
+
 module _ (job : Job) (s : Scenario) (p : Packages) (turns : ℕ) where
-  scripts_same : IsMade (calls_of p.base.lines) p.new_package job.new_package → IsMade (calls_of p.base.lines) (old_of p) job.old_package → (old : Bool) (kind : ScriptKind)
-      → option_map program_meaning (program_of kind (package_of job old).scripts) ≡ option_map (stated_meaning (calls_of p.base.lines)) (script_of kind (side_of p old).scripts)
+  scripts_same : IsMade p.base.calls p.new_package job.new_package → IsMade p.base.calls (old_of p) job.old_package → (old : Bool) (kind : ScriptKind)
+      → option_map program_meaning (program_of kind (package_of job old).scripts) ≡ option_map (stated_meaning p.base.calls) (script_of kind (side_of p old).scripts)
   scripts_same new old true kind = old.scripts kind
   scripts_same new old false kind = new.scripts kind
 
-  plan_same : job.scenario ≡ s → job.plain ≡ is_plain p.new_package → IsMade (calls_of p.base.lines) p.new_package job.new_package → IsMade (calls_of p.base.lines) (old_of p) job.old_package
-      → job.files ≡ files_of s p.new_package.entries (old_of p).entries p.base.lines → job.turns ≡ turns
+  plan_same : job.scenario ≡ s → job.plain ≡ is_plain p.new_package → IsMade p.base.calls p.new_package job.new_package → IsMade p.base.calls (old_of p) job.old_package
+      → job.files ≡ files_of s p.new_package.entries (old_of p).entries p.base → job.turns ≡ turns
       → plan_of job ≡ written_plan s p turns
   plan_same scenario plain new old files left = λ i. record {
     scenario = scenario i;
@@ -54,7 +63,7 @@ module _ (job : Job) (s : Scenario) (p : Packages) (turns : ℕ) where
     turns = left i;
   }
 
-  pub runs_same : job.scenario ≡ s → job.plain ≡ is_plain p.new_package → IsMade (calls_of p.base.lines) p.new_package job.new_package → IsMade (calls_of p.base.lines) (old_of p) job.old_package
-      → job.files ≡ files_of s p.new_package.entries (old_of p).entries p.base.lines → job.turns ≡ turns
+  pub runs_same : job.scenario ≡ s → job.plain ≡ is_plain p.new_package → IsMade p.base.calls p.new_package job.new_package → IsMade p.base.calls (old_of p) job.old_package
+      → job.files ≡ files_of s p.new_package.entries (old_of p).entries p.base → job.turns ≡ turns
       → (tree : Value) → scenario_run job tree ≡ written_run s p turns tree
   runs_same scenario plain new old files left tree = ap (λ (plan : Plan). run_of plan tree) (plan_same scenario plain new old files left)

@@ -14,7 +14,6 @@ use Rattle.shell_to_colis.specs.Laws.{ProgramsDoTheSame}
 use Rattle.scenario_runs.specs.Runs.{Meaning}
 use Rattle.scenario_runs.specs.Laws.{is_bound, IsSameWithMore, MoreTurnsOfPlans}
 use Rattle.stated_calls.specs.Scripts.{stated_script}
-use Rattle.package_lists.specs.Bases.{calls_of}
 use Rattle.package_jobs.specs.Written.{script_of, side_of, script_meaning, stated_meaning, written_plan}
 use Rattle.package_jobs.specs.Laws.{MoreTurnsSameRun}
 
@@ -46,7 +45,7 @@ not_bound b (inr a) e = a
 
 pub written_same : programs.MoreTurnsSameRun → ProgramsDoTheSame → MoreTurnsOfPlans → MoreTurnsSameRun
 written_same law does plans scenario packages turns more tree run is_run free =
-    let calls = calls_of packages.base.lines in
+    let calls = packages.base.calls in
     let each : (script : Script) → IsSameWithMore (stated_meaning calls script) = λ script. script_same law does (stated_script calls script) in
     not_bound (is_bound run.ending)
     (plans (written_plan scenario packages turns)

@@ -1,4 +1,5 @@
 pub mod Sides
+pub mod FileActs
 pub mod StartTrees
 pub mod Needed
 pub mod Written

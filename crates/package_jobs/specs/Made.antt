@@ -7,6 +7,9 @@ use Rattle.scenario_runs.specs.declared.job.Scripts.{Scripts}
 use Rattle.scenario_runs.specs.declared.job.Package.{Package}
 use Rattle.scenario_runs.specs.Runs.{program_meaning, script_of as program_of}
 use Rattle.utility_calls.specs.declared.stated_call.StatedCall.{StatedCall}
+use Rattle.checker_input.specs.declared.package.Packages.{Packages}
+use Rattle.package_jobs.specs.declared.programs.Programs.{Programs}
+use Rattle.package_jobs.specs.Sides.{old_of}
 use Rattle.package_jobs.specs.Written.{script_of, stated_meaning}
 
 -- each program does what the script of that kind does that is read under stated calls, and there is one exactly where
@@ -20,3 +23,9 @@ DoTheSame calls scripts programs =
 pub record IsMade (calls : List StatedCall) (written : side.Package) (made : Package) : Type 0 where
   pub version : made.version ≡ written.version
   pub scripts : DoTheSame calls written.scripts made.scripts
+
+-- the programs of packages: those of the new package's scripts, and of the old one's, under the calls that the base
+-- states
+pub record AreProgramsOf (packages : Packages) (programs : Programs) : Type 0 where
+  pub new_package : DoTheSame packages.base.calls packages.new_package.scripts programs.new_package
+  pub old_package : DoTheSame packages.base.calls (old_of packages).scripts programs.old_package

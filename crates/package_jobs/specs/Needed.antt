@@ -1,6 +1,6 @@
 -- What is needed of a start tree, path by path.
-use Rattle.std.specs.Prelude.{ℕ, List, [], ◌∷◌, ◌++◌, Option, Some, None, if◌then◌else◌}
-use Rattle.std.specs.List.{flat_map, list_any}
+use Rattle.std.specs.Prelude.{ℕ, Bool, List, [], ◌∷◌, ◌++◌, map, Option, Some, None, if◌then◌else◌}
+use Rattle.std.specs.List.{flat_map}
 use Rattle.feature_trees.specs.declared.kind.Kind.{Kind}
 use Rattle.feature_trees.specs.declared.kind.Kind.TheVariants.{Absent, Reg, Dir}
 use Rattle.feature_trees.specs.declared.kind.Kinds.{Kinds}
@@ -14,19 +14,19 @@ use Rattle.dpkg_scenarios.specs.declared.scenario.Scenario.{Scenario}
 use Rattle.dpkg_scenarios.specs.Scenarios.{columns_of}
 use Rattle.start_trees.specs.declared.need.Need.{Need}
 use Rattle.start_trees.specs.declared.need.Wanted.TheVariants as wanted
-use Rattle.package_lists.specs.declared.base.BaseLine.{BaseLine}
-use Rattle.package_lists.specs.declared.base.BaseLine.TheVariants as base
+use Rattle.system_base.specs.declared.base.Base.{Base}
+use Rattle.system_base.specs.declared.base.KnownPath.{KnownPath}
 use Rattle.package_lists.specs.declared.kind.EntryKind.{EntryKind}
 use Rattle.package_lists.specs.declared.kind.EntryKind.TheVariants.{Folder, File, Conf, LinkTo}
-use Rattle.package_lists.specs.Bases.{is_base}
+use Rattle.system_base.specs.Bases.{is_base}
 use Rattle.package_lists.specs.Entries.{EntryParts, is_any, has_at, names_below}
 use Rattle.package_lists.specs.Paths.{Paths, path_text, plain_path}
 use Rattle.checker_input.specs.declared.package.Packages.{Packages}
 use Rattle.package_jobs.specs.declared.needs.Asked.{Asked}
 use Rattle.package_jobs.specs.declared.needs.Asked.TheVariants.{Placed, KeptConf, Fit}
 use Rattle.package_jobs.specs.Sides.{old_of}
-use Rattle.package_jobs.specs.StartTrees.{Entries, IsPlaced, IsKeptConf, IsFit, is_fits, is_to_fit}
-use Rattle.package_jobs.specs.StartTrees.{is_own, owner, is_to_own}
+use Rattle.package_jobs.specs.StartTrees.{Entries, IsPlaced, IsKeptConf, IsFit, is_to_fit}
+use Rattle.package_jobs.specs.StartTrees.{owner, is_to_own}
 
 -- what is asked of what stands at an entry's path
 abbrev pub Holds : Asked → EntryKind → Kind → Type 0
@@ -58,15 +58,9 @@ needed_at names (Some kinds) = record { path = plain_path names; wanted = wanted
 abbrev pub entry_needs : Asked → EntryParts → List Need
 entry_needs asked entry = needed_at entry.names (kinds_asked asked entry.kind)
 
--- what a line of the base needs
-abbrev pub line_needs : BaseLine → List Need
-line_needs (base.Folder path) = record { path = path; wanted = wanted.Kinds (of Dir) } ∷ []
-line_needs (base.File path) = record { path = path; wanted = wanted.Kinds (of Reg) } ∷ []
-line_needs (base.Gone path) = record { path = path; wanted = wanted.Kinds (of Absent) } ∷ []
-line_needs (base.NoFolder path) = record { path = path; wanted = wanted.Kinds (but Dir) } ∷ []
-line_needs base.Fits = []
-line_needs base.Own = []
-line_needs (base.Call call) = []
+-- what is needed where something is known of a path
+abbrev pub known_need : KnownPath → Need
+known_need known = record { path = known.path; wanted = wanted.Kinds known.kinds }
 
 -- what is needed of the files that are there before a scenario, by the new and the old package's entries
 abbrev pub needs_before : Before → Entries → Entries → List Need
@@ -79,10 +73,10 @@ needs_before before.OldInstalled new old = flat_map (entry_needs Placed) old
 abbrev pub fit_needs : NewEntries → Paths → EntryParts → List Need
 fit_needs which listed entry = if is_to_fit which listed entry then entry_needs Fit entry else []
 
--- what is needed where the base has a line `fits`
-abbrev pub needs_to_fit : NewEntries → List BaseLine → Entries → Entries → List Need
-needs_to_fit which lines new old =
-    if list_any is_fits lines then flat_map (fit_needs which (has_at is_any old)) new else []
+-- what is needed where the base says `fits`
+abbrev pub needs_to_fit : NewEntries → Bool → Entries → Entries → List Need
+needs_to_fit which fits new old =
+    if fits then flat_map (fit_needs which (has_at is_any old)) new else []
 
 -- the kinds that may stand where a folder of the package is that holds no foreign entry, if any are asked for
 abbrev pub kinds_owned : OwnFolders → Option Kinds
@@ -105,12 +99,12 @@ abbrev pub own_needs : OwnFolders → Paths → Paths → (List ℕ → List (Li
 own_needs own based listed below entry =
     if is_to_own own based listed entry then folder_needs own below entry else []
 
--- what is needed where the base has a line `own`
-abbrev pub needs_to_own : OwnFolders → List BaseLine → Entries → Entries → List Need
-needs_to_own own lines new old =
+-- what is needed where the base says `own`
+abbrev pub needs_to_own : OwnFolders → Base → Entries → Entries → List Need
+needs_to_own own base new old =
     let entries = owner own new old in
-    if list_any is_own lines
-    then flat_map (own_needs own (is_base lines) (has_at is_any new) (names_below entries)) entries
+    if base.own
+    then flat_map (own_needs own (is_base base) (has_at is_any new) (names_below entries)) entries
     else []
 
 -- what is needed of a start tree
@@ -118,8 +112,8 @@ abbrev pub needs_in : Scenario → Packages → List Need
 needs_in scenario packages =
     let new = packages.new_package.entries in
     let old = (old_of packages).entries in
-    let lines = packages.base.lines in
+    let base = packages.base in
     let columns = columns_of scenario in
-    flat_map line_needs lines
+    map known_need base.known
     ++ (needs_before columns.before new old
-    ++ (needs_to_fit columns.fits lines new old ++ needs_to_own columns.own lines new old))
+    ++ (needs_to_fit columns.fits base.fits new old ++ needs_to_own columns.own base new old))

@@ -1,10 +1,10 @@
 -- The trees that a scenario may begin from: what is known of the system stands there, and so do the files of a package
 -- that is installed already, with no foreign entry in its folders where the base says so.
-use Rattle.std.specs.Prelude.{◌≡◌, ◌≢◌, ◌⊎◌, Bool, true, false, not, ◌&&◌, IsTrue, List, All}
-use Rattle.std.specs.List.{list_any}
+use Rattle.std.specs.Prelude.{◌≡◌, ◌≢◌, ◌⊎◌, Bool, false, not, ◌&&◌, IsTrue, List, All}
 use Rattle.feature_trees.specs.declared.value.Value.{Value}
 use Rattle.feature_trees.specs.declared.kind.Kind.{Kind}
 use Rattle.feature_trees.specs.declared.kind.Kind.TheVariants.{Absent, Reg, Dir}
+use Rattle.feature_trees.specs.Kinds.{has}
 use Rattle.feature_trees.specs.Sound.{IsTree}
 use Rattle.feature_trees.specs.Tree.{at, kind_of}
 use Rattle.clause_solver.specs.Stands.{IsFenced}
@@ -15,11 +15,11 @@ use Rattle.dpkg_scenarios.specs.declared.columns.OwnFolders.{OwnFolders}
 use Rattle.dpkg_scenarios.specs.declared.columns.OwnFolders.TheVariants.{NoFolder, Dropped, Standing, Left}
 use Rattle.dpkg_scenarios.specs.declared.scenario.Scenario.{Scenario}
 use Rattle.dpkg_scenarios.specs.Scenarios.{columns_of}
-use Rattle.package_lists.specs.declared.base.BaseLine.{BaseLine}
-use Rattle.package_lists.specs.declared.base.BaseLine.TheVariants as base
+use Rattle.system_base.specs.declared.base.Base.{Base}
+use Rattle.system_base.specs.declared.base.KnownPath.{KnownPath}
 use Rattle.package_lists.specs.declared.kind.EntryKind.{EntryKind}
 use Rattle.package_lists.specs.declared.kind.EntryKind.TheVariants.{Folder, File, Conf, LinkTo}
-use Rattle.package_lists.specs.Bases.{is_base}
+use Rattle.system_base.specs.Bases.{is_base}
 use Rattle.package_lists.specs.Entries.{EntryParts, is_any, is_folder, has_at, names_below}
 use Rattle.package_lists.specs.EntrySets.{is_one_of}
 use Rattle.package_lists.specs.Paths.{Paths, path_text}
@@ -32,16 +32,10 @@ Entries = List EntryParts
 
 -- ---- the base
 
--- a line of the base is met: a directory, a regular file, nothing, or no directory stands at its path; what `fits` and
--- `own` ask is said below, and `call` speaks of the scripts
-abbrev pub MeetsLine : Value → BaseLine → Type 0
-MeetsLine tree (base.Folder path) = kind_of (at tree path.names) ≡ Dir
-MeetsLine tree (base.File path) = kind_of (at tree path.names) ≡ Reg
-MeetsLine tree (base.Gone path) = kind_of (at tree path.names) ≡ Absent
-MeetsLine tree (base.NoFolder path) = kind_of (at tree path.names) ≢ Dir
-MeetsLine tree base.Fits = Unit {0}
-MeetsLine tree base.Own = Unit {0}
-MeetsLine tree (base.Call call) = Unit {0}
+-- what is known of a path: what stands there is of one of these kinds. What `fits` and `own` ask is said below, and the
+-- stated calls speak of the scripts
+abbrev pub IsKnown : Value → KnownPath → Type 0
+IsKnown tree known = IsTrue (has known.kinds (kind_of (at tree known.path.names)))
 
 -- ---- the files of a package that is there
 
@@ -89,17 +83,7 @@ is_to_fit which listed entry = is_one_of which listed (path_text entry.names)
 abbrev pub Fits : NewEntries → Paths → Value → EntryParts → Type 0
 Fits which listed tree entry = IsTrue (is_to_fit which listed entry) → Stands IsFit tree entry
 
--- whether a line is `fits`
-abbrev pub is_fits : BaseLine → Bool
-is_fits base.Fits = true
-is_fits _ = false
-
 -- ---- `own`
-
--- whether a line is `own`
-abbrev pub is_own : BaseLine → Bool
-is_own base.Own = true
-is_own _ = false
 
 -- the entries of the package that `own` speaks of: the old one, where its folders are taken away, else the new one
 abbrev pub owner : OwnFolders → Entries → Entries → Entries
@@ -141,24 +125,24 @@ Owns own based listed entries tree entry =
     IsTrue (is_to_own own based listed entry) → IsOwned own entries tree entry
 
 -- each entry of the package of which `own` speaks is a folder that holds no foreign entry
-abbrev pub AreOwned : OwnFolders → List BaseLine → Entries → Entries → Value → Type 0
-AreOwned own lines new old tree =
+abbrev pub AreOwned : OwnFolders → Base → Entries → Entries → Value → Type 0
+AreOwned own base new old tree =
     let entries = owner own new old in
-    All (Owns own (is_base lines) (has_at is_any new) entries tree) entries
+    All (Owns own (is_base base) (has_at is_any new) entries tree) entries
 
 -- ---- start trees
 
--- A tree that the scenario may begin from: a tree of files in which each line of the base is met, the files are there
--- that the scenario begins with, the new package's entries fit where the base has a line `fits`, and the package's
--- folders hold no foreign entry where it has a line `own`. Which files, entries and folders these are the scenario's
--- record says.
+-- A tree that the scenario may begin from: a tree of files in which stands what the base knows of paths, the files are
+-- there that the scenario begins with, the new package's entries fit where the base says `fits`, and the package's
+-- folders hold no foreign entry where it says `own`. Which files, entries and folders these are the scenario's record
+-- says.
 pub record IsStartTree (scenario : Scenario) (packages : Packages) (tree : Value) : Type 0 where
   pub is_tree : IsTree tree
-  pub base : All (MeetsLine tree) packages.base.lines
+  pub base : All (IsKnown tree) packages.base.known
   pub before : AreBefore (columns_of scenario).before packages.new_package.entries (old_of packages).entries tree
-  pub fits : IsTrue (list_any is_fits packages.base.lines)
+  pub fits : IsTrue packages.base.fits
       → All (Fits (columns_of scenario).fits (has_at is_any (old_of packages).entries) tree)
       packages.new_package.entries
-  pub own : IsTrue (list_any is_own packages.base.lines)
-      → AreOwned (columns_of scenario).own packages.base.lines packages.new_package.entries
+  pub own : IsTrue packages.base.own
+      → AreOwned (columns_of scenario).own packages.base packages.new_package.entries
       (old_of packages).entries tree

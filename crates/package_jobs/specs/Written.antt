@@ -12,10 +12,9 @@ use Rattle.shell_syntax.specs.declared.script.Script.{Script}
 use Rattle.shell_to_colis.specs.Shell.{sh_script}
 use Rattle.utility_calls.specs.declared.stated_call.StatedCall.{StatedCall}
 use Rattle.stated_calls.specs.Scripts.{stated_script}
-use Rattle.package_lists.specs.Bases.{calls_of}
-use Rattle.package_lists.specs.declared.base.BaseLine.{BaseLine}
+use Rattle.system_base.specs.declared.base.Base.{Base}
 use Rattle.package_lists.specs.Entries.{EntryParts, is_conf}
-use Rattle.package_lists.specs.FileActs.{acts_of}
+use Rattle.package_jobs.specs.FileActs.{acts_of}
 use Rattle.checker_input.specs.declared.package.Scripts.{Scripts}
 use Rattle.checker_input.specs.declared.package.Package.{Package}
 use Rattle.checker_input.specs.declared.package.Packages.{Packages}
@@ -53,12 +52,12 @@ abbrev pub is_plain : Package → Bool
 is_plain side = not (list_any is_conffile side.entries) && is_none side.scripts.postrm
 
 -- what is done with files in the steps of a scenario, by the new and the old package's entries and the base
-abbrev pub files_of : Scenario → Entries → Entries → List BaseLine → Files
-files_of scenario new old lines = record {
-  unpack = acts_of scenario Unpack new old lines;
-  remove_files = acts_of scenario RemoveFiles new old lines;
-  remove_old = acts_of scenario RemoveOld new old lines;
-  remove_conf = acts_of scenario RemoveConf new old lines;
+abbrev pub files_of : Scenario → Entries → Entries → Base → Files
+files_of scenario new old base = record {
+  unpack = acts_of scenario Unpack new old base;
+  remove_files = acts_of scenario RemoveFiles new old base;
+  remove_old = acts_of scenario RemoveOld new old base;
+  remove_conf = acts_of scenario RemoveConf new old base;
 }
 
 -- what the run of a scenario needs, with so many turns of loops
@@ -69,8 +68,8 @@ written_plan scenario packages turns = record {
   old_version = (old_of packages).version;
   new_version = packages.new_package.version;
   scripts = λ old script.
-      option_map (stated_meaning (calls_of packages.base.lines)) (script_of script (side_of packages old).scripts);
-  files = files_of scenario packages.new_package.entries (old_of packages).entries packages.base.lines;
+      option_map (stated_meaning packages.base.calls) (script_of script (side_of packages old).scripts);
+  files = files_of scenario packages.new_package.entries (old_of packages).entries packages.base;
   turns = turns;
 }
 

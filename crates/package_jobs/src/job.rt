@@ -1,86 +1,35 @@
-ghost use Rattle.std.specs.Prelude.{◌≡◌, ℕ, List as ListOf, IfOk, option_map};
+ghost use Rattle.std.specs.Prelude.{◌≡◌, ℕ, List as ListOf, IfOk};
 ghost use Rattle.std.specs.List.{list_any};
 ghost use Rattle.feature_trees.specs.declared.value.Value.{Value};
-ghost use Rattle.package_lists.specs.Bases.{is_base};
-ghost use Rattle.package_lists.specs.FileActs.{acts_of};
+ghost use Rattle.system_base.specs.Bases.{is_base};
+ghost use Rattle.package_jobs.specs.FileActs.{acts_of};
 ghost use Rattle.package_lists.specs.PathSets.{has};
-ghost use Rattle.scenario_runs.specs.Runs.{program_meaning, scenario_run};
-ghost use Rattle.package_jobs.specs.Made.{DoTheSame, IsMade};
-ghost use Rattle.package_jobs.specs.Written.{stated_meaning, is_conffile, is_plain, files_of, written_run};
+ghost use Rattle.scenario_runs.specs.Runs.{scenario_run};
+ghost use Rattle.package_jobs.specs.Made.{AreProgramsOf};
+ghost use Rattle.package_jobs.specs.Written.{is_conffile, is_plain, files_of, written_run};
 
+use crate::programs::{Programs, programs_of};
 use crate::sides::old_package;
-use checker_input::{Package, Packages, Scripts};
-use colis_syntax::Program;
+use crate::step_acts::file_acts;
+use checker_input::{Package, Packages};
 use dpkg_scenarios::{Scenario, StepWork};
-use package_lists::{Base, Entry, PathSet, base_paths, calls_of, file_acts};
-use scenario_runs::{FileActs, Files, Job};
-use script_names::{Copied, List, Memory, Slot};
-use shell_forms::Accepted;
-use shell_to_colis::translate;
-use stated_calls::stated_program;
-use stated_calls::theorems::stated_calls_translate;
+use package_lists::{Entry, PathSet};
+use scenario_runs::{FileActs, Files, Job, Scripts};
+use script_names::{Copied, List, Memory};
 use std::alloc::Global;
-use utility_calls::StatedCalls;
+use system_base::{Base, base_paths};
 
-// The program of a script under stated calls.
-fn translated(alloc: Global, calls: &StatedCalls, script: &Accepted) -> Result<Program, Memory>
-    ensures { IfOk result (λ program. program_meaning program ≡ stated_meaning calls.now script.now) }
-{
-    stated_calls_translate(calls, script);
-    let program = translate(alloc, script)?;
-    let read = stated_program(alloc, calls, &program)?;
-    Ok(read)
-}
-
-// The program of a script under stated calls, where there is one.
-fn program_of(
-    alloc: Global,
-    calls: &StatedCalls,
-    script: &Slot<Accepted>,
-) -> Result<Slot<Program>, Memory>
-    ensures { let meaning = stated_meaning calls.now in
-        IfOk result (λ program. option_map program_meaning program ≡ option_map meaning script.now) }
-{
-    match script.get() {
-        None => Ok(Slot::empty(alloc)),
-        Some(script) => {
-            let program = translated(alloc, calls, script)?;
-            let slot = Slot::new(alloc, program)?;
-            Ok(slot)
-        }
-    }
-}
-
-// The programs of a package's scripts under stated calls.
-fn programs_of(
-    alloc: Global,
-    calls: &StatedCalls,
-    scripts: &Scripts,
-) -> Result<scenario_runs::Scripts, Memory>
-    ensures { IfOk result (λ programs. DoTheSame calls.now scripts.now programs) }
-{
-    let preinst = program_of(alloc, calls, &scripts.preinst)?;
-    let postinst = program_of(alloc, calls, &scripts.postinst)?;
-    let prerm = program_of(alloc, calls, &scripts.prerm)?;
-    let postrm = program_of(alloc, calls, &scripts.postrm)?;
-    Ok(scenario_runs::Scripts {
-        preinst,
-        postinst,
-        prerm,
-        postrm,
-    })
-}
-
-// A package with programs in place of its scripts, which are read under stated calls.
+// A package with programs in place of its scripts.
 fn package_of(
     alloc: Global,
-    calls: &StatedCalls,
     written: &Package,
+    programs: &Scripts,
 ) -> Result<scenario_runs::Package, Memory>
-    ensures { IfOk result (λ made. IsMade calls.now written.now made) }
+    ensures version { IfOk result (λ made. made.version ≡ written.now.version) }
+    ensures scripts { IfOk result (λ made. made.scripts ≡ programs.now) }
 {
     let version = written.version.copy(alloc)?;
-    let scripts = programs_of(alloc, calls, &written.scripts)?;
+    let scripts = programs.copy(alloc)?;
     Ok(scenario_runs::Package { version, scripts })
 }
 
@@ -114,8 +63,8 @@ fn step_acts(
     base: &Base,
     kept: &PathSet,
 ) -> Result<FileActs, Memory>
-    requires { (path : ListOf ℕ) → has kept.now path ≡ is_base base.now.lines path }
-    ensures { IfOk result (λ acts. acts ≡ acts_of scenario work new.now old.now base.now.lines) }
+    requires { (path : ListOf ℕ) → has kept.now path ≡ is_base base.now path }
+    ensures { IfOk result (λ acts. acts ≡ acts_of scenario work new.now old.now base.now) }
 {
     let acts = file_acts(alloc, scenario, work, new, old, base, kept)?;
     match FileActs::new(acts) {
@@ -132,9 +81,9 @@ fn files_of(
     old: &List<Entry>,
     base: &Base,
 ) -> Result<Files, Memory>
-    ensures { IfOk result (λ files. files ≡ files_of scenario new.now old.now base.now.lines) }
+    ensures { IfOk result (λ files. files ≡ files_of scenario new.now old.now base.now) }
 {
-    let kept = base_paths(alloc, base.lines.as_slice())?;
+    let kept = base_paths(alloc, base)?;
     let unpack = step_acts(alloc, scenario, StepWork::Unpack, new, old, base, &kept)?;
     let remove_files = step_acts(
         alloc,
@@ -155,6 +104,36 @@ fn files_of(
     })
 }
 
+/// The job of a scenario, with so many turns of loops, where the packages' scripts have these programs: its run, from
+/// each tree, is the run of the packages as they are written, by the shell's own rules, with the calls that the base
+/// states. The one fault is want of memory.
+pub fn job_with(
+    alloc: Global,
+    scenario: Scenario,
+    packages: &Packages,
+    programs: &Programs,
+    turns: u32,
+) -> Result<Job, Memory>
+    requires { AreProgramsOf packages.now programs.now }
+    ensures run { IfOk result (λ job.
+        (tree : Value) → scenario_run job tree ≡ written_run scenario packages.now turns tree) }
+    ensures scenario { IfOk result (λ job. job.scenario ≡ scenario) }
+{
+    let new = &packages.new_package;
+    let old = old_package(packages);
+    let new_package = package_of(alloc, new, &programs.new_package)?;
+    let old_package = package_of(alloc, old, &programs.old_package)?;
+    let files = files_of(alloc, scenario, &new.entries, &old.entries, &packages.base)?;
+    Ok(Job {
+        scenario,
+        plain: is_plain(new),
+        new_package,
+        old_package,
+        files,
+        turns,
+    })
+}
+
 /// The job of a scenario, with so many turns of loops: its run, from each tree, is the run of the packages as they are
 /// written, by the shell's own rules, with the calls that the base states. The one fault is want of memory.
 pub fn job_of(
@@ -167,18 +146,7 @@ pub fn job_of(
         (tree : Value) → scenario_run job tree ≡ written_run scenario packages.now turns tree) }
     ensures scenario { IfOk result (λ job. job.scenario ≡ scenario) }
 {
-    let new = &packages.new_package;
-    let old = old_package(packages);
-    let calls = calls_of(alloc, packages.base.lines.as_slice())?;
-    let new_package = package_of(alloc, &calls, new)?;
-    let old_package = package_of(alloc, &calls, old)?;
-    let files = files_of(alloc, scenario, &new.entries, &old.entries, &packages.base)?;
-    Ok(Job {
-        scenario,
-        plain: is_plain(new),
-        new_package,
-        old_package,
-        files,
-        turns,
-    })
+    let programs = programs_of(alloc, packages)?;
+    let job = job_with(alloc, scenario, packages, &programs, turns)?;
+    Ok(job)
 }

@@ -1,14 +1,14 @@
-ghost use Rattle.std.specs.Prelude.{◌≡◌, ◌↔◌, ◌++◌, ◌∷◌, ℕ, List as ListOf, [], IfOk, OnOk};
-ghost use Rattle.std.specs.List.{flat_map, list_any};
+ghost use Rattle.std.specs.Prelude.{◌≡◌, ◌↔◌, ◌++◌, ◌∷◌, ℕ, List as ListOf, [], map, IfOk, OnOk};
+ghost use Rattle.std.specs.List.{flat_map};
 ghost use Rattle.feature_trees.specs.declared.value.Value.{Value};
 ghost use Rattle.feature_trees.specs.Kinds.{but, two};
 ghost use Rattle.start_trees.specs.Needs.{IsStart};
 ghost use Rattle.package_lists.specs.PathSets.{has};
-ghost use Rattle.package_jobs.specs.Needed.{kinds_asked, entry_needs, line_needs};
+ghost use Rattle.package_jobs.specs.Needed.{kinds_asked, entry_needs, known_need};
 ghost use Rattle.package_jobs.specs.Needed.{needs_before, fit_needs, needs_to_fit};
 ghost use Rattle.package_jobs.specs.Needed.{kinds_owned, needed_at, names_needed, folder_needs, own_needs};
 ghost use Rattle.package_jobs.specs.Needed.{needs_to_own};
-ghost use Rattle.package_jobs.specs.StartTrees.{is_fits, is_own, owner, is_owned_folder, is_to_own};
+ghost use Rattle.package_jobs.specs.StartTrees.{owner, is_owned_folder, is_to_own};
 ghost use Rattle.package_jobs.specs.StartTrees.{IsStartTree};
 ghost use Rattle.package_lists.specs.FolderNames.{names_at};
 ghost use Rattle.start_trees.specs.declared.need.Wanted.TheVariants as Wanted;
@@ -18,12 +18,12 @@ use checker_input::Packages;
 use dpkg_scenarios::{Before, NewEntries, OwnFolders, Scenario, columns_of};
 use feature_trees::{Kind, Kinds};
 use package_lists::{
-    BaseLine, Entry, EntryKind, FolderNames, PathSet, Which, base_paths, has_entry, is_one_of,
-    paths_of,
+    Entry, EntryKind, FolderNames, PathSet, Which, has_entry, is_one_of, paths_of,
 };
 use script_names::{Copied, List, Memory, Name, Path};
 use start_trees::{Need, Wanted};
 use std::alloc::Global;
+use system_base::{Base, KnownPath, base_paths};
 
 // What is asked of what stands at the path of an entry: what stands there where the package is in place, what stands
 // there where its configuration files stayed, or what the entry fits.
@@ -117,27 +117,12 @@ fn add_need(alloc: Global, needs: &mut List<Need>, path: &Path, kinds: Kinds) ->
     })
 }
 
-// Adds what a line of the base needs.
-fn add_line(alloc: Global, needs: &mut List<Need>, line: &BaseLine) -> Result<(), Memory>
-    ensures { OnOk result (needs.new ≡ needs.old ++ line_needs line.now) }
+// Adds what is known of these paths.
+fn add_known(alloc: Global, needs: &mut List<Need>, known: &[KnownPath]) -> Result<(), Memory>
+    ensures { OnOk result (needs.new ≡ needs.old ++ map known_need known.now) }
 {
-    match line {
-        BaseLine::Folder(path) => add_need(alloc, needs, path, Kinds::of(Kind::Dir)),
-        BaseLine::File(path) => add_need(alloc, needs, path, Kinds::of(Kind::Reg)),
-        BaseLine::Gone(path) => add_need(alloc, needs, path, Kinds::of(Kind::Absent)),
-        BaseLine::NoFolder(path) => add_need(alloc, needs, path, no_folder()),
-        BaseLine::Fits => Ok(()),
-        BaseLine::Own => Ok(()),
-        BaseLine::Call(_) => Ok(()),
-    }
-}
-
-// Adds what each of these lines needs.
-fn add_lines(alloc: Global, needs: &mut List<Need>, lines: &[BaseLine]) -> Result<(), Memory>
-    ensures { OnOk result (needs.new ≡ needs.old ++ flat_map line_needs lines.now) }
-{
-    for line in lines {
-        add_line(alloc, needs, line)?;
+    for one in known {
+        add_need(alloc, needs, &one.path, one.kinds)?;
     }
     Ok(())
 }
@@ -177,42 +162,18 @@ fn add_fit(
     add_entry(alloc, needs, Asked::Fit, entry)
 }
 
-// Whether one of these lines is `fits`.
-fn has_fits(lines: &[BaseLine]) -> bool
-    ensures { result ≡ list_any is_fits lines.now }
-{
-    for line in lines {
-        if is_fits(line) {
-            return true;
-        }
-    }
-    false
-}
-
-// Whether a line is `fits`.
-fn is_fits(line: &BaseLine) -> bool
-    ensures { result ≡ is_fits line.now }
-{
-    match line {
-        BaseLine::Fits => true,
-        BaseLine::Folder(_) | BaseLine::File(_) | BaseLine::Gone(_) | BaseLine::NoFolder(_) =>
-            false,
-        BaseLine::Own | BaseLine::Call(_) => false,
-    }
-}
-
-// Adds what the new package's entries need to fit, where the base has a line `fits`.
+// Adds what the new package's entries need to fit, where the base says `fits`.
 fn add_fits(
     alloc: Global,
     needs: &mut List<Need>,
     which: NewEntries,
-    lines: &[BaseLine],
+    fits: bool,
     new: &[Entry],
     old: &[Entry],
 ) -> Result<(), Memory>
-    ensures { OnOk result (needs.new ≡ needs.old ++ needs_to_fit which lines.now new.now old.now) }
+    ensures { OnOk result (needs.new ≡ needs.old ++ needs_to_fit which fits new.now old.now) }
 {
-    if !has_fits(lines) {
+    if !fits {
         return Ok(());
     }
     let listed = paths_of(alloc, Which::All, old)?;
@@ -220,30 +181,6 @@ fn add_fits(
         add_fit(alloc, needs, which, &listed, entry)?;
     }
     Ok(())
-}
-
-// Whether one of these lines is `own`.
-fn has_own(lines: &[BaseLine]) -> bool
-    ensures { result ≡ list_any is_own lines.now }
-{
-    for line in lines {
-        if is_own(line) {
-            return true;
-        }
-    }
-    false
-}
-
-// Whether a line is `own`.
-fn is_own(line: &BaseLine) -> bool
-    ensures { result ≡ is_own line.now }
-{
-    match line {
-        BaseLine::Own => true,
-        BaseLine::Folder(_) | BaseLine::File(_) | BaseLine::Gone(_) | BaseLine::NoFolder(_) =>
-            false,
-        BaseLine::Fits | BaseLine::Call(_) => false,
-    }
 }
 
 // The entries of the package that `own` speaks of.
@@ -376,22 +313,22 @@ fn add_own_entries(
     Ok(())
 }
 
-// Adds what the package's folders need to hold no foreign entry, where the base has a line `own`.
+// Adds what the package's folders need to hold no foreign entry, where the base says `own`.
 fn add_owns(
     alloc: Global,
     needs: &mut List<Need>,
     own: OwnFolders,
-    lines: &[BaseLine],
+    base: &Base,
     new: &[Entry],
     old: &[Entry],
 ) -> Result<(), Memory>
-    ensures { OnOk result (needs.new ≡ needs.old ++ needs_to_own own lines.now new.now old.now) }
+    ensures { OnOk result (needs.new ≡ needs.old ++ needs_to_own own base.now new.now old.now) }
 {
-    if !has_own(lines) {
+    if !base.own {
         return Ok(());
     }
     let entries = owner(own, new, old);
-    let based = base_paths(alloc, lines)?;
+    let based = base_paths(alloc, base)?;
     let listed = paths_of(alloc, Which::All, new)?;
     let names = FolderNames::of(alloc, entries)?;
     let owning = Owning {
@@ -411,14 +348,14 @@ pub fn needs_of(
 ) -> Result<List<Need>, Memory>
     ensures { IfOk result (λ needs. (tree : Value) → IsStart needs tree ↔ IsStartTree scenario packages.now tree) }
 {
-    let lines = packages.base.lines.as_slice();
+    let base = &packages.base;
     let new = packages.new_package.entries.as_slice();
     let old = old_package(packages).entries.as_slice();
     let columns = columns_of(scenario);
     let mut needs = List::new(alloc);
-    add_lines(alloc, &mut needs, lines)?;
+    add_known(alloc, &mut needs, base.known.as_slice())?;
     add_before(alloc, &mut needs, columns.before, new, old)?;
-    add_fits(alloc, &mut needs, columns.fits, lines, new, old)?;
-    add_owns(alloc, &mut needs, columns.own, lines, new, old)?;
+    add_fits(alloc, &mut needs, columns.fits, base.fits, new, old)?;
+    add_owns(alloc, &mut needs, columns.own, base, new, old)?;
     Ok(needs)
 }

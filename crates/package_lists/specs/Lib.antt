@@ -10,6 +10,3 @@ pub mod Indexes
 pub mod Control
 pub mod Conffiles
 pub mod Named
-pub mod Bases
-pub mod Based
-pub mod FileActs

@@ -65,7 +65,7 @@ impl Entry {
     }
 }
 
-// Says of entries that the path of each has a name.
+/// Says of entries that the path of each has a name. It does nothing.
 pub fn entries_are_named(entries: &[Entry])
     ensures { All HasName entries.now }
 {

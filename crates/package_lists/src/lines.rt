@@ -6,7 +6,7 @@ use script_names::Memory;
 use shown_texts::cut;
 use std::alloc::Global;
 
-// The lines of a text, without their newlines; the last may lack its own.
+/// The lines of a text, without their newlines; the last may lack its own.
 pub fn text_lines(alloc: Global, text: &[u8]) -> Result<Vec<&[u8]>, Memory>
     ensures { IfOk result (λ lines. map (λ line. line.now) lines.items ≡ text_lines text.now) }
 {

@@ -44,7 +44,7 @@ impl PathSet {
     }
 }
 
-// Adds each of these paths.
+/// Adds each of these paths.
 pub fn add_each(set: &mut PathSet, paths: &[Bytes]) -> Result<(), Memory>
     ensures { OnOk result ((other : ListOf ℕ)
         → has set.new other ≡ (list_any (λ path. bytes_eq path other) paths.now || has set.old other)) }

@@ -7,7 +7,7 @@ use script_names::{Bytes, List, MAX_NAMES, Memory, Name, NameFault, Path};
 use shown_texts::cut;
 use std::alloc::Global;
 
-// The path that is written so; None where none is.
+/// The path that is written so, `/` and its 1 to 64 names joined by `/`; None where none is.
 pub fn read_path(alloc: Global, text: &[u8]) -> Result<Option<Path>, Memory>
     ensures path { IfOk result (λ found. found ≡ path_of text.now) }
     ensures named { IfOk result (λ found. IfSome found (λ path. 0 < length path.names)) }
@@ -48,7 +48,7 @@ fn read_names(alloc: Global, parts: &[&[u8]]) -> Result<Option<List<Name>>, Memo
     Ok(Some(names))
 }
 
-// How the path of these names is written.
+/// How the path of these names is written.
 pub fn path_text(alloc: Global, names: &[Name]) -> Result<Bytes, Memory>
     ensures { IfOk result (λ text. text ≡ path_text names.now) }
 {
@@ -67,7 +67,7 @@ fn push_name(text: &mut Bytes, name: &Name) -> Result<(), Memory>
     text.extend(name.as_slice())
 }
 
-// The folders on the way to the path of these names.
+/// The folders on the way to the path of these names, as they are written.
 pub fn folders(alloc: Global, names: &[Name]) -> Result<List<Bytes>, Memory>
     ensures { IfOk result (λ found. found ≡ folders names.now) }
 {

@@ -1,7 +1,0 @@
-use Rattle.std.proofs.Common.{◌≡◌, false, take}
-use Rattle.std.specs.List.{list_any}
-use Rattle.package_jobs.specs.StartTrees.{is_fits}
-use Rattle.package_jobs.proofs.needs.has_fits.Given as goal
-
-abbrev pub invariant-loop-line : goal.invariant-loop-line
-invariant-loop-line l = list_any is_fits (take l.line-index l.lines) ≡ false

@@ -1,0 +1,12 @@
+use Rattle.std.proofs.Common.{All, subst, sym}
+use Rattle.utility_calls.specs.Acts.{IsPerformed}
+use Rattle.package_lists.specs.Entries.{HasName}
+use Rattle.package_jobs.proofs.FilesPerformed.{acts_performed}
+use Rattle.package_jobs.proofs.step_acts.file_acts.Goals as goal
+
+pub returns-clause-performed : goal.returns-clause-performed
+returns-clause-performed c =
+    subst (All IsPerformed) (sym c.in_ok-acts.ensures)
+    (acts_performed c.args.scenario c.args.work c.args.new.now c.args.old.now c.args.base.now
+    (subst (All HasName) c.as_slice.ensures c.entries_are_named.ensures)
+    (subst (All HasName) c.as_slice-2.ensures c.entries_are_named-2.ensures))

@@ -1,8 +1,0 @@
-use Rattle.std.proofs.Common.{◌≡◌, ◌++◌, map, take}
-use Rattle.std.specs.List.{flat_map}
-use Rattle.package_lists.specs.FileActs.{dir_gone}
-use Rattle.package_lists.specs.PathSets.{has}
-use Rattle.package_lists.proofs.step_acts.add_dirs_gone.Given as goal
-
-abbrev pub invariant-loop-entry : goal.invariant-loop-entry
-invariant-loop-entry l = l.acts ≡ l.initial.acts ++ flat_map (dir_gone (has l.kept)) (map (λ entry. entry.now) (take l.entry-index l.entries))
