@@ -6,19 +6,20 @@ use Rattle.shell_syntax.specs.declared.form.Form.TheVariants as form
 use Rattle.shell_syntax.specs.declared.syntax.Command.{Command}
 use Rattle.shell_syntax.specs.declared.script.Script.{Script}
 use Rattle.shell_lexer.specs.declared.fault.LexFault.{LexFault}
+use Rattle.shell_lexer.specs.declared.fault.LexFault.TheVariants as lexing
 use Rattle.shell_lexer.specs.declared.token.Lexed.{Lexed}
 use Rattle.shell_lexer.specs.Lexed.{Cut, Faulty}
 use Rattle.shell_lexer.proofs.CutOnce.{cut_once, fault_once, fault_or_cut}
 use Rattle.shell_grammar.specs.declared.fault.ParseFault.{ParseFault}
+use Rattle.shell_grammar.specs.declared.fault.ParseFault.TheVariants as parsing
 use Rattle.shell_grammar.specs.Look.{Tokens}
 use Rattle.shell_grammar.specs.Spelling.{deep_64, SpellsWithin, Stopped}
 use Rattle.shell_grammar.proofs.Unique.{wholes, same_rule}
 use Rattle.shell_grammar.proofs.Limits.{not_stopped, one_fault}
 use Rattle.shell_forms.specs.Forms.{Found}
 use Rattle.shell_forms.specs.First.{rank, script_forms, NotBehind, IsFirst}
-use Rattle.checker_input.specs.declared.faults.InputFile.{InputFile}
-use Rattle.checker_input.specs.declared.faults.InputRefusal.{InputRefusal}
-use Rattle.checker_input.specs.declared.faults.InputRefusal.TheVariants as refusal
+use Rattle.checker_input.specs.declared.script.ScriptFault.{ScriptFault}
+use Rattle.checker_input.specs.declared.script.ScriptFault.TheVariants as reason
 use Rattle.checker_input.specs.Script.{IsScript, IsAccepted, HasSyntaxFault, HasForm, TextComes}
 
 -- ---- a text is one script
@@ -114,47 +115,61 @@ no_form text f m a x y =
 
 -- ---- what a text comes to, and why
 
--- a text is no accepted script for a reason, or it is one
-data Why (file : InputFile) (text : List ℕ) (r : Result Script InputRefusal) : Type 0 where
-  by_tokens : (fault : LexFault) → Faulty text fault → r ≡ Err (refusal.Lex file fault) → Why file text r
-  by_syntax : (fault : ParseFault) → HasSyntaxFault text fault → r ≡ Err (refusal.Parse file fault) → Why file text r
-  by_form : (f : FormName) (at : ℕ) → HasForm text f at → r ≡ Err (refusal.Form file f at) → Why file text r
-  by_script : (script : Script) → IsAccepted text script → r ≡ Ok script → Why file text r
+-- a fault of tokens and a fault of syntax, as a reason; want of memory is no fault of a text
+abbrev of_tokens : LexFault → ScriptFault
+of_tokens (lexing.Nul at) = reason.Nul at
+of_tokens (lexing.Interpreter at) = reason.Interpreter at
+of_tokens (lexing.OpenQuote at) = reason.OpenQuote at
+of_tokens (lexing.OpenSubstitution at) = reason.OpenSubstitution at
+of_tokens (lexing.Unsupported form at) = reason.Unsupported form at
+of_tokens (lexing.Deep at) = reason.DeepSubstitution at
+of_tokens lexing.Memory = reason.Nul 0
 
-why : (file : InputFile) (text : List ℕ) (r : Result Script InputRefusal) → TextComes file text r → Why file text r
-why file text (Ok script) is = by_script script is refl
-why file text (Err (refusal.Missing other)) is = absurd is
-why file text (Err (refusal.TooLong other)) is = absurd is
-why file text (Err (refusal.Lex other fault)) is = by_tokens fault is.1 (ap (λ f. Err (refusal.Lex f fault)) is.0)
-why file text (Err (refusal.Parse other fault)) is = by_syntax fault is.1 (ap (λ f. Err (refusal.Parse f fault)) is.0)
-why file text (Err (refusal.Form other f at)) is = by_form f at is.1 (ap (λ i. Err (refusal.Form i f at)) is.0)
-why file text (Err (refusal.Control other line)) is = absurd is
-why file text (Err (refusal.List other line reason)) is = absurd is
-why file text (Err (refusal.Conf other line reason)) is = absurd is
-why file text (Err (refusal.Base other line reason)) is = absurd is
-why file text (Err (refusal.Tree other line reason)) is = absurd is
+abbrev of_syntax : ParseFault → ScriptFault
+of_syntax (parsing.Syntax at) = reason.Syntax at
+of_syntax (parsing.Deep at) = reason.Deep at
+of_syntax parsing.Memory = reason.Syntax 0
+
+-- a text is no accepted script for a reason, or it is one
+data Why (text : List ℕ) (r : Result Script ScriptFault) : Type 0 where
+  by_tokens : (f : LexFault) → Faulty text f → r ≡ Err (of_tokens f) → Why text r
+  by_syntax : (f : ParseFault) → HasSyntaxFault text f → r ≡ Err (of_syntax f) → Why text r
+  by_form : (f : FormName) (at : ℕ) → HasForm text f at → r ≡ Err (reason.Form f at) → Why text r
+  by_script : (script : Script) → IsAccepted text script → r ≡ Ok script → Why text r
+
+why : (text : List ℕ) (r : Result Script ScriptFault) → TextComes text r → Why text r
+why text (Ok script) is = by_script script is refl
+why text (Err (reason.Nul at)) is = by_tokens (lexing.Nul at) is refl
+why text (Err (reason.Interpreter at)) is = by_tokens (lexing.Interpreter at) is refl
+why text (Err (reason.OpenQuote at)) is = by_tokens (lexing.OpenQuote at) is refl
+why text (Err (reason.OpenSubstitution at)) is = by_tokens (lexing.OpenSubstitution at) is refl
+why text (Err (reason.Unsupported f at)) is = by_tokens (lexing.Unsupported f at) is refl
+why text (Err (reason.DeepSubstitution at)) is = by_tokens (lexing.Deep at) is refl
+why text (Err (reason.Syntax at)) is = by_syntax (parsing.Syntax at) is refl
+why text (Err (reason.Deep at)) is = by_syntax (parsing.Deep at) is refl
+why text (Err (reason.Form f at)) is = by_form f at is refl
 
 -- a fault of tokens leaves no cut
-no_cut : (text : List ℕ) (fault : LexFault) (l : Lexed) → Faulty text fault → Cut text l → ⊥
-no_cut text fault l h c = fault_or_cut text fault l h c
+no_cut : (text : List ℕ) (f : LexFault) (l : Lexed) → Faulty text f → Cut text l → ⊥
+no_cut text f l h c = fault_or_cut text f l h c
 
-once : (file : InputFile) (text : List ℕ) (r s : Result Script InputRefusal) → Why file text r → Why file text s → r ≡ s
-once file text r s (by_tokens f h e) (by_tokens g i d) = e ∙ ap (λ x. Err (refusal.Lex file x)) (sym (fault_once text f g h i)) ∙ sym d
-once file text r s (by_tokens f h e) (by_syntax g i d) = absurd (no_cut text f i.lexed h i.cut)
-once file text r s (by_tokens f h e) (by_form g n i d) = absurd (no_cut text f i.is_script.lexed h i.is_script.cut)
-once file text r s (by_tokens f h e) (by_script c i d) = absurd (no_cut text f i.is_script.lexed h i.is_script.cut)
-once file text r s (by_syntax f h e) (by_tokens g i d) = absurd (no_cut text g h.lexed i h.cut)
-once file text r s (by_syntax f h e) (by_syntax g i d) = e ∙ ap (λ x. Err (refusal.Parse file x)) (one_syntax_fault text f g h i) ∙ sym d
-once file text r s (by_syntax f h e) (by_form g n i d) = absurd (no_syntax_fault text i.script f i.is_script h)
-once file text r s (by_syntax f h e) (by_script c i d) = absurd (no_syntax_fault text c f i.is_script h)
-once file text r s (by_form f m h e) (by_tokens g i d) = absurd (no_cut text g h.is_script.lexed i h.is_script.cut)
-once file text r s (by_form f m h e) (by_syntax g i d) = absurd (no_syntax_fault text h.script g h.is_script i)
-once file text r s (by_form f m h e) (by_form g n i d) = e ∙ ap (λ (x : Found). Err (refusal.Form file x.0 x.1)) (one_form text f g m n h i) ∙ sym d
-once file text r s (by_form f m h e) (by_script c i d) = absurd (no_form text f m c h i)
-once file text r s (by_script b h e) (by_tokens g i d) = absurd (no_cut text g h.is_script.lexed i h.is_script.cut)
-once file text r s (by_script b h e) (by_syntax g i d) = absurd (no_syntax_fault text b g h.is_script i)
-once file text r s (by_script b h e) (by_form g n i d) = absurd (no_form text g n b i h)
-once file text r s (by_script b h e) (by_script c i d) = e ∙ ap Ok (one_script text b c h.is_script i.is_script) ∙ sym d
+once : (text : List ℕ) (r s : Result Script ScriptFault) → Why text r → Why text s → r ≡ s
+once text r s (by_tokens f h e) (by_tokens g i d) = e ∙ ap (λ x. Err (of_tokens x)) (sym (fault_once text f g h i)) ∙ sym d
+once text r s (by_tokens f h e) (by_syntax g i d) = absurd (no_cut text f i.lexed h i.cut)
+once text r s (by_tokens f h e) (by_form g n i d) = absurd (no_cut text f i.is_script.lexed h i.is_script.cut)
+once text r s (by_tokens f h e) (by_script c i d) = absurd (no_cut text f i.is_script.lexed h i.is_script.cut)
+once text r s (by_syntax f h e) (by_tokens g i d) = absurd (no_cut text g h.lexed i h.cut)
+once text r s (by_syntax f h e) (by_syntax g i d) = e ∙ ap (λ x. Err (of_syntax x)) (one_syntax_fault text f g h i) ∙ sym d
+once text r s (by_syntax f h e) (by_form g n i d) = absurd (no_syntax_fault text i.script f i.is_script h)
+once text r s (by_syntax f h e) (by_script c i d) = absurd (no_syntax_fault text c f i.is_script h)
+once text r s (by_form f m h e) (by_tokens g i d) = absurd (no_cut text g h.is_script.lexed i h.is_script.cut)
+once text r s (by_form f m h e) (by_syntax g i d) = absurd (no_syntax_fault text h.script g h.is_script i)
+once text r s (by_form f m h e) (by_form g n i d) = e ∙ ap (λ (x : Found). Err (reason.Form x.0 x.1)) (one_form text f g m n h i) ∙ sym d
+once text r s (by_form f m h e) (by_script c i d) = absurd (no_form text f m c h i)
+once text r s (by_script b h e) (by_tokens g i d) = absurd (no_cut text g h.is_script.lexed i h.is_script.cut)
+once text r s (by_script b h e) (by_syntax g i d) = absurd (no_syntax_fault text b g h.is_script i)
+once text r s (by_script b h e) (by_form g n i d) = absurd (no_form text g n b i h)
+once text r s (by_script b h e) (by_script c i d) = e ∙ ap Ok (one_script text b c h.is_script i.is_script) ∙ sym d
 
-pub text_once : (file : InputFile) (text : List ℕ) (r s : Result Script InputRefusal) → TextComes file text r → TextComes file text s → r ≡ s
-text_once file text r s x y = once file text r s (why file text r x) (why file text s y)
+pub text_once : (text : List ℕ) (r s : Result Script ScriptFault) → TextComes text r → TextComes text s → r ≡ s
+text_once text r s x y = once text r s (why text r x) (why text s y)

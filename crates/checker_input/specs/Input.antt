@@ -1,6 +1,11 @@
 -- What a request reads, file by file, and what comes of it.
-use Rattle.std.specs.Prelude.{◌≡◌, ℕ, ◌++◌, List, [], Option, Some, None, Ok, Err, codes}
-use Rattle.checker_io.specs.Reading.{Asking, done, Comes, file_of, and_then}
+use Rattle.std.specs.Prelude.{◌≡◌, ℕ, ◌≤◌, ◌++◌, List, Option, Some, None, Result, Ok, Err, codes}
+use Rattle.script_names.specs.declared.memory.Memory.{Memory}
+use Rattle.checker_io.specs.Reading.{Asking, done, Comes, Reads, content, file_of, and_then}
+use Rattle.checker_io.specs.Shelf.{ShelfState}
+use Rattle.checker_io.specs.declared.stop.Stop.{Stop}
+use Rattle.checker_io.specs.declared.stop.Stop.TheVariants.{Refused, NoMemory}
+use Rattle.command_words.specs.declared.limits.TheConstants.{MOST_LOAD}
 use Rattle.command_words.specs.declared.request.Folders.{Folders}
 use Rattle.command_words.specs.declared.request.Request.{Request}
 use Rattle.command_words.specs.declared.request.Request.TheVariants as request
@@ -10,29 +15,28 @@ use Rattle.dpkg_scenarios.specs.Names.{script_name}
 use Rattle.feature_trees.specs.declared.value.Value.{Value}
 use Rattle.feature_trees.specs.Sound.{IsTree}
 use Rattle.feature_trees.specs.TreeLines.{tree_of}
-use Rattle.package_lists.specs.declared.base.BaseLine.{BaseLine}
-use Rattle.package_lists.specs.Bases.{base_of, usual}
+use Rattle.system_base.specs.declared.base.Base.{Base}
+use Rattle.system_base.specs.Bases.{base_of, usual}
 use Rattle.package_lists.specs.Conffiles.{conffiles_of}
 use Rattle.package_lists.specs.Control.{control_of}
 use Rattle.package_lists.specs.Entries.{EntryParts}
 use Rattle.package_lists.specs.Lists.{list_of}
 use Rattle.shell_syntax.specs.declared.script.Script.{Script}
-use Rattle.checker_input.specs.declared.faults.InputFile.{InputFile}
-use Rattle.checker_input.specs.declared.faults.InputFile.TheVariants as of_request
-use Rattle.checker_input.specs.declared.faults.PackageFile.{PackageFile}
-use Rattle.checker_input.specs.declared.faults.PackageFile.TheVariants as of_package
-use Rattle.checker_input.specs.declared.faults.Whose.{Whose}
-use Rattle.checker_input.specs.declared.faults.Whose.TheVariants.{Old, New}
+use Rattle.checker_input.specs.declared.faults.FileFault.{FileFault}
+use Rattle.checker_input.specs.declared.faults.FileFault.TheVariants as fault
 use Rattle.checker_input.specs.declared.faults.InputRefusal.{InputRefusal}
-use Rattle.checker_input.specs.declared.faults.InputRefusal.TheVariants as refusal
+use Rattle.checker_input.specs.declared.names.PackageFile.{PackageFile}
+use Rattle.checker_input.specs.declared.names.PackageFile.TheVariants as of_package
 use Rattle.checker_input.specs.declared.package.Package.{Package}
 use Rattle.checker_input.specs.declared.package.Packages.{Packages}
 use Rattle.checker_input.specs.declared.package.Scripts.{Scripts}
+use Rattle.checker_input.specs.declared.read_file.Found.{Found}
 use Rattle.checker_input.specs.declared.read_file.TheConstants.{MAX_FILE}
 use Rattle.checker_input.specs.declared.task.Task.{Task}
 use Rattle.checker_input.specs.declared.task.Task.TheVariants as task
 use Rattle.checker_input.specs.Lines.{LinesCome, TreeComes}
-use Rattle.checker_input.specs.Script.{TextComes}
+use Rattle.checker_input.specs.declared.script.ScriptFault.{ScriptFault}
+use Rattle.checker_input.specs.Script.{IsAccepted, IsUnaccepted}
 
 -- ---- the names of files
 
@@ -43,165 +47,177 @@ own_name of_package.List = codes "list"
 own_name of_package.Conffiles = codes "conffiles"
 own_name (of_package.Script kind) = script_name kind
 
--- what is named, or else this
-abbrev pub named_or : List ℕ → Option (List ℕ) → List ℕ
-named_or other None = other
-named_or other (Some name) = name
-
--- the name of a file of folders: in the folder of a package, which for an old one that is not named is that of the new
--- one; or of the base, without bytes where none is named; no other file is one of folders
-abbrev pub folders_name : Folders → InputFile → List ℕ
-folders_name folders of_request.Base = named_or [] folders.base
-folders_name folders (of_request.Old file) = named_or folders.dir folders.old ++ codes "/" ++ own_name file
-folders_name folders (of_request.New file) = folders.dir ++ codes "/" ++ own_name file
-folders_name folders of_request.Tree = []
-folders_name folders of_request.Script = []
-
--- the name of a file of a request: without bytes where it has none such
-abbrev pub file_name : Request → InputFile → List ℕ
-file_name (request.Check folders scenario turns limit layout) file = folders_name folders file
-file_name (request.Run folders tree scenario turns) of_request.Base = folders_name folders of_request.Base
-file_name (request.Run folders tree scenario turns) (of_request.Old file) = folders_name folders (of_request.Old file)
-file_name (request.Run folders tree scenario turns) (of_request.New file) = folders_name folders (of_request.New file)
-file_name (request.Run folders tree scenario turns) of_request.Tree = tree
-file_name (request.Run folders tree scenario turns) of_request.Script = []
-file_name (request.Translate name) of_request.Base = []
-file_name (request.Translate name) (of_request.Old file) = []
-file_name (request.Translate name) (of_request.New file) = []
-file_name (request.Translate name) of_request.Tree = []
-file_name (request.Translate name) of_request.Script = name
-file_name (request.Load number limit) file = []
-
--- a file of a package, by whose it is
-abbrev pub package_file : Whose → PackageFile → InputFile
-package_file Old file = of_request.Old file
-package_file New file = of_request.New file
+-- the name of a file of a package: its folder, `/` and the file's own name
+abbrev pub file_in : List ℕ → PackageFile → List ℕ
+file_in folder file = folder ++ codes "/" ++ own_name file
 
 -- ---- what each file comes to, by its content, if it is there
 
 -- the control file: the version, which is `0` where there is no such file
-abbrev pub ControlComes : InputFile → Comes (List ℕ) InputRefusal
-ControlComes file None result = result ≡ Ok (codes "0")
-ControlComes file (Some text) result = LinesCome (λ line why. refusal.Control file line) (control_of text) result
+abbrev pub ControlComes : Comes (List ℕ) FileFault
+ControlComes None came = came ≡ Ok (codes "0")
+ControlComes (Some text) came = LinesCome (λ line why. fault.Version line) (control_of text) came
 
 -- the list of files, which has to be there: the entries
-abbrev pub ListComes : InputFile → Comes (List EntryParts) InputRefusal
-ListComes file None result = result ≡ Err (refusal.Missing file)
-ListComes file (Some text) result =
-    LinesCome (λ line why. refusal.List file line why) (list_of text) result
+abbrev pub ListComes : Comes (List EntryParts) FileFault
+ListComes None came = came ≡ Err fault.Missing
+ListComes (Some text) came = LinesCome (λ line why. fault.Line line why) (list_of text) came
 
 -- the list of configuration files: the entries, among which it marks them; where there is no such file, as they are
-abbrev pub ConffilesCome : InputFile → List EntryParts → Comes (List EntryParts) InputRefusal
-ConffilesCome file entries None result = result ≡ Ok entries
-ConffilesCome file entries (Some text) result =
-    LinesCome (λ line why. refusal.Conf file line why) (conffiles_of text entries) result
+abbrev pub ConffilesCome : List EntryParts → Comes (List EntryParts) FileFault
+ConffilesCome entries None came = came ≡ Ok entries
+ConffilesCome entries (Some text) came = LinesCome (λ line why. fault.Line line why) (conffiles_of text entries) came
+
+-- the text of a script: an accepted script, or why it is none
+abbrev pub ScriptReads : List ℕ → Result Script FileFault → Type 0
+ScriptReads text (Ok script) = IsAccepted text script
+ScriptReads text (Err wrong) = (why : ScriptFault) × IsUnaccepted text why × (wrong ≡ fault.Script why)
 
 -- a script of a package: an accepted script; none, where there is no such file
-abbrev pub ScriptComes : InputFile → Comes (Option Script) InputRefusal
-ScriptComes file None result = result ≡ Ok None
-ScriptComes file (Some text) (Ok None) = ⊥
-ScriptComes file (Some text) (Ok (Some script)) = TextComes file text (Ok script)
-ScriptComes file (Some text) (Err refused) = TextComes file text (Err refused)
+abbrev pub ScriptComes : Comes (Option Script) FileFault
+ScriptComes None came = came ≡ Ok None
+ScriptComes (Some text) (Ok None) = ⊥
+ScriptComes (Some text) (Ok (Some script)) = ScriptReads text (Ok script)
+ScriptComes (Some text) (Err wrong) = ScriptReads text (Err wrong)
 
--- the base, which has to be there where one is named: its lines
-abbrev pub BaseComes : InputFile → Comes (List BaseLine) InputRefusal
-BaseComes file None result = result ≡ Err (refusal.Missing file)
-BaseComes file (Some text) result =
-    LinesCome (λ line why. refusal.Base file line why) (base_of text) result
+-- the base, which has to be there where one is named
+abbrev pub BaseComes : Comes Base FileFault
+BaseComes None came = came ≡ Err fault.Missing
+BaseComes (Some text) came = LinesCome (λ line why. fault.Line line why) (base_of text) came
 
 -- the tree of a run, which has to be there
-abbrev pub StartComes : InputFile → Comes Value InputRefusal
-StartComes file None result = result ≡ Err (refusal.Missing file)
-StartComes file (Some text) result =
-    TreeComes (λ line why. refusal.Tree file line why) (tree_of text) result
+abbrev pub StartComes : Comes Value FileFault
+StartComes None came = came ≡ Err fault.Missing
+StartComes (Some text) came = TreeComes (λ line why. fault.Line line why) (tree_of text) came
 
 -- the script that is translated, which has to be there: an accepted script
-abbrev pub TranslatedComes : InputFile → Comes Script InputRefusal
-TranslatedComes file None result = result ≡ Err (refusal.Missing file)
-TranslatedComes file (Some text) result = TextComes file text result
+abbrev pub TranslatedComes : Comes Script FileFault
+TranslatedComes None came = came ≡ Err fault.Missing
+TranslatedComes (Some text) came = ScriptReads text came
 
 -- ---- what is read
 
--- a reading of the files of a request
+-- a reading of the files of a request, each of which is asked for by its name
 abbrev pub Input : Type 0 → Type 1
-Input A = Asking InputFile InputRefusal A
+Input A = Asking (List ℕ) InputRefusal A
+
+-- a reading that was carried out on a shelf
+abbrev pub ReadsInput : {A : Type 0} → ShelfState → ShelfState → Input A → Result A (Stop (List ℕ) InputRefusal) → Type 0
+ReadsInput old new plan result = Reads (λ name. name) old new plan result
+
+-- the refusal of a file: its name, and what is wrong with it
+abbrev pub refused : List ℕ → FileFault → InputRefusal
+refused name wrong = record { file = name; fault = wrong }
+
+-- what a file of this name comes to, by what its content does: what is wrong with it goes with its name
+abbrev pub OfFile : {V : Type 0} → List ℕ → Comes V FileFault → Comes V InputRefusal
+OfFile name comes found (Ok value) = comes found (Ok value)
+OfFile name comes found (Err refusal) = (wrong : FileFault) × comes found (Err wrong) × (refusal ≡ refused name wrong)
 
 -- one file, of at most 1,048,576 bytes, and what it comes to
-abbrev pub one_file : {V : Type 0} → InputFile → Comes V InputRefusal → Input V
-one_file file comes = file_of file MAX_FILE (refusal.TooLong file) comes
+abbrev pub one_file : {V : Type 0} → List ℕ → Comes V FileFault → Input V
+one_file name comes = file_of name MAX_FILE (refused name fault.TooLong) (OfFile name comes)
 
 -- a script of a package
-unfoldable pub script_in : Whose → ScriptKind → Input (Option Script)
-script_in whose kind =
-    let file = package_file whose (of_package.Script kind) in one_file file (ScriptComes file)
+unfoldable pub script_in : List ℕ → ScriptKind → Input (Option Script)
+script_in folder kind = one_file (file_in folder (of_package.Script kind)) ScriptComes
 
 -- the scripts of a package, in this order
-unfoldable pub scripts_in : Whose → Input Scripts
-scripts_in whose =
-    and_then (script_in whose Preinst) (λ preinst. and_then (script_in whose Postinst) (λ postinst.
-    and_then (script_in whose Prerm) (λ prerm. and_then (script_in whose Postrm) (λ postrm.
+unfoldable pub scripts_in : List ℕ → Input Scripts
+scripts_in folder =
+    and_then (script_in folder Preinst) (λ preinst. and_then (script_in folder Postinst) (λ postinst.
+    and_then (script_in folder Prerm) (λ prerm. and_then (script_in folder Postrm) (λ postrm.
     done (Ok (record { preinst = preinst; postinst = postinst; prerm = prerm; postrm = postrm }))))))
 
 -- the version of a package
-unfoldable pub version_in : Whose → Input (List ℕ)
-version_in whose = let file = package_file whose of_package.Control in one_file file (ControlComes file)
+unfoldable pub version_in : List ℕ → Input (List ℕ)
+version_in folder = one_file (file_in folder of_package.Control) ControlComes
 
 -- the files of a package
-unfoldable pub list_in : Whose → Input (List EntryParts)
-list_in whose = let file = package_file whose of_package.List in one_file file (ListComes file)
+unfoldable pub list_in : List ℕ → Input (List EntryParts)
+list_in folder = one_file (file_in folder of_package.List) ListComes
 
 -- the files of a package, with its configuration files marked among these
-unfoldable pub conffiles_in : Whose → List EntryParts → Input (List EntryParts)
-conffiles_in whose entries =
-    let file = package_file whose of_package.Conffiles in one_file file (ConffilesCome file entries)
+unfoldable pub conffiles_in : List ℕ → List EntryParts → Input (List EntryParts)
+conffiles_in folder entries = one_file (file_in folder of_package.Conffiles) (ConffilesCome entries)
 
--- a package: its version, its files, its configuration files, its scripts
-unfoldable pub package_in : Whose → Input Package
-package_in whose =
-    and_then (version_in whose) (λ version. and_then (list_in whose) (λ listed.
-    and_then (conffiles_in whose listed) (λ entries. and_then (scripts_in whose) (λ scripts.
+-- the package in a folder: its version, its files, its configuration files, its scripts
+unfoldable pub package_in : List ℕ → Input Package
+package_in folder =
+    and_then (version_in folder) (λ version. and_then (list_in folder) (λ listed.
+    and_then (conffiles_in folder listed) (λ entries. and_then (scripts_in folder) (λ scripts.
     done (Ok (record { version = version; entries = entries; scripts = scripts }))))))
 
 -- the old package, where one is named
 unfoldable pub old_in : Option (List ℕ) → Input (Option Package)
 old_in None = done (Ok None)
-old_in (Some folder) = and_then (package_in Old) (λ own. done (Ok (Some own)))
+old_in (Some folder) = and_then (package_in folder) (λ own. done (Ok (Some own)))
 
 -- the base: where none is named, the usual one, which is in no file
-unfoldable pub base_in : Option (List ℕ) → Input (List BaseLine)
+unfoldable pub base_in : Option (List ℕ) → Input Base
 base_in None = done (Ok usual)
-base_in (Some name) = one_file of_request.Base (BaseComes of_request.Base)
+base_in (Some name) = one_file name BaseComes
 
 -- the base, the old package, the new one
 unfoldable pub packages_in : Folders → Input Packages
 packages_in folders =
-    and_then (base_in folders.base) (λ lines. and_then (old_in folders.old) (λ before.
-    and_then (package_in New) (λ own.
-    done (Ok (record { new_package = own; old_package = before; base = record { lines = lines } })))))
+    and_then (base_in folders.base) (λ base. and_then (old_in folders.old) (λ before.
+    and_then (package_in folders.dir) (λ own.
+    done (Ok (record { new_package = own; old_package = before; base = base })))))
 
 -- the tree of a run
-unfoldable pub start_in : Input Value
-start_in = one_file of_request.Tree (StartComes of_request.Tree)
+unfoldable pub start_in : List ℕ → Input Value
+start_in name = one_file name StartComes
 
 -- the script that is translated
-unfoldable pub translated_in : Input Script
-translated_in = one_file of_request.Script (TranslatedComes of_request.Script)
+unfoldable pub translated_in : List ℕ → Input Script
+translated_in name = one_file name TranslatedComes
 
 -- what a request reads: its packages, and behind them the tree of a run; or the script that is translated; or nothing,
--- for a package that is made
+-- for a package that is made. The task has what else the request asks for.
 unfoldable pub input : Request → Input Task
 input (request.Check folders scenario turns limit layout) =
-    and_then (packages_in folders) (λ packages. done (Ok (task.Check packages)))
+    and_then (packages_in folders) (λ packages. done (Ok (task.Check packages scenario turns limit layout)))
 input (request.Run folders tree scenario turns) =
     and_then (packages_in folders) (λ packages.
-    and_then start_in (λ start. done (Ok (task.Run packages start))))
+    and_then (start_in tree) (λ start. done (Ok (task.Run packages start scenario turns))))
 input (request.Translate name) =
-    and_then translated_in (λ script. done (Ok (task.Translate script)))
-input (request.Load number limit) = done (Ok task.Load)
+    and_then (translated_in name) (λ script. done (Ok (task.Translate script)))
+input (request.Load number limit) = done (Ok (task.Load number limit))
+
+-- ---- what holds of a task
+
+-- the number of a load is from 1 to MOST_LOAD
+abbrev pub IsInRange : Request → Type 0
+IsInRange (request.Check folders scenario turns limit layout) = Unit {0}
+IsInRange (request.Run folders file scenario turns) = Unit {0}
+IsInRange (request.Translate file) = Unit {0}
+IsInRange (request.Load number limit) = (1 ≤ number) × (number ≤ MOST_LOAD)
 
 -- the tree of a run is a tree of files
 abbrev pub HasTree : Task → Type 0
-HasTree (task.Check packages) = Unit {0}
-HasTree (task.Run packages tree) = IsTree tree
+HasTree (task.Check packages scenario turns limit layout) = Unit {0}
+HasTree (task.Run packages tree scenario turns) = IsTree tree
 HasTree (task.Translate script) = Unit {0}
-HasTree task.Load = Unit {0}
+HasTree (task.Load number limit) = Unit {0}
+
+-- the tree of a run is a tree of files, and the number of a load is from 1 to MOST_LOAD
+abbrev pub IsSound : Task → Type 0
+IsSound (task.Check packages scenario turns limit layout) = Unit {0}
+IsSound (task.Run packages tree scenario turns) = IsTree tree
+IsSound (task.Translate script) = Unit {0}
+IsSound (task.Load number limit) = (1 ≤ number) × (number ≤ MOST_LOAD)
+
+-- ---- what the code answers
+
+-- what the file of this name holds, if it is there, or why it was not read
+abbrev pub FileFound : List ℕ → ShelfState → ShelfState → Result Found (Stop (List ℕ) InputRefusal) → Type 0
+FileFound name old new (Ok found) = (found.name ≡ name)
+    × ReadsInput old new (content name MAX_FILE (refused name fault.TooLong)) (Ok found.content)
+FileFound name old new (Err stop) = ReadsInput old new (content name MAX_FILE (refused name fault.TooLong)) (Err stop)
+
+-- how a call ends by what the content of a file came to, unless memory was missing
+abbrev pub of_file : {V : Type 0} → List ℕ → Result (Result V FileFault) Memory → Result V (Stop (List ℕ) InputRefusal)
+of_file name (Ok (Ok value)) = Ok value
+of_file name (Ok (Err wrong)) = Err (Refused (refused name wrong))
+of_file name (Err missing) = Err NoMemory

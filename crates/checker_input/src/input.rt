@@ -1,43 +1,42 @@
 ghost use Rattle.std.specs.Prelude.{IfOk};
 ghost use Rattle.feature_trees.specs.Sound.{IsTree};
-ghost use Rattle.checker_io.specs.Reading.{Reads};
-ghost use Rattle.checker_input.specs.Input.{file_name, base_in, old_in, packages_in, start_in, translated_in, input};
-ghost use Rattle.checker_input.specs.Input.{HasTree};
+ghost use Rattle.checker_input.specs.Input.{ReadsInput, base_in, old_in, packages_in, start_in, translated_in, input};
+ghost use Rattle.checker_input.specs.Input.{HasTree, IsInRange, IsSound};
 
-use crate::faults::{InputFile, InputRefusal, Whose};
+use crate::faults::InputRefusal;
 use crate::package::{Package, Packages};
-use crate::read_file::read_file;
+use crate::read_file::{of_file, read_named};
 use crate::read_package::read_package;
 use crate::task::Task;
-use crate::understand::{base_lines, start_tree, translated_script};
+use crate::understand::{named_base, start_tree, translated_script};
 use checker_io::{Shelf, Stop};
 use command_words::{Folders, Request};
 use feature_trees::Value;
-use package_lists::{Base, BaseLine};
-use script_names::{List, Text};
+use script_names::Text;
 use shell_forms::Accepted;
 use std::alloc::Global;
+use system_base::Base;
 
-// The lines of the base that is named, or else of the usual one.
-fn read_lines<S: Shelf>(
+// The base that is named, or else the usual one.
+fn read_base<S: Shelf>(
     alloc: Global,
-    request: &Request,
     named: &Option<Text>,
     shelf: &mut S,
-) -> Result<List<BaseLine>, Stop<InputFile, InputRefusal>>
-    ensures { Reads (file_name request.now) (S.state shelf.old) (S.state shelf.new) (base_in named.now) result }
+) -> Result<Base, Stop<Text, InputRefusal>>
+    ensures { ReadsInput (S.state shelf.old) (S.state shelf.new) (base_in named.now) result }
 {
     match named {
         None => {
-            let Base { lines } = Base::usual(alloc)?;
-            Ok(lines)
+            let base = Base::usual(alloc)?;
+            Ok(base)
         }
-        Some(_) => {
-            let text = match read_file(alloc, request, InputFile::Base, shelf) {
-                Ok(text) => text,
+        Some(name) => {
+            let found = match read_named(alloc, name, shelf) {
+                Ok(found) => found,
                 Err(stop) => return Err(stop),
             };
-            base_lines(alloc, InputFile::Base, &text)
+            let came = named_base(alloc, &found.content);
+            of_file(found.name, came)
         }
     }
 }
@@ -45,15 +44,14 @@ fn read_lines<S: Shelf>(
 // The old package, where one is named.
 fn read_old<S: Shelf>(
     alloc: Global,
-    request: &Request,
     named: &Option<Text>,
     shelf: &mut S,
-) -> Result<Option<Package>, Stop<InputFile, InputRefusal>>
-    ensures { Reads (file_name request.now) (S.state shelf.old) (S.state shelf.new) (old_in named.now) result }
+) -> Result<Option<Package>, Stop<Text, InputRefusal>>
+    ensures { ReadsInput (S.state shelf.old) (S.state shelf.new) (old_in named.now) result }
 {
     match named {
         None => Ok(None),
-        Some(_) => match read_package(alloc, request, Whose::Old, shelf) {
+        Some(folder) => match read_package(alloc, folder, shelf) {
             Ok(own) => Ok(Some(own)),
             Err(stop) => Err(stop),
         },
@@ -63,60 +61,61 @@ fn read_old<S: Shelf>(
 // The packages of folders, and the base.
 fn read_packages<S: Shelf>(
     alloc: Global,
-    request: &Request,
     folders: &Folders,
     shelf: &mut S,
-) -> Result<Packages, Stop<InputFile, InputRefusal>>
-    ensures { Reads (file_name request.now) (S.state shelf.old) (S.state shelf.new) (packages_in folders.now) result }
+) -> Result<Packages, Stop<Text, InputRefusal>>
+    ensures { ReadsInput (S.state shelf.old) (S.state shelf.new) (packages_in folders.now) result }
 {
-    let lines = match read_lines(alloc, request, &folders.base, shelf) {
-        Ok(lines) => lines,
+    let base = match read_base(alloc, &folders.base, shelf) {
+        Ok(base) => base,
         Err(stop) => return Err(stop),
     };
-    let old_package = match read_old(alloc, request, &folders.old, shelf) {
+    let old_package = match read_old(alloc, &folders.old, shelf) {
         Ok(before) => before,
         Err(stop) => return Err(stop),
     };
-    let new_package = match read_package(alloc, request, Whose::New, shelf) {
+    let new_package = match read_package(alloc, &folders.dir, shelf) {
         Ok(own) => own,
         Err(stop) => return Err(stop),
     };
     Ok(Packages {
         new_package,
         old_package,
-        base: Base { lines },
+        base,
     })
 }
 
-// The tree of a run.
+// The tree of a run, in the file of this name.
 fn read_start<S: Shelf>(
     alloc: Global,
-    request: &Request,
+    tree: &Text,
     shelf: &mut S,
-) -> Result<Value, Stop<InputFile, InputRefusal>>
-    ensures reads { Reads (file_name request.now) (S.state shelf.old) (S.state shelf.new) start_in result }
+) -> Result<Value, Stop<Text, InputRefusal>>
+    ensures reads { ReadsInput (S.state shelf.old) (S.state shelf.new) (start_in tree.now) result }
     ensures tree { IfOk result IsTree }
 {
-    let text = match read_file(alloc, request, InputFile::Tree, shelf) {
-        Ok(text) => text,
+    let found = match read_named(alloc, tree, shelf) {
+        Ok(found) => found,
         Err(stop) => return Err(stop),
     };
-    start_tree(alloc, InputFile::Tree, &text)
+    let came = start_tree(alloc, &found.content);
+    of_file(found.name, came)
 }
 
-// The script that is translated.
+// The script that is translated, in the file of this name.
 fn read_translated<S: Shelf>(
     alloc: Global,
-    request: &Request,
+    file: &Text,
     shelf: &mut S,
-) -> Result<Accepted, Stop<InputFile, InputRefusal>>
-    ensures { Reads (file_name request.now) (S.state shelf.old) (S.state shelf.new) translated_in result }
+) -> Result<Accepted, Stop<Text, InputRefusal>>
+    ensures { ReadsInput (S.state shelf.old) (S.state shelf.new) (translated_in file.now) result }
 {
-    let text = match read_file(alloc, request, InputFile::Script, shelf) {
-        Ok(text) => text,
+    let found = match read_named(alloc, file, shelf) {
+        Ok(found) => found,
         Err(stop) => return Err(stop),
     };
-    translated_script(alloc, InputFile::Script, &text)
+    let came = translated_script(alloc, &found.content);
+    of_file(found.name, came)
 }
 
 /// Reads what the request names: what it asks for, or the first refusal. The order of files is the base, the old
@@ -126,29 +125,55 @@ pub fn read_task<S: Shelf>(
     alloc: Global,
     request: &Request,
     shelf: &mut S,
-) -> Result<Task, Stop<InputFile, InputRefusal>>
-    ensures reads { Reads (file_name request.now) (S.state shelf.old) (S.state shelf.new) (input request.now) result }
+) -> Result<Task, Stop<Text, InputRefusal>>
+    ensures reads { ReadsInput (S.state shelf.old) (S.state shelf.new) (input request.now) result }
     ensures tree { IfOk result HasTree }
+    ensures sound { IsInRange request.now → IfOk result IsSound }
 {
     match request {
-        Request::Check { folders, .. } => match read_packages(alloc, request, folders, shelf) {
-            Ok(packages) => Ok(Task::Check(packages)),
+        Request::Check {
+            folders,
+            scenario,
+            turns,
+            limit,
+            layout,
+        } => match read_packages(alloc, folders, shelf) {
+            Ok(packages) => Ok(Task::Check {
+                packages,
+                scenario: *scenario,
+                turns: *turns,
+                limit: *limit,
+                layout: *layout,
+            }),
             Err(stop) => Err(stop),
         },
-        Request::Run { folders, .. } => {
-            let packages = match read_packages(alloc, request, folders, shelf) {
+        Request::Run {
+            folders,
+            tree,
+            scenario,
+            turns,
+        } => {
+            let packages = match read_packages(alloc, folders, shelf) {
                 Ok(packages) => packages,
                 Err(stop) => return Err(stop),
             };
-            match read_start(alloc, request, shelf) {
-                Ok(tree) => Ok(Task::Run(packages, tree)),
+            match read_start(alloc, tree, shelf) {
+                Ok(tree) => Ok(Task::Run {
+                    packages,
+                    tree,
+                    scenario: *scenario,
+                    turns: *turns,
+                }),
                 Err(stop) => Err(stop),
             }
         }
-        Request::Translate { .. } => match read_translated(alloc, request, shelf) {
-            Ok(script) => Ok(Task::Translate(script)),
+        Request::Translate { file } => match read_translated(alloc, file, shelf) {
+            Ok(script) => Ok(Task::Translate { script }),
             Err(stop) => Err(stop),
         },
-        Request::Load { .. } => Ok(Task::Load),
+        Request::Load { number, limit } => Ok(Task::Load {
+            number: *number,
+            limit: *limit,
+        }),
     }
 }

@@ -1,5 +1,5 @@
 //! The files that a request reads: which, in which order, what each comes to, and why one is refused. It stands on
-//! command_words, package_lists, shell_forms and checker_io.
+//! command_words, package_lists, system_base, shell_forms and checker_io.
 #![tactic(auto)]
 
 mod faults;
@@ -13,8 +13,8 @@ mod task;
 pub mod theorems;
 mod understand;
 
-pub use faults::{InputFile, InputRefusal, PackageFile, Whose};
+pub use faults::{FileFault, InputRefusal};
 pub use input::read_task;
-pub use names::make_name;
 pub use package::{Package, Packages, Scripts};
+pub use script::{ScriptFault, read_script};
 pub use task::Task;

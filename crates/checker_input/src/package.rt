@@ -1,7 +1,8 @@
-use package_lists::{Base, Entry};
+use package_lists::Entry;
 use script_names::{Bytes, Copied, List, Memory, Slot};
 use shell_forms::Accepted;
 use std::alloc::Global;
+use system_base::Base;
 
 /// The maintainer scripts of a package, those that it has (Debian Policy, 6.1).
 #[derive(Drop)]

@@ -1,37 +1,80 @@
-ghost use Rattle.std.specs.Prelude.{◌≤◌, length, IfOk, IfSome};
-ghost use Rattle.checker_io.specs.Reading.{Reads, content};
-ghost use Rattle.checker_input.specs.Input.{file_name};
-ghost use Rattle.checker_input.specs.declared.faults.InputRefusal.TheVariants.{TooLong};
+ghost use Rattle.std.specs.Prelude.{◌≡◌};
+ghost use Rattle.checker_input.specs.Input.{FileFound, file_in as name_in, of_file};
 
-use crate::faults::{InputFile, InputRefusal};
-use crate::names::make_name;
+use crate::faults::{FileFault, InputRefusal};
+use crate::names::{PackageFile, file_in};
 use checker_io::{Shelf, Stop, read_content};
-use command_words::Request;
-use script_names::Bytes;
+use script_names::{Bytes, Copied, Memory, Text};
 use std::alloc::Global;
 
 /// How many bytes a file may have.
 pub const MAX_FILE: usize = 1_048_576;
 
-/// What a file of the request holds, if it is there.
+/// A file that was looked for: its name, and what it holds, if it is there.
+#[derive(Drop)]
+pub struct Found {
+    pub name: Text,
+    pub content: Option<Bytes>,
+}
+
+/// What the file of this name holds, if it is there.
 pub fn read_file<S: Shelf>(
     alloc: Global,
-    request: &Request,
-    file: InputFile,
+    name: Text,
     shelf: &mut S,
-) -> Result<Option<Bytes>, Stop<InputFile, InputRefusal>>
-    ensures { Reads (file_name request.now) (S.state shelf.old) (S.state shelf.new)
-        (content file MAX_FILE (TooLong file)) result }
+) -> Result<Found, Stop<Text, InputRefusal>>
+    ensures { FileFound name (S.state shelf.old) (S.state shelf.new) result }
 {
-    let Ok(name) = make_name(alloc, request, file) else {
+    match read_content(alloc, shelf, (), name.as_str(), MAX_FILE, ()) {
+        Ok(content) => Ok(Found { name, content }),
+        Err(Stop::Refused(())) => Err(Stop::Refused(InputRefusal {
+            file: name,
+            fault: FileFault::TooLong,
+        })),
+        Err(Stop::ReadFailed(())) => Err(Stop::ReadFailed(name)),
+        Err(Stop::NoMemory) => Err(Stop::NoMemory),
+    }
+}
+
+/// What the file of this name holds, if it is there; the name is copied.
+pub fn read_named<S: Shelf>(
+    alloc: Global,
+    name: &Text,
+    shelf: &mut S,
+) -> Result<Found, Stop<Text, InputRefusal>>
+    ensures { FileFound name.now (S.state shelf.old) (S.state shelf.new) result }
+{
+    let Ok(name) = name.copy(alloc) else {
         return Err(Stop::NoMemory);
     };
-    read_content(
-        alloc,
-        shelf,
-        file,
-        name.as_str(),
-        MAX_FILE,
-        InputRefusal::TooLong { file },
-    )
+    read_file(alloc, name, shelf)
+}
+
+/// What a file of a package holds, if it is there.
+pub fn read_own<S: Shelf>(
+    alloc: Global,
+    folder: &Text,
+    file: PackageFile,
+    shelf: &mut S,
+) -> Result<Found, Stop<Text, InputRefusal>>
+    ensures { FileFound (name_in folder.now file) (S.state shelf.old) (S.state shelf.new) result }
+{
+    let Ok(name) = file_in(alloc, folder.as_str(), file) else {
+        return Err(Stop::NoMemory);
+    };
+    read_file(alloc, name, shelf)
+}
+
+/// What a file comes to, by what its content comes to.
+pub fn of_file<V: Drop>(
+    name: Text,
+    came: Result<Result<V, FileFault>, Memory>,
+) -> Result<V, Stop<Text, InputRefusal>>
+    ensures { result ≡ of_file name came }
+{
+    match came {
+        Ok(Ok(value)) => Ok(value),
+        Ok(Err(fault)) => Err(Stop::Refused(InputRefusal { file: name, fault })),
+        Err(_) => Err(Stop::NoMemory),
+    }
 }

@@ -1,113 +1,106 @@
-ghost use Rattle.checker_io.specs.Reading.{Reads};
-ghost use Rattle.checker_input.specs.Input.{file_name, version_in, list_in, conffiles_in, script_in, scripts_in};
+ghost use Rattle.checker_input.specs.Input.{ReadsInput, version_in, list_in, conffiles_in, script_in, scripts_in};
 ghost use Rattle.checker_input.specs.Input.{package_in};
 
-use crate::faults::{InputFile, InputRefusal, PackageFile, Whose};
-use crate::names::package_file;
+use crate::faults::InputRefusal;
+use crate::names::PackageFile;
 use crate::package::{Package, Scripts};
-use crate::read_file::read_file;
+use crate::read_file::{of_file, read_own};
 use crate::understand::{control_version, list_entries, marked_entries, package_script};
 use checker_io::{Shelf, Stop};
-use command_words::Request;
 use dpkg_scenarios::ScriptKind;
 use package_lists::Entry;
-use script_names::{Bytes, List, Slot};
+use script_names::{Bytes, List, Slot, Text};
 use shell_forms::Accepted;
 use std::alloc::Global;
 
 // The version of a package, from its control file.
 fn read_version<S: Shelf>(
     alloc: Global,
-    request: &Request,
-    whose: Whose,
+    folder: &Text,
     shelf: &mut S,
-) -> Result<Bytes, Stop<InputFile, InputRefusal>>
-    ensures { Reads (file_name request.now) (S.state shelf.old) (S.state shelf.new) (version_in whose) result }
+) -> Result<Bytes, Stop<Text, InputRefusal>>
+    ensures { ReadsInput (S.state shelf.old) (S.state shelf.new) (version_in folder.now) result }
 {
-    let file = package_file(whose, PackageFile::Control);
-    let text = match read_file(alloc, request, file, shelf) {
-        Ok(text) => text,
+    let found = match read_own(alloc, folder, PackageFile::Control, shelf) {
+        Ok(found) => found,
         Err(stop) => return Err(stop),
     };
-    control_version(alloc, file, &text)
+    let came = control_version(alloc, &found.content);
+    of_file(found.name, came)
 }
 
 // The files of a package, from its list.
 fn read_entries<S: Shelf>(
     alloc: Global,
-    request: &Request,
-    whose: Whose,
+    folder: &Text,
     shelf: &mut S,
-) -> Result<List<Entry>, Stop<InputFile, InputRefusal>>
-    ensures { Reads (file_name request.now) (S.state shelf.old) (S.state shelf.new) (list_in whose) result }
+) -> Result<List<Entry>, Stop<Text, InputRefusal>>
+    ensures { ReadsInput (S.state shelf.old) (S.state shelf.new) (list_in folder.now) result }
 {
-    let file = package_file(whose, PackageFile::List);
-    let text = match read_file(alloc, request, file, shelf) {
-        Ok(text) => text,
+    let found = match read_own(alloc, folder, PackageFile::List, shelf) {
+        Ok(found) => found,
         Err(stop) => return Err(stop),
     };
-    list_entries(alloc, file, &text)
+    let came = list_entries(alloc, &found.content);
+    of_file(found.name, came)
 }
 
 // The files of a package with its configuration files, from the list of these.
 fn mark_conffiles<S: Shelf>(
     alloc: Global,
-    request: &Request,
-    whose: Whose,
+    folder: &Text,
     entries: List<Entry>,
     shelf: &mut S,
-) -> Result<List<Entry>, Stop<InputFile, InputRefusal>>
-    ensures { Reads (file_name request.now) (S.state shelf.old) (S.state shelf.new)
-        (conffiles_in whose entries) result }
+) -> Result<List<Entry>, Stop<Text, InputRefusal>>
+    ensures { ReadsInput (S.state shelf.old) (S.state shelf.new)
+        (conffiles_in folder.now entries) result }
 {
-    let file = package_file(whose, PackageFile::Conffiles);
-    let text = match read_file(alloc, request, file, shelf) {
-        Ok(text) => text,
+    let found = match read_own(alloc, folder, PackageFile::Conffiles, shelf) {
+        Ok(found) => found,
         Err(stop) => return Err(stop),
     };
-    marked_entries(alloc, file, &text, entries)
+    let came = marked_entries(alloc, &found.content, entries);
+    of_file(found.name, came)
 }
 
 // A script of a package, if it has it.
 fn read_script<S: Shelf>(
     alloc: Global,
-    request: &Request,
-    whose: Whose,
+    folder: &Text,
     kind: ScriptKind,
     shelf: &mut S,
-) -> Result<Slot<Accepted>, Stop<InputFile, InputRefusal>>
-    ensures { Reads (file_name request.now) (S.state shelf.old) (S.state shelf.new) (script_in whose kind) result }
+) -> Result<Slot<Accepted>, Stop<Text, InputRefusal>>
+    ensures { ReadsInput (S.state shelf.old) (S.state shelf.new) (script_in folder.now kind) result }
 {
-    let file = package_file(whose, PackageFile::Script(kind));
-    let text = match read_file(alloc, request, file, shelf) {
-        Ok(text) => text,
+    let found = match read_own(alloc, folder, PackageFile::Script(kind), shelf) {
+        Ok(found) => found,
         Err(stop) => return Err(stop),
     };
-    package_script(alloc, file, &text)
+    let came = package_script(alloc, &found.content);
+    of_file(found.name, came)
 }
 
 // The scripts of a package.
 fn read_scripts<S: Shelf>(
     alloc: Global,
-    request: &Request,
-    whose: Whose,
+    folder: &Text,
     shelf: &mut S,
-) -> Result<Scripts, Stop<InputFile, InputRefusal>>
-    ensures { Reads (file_name request.now) (S.state shelf.old) (S.state shelf.new) (scripts_in whose) result }
+) -> Result<Scripts, Stop<Text, InputRefusal>>
+    ensures { ReadsInput (S.state shelf.old) (S.state shelf.new) (scripts_in folder.now) result }
 {
-    let preinst = match read_script(alloc, request, whose, ScriptKind::Preinst, shelf) {
+    let preinst = match read_script(alloc, folder, ScriptKind::Preinst, shelf) {
         Ok(preinst) => preinst,
         Err(stop) => return Err(stop),
     };
-    let postinst = match read_script(alloc, request, whose, ScriptKind::Postinst, shelf) {
+    let postinst = match read_script(alloc, folder, ScriptKind::Postinst, shelf) {
         Ok(postinst) => postinst,
         Err(stop) => return Err(stop),
     };
-    let prerm = match read_script(alloc, request, whose, ScriptKind::Prerm, shelf) {
+    let prerm = match read_script(alloc, folder, ScriptKind::Prerm, shelf) {
         Ok(prerm) => prerm,
         Err(stop) => return Err(stop),
     };
-    let postrm = match read_script(alloc, request, whose, ScriptKind::Postrm, shelf) {
+    let postrm = match read_script(alloc, folder, ScriptKind::Postrm, shelf) {
         Ok(postrm) => postrm,
         Err(stop) => return Err(stop),
     };
@@ -119,28 +112,27 @@ fn read_scripts<S: Shelf>(
     })
 }
 
-/// A package of the request.
+/// The package in a folder.
 pub fn read_package<S: Shelf>(
     alloc: Global,
-    request: &Request,
-    whose: Whose,
+    folder: &Text,
     shelf: &mut S,
-) -> Result<Package, Stop<InputFile, InputRefusal>>
-    ensures { Reads (file_name request.now) (S.state shelf.old) (S.state shelf.new) (package_in whose) result }
+) -> Result<Package, Stop<Text, InputRefusal>>
+    ensures { ReadsInput (S.state shelf.old) (S.state shelf.new) (package_in folder.now) result }
 {
-    let version = match read_version(alloc, request, whose, shelf) {
+    let version = match read_version(alloc, folder, shelf) {
         Ok(version) => version,
         Err(stop) => return Err(stop),
     };
-    let listed = match read_entries(alloc, request, whose, shelf) {
+    let listed = match read_entries(alloc, folder, shelf) {
         Ok(listed) => listed,
         Err(stop) => return Err(stop),
     };
-    let entries = match mark_conffiles(alloc, request, whose, listed, shelf) {
+    let entries = match mark_conffiles(alloc, folder, listed, shelf) {
         Ok(entries) => entries,
         Err(stop) => return Err(stop),
     };
-    let scripts = match read_scripts(alloc, request, whose, shelf) {
+    let scripts = match read_scripts(alloc, folder, shelf) {
         Ok(scripts) => scripts,
         Err(stop) => return Err(stop),
     };

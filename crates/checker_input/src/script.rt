@@ -1,71 +1,71 @@
-ghost use Rattle.std.specs.Prelude.{◌≡◌};
-ghost use Rattle.checker_io.specs.Reading.{Gives};
-ghost use Rattle.checker_input.specs.Script.{TextComes, lex_stop, parse_stop, form_stop};
+ghost use Rattle.std.specs.Prelude.{IfOk};
+ghost use Rattle.checker_input.specs.Script.{TextComes};
 
-use crate::faults::{InputFile, InputRefusal};
-use checker_io::Stop;
+use script_names::{Copied, Memory};
 use shell_forms::{Accepted, FormFault, accept};
 use shell_grammar::ParseFault;
 use shell_lexer::{LexFault, lex};
 use shell_parser::parse;
+use shell_syntax::Form;
 use std::alloc::Global;
 
-// The end of a call whose text is not cut into tokens.
-fn lex_stop(file: InputFile, fault: LexFault) -> Stop<InputFile, InputRefusal>
-    ensures { result ≡ lex_stop file fault }
-{
-    match fault {
-        LexFault::Nul { .. }
-        | LexFault::Interpreter { .. }
-        | LexFault::OpenQuote { .. }
-        | LexFault::OpenSubstitution { .. }
-        | LexFault::Unsupported { .. }
-        | LexFault::Deep { .. } => Stop::Refused(InputRefusal::Lex { file, fault }),
-        LexFault::Memory => Stop::NoMemory,
+/// Why a text is no accepted script. Each offset is in bytes from the beginning of the text.
+#[derive(Clone, Copy, Debug, PartialEq, Eq)]
+pub enum ScriptFault {
+    /// There is a NUL in it.
+    Nul { at: u32 },
+    /// Its first line does not name the shell in an accepted form.
+    Interpreter { at: u32 },
+    /// A quote is not closed.
+    OpenQuote { at: u32 },
+    /// A substitution is not closed.
+    OpenSubstitution { at: u32 },
+    /// A token has an unsupported form.
+    Unsupported { form: Form, at: u32 },
+    /// A substitution stands inside 64 others.
+    DeepSubstitution { at: u32 },
+    /// Its tokens spell no script.
+    Syntax { at: u32 },
+    /// Its tokens spell no script within 64 levels.
+    Deep { at: u32 },
+    /// It is a script, of whose unsupported forms this is the first.
+    Form { form: Form, at: u32 },
+}
+
+impl Copied for ScriptFault {
+    fn copy(&self, _alloc: Global) -> Result<ScriptFault, Memory> {
+        Ok(*self)
     }
 }
 
-// The end of a call whose tokens spell no script within 64 levels.
-fn parse_stop(file: InputFile, fault: ParseFault) -> Stop<InputFile, InputRefusal>
-    ensures { result ≡ parse_stop file fault }
-{
-    match fault {
-        ParseFault::Syntax { .. } | ParseFault::Deep { .. } => {
-            Stop::Refused(InputRefusal::Parse { file, fault })
-        }
-        ParseFault::Memory => Stop::NoMemory,
-    }
-}
-
-// The end of a call whose script is not accepted.
-fn form_stop(file: InputFile, fault: FormFault) -> Stop<InputFile, InputRefusal>
-    ensures { result ≡ form_stop file fault }
-{
-    match fault {
-        FormFault::Form { form, at } => Stop::Refused(InputRefusal::Form { file, form, at }),
-        FormFault::Memory => Stop::NoMemory,
-    }
-}
-
-/// The script of a file's text, or its refusal: the text is cut into tokens, these are read as a script
-/// (POSIX.1-2017, XCU 2.3 Token Recognition, 2.10 Shell Grammar), and no unsupported form stands in it.
-pub fn read_accepted(
-    alloc: Global,
-    file: InputFile,
-    text: &[u8],
-) -> Result<Accepted, Stop<InputFile, InputRefusal>>
-    ensures { Gives (TextComes file text.now) result }
+/// The script of a text, or why it is none: the text is cut into tokens, these are read as a script (POSIX.1-2017, XCU
+/// 2.3 Token Recognition, 2.10 Shell Grammar), and no unsupported form stands in it.
+pub fn read_script(alloc: Global, text: &[u8]) -> Result<Result<Accepted, ScriptFault>, Memory>
+    ensures { IfOk result (TextComes text.now) }
 {
     let lexed = match lex(alloc, text) {
         Ok(lexed) => lexed,
-        Err(fault) => return Err(lex_stop(file, fault)),
+        Err(LexFault::Nul { at }) => return Ok(Err(ScriptFault::Nul { at })),
+        Err(LexFault::Interpreter { at }) => return Ok(Err(ScriptFault::Interpreter { at })),
+        Err(LexFault::OpenQuote { at }) => return Ok(Err(ScriptFault::OpenQuote { at })),
+        Err(LexFault::OpenSubstitution { at }) => {
+            return Ok(Err(ScriptFault::OpenSubstitution { at }));
+        }
+        Err(LexFault::Unsupported { form, at }) => {
+            return Ok(Err(ScriptFault::Unsupported { form, at }));
+        }
+        Err(LexFault::Deep { at }) => return Ok(Err(ScriptFault::DeepSubstitution { at })),
+        Err(LexFault::Memory) => return Err(Memory),
     };
     let script = match parse(alloc, &lexed) {
         Ok(script) => script,
-        Err(fault) => return Err(parse_stop(file, fault)),
+        Err(ParseFault::Syntax { at }) => return Ok(Err(ScriptFault::Syntax { at })),
+        Err(ParseFault::Deep { at }) => return Ok(Err(ScriptFault::Deep { at })),
+        Err(ParseFault::Memory) => return Err(Memory),
     };
     match accept(alloc, script) {
-        Ok(script) => Ok(script),
-        Err(fault) => Err(form_stop(file, fault)),
+        Ok(script) => Ok(Ok(script)),
+        Err(FormFault::Form { form, at }) => Ok(Err(ScriptFault::Form { form, at })),
+        Err(FormFault::Memory) => Err(Memory),
     }
 }

@@ -1,16 +1,35 @@
 use crate::package::Packages;
+use command_words::Layout;
+use dpkg_scenarios::Scenario;
 use feature_trees::Value;
 use shell_forms::Accepted;
 
-/// What a request asks for, as its files say it.
+/// What a request asks for, with what its files hold.
 #[derive(Drop)]
 pub enum Task {
-    /// The report on packages.
-    Check(Packages),
-    /// A run of packages from a tree.
-    Run(Packages, Value),
+    /// The report on packages, in one scenario or in all six, in a layout; `turns` is how many turns of loops a run
+    /// has, `limit` how many outcomes a scenario may have.
+    Check {
+        packages: Packages,
+        scenario: Option<Scenario>,
+        turns: u32,
+        limit: u32,
+        layout: Layout,
+    },
+    /// The run of a scenario of packages from a tree.
+    Run {
+        packages: Packages,
+        tree: Value,
+        scenario: Scenario,
+        turns: u32,
+    },
     /// The program of a script.
-    Translate(Accepted),
-    /// The endings of a made package, which is in no file.
-    Load,
+    Translate {
+        script: Accepted,
+    },
+    /// The endings of the made package of this number, which is in no file.
+    Load {
+        number: u32,
+        limit: u32,
+    },
 }

@@ -1,41 +1,35 @@
-//! What each file comes to, by its content.
+//! What each file comes to, by its content: a value, or what is wrong with it.
 
 ghost use Rattle.std.specs.Prelude.{IfOk};
 ghost use Rattle.feature_trees.specs.Sound.{IsTree};
-ghost use Rattle.checker_io.specs.Reading.{Gives};
 ghost use Rattle.checker_input.specs.Input.{ControlComes, ListComes, ConffilesCome, ScriptComes, BaseComes};
 ghost use Rattle.checker_input.specs.Input.{StartComes, TranslatedComes};
 
-use crate::faults::{InputFile, InputRefusal};
-use crate::script::read_accepted;
-use checker_io::Stop;
+use crate::faults::FileFault;
+use crate::script::read_script;
 use feature_trees::{TreeFault, Value, read_tree};
-use package_lists::{
-    Base, BaseLine, Entry, LineFault, read_base, read_conffiles, read_control, read_list,
-};
-use script_names::{Bytes, List, Slot};
+use package_lists::{Entry, LineFault, read_conffiles, read_control, read_list};
+use script_names::{Bytes, List, Memory, Slot};
 use shell_forms::Accepted;
 use std::alloc::Global;
+use system_base::{Base, read_base};
 
 /// The version of a control file; `0` where there is none.
 pub fn control_version(
     alloc: Global,
-    file: InputFile,
     control: &Option<Bytes>,
-) -> Result<Bytes, Stop<InputFile, InputRefusal>>
-    ensures { Gives (ControlComes file control.now) result }
+) -> Result<Result<Bytes, FileFault>, Memory>
+    ensures { IfOk result (ControlComes control.now) }
 {
     match control {
         None => {
             let version = Bytes::from_slice(alloc, b"0")?;
-            Ok(version)
+            Ok(Ok(version))
         }
         Some(text) => match read_control(alloc, text.as_slice()) {
-            Ok(version) => Ok(version),
-            Err(LineFault::Line { line, why: _ }) => {
-                Err(Stop::Refused(InputRefusal::Control { file, line }))
-            }
-            Err(LineFault::Memory) => Err(Stop::NoMemory),
+            Ok(version) => Ok(Ok(version)),
+            Err(LineFault::Line { line, why: _ }) => { Ok(Err(FileFault::Version { line })) }
+            Err(LineFault::Memory) => Err(Memory),
         },
     }
 }
@@ -43,19 +37,16 @@ pub fn control_version(
 /// The entries of a list of files, which has to be there.
 pub fn list_entries(
     alloc: Global,
-    file: InputFile,
     list: &Option<Bytes>,
-) -> Result<List<Entry>, Stop<InputFile, InputRefusal>>
-    ensures { Gives (ListComes file list.now) result }
+) -> Result<Result<List<Entry>, FileFault>, Memory>
+    ensures { IfOk result (ListComes list.now) }
 {
     match list {
-        None => Err(Stop::Refused(InputRefusal::Missing { file })),
+        None => Ok(Err(FileFault::Missing)),
         Some(text) => match read_list(alloc, text.as_slice()) {
-            Ok(entries) => Ok(entries),
-            Err(LineFault::Line { line, why }) => {
-                Err(Stop::Refused(InputRefusal::List { file, line, why }))
-            }
-            Err(LineFault::Memory) => Err(Stop::NoMemory),
+            Ok(entries) => Ok(Ok(entries)),
+            Err(LineFault::Line { line, why }) => { Ok(Err(FileFault::Line { line, why })) }
+            Err(LineFault::Memory) => Err(Memory),
         },
     }
 }
@@ -63,22 +54,19 @@ pub fn list_entries(
 /// The entries with the configuration files of a list of these; as they are, where there is none.
 pub fn marked_entries(
     alloc: Global,
-    file: InputFile,
     conffiles: &Option<Bytes>,
     entries: List<Entry>,
-) -> Result<List<Entry>, Stop<InputFile, InputRefusal>>
-    ensures { Gives (ConffilesCome file entries conffiles.now) result }
+) -> Result<Result<List<Entry>, FileFault>, Memory>
+    ensures { IfOk result (ConffilesCome entries conffiles.now) }
 {
     match conffiles {
-        None => Ok(entries),
+        None => Ok(Ok(entries)),
         Some(text) => {
             let mut marked = entries;
             match read_conffiles(alloc, text.as_slice(), &mut marked) {
-                Ok(()) => Ok(marked),
-                Err(LineFault::Line { line, why }) => {
-                    Err(Stop::Refused(InputRefusal::Conf { file, line, why }))
-                }
-                Err(LineFault::Memory) => Err(Stop::NoMemory),
+                Ok(()) => Ok(Ok(marked)),
+                Err(LineFault::Line { line, why }) => { Ok(Err(FileFault::Line { line, why })) }
+                Err(LineFault::Memory) => Err(Memory),
             }
         }
     }
@@ -87,60 +75,50 @@ pub fn marked_entries(
 /// The script of a package; none, where there is no such file.
 pub fn package_script(
     alloc: Global,
-    file: InputFile,
     script: &Option<Bytes>,
-) -> Result<Slot<Accepted>, Stop<InputFile, InputRefusal>>
-    ensures { Gives (ScriptComes file script.now) result }
+) -> Result<Result<Slot<Accepted>, FileFault>, Memory>
+    ensures { IfOk result (ScriptComes script.now) }
 {
     match script {
-        None => Ok(Slot::empty(alloc)),
-        Some(text) => match read_accepted(alloc, file, text.as_slice()) {
-            Ok(script) => match Slot::new(alloc, script) {
-                Ok(script) => Ok(script),
-                Err(_) => Err(Stop::NoMemory),
-            },
-            Err(stop) => Err(stop),
-        },
+        None => Ok(Ok(Slot::empty(alloc))),
+        Some(text) => {
+            let came = read_script(alloc, text.as_slice())?;
+            match came {
+                Ok(script) => {
+                    let script = Slot::new(alloc, script)?;
+                    Ok(Ok(script))
+                }
+                Err(fault) => Ok(Err(FileFault::Script(fault))),
+            }
+        }
     }
 }
 
-/// The lines of a base, which has to be there.
-pub fn base_lines(
-    alloc: Global,
-    file: InputFile,
-    base: &Option<Bytes>,
-) -> Result<List<BaseLine>, Stop<InputFile, InputRefusal>>
-    ensures { Gives (BaseComes file base.now) result }
+/// A base, which has to be there.
+pub fn named_base(alloc: Global, base: &Option<Bytes>) -> Result<Result<Base, FileFault>, Memory>
+    ensures { IfOk result (BaseComes base.now) }
 {
     match base {
-        None => Err(Stop::Refused(InputRefusal::Missing { file })),
+        None => Ok(Err(FileFault::Missing)),
         Some(text) => match read_base(alloc, text.as_slice()) {
-            Ok(Base { lines }) => Ok(lines),
-            Err(LineFault::Line { line, why }) => {
-                Err(Stop::Refused(InputRefusal::Base { file, line, why }))
-            }
-            Err(LineFault::Memory) => Err(Stop::NoMemory),
+            Ok(base) => Ok(Ok(base)),
+            Err(LineFault::Line { line, why }) => { Ok(Err(FileFault::Line { line, why })) }
+            Err(LineFault::Memory) => Err(Memory),
         },
     }
 }
 
 /// The tree of a run, which has to be there.
-pub fn start_tree(
-    alloc: Global,
-    file: InputFile,
-    tree: &Option<Bytes>,
-) -> Result<Value, Stop<InputFile, InputRefusal>>
-    ensures comes { Gives (StartComes file tree.now) result }
-    ensures tree { IfOk result IsTree }
+pub fn start_tree(alloc: Global, tree: &Option<Bytes>) -> Result<Result<Value, FileFault>, Memory>
+    ensures comes { IfOk result (StartComes tree.now) }
+    ensures tree { IfOk result (λ came. IfOk came IsTree) }
 {
     match tree {
-        None => Err(Stop::Refused(InputRefusal::Missing { file })),
+        None => Ok(Err(FileFault::Missing)),
         Some(text) => match read_tree(alloc, text.as_slice()) {
-            Ok(tree) => Ok(tree),
-            Err(TreeFault::Line { line, why }) => {
-                Err(Stop::Refused(InputRefusal::Tree { file, line, why }))
-            }
-            Err(TreeFault::Memory) => Err(Stop::NoMemory),
+            Ok(tree) => Ok(Ok(tree)),
+            Err(TreeFault::Line { line, why }) => { Ok(Err(FileFault::Line { line, why })) }
+            Err(TreeFault::Memory) => Err(Memory),
         },
     }
 }
@@ -148,16 +126,18 @@ pub fn start_tree(
 /// The script that is translated, which has to be there.
 pub fn translated_script(
     alloc: Global,
-    file: InputFile,
     script: &Option<Bytes>,
-) -> Result<Accepted, Stop<InputFile, InputRefusal>>
-    ensures { Gives (TranslatedComes file script.now) result }
+) -> Result<Result<Accepted, FileFault>, Memory>
+    ensures { IfOk result (TranslatedComes script.now) }
 {
     match script {
-        None => Err(Stop::Refused(InputRefusal::Missing { file })),
-        Some(text) => match read_accepted(alloc, file, text.as_slice()) {
-            Ok(script) => Ok(script),
-            Err(stop) => Err(stop),
-        },
+        None => Ok(Err(FileFault::Missing)),
+        Some(text) => {
+            let came = read_script(alloc, text.as_slice())?;
+            match came {
+                Ok(script) => Ok(Ok(script)),
+                Err(fault) => Ok(Err(FileFault::Script(fault))),
+            }
+        }
     }
 }

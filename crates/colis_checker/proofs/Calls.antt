@@ -7,10 +7,10 @@ use Rattle.command_words.specs.declared.request.Request.{Request}
 use Rattle.command_words.specs.declared.request.Request.TheVariants as words
 use Rattle.checker_input.specs.declared.faults.InputRefusal.{InputRefusal}
 use Rattle.checker_input.specs.declared.task.Task.{Task}
-use Rattle.checker_input.specs.Input.{file_name, input}
+use Rattle.checker_input.specs.Input.{input}
 use Rattle.checker_input.specs.Laws.{OneAnswer}
-use Rattle.colis_checker.specs.declared.faults.Refusal.{Refusal}
-use Rattle.colis_checker.specs.declared.faults.Refusal.TheVariants.{Usage}
+use Rattle.colis_checker.specs.declared.faults.CallRefusal.{CallRefusal}
+use Rattle.colis_checker.specs.declared.faults.CallRefusal.TheVariants.{Usage}
 use Rattle.colis_checker.specs.declared.deliver.Reply.{Reply}
 use Rattle.colis_checker.specs.declared.deliver.Reply.TheVariants.{Text, Refused, ReadFailed, NoMemory}
 use Rattle.colis_checker.specs.ErrorLines.{refusal_line, write_failed_line, no_memory_line}
@@ -22,13 +22,13 @@ use Rattle.colis_checker.proofs.Took.{took_none}
 
 -- words that fit no form
 pub usage_said : (given : Result Request ℕ) (holds : Option Files) (word : ℕ) (line : List ℕ) → given ≡ Err word
-    → line ≡ refusal_line (λ _. []) (Usage word) → IsRefusalLine given holds line
+    → line ≡ refusal_line (Usage word) → IsRefusalLine given holds line
 usage_said given holds word line e is =
     let P : Result Request ℕ → Type 0 = λ r. IsRefusalLine r holds line in
     subst P (sym e) (record { refusal = Usage word; is_refusal = refl; line_is = is })
 
 answer_small : {given : Result Request ℕ} {holds : Option Files} {text : List ℕ} {status : ℕ} → IsAnswerText given holds text status → status ≤ 2
-answer_small is = text_small is.request is.task _ _ is.of_task
+answer_small is = text_small is.task _ _ is.of_task
 
 same_none : (old new : SinkState) → new ≡ old → Took old.taken new.taken []
 same_none old new e = let P : SinkState → Type 0 = λ s. Took old.taken s.taken [] in subst P (sym e) (took_none old.taken)
@@ -201,7 +201,7 @@ comes_once : OneAnswer → (request : Request) (holds : Option Files) (one : Res
 unfolding input
 comes_once once (words.Load number limit) holds one is = λ files other gives. sym gives ∙ is.may
 comes_once once request None one is = tt
-comes_once once request (Some files) one is = λ other gives. sym (once request (λ file. files (file_name request file)) one other is.told gives)
+comes_once once request (Some files) one is = λ other gives. sym (once request files one other is.told gives)
 
 told_once : OneAnswer → (request : Request) (holds : Option Files) (one : Result Task InputRefusal) (P : Result Task InputRefusal → Type 0) (other : Result Task InputRefusal)
     → FilesGive request holds one → P one → OverFiles request holds (λ files. FilesGiveOver request files other → P other)
@@ -216,15 +216,15 @@ pub task_or_fault : {a : Task} {fault : InputRefusal} → ◌≡◌ {A = Result 
 task_or_fault e = cc
 
 -- a request whose text was written is not refused
-told_text : OneAnswer → (request : Request) (holds : Option Files) (task : Task) (text : List ℕ) (status : ℕ) (refusal : Refusal) (A : Type 0)
-    → FilesGive request holds (Ok task) → IsTextOf request task text status
+told_text : OneAnswer → (request : Request) (holds : Option Files) (task : Task) (text : List ℕ) (status : ℕ) (refusal : CallRefusal) (A : Type 0)
+    → FilesGive request holds (Ok task) → IsTextOf task text status
     → OverFiles request holds (λ files. IsRequestRefusal request (FilesGiveOver request files) refusal → A)
 told_text once request holds task text status refusal A is of_task =
     over_map request holds (IsOnly request (Ok task)) (λ files. IsRequestRefusal request (FilesGiveOver request files) refusal → A)
     (λ files only refused. elim refused [
       | inl a ↦ absurd (task_or_fault (sym (only (Err a.0) a.2)))
-      | inr b ↦ let same = same_task (only (Ok b.0) b.1) in
-          absurd (text_or_refusal request task text status refusal of_task (subst (λ (t : Task). IsTaskRefusal request t refusal) same b.2))
+      | inr b ↦ let same = same_task (only (Ok b.0) b.3) in
+          absurd (text_or_refusal task text status b.1 of_task (subst (λ (t : Task). IsTaskRefusal t b.1) same b.4))
     ])
     (comes_once once request holds (Ok task) is)
 
@@ -244,42 +244,42 @@ module _ (once : OneAnswer) (given : Result Request ℕ) (s0 s1 : ShelfState) (o
   not_failed (inl text) = none.out text.rose
   not_failed (inr line) = none.err line.rose
 
-  -- what is wanted where a request comes to a task
-  abbrev CompletesWith : Request → Result Task InputRefusal → Type 0
-  CompletesWith request (Ok task) = CanComplete request task → MayEnd task status ⊎ (status ≡ 6)
-  CompletesWith request (Err fault) = Unit {0}
+  -- what is wanted of a task
+  abbrev CompletesWith : Result Task InputRefusal → Type 0
+  CompletesWith (Ok task) = CanComplete task → MayEnd task status ⊎ (status ≡ 6)
+  CompletesWith (Err fault) = Unit {0}
 
   -- a text is that of the request
   by_text : (request : Request) (text : List ℕ) (wanted : ℕ) → given ≡ Ok request → (is : IsAnswerText given s0.holds text wanted)
-      → FilesGive request s0.holds (Ok is.task) × IsTextOf request is.task text wanted
+      → FilesGive request s0.holds (Ok is.task) × IsTextOf is.task text wanted
   by_text request text wanted e is =
-      subst (λ (r : Request). FilesGive r s0.holds (Ok is.task) × IsTextOf r is.task text wanted) (same_request (sym is.spelled ∙ e)) (is.read, is.of_task)
+      subst (λ (r : Request). FilesGive r s0.holds (Ok is.task) × IsTextOf is.task text wanted) (same_request (sym is.spelled ∙ e)) (is.read, is.of_task)
 
   -- a refusal is that of the request
-  by_refusal : (request : Request) (refusal : Refusal) → given ≡ Ok request → IsRefusal given s0.holds refusal
+  by_refusal : (request : Request) (refusal : CallRefusal) → given ≡ Ok request → IsRefusal given s0.holds refusal
       → IsRequestRefusal request (FilesGive request s0.holds) refusal
   by_refusal request refusal e is = let P : Result Request ℕ → Type 0 = λ r. IsRefusal r s0.holds refusal in subst P e is
 
   -- what was refused does not come to a task that can be completed
-  refused_completes : (request : Request) (task : Task) (refusal : Refusal) → IsRequestRefusal request (FilesGive request s0.holds) refusal
-      → OverFiles request s0.holds (λ files. FilesGiveOver request files (Ok task) → CanComplete request task → MayEnd task status ⊎ (status ≡ 6))
-  refused_completes request task refusal (inl a) = told_once once request s0.holds (Err a.0) (CompletesWith request) (Ok task) a.2 tt
+  refused_completes : (request : Request) (task : Task) (refusal : CallRefusal) → IsRequestRefusal request (FilesGive request s0.holds) refusal
+      → OverFiles request s0.holds (λ files. FilesGiveOver request files (Ok task) → CanComplete task → MayEnd task status ⊎ (status ≡ 6))
+  refused_completes request task refusal (inl a) = told_once once request s0.holds (Err a.0) CompletesWith (Ok task) a.2 tt
   refused_completes request task refusal (inr b) =
-      told_once once request s0.holds (Ok b.0) (CompletesWith request) (Ok task) b.1
-      (λ can. absurd (refusal_or_complete request b.0 refusal b.2 can))
+      told_once once request s0.holds (Ok b.0) CompletesWith (Ok task) b.3
+      (λ can. absurd (refusal_or_complete b.0 b.1 b.4 can))
 
   pub call_complete : Completes given s0 status
   call_complete request task e = elim (status_cases status le) [
     | inl a ↦ let said = (reported a).is_text in
-        told_once once request s0.holds (Ok said.task) (CompletesWith request) (Ok task) (by_text request (reported a).text status e said).0
-        (λ can. inl (text_ends said.request said.task _ _ said.of_task))
+        told_once once request s0.holds (Ok said.task) CompletesWith (Ok task) (by_text request (reported a).text status e said).0
+        (λ can. inl (text_ends said.task _ _ said.of_task))
     | inr b ↦ elim b [
       | inl c ↦ refused_completes request task (refused c).is_line.refusal (by_refusal request (refused c).is_line.refusal e (refused c).is_line.is_refusal)
       | inr d ↦ elim d [
         | inl f ↦ absurd (none.shelf (read_failed f).rose)
         | inr g ↦ elim g [
           | inl h ↦ absurd (not_failed (write_failed h))
-          | inr i ↦ over_all request s0.holds (λ files. FilesGiveOver request files (Ok task) → CanComplete request task → MayEnd task status ⊎ (status ≡ 6))
+          | inr i ↦ over_all request s0.holds (λ files. FilesGiveOver request files (Ok task) → CanComplete task → MayEnd task status ⊎ (status ≡ 6))
               (λ files gives can. inr i)
         ]
       ]
@@ -307,7 +307,7 @@ module _ (once : OneAnswer) (given : Result Request ℕ) (s0 s1 : ShelfState) (o
         ]
       ]
 
-      for_requests : (request : Request) (refusal : Refusal) → given ≡ Ok request
+      for_requests : (request : Request) (refusal : CallRefusal) → given ≡ Ok request
           → OverFiles request s0.holds (λ files. IsRequestRefusal request (FilesGiveOver request files) refusal → (status ≡ 3) ⊎ (status ≡ 6))
       for_requests request refusal e = elim (status_cases status le) [
         | inl a ↦ let said = (reported a).is_text in let text = by_text request (reported a).text status e said in

@@ -1,6 +1,6 @@
 -- The packages of a load are one, and the summary of a report on them is that of the load.
 use Rattle.std.proofs.Common.{◌≡◌, ℕ, ◌≤◌, Bool, true, false, List, Option, None, refl, sym, subst, ◌∙◌, arith}
-use Rattle.package_lists.specs.declared.base.BaseLine.{BaseLine}
+use Rattle.system_base.specs.declared.base.Base.{Base}
 use Rattle.checker_input.specs.declared.package.Package.{Package}
 use Rattle.checker_input.specs.declared.package.Packages.{Packages}
 use Rattle.load_maker.proofs.OnePackage.{one_package}
@@ -12,9 +12,9 @@ use Rattle.colis_checker.specs.declared.loads.TheConstants.{TURNS}
 use Rattle.colis_checker.specs.Reports.{chosen, AreParts}
 use Rattle.colis_checker.specs.Loads.{AreLoaded, IsLoadOf}
 
-same_packages : {a b : Package} {x y : Option Package} {l m : List BaseLine} → a ≡ b → x ≡ y → l ≡ m
-    → ◌≡◌ {A = Packages} (record { new_package = a; old_package = x; base = record { lines = l } })
-    (record { new_package = b; old_package = y; base = record { lines = m } })
+same_packages : {a b : Package} {x y : Option Package} {l m : Base} → a ≡ b → x ≡ y → l ≡ m
+    → ◌≡◌ {A = Packages} (record { new_package = a; old_package = x; base = l })
+    (record { new_package = b; old_package = y; base = m })
 same_packages e f g = rw (e, f, g) refl
 
 pub one_loaded : (number : ℕ) (one other : Packages) → AreLoaded number one → AreLoaded number other → one ≡ other

@@ -3,20 +3,18 @@ use Rattle.std.proofs.Common.{◌≡◌, ℕ, ◌<◌, List, [], ◌∷◌, ◌+
 use Rattle.script_names.specs.declared.mark.Mark.{Mark}
 use Rattle.feature_trees.specs.declared.value.Value.{Value}
 use Rattle.dpkg_scenarios.specs.declared.scenario.Scenario.{Scenario}
-use Rattle.command_words.specs.declared.request.Request.{Request}
-use Rattle.command_words.specs.declared.request.Request.TheVariants as words
 use Rattle.checker_input.specs.declared.faults.InputRefusal.{InputRefusal}
 use Rattle.checker_input.specs.declared.package.Packages.{Packages}
 use Rattle.checker_input.specs.declared.task.Task.{Task}
-use Rattle.checker_input.specs.declared.task.Task.TheVariants as read
-use Rattle.checker_input.specs.Input.{file_name}
+use Rattle.checker_input.specs.declared.task.Task.TheVariants as task
 use Rattle.checker_input.specs.Laws.{OneAnswer}
 use Rattle.scenario_runs.specs.declared.replayed.Replayed.{Replayed}
 use Rattle.package_jobs.specs.Written.{written_run}
 use Rattle.package_jobs.specs.StartTrees.{IsStartTree}
 use Rattle.scenario_outcomes.specs.Outcomes.{AreTraces, AreTooMany, SomeStarts}
 use Rattle.colis_checker.specs.declared.faults.Refusal.{Refusal}
-use Rattle.colis_checker.specs.declared.faults.Refusal.TheVariants.{Usage, Input, NoStart, Limit}
+use Rattle.colis_checker.specs.declared.faults.Refusal.TheVariants.{NoStart, Limit}
+use Rattle.colis_checker.specs.declared.faults.CallRefusal.TheVariants.{Input, Task as OfTask}
 use Rattle.colis_checker.specs.Reports.{chosen, CanReport, CanReportAll, IsRefused, IsFirstRefused}
 use Rattle.colis_checker.specs.declared.loads.TheConstants.{TURNS}
 use Rattle.colis_checker.specs.Loads.{IsLoadRefusal}
@@ -46,14 +44,8 @@ module _ (packages : Packages) (turns limit : ℕ) where
 
   refused_once : (scenario : Scenario) (one other : Refusal) → IsRefused packages turns limit scenario one
       → IsRefused packages turns limit scenario other → one ≡ other
-  refused_once scenario (Usage word) other x y = absurd x
-  refused_once scenario (Input fault) other x y = absurd x
-  refused_once scenario (NoStart which) (Usage word) x y = absurd y
-  refused_once scenario (NoStart which) (Input fault) x y = absurd y
   refused_once scenario (NoStart which) (NoStart that) x y = ap NoStart (x.0 ∙ sym y.0)
   refused_once scenario (NoStart which) (Limit that most) x y = absurd (x.1 (started scenario y.2))
-  refused_once scenario (Limit which most) (Usage word) x y = absurd y
-  refused_once scenario (Limit which most) (Input fault) x y = absurd y
   refused_once scenario (Limit which most) (NoStart that) x y = absurd (y.1 (started scenario x.2))
   refused_once scenario (Limit which most) (Limit that least) x y = same_limit (x.0 ∙ sym y.0) (x.1 ∙ sym y.1)
 
@@ -94,31 +86,24 @@ load_refused_once number limit one other x y =
     first_once y.packages TURNS limit (chosen None) one other
     (subst (λ (p : Packages). IsFirstRefused p TURNS limit (chosen None) one) same x.refused) y.refused
 
-task_refused_once : (request : Request) (task : Task) (one other : Refusal) → IsTaskRefusal request task one
-    → IsTaskRefusal request task other → one ≡ other
-task_refused_once (words.Check folders scenario turns limit layout) (read.Check packages) one other x y =
+task_refused_once : (asked : Task) (one other : Refusal) → IsTaskRefusal asked one → IsTaskRefusal asked other → one ≡ other
+task_refused_once (task.Check packages scenario turns limit layout) one other x y =
     first_once packages turns limit (chosen scenario) one other x y
-task_refused_once (words.Check folders scenario turns limit layout) (read.Run packages tree) one other x y = absurd x
-task_refused_once (words.Check folders scenario turns limit layout) (read.Translate script) one other x y = absurd x
-task_refused_once (words.Check folders scenario turns limit layout) read.Load one other x y = absurd x
-task_refused_once (words.Run folders file scenario turns) task one other x y = absurd x
-task_refused_once (words.Translate file) task one other x y = absurd x
-task_refused_once (words.Load number limit) (read.Check packages) one other x y = absurd x
-task_refused_once (words.Load number limit) (read.Run packages tree) one other x y = absurd x
-task_refused_once (words.Load number limit) (read.Translate script) one other x y = absurd x
-task_refused_once (words.Load number limit) read.Load one other x y = load_refused_once number limit one other x y
+task_refused_once (task.Run packages tree scenario turns) one other x y = absurd x
+task_refused_once (task.Translate script) one other x y = absurd x
+task_refused_once (task.Load number limit) one other x y = load_refused_once number limit one other x y
 
 same_fault : {a b : InputRefusal} → ◌≡◌ {A = Result Task InputRefusal} (Err a) (Err b) → a ≡ b
 same_fault e = cc
 
 pub one_refusal : OneAnswer → OneRefusal
 one_refusal once request files one other (inl x) (inl y) =
-    let same = same_fault (once request (λ file. files (file_name request file)) (Err x.0) (Err y.0) x.2 y.2) in
+    let same = same_fault (once request files (Err x.0) (Err y.0) x.2 y.2) in
     x.1 ∙ ap Input same ∙ sym y.1
 one_refusal once request files one other (inl x) (inr y) =
-    absurd (task_or_fault (once request (λ file. files (file_name request file)) (Ok y.0) (Err x.0) y.1 x.2))
+    absurd (task_or_fault (once request files (Ok y.0) (Err x.0) y.3 x.2))
 one_refusal once request files one other (inr x) (inl y) =
-    absurd (task_or_fault (once request (λ file. files (file_name request file)) (Ok x.0) (Err y.0) x.1 y.2))
+    absurd (task_or_fault (once request files (Ok x.0) (Err y.0) x.3 y.2))
 one_refusal once request files one other (inr x) (inr y) =
-    let same = same_task (once request (λ file. files (file_name request file)) (Ok x.0) (Ok y.0) x.1 y.1) in
-    task_refused_once request y.0 one other (subst (λ (t : Task). IsTaskRefusal request t one) same x.2) y.2
+    let same = same_task (once request files (Ok x.0) (Ok y.0) x.3 y.3) in
+    x.2 ∙ ap OfTask (task_refused_once y.0 x.1 y.1 (subst (λ (t : Task). IsTaskRefusal t x.1) same x.4) y.4) ∙ sym y.2

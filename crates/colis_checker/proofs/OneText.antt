@@ -6,6 +6,7 @@ use Rattle.shell_syntax.specs.declared.script.Script.{Script}
 use Rattle.colis_syntax.specs.ProgramText.{program_text}
 use Rattle.dpkg_scenarios.specs.declared.scenario.Scenario.{Scenario}
 use Rattle.dpkg_scenarios.specs.declared.scenario.Ending.{Ending}
+use Rattle.checker_io.specs.Reading.{MayAnswer, and_then, done}
 use Rattle.checker_io.specs.Shelf.{Files}
 use Rattle.command_words.specs.declared.request.Layout.TheVariants.{Plain, Brief, Json}
 use Rattle.command_words.specs.declared.request.Request.{Request}
@@ -13,7 +14,7 @@ use Rattle.command_words.specs.declared.request.Request.TheVariants as words
 use Rattle.checker_input.specs.declared.package.Packages.{Packages}
 use Rattle.checker_input.specs.declared.task.Task.{Task}
 use Rattle.checker_input.specs.declared.task.Task.TheVariants as read
-use Rattle.checker_input.specs.Input.{file_name}
+use Rattle.checker_input.specs.Input.{input, packages_in, start_in, translated_in}
 use Rattle.checker_input.specs.Laws.{OneAnswer}
 use Rattle.scenario_runs.specs.declared.replayed.Replayed.{Replayed}
 use Rattle.package_jobs.specs.Written.{written_run}
@@ -21,11 +22,12 @@ use Rattle.package_jobs.specs.StartTrees.{IsStartTree}
 use Rattle.outcome_report.specs.declared.outcome_report.ReportEntry.{ReportEntry}
 use Rattle.outcome_report.specs.declared.outcome_report.ReportPart.{ReportPart}
 use Rattle.outcome_report.specs.declared.outcome_report.Report.{Report}
-use Rattle.outcome_report.specs.Laws.{ending_and_trace, scenario_and_endings, EndingsTellBriefTexts}
+use Rattle.outcome_report.specs.Laws.{ending_and_trace, scenario_and_endings}
+use Rattle.report_text.specs.TextLaws.{EndingsTellBriefTexts}
 use Rattle.outcome_report.specs.OutcomeReport.{verdict_of}
 use Rattle.dpkg_scenarios.specs.Verdicts.{ending_verdict}
-use Rattle.outcome_report.specs.RunText.{run_text}
-use Rattle.outcome_report.proofs.Briefs.{verdict_told, verdict_is}
+use Rattle.report_text.specs.RunText.{run_text}
+use Rattle.report_text.proofs.Briefs.{verdict_told, verdict_is}
 use Rattle.outcome_report.proofs.EndAlike.{parts_end_alike}
 use Rattle.outcome_report.proofs.Entries.{same_run}
 use Rattle.load_summary.specs.declared.endings.ScenarioEndings.{ScenarioEndings}
@@ -38,6 +40,7 @@ use Rattle.colis_checker.specs.Tasks.{IsRunOf, IsProgramOf, IsTextOf}
 use Rattle.colis_checker.specs.Top.{FilesGive, IsAnswerText}
 use Rattle.colis_checker.specs.Laws.{OneReportStatus, OneBriefText, OneStatus, ShowsNoOutcome, OneText}
 use Rattle.colis_checker.proofs.Calls.{same_request, same_task}
+use Rattle.colis_checker.proofs.InRange.{may_then}
 use Rattle.colis_checker.proofs.Loaded.{one_loaded}
 use Rattle.colis_checker.proofs.WholeReports.{whole_parts}
 
@@ -143,51 +146,53 @@ program_same_text script text other status other_status a b =
 
 -- ---- a task
 
-task_status : (request : Request) (task : Task) (text other : List ℕ) (status other_status : ℕ)
-    → IsTextOf request task text status → IsTextOf request task other other_status → status ≡ other_status
-task_status (words.Check folders scenario turns limit layout) (read.Check packages) text other status other_status a b =
+task_status : (asked : Task) (text other : List ℕ) (status other_status : ℕ)
+    → IsTextOf asked text status → IsTextOf asked other other_status → status ≡ other_status
+task_status (read.Check packages scenario turns limit layout) text other status other_status a b =
     one_report_status packages turns limit limit (chosen scenario) layout layout text other status other_status a b
-task_status (words.Check folders scenario turns limit layout) (read.Run packages tree) text other status other_status a b = absurd a
-task_status (words.Check folders scenario turns limit layout) (read.Translate script) text other status other_status a b = absurd a
-task_status (words.Check folders scenario turns limit layout) read.Load text other status other_status a b = absurd a
-task_status (words.Run folders file scenario turns) (read.Check packages) text other status other_status a b = absurd a
-task_status (words.Run folders file scenario turns) (read.Run packages tree) text other status other_status a b =
+task_status (read.Run packages tree scenario turns) text other status other_status a b =
     run_status packages tree scenario turns text other status other_status a b
-task_status (words.Run folders file scenario turns) (read.Translate script) text other status other_status a b = absurd a
-task_status (words.Run folders file scenario turns) read.Load text other status other_status a b = absurd a
-task_status (words.Translate file) (read.Check packages) text other status other_status a b = absurd a
-task_status (words.Translate file) (read.Run packages tree) text other status other_status a b = absurd a
-task_status (words.Translate file) (read.Translate script) text other status other_status a b = a.status_is ∙ sym b.status_is
-task_status (words.Translate file) read.Load text other status other_status a b = absurd a
-task_status (words.Load number limit) (read.Check packages) text other status other_status a b = absurd a
-task_status (words.Load number limit) (read.Run packages tree) text other status other_status a b = absurd a
-task_status (words.Load number limit) (read.Translate script) text other status other_status a b = absurd a
-task_status (words.Load number limit) read.Load text other status other_status a b =
+task_status (read.Translate script) text other status other_status a b = a.status_is ∙ sym b.status_is
+task_status (read.Load number limit) text other status other_status a b =
     load_status number limit text other status other_status a b
 
-task_text : OneBriefText → (request : Request) (task : Task) (text other : List ℕ) (status other_status : ℕ)
-    → ShowsNoOutcome request → IsTextOf request task text status → IsTextOf request task other other_status → text ≡ other
-task_text once (words.Check folders scenario turns limit Plain) task text other status other_status shows a b = absurd shows
-task_text once (words.Check folders scenario turns limit Json) task text other status other_status shows a b = absurd shows
-task_text once (words.Check folders scenario turns limit Brief) (read.Check packages) text other status other_status shows a b =
+-- the text of the task shows no clause and no start tree of an outcome
+abbrev ShowsNone : Task → Type 0
+ShowsNone (read.Check packages scenario turns limit Plain) = ⊥
+ShowsNone (read.Check packages scenario turns limit Brief) = Unit {0}
+ShowsNone (read.Check packages scenario turns limit Json) = ⊥
+ShowsNone (read.Run packages tree scenario turns) = Unit {0}
+ShowsNone (read.Translate script) = Unit {0}
+ShowsNone (read.Load number limit) = Unit {0}
+
+-- so it is where its request says so
+shows_none : (request : Request) (asked : Task) → ShowsNoOutcome request → MayAnswer (Ok asked) (input request) → ShowsNone asked
+unfolding input
+shows_none (words.Check folders scenario turns limit Plain) asked shows may = absurd shows
+shows_none (words.Check folders scenario turns limit Json) asked shows may = absurd shows
+shows_none (words.Check folders scenario turns limit Brief) asked shows may =
+    let packages = may_then (packages_in folders) (λ packages. done (Ok (read.Check packages scenario turns limit Brief))) asked may in
+    subst ShowsNone (same_task packages.1) tt
+shows_none (words.Run folders file scenario turns) asked shows may =
+    let packages = may_then (packages_in folders) (λ packages. and_then (start_in file) (λ start. done (Ok (read.Run packages start scenario turns)))) asked may in
+    let start = may_then (start_in file) (λ start. done (Ok (read.Run packages.0 start scenario turns))) asked packages.1 in
+    subst ShowsNone (same_task start.1) tt
+shows_none (words.Translate file) asked shows may =
+    let script = may_then (translated_in file) (λ script. done (Ok (read.Translate script))) asked may in
+    subst ShowsNone (same_task script.1) tt
+shows_none (words.Load number limit) asked shows may = subst ShowsNone (same_task may) tt
+
+task_text : OneBriefText → (asked : Task) (text other : List ℕ) (status other_status : ℕ)
+    → ShowsNone asked → IsTextOf asked text status → IsTextOf asked other other_status → text ≡ other
+task_text once (read.Check packages scenario turns limit Plain) text other status other_status shows a b = absurd shows
+task_text once (read.Check packages scenario turns limit Json) text other status other_status shows a b = absurd shows
+task_text once (read.Check packages scenario turns limit Brief) text other status other_status shows a b =
     once packages turns limit limit (chosen scenario) text other status other_status a b
-task_text once (words.Check folders scenario turns limit Brief) (read.Run packages tree) text other status other_status shows a b = absurd a
-task_text once (words.Check folders scenario turns limit Brief) (read.Translate script) text other status other_status shows a b = absurd a
-task_text once (words.Check folders scenario turns limit Brief) read.Load text other status other_status shows a b = absurd a
-task_text once (words.Run folders file scenario turns) (read.Check packages) text other status other_status shows a b = absurd a
-task_text once (words.Run folders file scenario turns) (read.Run packages tree) text other status other_status shows a b =
+task_text once (read.Run packages tree scenario turns) text other status other_status shows a b =
     run_same_text packages tree scenario turns text other status other_status a b
-task_text once (words.Run folders file scenario turns) (read.Translate script) text other status other_status shows a b = absurd a
-task_text once (words.Run folders file scenario turns) read.Load text other status other_status shows a b = absurd a
-task_text once (words.Translate file) (read.Check packages) text other status other_status shows a b = absurd a
-task_text once (words.Translate file) (read.Run packages tree) text other status other_status shows a b = absurd a
-task_text once (words.Translate file) (read.Translate script) text other status other_status shows a b =
+task_text once (read.Translate script) text other status other_status shows a b =
     program_same_text script text other status other_status a b
-task_text once (words.Translate file) read.Load text other status other_status shows a b = absurd a
-task_text once (words.Load number limit) (read.Check packages) text other status other_status shows a b = absurd a
-task_text once (words.Load number limit) (read.Run packages tree) text other status other_status shows a b = absurd a
-task_text once (words.Load number limit) (read.Translate script) text other status other_status shows a b = absurd a
-task_text once (words.Load number limit) read.Load text other status other_status shows a b =
+task_text once (read.Load number limit) text other status other_status shows a b =
     load_text number limit text other status other_status a b
 
 -- ---- a call
@@ -197,32 +202,33 @@ record OfOneTask (given : Result Request ℕ) (text other : List ℕ) (status ot
   request : Request
   spelled : given ≡ Ok request
   task : Task
-  first : IsTextOf request task text status
-  second : IsTextOf request task other other_status
+  comes : MayAnswer (Ok task) (input request)
+  first : IsTextOf task text status
+  second : IsTextOf task other other_status
 
 of_one_task : OneAnswer → (given : Result Request ℕ) (files : Files) (text other : List ℕ) (status other_status : ℕ)
     → IsAnswerText given (Some files) text status → IsAnswerText given (Some files) other other_status
     → OfOneTask given text other status other_status
 of_one_task once given files text other status other_status a b =
-    let moved : FilesGive a.request (Some files) (Ok b.task) × IsTextOf a.request b.task other other_status =
-    subst (λ (r : Request). FilesGive r (Some files) (Ok b.task) × IsTextOf r b.task other other_status)
-    (same_request (sym b.spelled ∙ a.spelled)) (b.read, b.of_task) in
-    let same = same_task (once a.request (λ file. files (file_name a.request file)) (Ok b.task) (Ok a.task) moved.0.told a.read.told) in
+    let moved : FilesGive a.request (Some files) (Ok b.task) =
+    subst (λ (r : Request). FilesGive r (Some files) (Ok b.task)) (same_request (sym b.spelled ∙ a.spelled)) b.read in
+    let same = same_task (once a.request files (Ok b.task) (Ok a.task) moved.told a.read.told) in
     record {
       request = a.request;
       spelled = a.spelled;
       task = a.task;
+      comes = a.read.may;
       first = a.of_task;
-      second = subst (λ (t : Task). IsTextOf a.request t other other_status) same moved.1;
+      second = subst (λ (t : Task). IsTextOf t other other_status) same b.of_task;
     }
 
 pub one_status : OneAnswer → OneStatus
 one_status once given files text other status other_status a b =
     let both = of_one_task once given files text other status other_status a b in
-    task_status both.request both.task text other status other_status both.first both.second
+    task_status both.task text other status other_status both.first both.second
 
 pub one_text : OneAnswer → EndingsTellBriefTexts → OneText
 one_text once tell request files text other status other_status shows a b =
     let both = of_one_task once (Ok request) files text other status other_status a b in
-    task_text (one_brief_text tell) both.request both.task text other status other_status
-    (subst ShowsNoOutcome (same_request both.spelled) shows) both.first both.second
+    task_text (one_brief_text tell) both.task text other status other_status
+    (shows_none both.request both.task (subst ShowsNoOutcome (same_request both.spelled) shows) both.comes) both.first both.second

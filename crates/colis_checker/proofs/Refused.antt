@@ -1,14 +1,12 @@
 -- What is reported is not refused.
 use Rattle.std.proofs.Common.{ℕ, ◌≤◌, List, [], ◌∷◌, ◌++◌, None, subst, arith}
 use Rattle.dpkg_scenarios.specs.declared.scenario.Scenario.{Scenario}
-use Rattle.command_words.specs.declared.request.Request.{Request}
-use Rattle.command_words.specs.declared.request.Request.TheVariants as words
 use Rattle.checker_input.specs.declared.package.Packages.{Packages}
 use Rattle.checker_input.specs.declared.task.Task.{Task}
-use Rattle.checker_input.specs.declared.task.Task.TheVariants as read
+use Rattle.checker_input.specs.declared.task.Task.TheVariants as task
 use Rattle.outcome_report.specs.declared.outcome_report.ReportPart.{ReportPart}
 use Rattle.colis_checker.specs.declared.faults.Refusal.{Refusal}
-use Rattle.colis_checker.specs.declared.faults.Refusal.TheVariants.{Usage, Input, NoStart, Limit}
+use Rattle.colis_checker.specs.declared.faults.Refusal.TheVariants.{NoStart, Limit}
 use Rattle.colis_checker.specs.Reports.{chosen, CanReport, CanReportAll, IsRefused, AreParts, IsFirstRefused}
 use Rattle.colis_checker.specs.Loads.{IsLoadOf, IsLoadRefusal, CanLoad}
 use Rattle.colis_checker.specs.declared.loads.TheConstants.{TURNS}
@@ -19,8 +17,6 @@ module _ (packages : Packages) (turns limit : ℕ) where
   -- a scenario that can be reported is not refused
   pub can_or_refused : (scenario : Scenario) (refusal : Refusal) → CanReport packages turns limit scenario
       → IsRefused packages turns limit scenario refusal → ⊥
-  can_or_refused scenario (Usage word) can against = against
-  can_or_refused scenario (Input fault) can against = against
   can_or_refused scenario (NoStart which) can against = against.1 can.starts
   can_or_refused scenario (Limit which most) can against =
       let many = against.2 in let few = can.few many.traces many.are many.differ in let more = many.count in omega arith
@@ -59,68 +55,31 @@ load_refusal_or_complete number limit refusal against can =
     none_refused against.packages TURNS limit (chosen None) refusal (can against.packages against.loaded) against.refused
 
 -- a task whose text was written is not refused
-pub text_or_refusal : (request : Request) (task : Task) (text : List ℕ) (status : ℕ) (refusal : Refusal)
-    → IsTextOf request task text status → IsTaskRefusal request task refusal → ⊥
-text_or_refusal (words.Check folders scenario turns limit layout) (read.Check packages) text status refusal is against =
+pub text_or_refusal : (asked : Task) (text : List ℕ) (status : ℕ) (refusal : Refusal)
+    → IsTextOf asked text status → IsTaskRefusal asked refusal → ⊥
+text_or_refusal (task.Check packages scenario turns limit layout) text status refusal is against =
     none_refused packages turns limit (chosen scenario) refusal (parts_can packages turns limit (chosen scenario) is.report.parts is.parts) against
-text_or_refusal (words.Check folders scenario turns limit layout) (read.Run packages tree) text status refusal is against = against
-text_or_refusal (words.Check folders scenario turns limit layout) (read.Translate script) text status refusal is against = against
-text_or_refusal (words.Check folders scenario turns limit layout) read.Load text status refusal is against = against
-text_or_refusal (words.Run folders file scenario turns) task text status refusal is against = against
-text_or_refusal (words.Translate file) task text status refusal is against = against
-text_or_refusal (words.Load number limit) (read.Check packages) text status refusal is against = against
-text_or_refusal (words.Load number limit) (read.Run packages tree) text status refusal is against = against
-text_or_refusal (words.Load number limit) (read.Translate script) text status refusal is against = against
-text_or_refusal (words.Load number limit) read.Load text status refusal is against = load_or_refusal number limit text status refusal is against
+text_or_refusal (task.Run packages tree scenario turns) text status refusal is against = against
+text_or_refusal (task.Translate script) text status refusal is against = against
+text_or_refusal (task.Load number limit) text status refusal is against = load_or_refusal number limit text status refusal is against
 
 -- nor is one that can be completed
-pub refusal_or_complete : (request : Request) (task : Task) (refusal : Refusal)
-    → IsTaskRefusal request task refusal → CanComplete request task → ⊥
-refusal_or_complete (words.Check folders scenario turns limit layout) (read.Check packages) refusal against can =
+pub refusal_or_complete : (asked : Task) (refusal : Refusal) → IsTaskRefusal asked refusal → CanComplete asked → ⊥
+refusal_or_complete (task.Check packages scenario turns limit layout) refusal against can =
     none_refused packages turns limit (chosen scenario) refusal can against
-refusal_or_complete (words.Check folders scenario turns limit layout) (read.Run packages tree) refusal against can = against
-refusal_or_complete (words.Check folders scenario turns limit layout) (read.Translate script) refusal against can = against
-refusal_or_complete (words.Check folders scenario turns limit layout) read.Load refusal against can = against
-refusal_or_complete (words.Run folders file scenario turns) task refusal against can = against
-refusal_or_complete (words.Translate file) task refusal against can = against
-refusal_or_complete (words.Load number limit) (read.Check packages) refusal against can = against
-refusal_or_complete (words.Load number limit) (read.Run packages tree) refusal against can = against
-refusal_or_complete (words.Load number limit) (read.Translate script) refusal against can = against
-refusal_or_complete (words.Load number limit) read.Load refusal against can = load_refusal_or_complete number limit refusal against can
+refusal_or_complete (task.Run packages tree scenario turns) refusal against can = against
+refusal_or_complete (task.Translate script) refusal against can = against
+refusal_or_complete (task.Load number limit) refusal against can = load_refusal_or_complete number limit refusal against can
 
-pub text_small : (request : Request) (task : Task) (text : List ℕ) (status : ℕ) → IsTextOf request task text status → status ≤ 2
-text_small (words.Check folders scenario turns limit layout) (read.Check packages) text status is = is.small
-text_small (words.Check folders scenario turns limit layout) (read.Run packages tree) text status is = absurd is
-text_small (words.Check folders scenario turns limit layout) (read.Translate script) text status is = absurd is
-text_small (words.Check folders scenario turns limit layout) read.Load text status is = absurd is
-text_small (words.Run folders file scenario turns) (read.Check packages) text status is = absurd is
-text_small (words.Run folders file scenario turns) (read.Run packages tree) text status is = is.small
-text_small (words.Run folders file scenario turns) (read.Translate script) text status is = absurd is
-text_small (words.Run folders file scenario turns) read.Load text status is = absurd is
-text_small (words.Translate file) (read.Check packages) text status is = absurd is
-text_small (words.Translate file) (read.Run packages tree) text status is = absurd is
-text_small (words.Translate file) (read.Translate script) text status is = let none = is.status_is in omega arith
-text_small (words.Translate file) read.Load text status is = absurd is
-text_small (words.Load number limit) (read.Check packages) text status is = absurd is
-text_small (words.Load number limit) (read.Run packages tree) text status is = absurd is
-text_small (words.Load number limit) (read.Translate script) text status is = absurd is
-text_small (words.Load number limit) read.Load text status is = is.small
+pub text_small : (asked : Task) (text : List ℕ) (status : ℕ) → IsTextOf asked text status → status ≤ 2
+text_small (task.Check packages scenario turns limit layout) text status is = is.small
+text_small (task.Run packages tree scenario turns) text status is = is.small
+text_small (task.Translate script) text status is = let none = is.status_is in omega arith
+text_small (task.Load number limit) text status is = is.small
 
 -- the status of a task's text is one with which the task may end
-pub text_ends : (request : Request) (task : Task) (text : List ℕ) (status : ℕ) → IsTextOf request task text status → MayEnd task status
-text_ends (words.Check folders scenario turns limit layout) (read.Check packages) text status is = is.small
-text_ends (words.Check folders scenario turns limit layout) (read.Run packages tree) text status is = absurd is
-text_ends (words.Check folders scenario turns limit layout) (read.Translate script) text status is = absurd is
-text_ends (words.Check folders scenario turns limit layout) read.Load text status is = absurd is
-text_ends (words.Run folders file scenario turns) (read.Check packages) text status is = absurd is
-text_ends (words.Run folders file scenario turns) (read.Run packages tree) text status is = is.small
-text_ends (words.Run folders file scenario turns) (read.Translate script) text status is = absurd is
-text_ends (words.Run folders file scenario turns) read.Load text status is = absurd is
-text_ends (words.Translate file) (read.Check packages) text status is = absurd is
-text_ends (words.Translate file) (read.Run packages tree) text status is = absurd is
-text_ends (words.Translate file) (read.Translate script) text status is = is.status_is
-text_ends (words.Translate file) read.Load text status is = absurd is
-text_ends (words.Load number limit) (read.Check packages) text status is = absurd is
-text_ends (words.Load number limit) (read.Run packages tree) text status is = absurd is
-text_ends (words.Load number limit) (read.Translate script) text status is = absurd is
-text_ends (words.Load number limit) read.Load text status is = is.small
+pub text_ends : (asked : Task) (text : List ℕ) (status : ℕ) → IsTextOf asked text status → MayEnd asked status
+text_ends (task.Check packages scenario turns limit layout) text status is = is.small
+text_ends (task.Run packages tree scenario turns) text status is = is.small
+text_ends (task.Translate script) text status is = is.status_is
+text_ends (task.Load number limit) text status is = is.small

@@ -10,7 +10,7 @@ use Rattle.scenario_runs.specs.declared.replayed.Replayed.{Replayed}
 use Rattle.scenario_runs.specs.Runs.{scenario_run}
 use Rattle.package_jobs.specs.Written.{written_run}
 use Rattle.dpkg_scenarios.specs.Verdicts.{ending_verdict}
-use Rattle.outcome_report.specs.RunText.{run_text}
+use Rattle.report_text.specs.RunText.{run_text}
 use Rattle.colis_checker.specs.Tasks.{IsRunOf}
 
 small_verdict : (e : Ending) → ending_verdict e ≤ 2

@@ -10,7 +10,7 @@ use Rattle.shell_syntax.specs.contracts.script.Script as Script
 use Rattle.shell_syntax.proofs.key.Key.TheSendSync as key
 use Rattle.shell_syntax.proofs.redirect.Redirect.TheSendSync as redirect
 use Rattle.std.proofs.Crossing as heap
-use Rattle.package_lists.proofs.base.Base.TheSendSync as base
+use Rattle.system_base.proofs.base.Base.TheSendSync as base
 use Rattle.package_lists.proofs.entry.Entry.TheSendSync as entry
 use Rattle.checker_input.specs.contracts.package.Packages as Packages
 use Rattle.checker_input.specs.contracts.package.Package as Package

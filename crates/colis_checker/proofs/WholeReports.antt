@@ -16,10 +16,10 @@ use Rattle.scenario_outcomes.specs.Outcomes.{IsExact}
 use Rattle.outcome_report.specs.declared.outcome_report.ReportEntry.{ReportEntry}
 use Rattle.outcome_report.specs.declared.outcome_report.ReportPart.{ReportPart}
 use Rattle.outcome_report.specs.declared.replay.Replay.{Replay}
-use Rattle.outcome_report.specs.Numbered.{AreNumbered, AllNumbered}
+use Rattle.report_text.specs.Numbered.{AreNumbered, AllNumbered}
 use Rattle.outcome_report.specs.OutcomeReport.{IsEntryOf, AllEntries, IsPart}
-use Rattle.outcome_report.specs.Whole.{IsWholeEntry, AllWhole, AllPartsWhole, AreInOrder, scenario_place}
-use Rattle.outcome_report.specs.TextLaws.{TextsTellReports}
+use Rattle.report_text.specs.Whole.{IsWholeEntry, AllWhole, AllPartsWhole, AreInOrder, scenario_place}
+use Rattle.report_text.specs.TextLaws.{TextsTellReports}
 use Rattle.report_json.specs.Laws as json
 use Rattle.colis_checker.specs.Reports.{AreParts, chosen}
 use Rattle.colis_checker.specs.Laws.{WholeReports, PlainTextsTellReports, JsonTextsTellReports}

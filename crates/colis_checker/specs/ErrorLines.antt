@@ -3,17 +3,15 @@ use Rattle.std.specs.Prelude.{ℕ, List, ◌++◌, codes}
 use Rattle.std.specs.Fmt.{decimal}
 use Rattle.shell_syntax.specs.declared.form.Form.{Form as FormName}
 use Rattle.shell_syntax.specs.declared.form.Form.TheVariants as form
-use Rattle.shell_lexer.specs.declared.fault.LexFault.{LexFault}
-use Rattle.shell_lexer.specs.declared.fault.LexFault.TheVariants as lexing
-use Rattle.shell_grammar.specs.declared.fault.ParseFault.{ParseFault}
-use Rattle.shell_grammar.specs.declared.fault.ParseFault.TheVariants as parsing
-use Rattle.checker_input.specs.declared.faults.InputFile.{InputFile}
-use Rattle.checker_input.specs.declared.faults.InputRefusal.{InputRefusal}
-use Rattle.checker_input.specs.declared.faults.InputRefusal.TheVariants.{Missing, TooLong, Lex, Parse, Form, Control}
-use Rattle.checker_input.specs.declared.faults.InputRefusal.TheVariants.{List as BadList, Conf, Base, Tree}
+use Rattle.checker_input.specs.declared.faults.FileFault.{FileFault}
+use Rattle.checker_input.specs.declared.faults.FileFault.TheVariants.{Missing, TooLong, Script, Version, Line}
+use Rattle.checker_input.specs.declared.script.ScriptFault.{ScriptFault}
+use Rattle.checker_input.specs.declared.script.ScriptFault.TheVariants as reason
 use Rattle.dpkg_scenarios.specs.Names.{scenario_name}
 use Rattle.colis_checker.specs.declared.faults.Refusal.{Refusal}
-use Rattle.colis_checker.specs.declared.faults.Refusal.TheVariants.{Usage, Input, NoStart, Limit}
+use Rattle.colis_checker.specs.declared.faults.Refusal.TheVariants.{NoStart, Limit}
+use Rattle.colis_checker.specs.declared.faults.CallRefusal.{CallRefusal}
+use Rattle.colis_checker.specs.declared.faults.CallRefusal.TheVariants.{Usage, Input, Task}
 use Rattle.shown_texts.specs.Lines.{line}
 
 -- the name of an unsupported form
@@ -59,51 +57,45 @@ form_line name form at = place_line name (unsupported form) at
 abbrev pub no_memory_line : List ℕ
 no_memory_line = line (codes "colis: out of memory")
 
--- the line of a file whose text is not cut into tokens; want of memory is no such fault, and has its own line
-abbrev pub lex_line : List ℕ → LexFault → List ℕ
-lex_line name (lexing.Nul at) = place_line name (codes ": NUL byte at ") at
-lex_line name (lexing.Interpreter at) = file_line name (codes ": interpreter not accepted")
-lex_line name (lexing.OpenQuote at) = place_line name (codes ": open quote at ") at
-lex_line name (lexing.OpenSubstitution at) = place_line name (codes ": open substitution at ") at
-lex_line name (lexing.Unsupported form at) = form_line name (form_name form) at
-lex_line name (lexing.Deep at) = place_line name (codes ": nested too deep at ") at
-lex_line name lexing.Memory = no_memory_line
-
--- the line of a file whose tokens spell no script within 64 levels; want of memory is no such fault, and has its own
--- line
-abbrev pub parse_line : List ℕ → ParseFault → List ℕ
-parse_line name (parsing.Syntax at) = place_line name (codes ": syntax at ") at
-parse_line name (parsing.Deep at) = place_line name (codes ": nested too deep at ") at
-parse_line name parsing.Memory = no_memory_line
+-- the line of a file whose text is no accepted script
+abbrev pub script_line : List ℕ → ScriptFault → List ℕ
+script_line name (reason.Nul at) = place_line name (codes ": NUL byte at ") at
+script_line name (reason.Interpreter at) = file_line name (codes ": interpreter not accepted")
+script_line name (reason.OpenQuote at) = place_line name (codes ": open quote at ") at
+script_line name (reason.OpenSubstitution at) = place_line name (codes ": open substitution at ") at
+script_line name (reason.Unsupported form at) = form_line name (form_name form) at
+script_line name (reason.DeepSubstitution at) = place_line name (codes ": nested too deep at ") at
+script_line name (reason.Syntax at) = place_line name (codes ": syntax at ") at
+script_line name (reason.Deep at) = place_line name (codes ": nested too deep at ") at
+script_line name (reason.Form form at) = form_line name (form_name form) at
 
 -- the line of a file whose line of this number is at fault for this reason
 abbrev pub fault_line : List ℕ → ℕ → ℕ → List ℕ
 fault_line name number why = file_line name (codes ": line " ++ decimal number ++ codes ": fault " ++ decimal why)
 
--- the line of a file that is refused
-abbrev pub input_line : (InputFile → List ℕ) → InputRefusal → List ℕ
-input_line name (Missing file) = file_line (name file) (codes ": missing")
-input_line name (TooLong file) = file_line (name file) (codes ": longer than 1048576 bytes")
-input_line name (Lex file fault) = lex_line (name file) fault
-input_line name (Parse file fault) = parse_line (name file) fault
-input_line name (Form file form at) = form_line (name file) (form_name form) at
-input_line name (Control file number) = place_line (name file) (codes ": bad version in line ") number
-input_line name (BadList file number why) = fault_line (name file) number why
-input_line name (Conf file number why) = fault_line (name file) number why
-input_line name (Base file number why) = fault_line (name file) number why
-input_line name (Tree file number why) = fault_line (name file) number why
+-- the line of a file that is refused, by its name and what is wrong with it
+abbrev pub input_line : List ℕ → FileFault → List ℕ
+input_line name Missing = file_line name (codes ": missing")
+input_line name TooLong = file_line name (codes ": longer than 1048576 bytes")
+input_line name (Script why) = script_line name why
+input_line name (Version number) = place_line name (codes ": bad version in line ") number
+input_line name (Line number why) = fault_line name number why
 
--- the line of a refusal
-abbrev pub refusal_line : (InputFile → List ℕ) → Refusal → List ℕ
-refusal_line name (Usage word) = line (codes "colis: usage: word " ++ decimal word)
-refusal_line name (Input fault) = input_line name fault
-refusal_line name (NoStart scenario) = line (codes "colis: no start tree for " ++ scenario_name scenario)
-refusal_line name (Limit scenario limit) =
+-- the line of a scenario that is refused
+abbrev pub scenario_line : Refusal → List ℕ
+scenario_line (NoStart scenario) = line (codes "colis: no start tree for " ++ scenario_name scenario)
+scenario_line (Limit scenario limit) =
     line (codes "colis: more than " ++ decimal limit ++ codes " outcomes in " ++ scenario_name scenario)
 
--- the line of a read that failed
-abbrev pub read_failed_line : (InputFile → List ℕ) → InputFile → List ℕ
-read_failed_line name file = file_line (name file) (codes ": read failed")
+-- the line of a refusal
+abbrev pub refusal_line : CallRefusal → List ℕ
+refusal_line (Usage word) = line (codes "colis: usage: word " ++ decimal word)
+refusal_line (Input refused) = input_line refused.file refused.fault
+refusal_line (Task refused) = scenario_line refused
+
+-- the line of a read that failed, of the file of this name
+abbrev pub read_failed_line : List ℕ → List ℕ
+read_failed_line name = file_line name (codes ": read failed")
 
 -- the line of a text that could not be written whole
 abbrev pub write_failed_line : List ℕ

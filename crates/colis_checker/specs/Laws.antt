@@ -18,8 +18,8 @@ use Rattle.outcome_report.specs.declared.outcome_report.ReportEntry.{ReportEntry
 use Rattle.outcome_report.specs.declared.outcome_report.ReportPart.{ReportPart}
 use Rattle.outcome_report.specs.declared.outcome_report.Report.{Report}
 use Rattle.outcome_report.specs.Kept.{replay_of}
-use Rattle.outcome_report.specs.Whole.{IsWhole}
-use Rattle.colis_checker.specs.declared.faults.Refusal.{Refusal}
+use Rattle.report_text.specs.Whole.{IsWhole}
+use Rattle.colis_checker.specs.declared.faults.CallRefusal.{CallRefusal}
 use Rattle.colis_checker.specs.Reports.{AreParts, IsPartOf, IsReportOf, chosen}
 use Rattle.colis_checker.specs.Top.{FilesGiveOver, IsRequestRefusal, IsAnswerText}
 
@@ -208,6 +208,6 @@ OneText =
 -- over files of the same contents a request is refused for one reason
 abbrev pub OneRefusal : Type 0
 OneRefusal =
-    (request : Request) (files : Files) (one other : Refusal)
+    (request : Request) (files : Files) (one other : CallRefusal)
     → IsRequestRefusal request (FilesGiveOver request files) one
     → IsRequestRefusal request (FilesGiveOver request files) other → one ≡ other

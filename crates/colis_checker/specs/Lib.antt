@@ -1,9 +1,8 @@
 pub mod CommandLine
 pub mod Settled
 pub mod Reports
+pub mod Accounts
 pub mod Loads
-pub mod LoadEndings
-pub mod ToldParts
 pub mod Tasks
 pub mod ErrorLines
 pub mod Delivery

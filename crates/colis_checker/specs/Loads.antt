@@ -1,23 +1,27 @@
 -- What a load comes to: the summary of the report on a made package; or else which scenario is refused.
 use Rattle.std.specs.Prelude.{◌≡◌, ℕ, ◌≤◌, List, None, Result, Ok, Err}
-use Rattle.package_lists.specs.Bases.{usual}
+use Rattle.system_base.specs.Bases.{usual}
 use Rattle.checker_input.specs.declared.package.Packages.{Packages}
 use Rattle.load_maker.specs.Loaded.{IsLoaded}
 use Rattle.outcome_report.specs.declared.outcome_report.Report.{Report}
+use Rattle.outcome_report.specs.declared.outcome_report.ReportPart.{ReportPart}
 use Rattle.outcome_report.specs.OutcomeReport.{verdict_of}
+use Rattle.load_summary.specs.declared.endings.ScenarioEndings.{ScenarioEndings}
+use Rattle.load_summary.specs.Endings.{endings_of}
 use Rattle.load_summary.specs.Summary.{summary_text}
 use Rattle.colis_checker.specs.declared.faults.Refusal.{Refusal}
 use Rattle.colis_checker.specs.declared.faults.TaskFault.{TaskFault}
 use Rattle.colis_checker.specs.declared.faults.TaskFault.TheVariants.{Refused, Memory}
 use Rattle.colis_checker.specs.declared.loads.TheConstants.{TURNS}
 use Rattle.colis_checker.specs.declared.written.Written.{Written}
+use Rattle.colis_checker.specs.Accounts.{AccountsGive}
 use Rattle.colis_checker.specs.Reports.{chosen, CanReportAll, AreParts, IsFirstRefused}
 
 -- the packages of a load: the made package of the number, which is its own old one, on the usual base
 pub record AreLoaded (number : ℕ) (packages : Packages) : Type 0 where
   pub made : IsLoaded number packages.new_package
   pub alone : packages.old_package ≡ None
-  pub on : packages.base.lines ≡ usual
+  pub on : packages.base ≡ usual
 
 -- the text sums up the report on the packages of a load, in all scenarios, and the status is its verdict
 pub record IsLoadOf (number limit : ℕ) (text : List ℕ) (status : ℕ) : Type 0 where
@@ -41,6 +45,11 @@ CanLoad number limit =
     (packages : Packages) → AreLoaded number packages → CanReportAll packages TURNS limit (chosen None)
 
 -- ---- what the code answers
+
+-- how the outcomes of all scenarios end, or why that is not known
+abbrev pub EndingsGive : Packages → ℕ → Result (List ScenarioEndings) TaskFault → Type 0
+EndingsGive packages limit =
+    AccountsGive (λ (part : ReportPart) (endings : ScenarioEndings). endings_of part ≡ endings) packages TURNS limit (chosen None)
 
 -- the summary of a load, or its refusal, or want of memory
 abbrev pub LoadGives : ℕ → ℕ → Result Written TaskFault → Type 0

@@ -14,12 +14,12 @@ use Rattle.scenario_outcomes.specs.Outcomes.{SomeStarts, AreFew, AreTooMany}
 use Rattle.outcome_report.specs.declared.outcome_report.ReportPart.{ReportPart}
 use Rattle.outcome_report.specs.declared.outcome_report.Report.{Report}
 use Rattle.outcome_report.specs.OutcomeReport.{IsPart, verdict_of}
-use Rattle.outcome_report.specs.ReportText.{report_text}
-use Rattle.outcome_report.specs.Whole.{IsRepresentable}
-use Rattle.outcome_report.specs.BriefText.{brief_text}
+use Rattle.report_text.specs.ReportText.{report_text}
+use Rattle.report_text.specs.Whole.{IsRepresentable}
+use Rattle.report_text.specs.BriefText.{brief_text}
 use Rattle.report_json.specs.ReportJson.{json_text}
 use Rattle.colis_checker.specs.declared.faults.Refusal.{Refusal}
-use Rattle.colis_checker.specs.declared.faults.Refusal.TheVariants.{Usage, Input, NoStart, Limit}
+use Rattle.colis_checker.specs.declared.faults.Refusal.TheVariants.{NoStart, Limit}
 use Rattle.colis_checker.specs.declared.faults.TaskFault.{TaskFault}
 use Rattle.colis_checker.specs.declared.faults.TaskFault.TheVariants.{Refused, Memory}
 use Rattle.colis_checker.specs.declared.written.Written.{Written}
@@ -60,8 +60,6 @@ module _ (packages : Packages) (turns limit : ℕ) where
   -- why the scenario is refused: there is no start tree, or the runs from the start trees have more different traces
   -- than the limit
   abbrev pub IsRefused : Scenario → Refusal → Type 0
-  IsRefused scenario (Usage word) = ⊥
-  IsRefused scenario (Input fault) = ⊥
   IsRefused scenario (NoStart which) = (which ≡ scenario) × ¬ (SomeStarts (IsStartTree scenario packages))
   IsRefused scenario (Limit which most) =
       (which ≡ scenario) × (most ≡ limit)
@@ -110,11 +108,6 @@ module _ (packages : Packages) (turns limit : ℕ) where
   abbrev pub IsFirstFault : List Scenario → TaskFault → Type 0
   IsFirstFault scenarios (Refused refusal) = IsFirstRefused scenarios refusal
   IsFirstFault scenarios Memory = Unit {0}
-
-  -- the part of a scenario, or why there is none
-  abbrev pub PartGives : Scenario → Result ReportPart TaskFault → Type 0
-  PartGives scenario (Ok part) = IsPartOf scenario part
-  PartGives scenario (Err fault) = IsFault scenario fault
 
   -- the parts of scenarios, or why there are none
   abbrev pub PartsGive : List Scenario → Result Report TaskFault → Type 0

@@ -8,12 +8,12 @@ use Rattle.checker_io.specs.Reading.{Answers, Asks, IsAnswer}
 use Rattle.command_words.specs.declared.request.Request.{Request}
 use Rattle.command_words.specs.declared.request.Request.TheVariants as words
 use Rattle.command_words.specs.Words.{form}
-use Rattle.checker_input.specs.declared.faults.InputFile.{InputFile}
 use Rattle.checker_input.specs.declared.faults.InputRefusal.{InputRefusal}
 use Rattle.checker_input.specs.declared.task.Task.{Task}
-use Rattle.checker_input.specs.Input.{input, file_name}
+use Rattle.checker_input.specs.Input.{input}
 use Rattle.colis_checker.specs.declared.faults.Refusal.{Refusal}
-use Rattle.colis_checker.specs.declared.faults.Refusal.TheVariants.{Usage, Input}
+use Rattle.colis_checker.specs.declared.faults.CallRefusal.{CallRefusal}
+use Rattle.colis_checker.specs.declared.faults.CallRefusal.TheVariants.{Usage, Input, Task as OfTask}
 use Rattle.colis_checker.specs.declared.deliver.TheConstants.{REFUSED, OUT_OF_MEMORY}
 use Rattle.colis_checker.specs.declared.deliver.Reply.{Reply}
 use Rattle.colis_checker.specs.declared.deliver.Reply.TheVariants.{Text, Refused, ReadFailed, NoMemory}
@@ -24,17 +24,17 @@ use Rattle.colis_checker.specs.ErrorLines.{refusal_line, read_failed_line, write
 
 -- where the shelf tells, the files of a request come to this task, or to this refusal; elsewhere they may
 abbrev pub FilesGive : Request → Option Files → Result Task InputRefusal → Type 0
-FilesGive request holds result = Answers (file_name request) holds (input request) result
+FilesGive request holds result = Answers (λ name. name) holds (input request) result
 
 -- files of these contents, by their names, do
 abbrev pub FilesGiveOver : Request → Files → Result Task InputRefusal → Type 0
-FilesGiveOver request files result = IsAnswer (λ file. files (file_name request file)) (input request) result
+FilesGiveOver request files result = IsAnswer files (input request) result
 
 -- The refusal of a request, by what its files come to: one of them is refused; or else the task is that they come to.
-abbrev pub IsRequestRefusal : Request → (Result Task InputRefusal → Type 0) → Refusal → Type 0
+abbrev pub IsRequestRefusal : Request → (Result Task InputRefusal → Type 0) → CallRefusal → Type 0
 IsRequestRefusal request Gives refusal =
     ((fault : InputRefusal) × (refusal ≡ Input fault) × Gives (Err fault))
-    ⊎ ((task : Task) × Gives (Ok task) × IsTaskRefusal request task refusal)
+    ⊎ ((task : Task) × (own : Refusal) × (refusal ≡ OfTask own) × Gives (Ok task) × IsTaskRefusal task own)
 
 -- ---- what is said
 
@@ -47,32 +47,27 @@ pub record IsAnswerText (given : Result Request ℕ) (holds : Option Files) (tex
   pub spelled : given ≡ Ok request
   pub task : Task
   pub read : FilesGive request holds (Ok task)
-  pub of_task : IsTextOf request task text status
+  pub of_task : IsTextOf task text status
 
 -- the refusal that the words, or else the request, are answered with
-abbrev pub IsRefusal : Result Request ℕ → Option Files → Refusal → Type 0
+abbrev pub IsRefusal : Result Request ℕ → Option Files → CallRefusal → Type 0
 IsRefusal (Err word) holds refusal = refusal ≡ Usage word
 IsRefusal (Ok request) holds refusal = IsRequestRefusal request (FilesGive request holds) refusal
 
--- the names of the files that are read
-abbrev pub names_of : Result Request ℕ → InputFile → List ℕ
-names_of (Err word) file = []
-names_of (Ok request) file = file_name request file
-
 -- the line says why the words or the request are refused
 pub record IsRefusalLine (given : Result Request ℕ) (holds : Option Files) (line : List ℕ) : Type 0 where
-  pub refusal : Refusal
+  pub refusal : CallRefusal
   pub is_refusal : IsRefusal given holds refusal
-  pub line_is : line ≡ refusal_line (names_of given) refusal
+  pub line_is : line ≡ refusal_line refusal
 
 -- the line says that a file which the words ask for was not read
 pub record IsReadFailedLine (given : Result Request ℕ) (holds : Option Files) (failed line : List ℕ) : Type 0 where
   pub request : Request
   pub spelled : given ≡ Ok request
-  pub file : InputFile
-  pub asked : Asks (file_name request) holds (input request) file
-  pub failed_is : failed ≡ file_name request file
-  pub line_is : line ≡ read_failed_line (file_name request) file
+  pub file : List ℕ
+  pub asked : Asks (λ name. name) holds (input request) file
+  pub failed_is : failed ≡ file
+  pub line_is : line ≡ read_failed_line file
 
 -- what a call has to say
 abbrev pub Replies : Result Request ℕ → ShelfState → ShelfState → Reply → Type 0
@@ -188,14 +183,14 @@ OverFiles request holds P = IfSome holds P
 -- missing.
 abbrev pub Completes : Result Request ℕ → ShelfState → ℕ → Type 0
 Completes given shelf status = (request : Request) (task : Task) → given ≡ Ok request
-    → OverFiles request shelf.holds (λ files. FilesGiveOver request files (Ok task) → CanComplete request task
+    → OverFiles request shelf.holds (λ files. FilesGiveOver request files (Ok task) → CanComplete task
     → MayEnd task status ⊎ (status ≡ OUT_OF_MEMORY))
 
 -- Where no count rose and a refusal applies, it is answered, or memory is missing.
 abbrev pub Refuses : Result Request ℕ → ShelfState → ℕ → Type 0
 Refuses given shelf status =
     ((word : ℕ) → given ≡ Err word → (status ≡ REFUSED) ⊎ (status ≡ OUT_OF_MEMORY))
-    × ((request : Request) (refusal : Refusal) → given ≡ Ok request
+    × ((request : Request) (refusal : CallRefusal) → given ≡ Ok request
     → OverFiles request shelf.holds (λ files. IsRequestRefusal request (FilesGiveOver request files) refusal
     → (status ≡ REFUSED) ⊎ (status ≡ OUT_OF_MEMORY)))
 

@@ -1,18 +1,15 @@
-ghost use Rattle.std.specs.Prelude.{◌≡◌, ◌++◌, [], IfOk, codes};
-ghost use Rattle.colis_checker.specs.ErrorLines.{form_name, place_line, unsupported, form_line, lex_line, parse_line};
-ghost use Rattle.colis_checker.specs.ErrorLines.{fault_line, input_line};
+ghost use Rattle.std.specs.Prelude.{◌≡◌, ◌++◌, IfOk, codes};
+ghost use Rattle.colis_checker.specs.ErrorLines.{form_name, place_line, unsupported, form_line, script_line};
+ghost use Rattle.colis_checker.specs.ErrorLines.{fault_line, input_line, scenario_line};
 ghost use Rattle.colis_checker.specs.ErrorLines.{refusal_line as line_of_refusal};
 ghost use Rattle.colis_checker.specs.ErrorLines.{read_failed_line as line_of_failure};
-ghost use Rattle.colis_checker.specs.declared.faults.Refusal.TheVariants.{Usage, NoStart, Limit};
-ghost use Rattle.checker_input.specs.Input.{file_name};
+ghost use Rattle.colis_checker.specs.declared.faults.CallRefusal.TheVariants.{Usage};
+ghost use Rattle.colis_checker.specs.declared.faults.Refusal.TheVariants.{NoStart, Limit};
 
-use crate::faults::Refusal;
-use checker_input::{InputFile, InputRefusal, make_name};
-use command_words::Request;
+use crate::faults::{CallRefusal, Refusal};
+use checker_input::{FileFault, ScriptFault};
 use dpkg_scenarios::{Scenario, scenario_name};
 use script_names::{Bytes, Memory};
-use shell_grammar::ParseFault;
-use shell_lexer::LexFault;
 use shell_syntax::Form;
 use shown_texts::push_number;
 use std::alloc::Global;
@@ -46,49 +43,31 @@ fn form_name(form: Form) -> &'static [u8]
 }
 
 // The beginning of a line on a file: the program, the file's name, and what is wrong with it.
-fn file_line(
-    alloc: Global,
-    request: &Request,
-    file: InputFile,
-    fault: &[u8],
-) -> Result<Bytes, Memory>
-    ensures { IfOk result (λ text. text ≡ codes "colis: " ++ file_name request.now file ++ fault.now) }
+fn file_line(alloc: Global, name: &str, fault: &[u8]) -> Result<Bytes, Memory>
+    ensures { IfOk result (λ text. text ≡ codes "colis: " ++ name.now ++ fault.now) }
 {
-    let name = make_name(alloc, request, file)?;
     let mut text = Bytes::new(alloc);
     text.extend(b"colis: ")?;
-    text.extend(name.as_str().as_bytes())?;
+    text.extend(name.as_bytes())?;
     text.extend(fault)?;
     Ok(text)
 }
 
 // The line of a fault in a file, with the number of its place or line.
-fn number_line(
-    alloc: Global,
-    request: &Request,
-    file: InputFile,
-    fault: &[u8],
-    number: u64,
-) -> Result<Bytes, Memory>
-    ensures { IfOk result (λ text. text ≡ place_line (file_name request.now file) fault.now number) }
+fn number_line(alloc: Global, name: &str, fault: &[u8], number: u64) -> Result<Bytes, Memory>
+    ensures { IfOk result (λ text. text ≡ place_line name.now fault.now number) }
 {
-    let mut text = file_line(alloc, request, file, fault)?;
+    let mut text = file_line(alloc, name, fault)?;
     push_number(&mut text, number)?;
     text.extend(b"\n")?;
     Ok(text)
 }
 
 // The line of a fault at a place in a file.
-fn place_line(
-    alloc: Global,
-    request: &Request,
-    file: InputFile,
-    fault: &[u8],
-    at: u32,
-) -> Result<Bytes, Memory>
-    ensures { IfOk result (λ text. text ≡ place_line (file_name request.now file) fault.now at) }
+fn place_line(alloc: Global, name: &str, fault: &[u8], at: u32) -> Result<Bytes, Memory>
+    ensures { IfOk result (λ text. text ≡ place_line name.now fault.now at) }
 {
-    let text = number_line(alloc, request, file, fault, u64::from(at))?;
+    let text = number_line(alloc, name, fault, u64::from(at))?;
     Ok(text)
 }
 
@@ -104,70 +83,41 @@ fn unsupported(alloc: Global, name: &[u8]) -> Result<Bytes, Memory>
 }
 
 // The line of a form, by its name, at a place in a file.
-fn form_line(
-    alloc: Global,
-    request: &Request,
-    file: InputFile,
-    name: &[u8],
-    at: u32,
-) -> Result<Bytes, Memory>
-    ensures { IfOk result (λ text. text ≡ form_line (file_name request.now file) name.now at) }
+fn form_line(alloc: Global, name: &str, form: &[u8], at: u32) -> Result<Bytes, Memory>
+    ensures { IfOk result (λ text. text ≡ form_line name.now form.now at) }
 {
-    let fault = unsupported(alloc, name)?;
-    place_line(alloc, request, file, fault.as_slice(), at)
+    let fault = unsupported(alloc, form)?;
+    place_line(alloc, name, fault.as_slice(), at)
 }
 
-// The line of a file whose text is not cut into tokens.
-fn lex_line(
-    alloc: Global,
-    request: &Request,
-    file: InputFile,
-    fault: LexFault,
-) -> Result<Bytes, Memory>
-    ensures { IfOk result (λ text. text ≡ lex_line (file_name request.now file) fault) }
+// The line of a file whose text is no accepted script.
+fn script_line(alloc: Global, name: &str, fault: ScriptFault) -> Result<Bytes, Memory>
+    ensures { IfOk result (λ text. text ≡ script_line name.now fault) }
 {
     match fault {
-        LexFault::Nul { at } => place_line(alloc, request, file, b": NUL byte at ", at),
-        LexFault::Interpreter { .. } => {
-            file_line(alloc, request, file, b": interpreter not accepted\n")
+        ScriptFault::Nul { at } => place_line(alloc, name, b": NUL byte at ", at),
+        ScriptFault::Interpreter { .. } => {
+            file_line(alloc, name, b": interpreter not accepted\n")
         }
-        LexFault::OpenQuote { at } => place_line(alloc, request, file, b": open quote at ", at),
-        LexFault::OpenSubstitution { at } => {
-            place_line(alloc, request, file, b": open substitution at ", at)
+        ScriptFault::OpenQuote { at } => place_line(alloc, name, b": open quote at ", at),
+        ScriptFault::OpenSubstitution { at } => {
+            place_line(alloc, name, b": open substitution at ", at)
         }
-        LexFault::Unsupported { form, at } => form_line(alloc, request, file, form_name(form), at),
-        LexFault::Deep { at } => place_line(alloc, request, file, b": nested too deep at ", at),
-        LexFault::Memory => Err(Memory),
-    }
-}
-
-// The line of a file whose tokens spell no script within 64 levels.
-fn parse_line(
-    alloc: Global,
-    request: &Request,
-    file: InputFile,
-    fault: ParseFault,
-) -> Result<Bytes, Memory>
-    ensures { IfOk result (λ text. text ≡ parse_line (file_name request.now file) fault) }
-{
-    match fault {
-        ParseFault::Syntax { at } => place_line(alloc, request, file, b": syntax at ", at),
-        ParseFault::Deep { at } => place_line(alloc, request, file, b": nested too deep at ", at),
-        ParseFault::Memory => Err(Memory),
+        ScriptFault::Unsupported { form, at } => { form_line(alloc, name, form_name(form), at) }
+        ScriptFault::DeepSubstitution { at } => {
+            place_line(alloc, name, b": nested too deep at ", at)
+        }
+        ScriptFault::Syntax { at } => place_line(alloc, name, b": syntax at ", at),
+        ScriptFault::Deep { at } => { place_line(alloc, name, b": nested too deep at ", at) }
+        ScriptFault::Form { form, at } => form_line(alloc, name, form_name(form), at),
     }
 }
 
 // The line of a file whose line of this number is at fault, for this reason.
-fn fault_line(
-    alloc: Global,
-    request: &Request,
-    file: InputFile,
-    number: u64,
-    why: u8,
-) -> Result<Bytes, Memory>
-    ensures { IfOk result (λ text. text ≡ fault_line (file_name request.now file) number why) }
+fn fault_line(alloc: Global, name: &str, number: u64, why: u8) -> Result<Bytes, Memory>
+    ensures { IfOk result (λ text. text ≡ fault_line name.now number why) }
 {
-    let mut text = file_line(alloc, request, file, b": line ")?;
+    let mut text = file_line(alloc, name, b": line ")?;
     push_number(&mut text, number)?;
     text.extend(b": fault ")?;
     push_number(&mut text, u64::from(why))?;
@@ -175,35 +125,26 @@ fn fault_line(
     Ok(text)
 }
 
-// The line of a file that is refused.
-fn input_line(alloc: Global, request: &Request, refusal: InputRefusal) -> Result<Bytes, Memory>
-    ensures { IfOk result (λ text. text ≡ input_line (file_name request.now) refusal) }
+// The line of a file that is refused, by its name and what is wrong with it.
+fn input_line(alloc: Global, name: &str, fault: FileFault) -> Result<Bytes, Memory>
+    ensures { IfOk result (λ text. text ≡ input_line name.now fault) }
 {
-    match refusal {
-        InputRefusal::Missing { file } => file_line(alloc, request, file, b": missing\n"),
-        InputRefusal::TooLong { file } => {
-            let mut text = file_line(alloc, request, file, b": longer than 1048576 bytes")?;
+    match fault {
+        FileFault::Missing => file_line(alloc, name, b": missing\n"),
+        FileFault::TooLong => {
+            let mut text = file_line(alloc, name, b": longer than 1048576 bytes")?;
             text.extend(b"\n")?;
             Ok(text)
         }
-        InputRefusal::Lex { file, fault } => lex_line(alloc, request, file, fault),
-        InputRefusal::Parse { file, fault } => parse_line(alloc, request, file, fault),
-        InputRefusal::Form { file, form, at } => {
-            form_line(alloc, request, file, form_name(form), at)
-        }
-        InputRefusal::Control { file, line } => {
-            number_line(alloc, request, file, b": bad version in line ", line)
-        }
-        InputRefusal::List { file, line, why } => fault_line(alloc, request, file, line, why),
-        InputRefusal::Conf { file, line, why } => fault_line(alloc, request, file, line, why),
-        InputRefusal::Base { file, line, why } => fault_line(alloc, request, file, line, why),
-        InputRefusal::Tree { file, line, why } => fault_line(alloc, request, file, line, why),
+        FileFault::Script(fault) => script_line(alloc, name, fault),
+        FileFault::Version { line } => number_line(alloc, name, b": bad version in line ", line),
+        FileFault::Line { line, why } => fault_line(alloc, name, line, why),
     }
 }
 
 // The line of a scenario for which there is no tree to begin with.
 fn no_start_line(alloc: Global, scenario: Scenario) -> Result<Bytes, Memory>
-    ensures { IfOk result (λ text. text ≡ line_of_refusal (λ _. []) (NoStart scenario)) }
+    ensures { IfOk result (λ text. text ≡ scenario_line (NoStart scenario)) }
 {
     let mut text = Bytes::new(alloc);
     text.extend(b"colis: no start tree for ")?;
@@ -214,7 +155,7 @@ fn no_start_line(alloc: Global, scenario: Scenario) -> Result<Bytes, Memory>
 
 // The line of a scenario whose runs have more different traces than the limit.
 fn limit_line(alloc: Global, scenario: Scenario, limit: u32) -> Result<Bytes, Memory>
-    ensures { IfOk result (λ text. text ≡ line_of_refusal (λ _. []) (Limit scenario limit)) }
+    ensures { IfOk result (λ text. text ≡ scenario_line (Limit scenario limit)) }
 {
     let mut text = Bytes::new(alloc);
     text.extend(b"colis: more than ")?;
@@ -227,7 +168,7 @@ fn limit_line(alloc: Global, scenario: Scenario, limit: u32) -> Result<Bytes, Me
 
 /// The line of words that are no command line; `word` is the number of the word at which that shows, from 1.
 pub fn usage_line(alloc: Global, word: u64) -> Result<Bytes, Memory>
-    ensures { IfOk result (λ text. text ≡ line_of_refusal (λ _. []) (Usage word)) }
+    ensures { IfOk result (λ text. text ≡ line_of_refusal (Usage word)) }
 {
     let mut text = Bytes::new(alloc);
     text.extend(b"colis: usage: word ")?;
@@ -236,21 +177,30 @@ pub fn usage_line(alloc: Global, word: u64) -> Result<Bytes, Memory>
     Ok(text)
 }
 
-/// The line of a refusal of a request.
-pub fn refusal_line(alloc: Global, request: &Request, refusal: Refusal) -> Result<Bytes, Memory>
-    ensures { IfOk result (λ text. text ≡ line_of_refusal (file_name request.now) refusal) }
+// The line of a scenario that is refused.
+fn scenario_line(alloc: Global, refusal: Refusal) -> Result<Bytes, Memory>
+    ensures { IfOk result (λ text. text ≡ scenario_line refusal) }
 {
     match refusal {
-        Refusal::Usage { word } => usage_line(alloc, word),
-        Refusal::Input(fault) => input_line(alloc, request, fault),
         Refusal::NoStart { scenario } => no_start_line(alloc, scenario),
         Refusal::Limit { scenario, limit } => limit_line(alloc, scenario, limit),
     }
 }
 
-/// The line of a read that failed.
-pub fn read_failed_line(alloc: Global, request: &Request, file: InputFile) -> Result<Bytes, Memory>
-    ensures { IfOk result (λ text. text ≡ line_of_failure (file_name request.now) file) }
+/// The line of a refusal of a call.
+pub fn refusal_line(alloc: Global, refusal: &CallRefusal) -> Result<Bytes, Memory>
+    ensures { IfOk result (λ text. text ≡ line_of_refusal refusal.now) }
 {
-    file_line(alloc, request, file, b": read failed\n")
+    match refusal {
+        CallRefusal::Usage { word } => usage_line(alloc, *word),
+        CallRefusal::Input(refused) => input_line(alloc, refused.file.as_str(), refused.fault),
+        CallRefusal::Task(refused) => scenario_line(alloc, *refused),
+    }
+}
+
+/// The line of a read that failed, of the file of this name.
+pub fn read_failed_line(alloc: Global, name: &str) -> Result<Bytes, Memory>
+    ensures { IfOk result (λ text. text ≡ line_of_failure name.now) }
+{
+    file_line(alloc, name, b": read failed\n")
 }

@@ -6,13 +6,20 @@ use dpkg_scenarios::Scenario;
 use scenario_outcomes::OutcomesFault;
 use script_names::Memory;
 
-/// Input that is refused.
-#[derive(Clone, Copy, Debug, PartialEq, Eq)]
-pub enum Refusal {
+/// Why a call is refused.
+#[derive(Debug, Drop)]
+pub enum CallRefusal {
     /// The words are no command line; the number of the word at which that shows, counted from 1.
     Usage { word: u64 },
     /// A file is refused.
     Input(InputRefusal),
+    /// A scenario is refused.
+    Task(Refusal),
+}
+
+/// Why a scenario is refused.
+#[derive(Clone, Copy, Debug, PartialEq, Eq)]
+pub enum Refusal {
     /// No tree of files has what the scenario needs to begin.
     NoStart { scenario: Scenario },
     /// The runs of the scenario have more different traces than the limit.

@@ -5,17 +5,18 @@
 //! is in specs/Reports.antt, and what it means in `theorems`.
 #![tactic(auto)]
 
+mod account;
 mod command_line;
 mod deliver;
 mod error_lines;
 mod faults;
 mod loads;
 mod reports;
+mod scenarios;
 mod tasks;
 #[cfg(test)]
 mod tests;
 pub mod theorems;
-mod told_reports;
 mod top;
 mod written;
 

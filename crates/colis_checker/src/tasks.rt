@@ -2,7 +2,8 @@
 
 ghost use Rattle.std.specs.Prelude.{◌≡◌, IfOk};
 ghost use Rattle.feature_trees.specs.Sound.{IsTree};
-ghost use Rattle.colis_checker.specs.Tasks.{Fits, IsRunOf, IsProgramOf, TaskGives};
+ghost use Rattle.checker_input.specs.Input.{IsSound};
+ghost use Rattle.colis_checker.specs.Tasks.{IsRunOf, IsProgramOf, TaskGives};
 
 use crate::faults::TaskFault;
 use crate::loads::write_load;
@@ -11,11 +12,11 @@ use crate::written::Written;
 use case_pool::Gate;
 use checker_input::{Packages, Task};
 use colis_syntax::print_program;
-use command_words::Request;
 use dpkg_scenarios::Scenario;
 use feature_trees::Value;
-use outcome_report::{render_run, run_status};
+use outcome_report::run_status;
 use package_jobs::job_of;
+use report_text::render_run;
 use scenario_runs::run;
 use script_names::Memory;
 use shell_forms::Accepted;
@@ -51,68 +52,55 @@ fn write_program(alloc: Global, script: &Accepted) -> Result<Written, Memory>
     Ok(Written { text, status: 0 })
 }
 
-// The text of what a request asks for, and the status that goes with it; or why there is none.
+// The text of what a task asks for, and the status that goes with it; or why there is none.
 fn write_task<R: Threads + Sync, G: Gate>(
     rt: &R,
     alloc: Global,
     gate: &G,
-    request: &Request,
     task: &Task,
 ) -> Result<Written, TaskFault>
-    requires { Fits request.now task.now }
-    ensures { TaskGives request.now task.now result }
+    requires { IsSound task.now }
+    ensures { TaskGives task.now result }
 {
-    match request {
-        Request::Check {
+    match task {
+        Task::Check {
+            packages,
             scenario,
             turns,
             limit,
             layout,
-            ..
-        } => match task {
-            Task::Check(packages) => {
-                write_report(
-                    rt, alloc, gate, packages, *turns, *limit, *scenario, *layout,
-                )
-            }
-            Task::Run(..) | Task::Translate(..) | Task::Load => unreachable!(),
-        },
-        Request::Run {
+        } => {
+            write_report(
+                rt, alloc, gate, packages, *turns, *limit, *scenario, *layout,
+            )
+        }
+        Task::Run {
+            packages,
+            tree,
             scenario,
             turns,
-            ..
-        } => match task {
-            Task::Run(packages, tree) => {
-                let written = write_run(alloc, packages, tree, *scenario, *turns)?;
-                Ok(written)
-            }
-            Task::Check(..) | Task::Translate(..) | Task::Load => unreachable!(),
-        },
-        Request::Translate { .. } => match task {
-            Task::Translate(script) => {
-                let written = write_program(alloc, script)?;
-                Ok(written)
-            }
-            Task::Check(..) | Task::Run(..) | Task::Load => unreachable!(),
-        },
-        Request::Load { number, limit } => match task {
-            Task::Load => write_load(rt, alloc, gate, *number, *limit),
-            Task::Check(..) | Task::Run(..) | Task::Translate(..) => unreachable!(),
-        },
+        } => {
+            let written = write_run(alloc, packages, tree, *scenario, *turns)?;
+            Ok(written)
+        }
+        Task::Translate { script } => {
+            let written = write_program(alloc, script)?;
+            Ok(written)
+        }
+        Task::Load { number, limit } => write_load(rt, alloc, gate, *number, *limit),
     }
 }
 
-/// The text of what a request asks for, and the status that goes with it; or why there is none. The task is let go
-/// here, in one place.
+/// The text of what a task asks for, and the status that goes with it; or why there is none. The task is let go here,
+/// in one place.
 pub fn carry_out<R: Threads + Sync, G: Gate>(
     rt: &R,
     alloc: Global,
     gate: &G,
-    request: &Request,
     task: Task,
 ) -> Result<Written, TaskFault>
-    requires { Fits request.now task }
-    ensures { TaskGives request.now task result }
+    requires { IsSound task }
+    ensures { TaskGives task result }
 {
-    write_task(rt, alloc, gate, request, &task)
+    write_task(rt, alloc, gate, &task)
 }

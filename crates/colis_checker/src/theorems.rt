@@ -6,9 +6,9 @@ ghost use Rattle.colis_checker.specs.Laws.{PlainTextsTellReports, JsonTextsTellR
 ghost use Rattle.colis_checker.specs.Laws.{OneReportStatus, OneBriefText, OneStatus, OneText, OneRefusal};
 
 use checker_input::theorems::one_answer;
-use outcome_report::theorems::{endings_tell_brief_texts, texts_tell_reports};
 use package_jobs::theorems::more_turns_change_no_written_run;
 use report_json::theorems::json_tells_reports;
+use report_text::theorems::{endings_tell_brief_texts, texts_tell_reports};
 
 /// Of a scenario that is reported with outcomes that are all done, the run from each start tree is done: it fails from
 /// none, and from none does it end where nothing is specified or no turn is left. With more turns of loops than it was

@@ -1,14 +1,14 @@
 ghost use Rattle.std.specs.Prelude.{◌≡◌, ◌≤◌, IfOk, IfErr, Ok};
 ghost use Rattle.std.specs.Process.{exit_status};
 ghost use Rattle.command_words.specs.Words.{form};
-ghost use Rattle.colis_checker.specs.Tasks.{IsInRange};
+ghost use Rattle.checker_input.specs.Input.{IsInRange};
 ghost use Rattle.colis_checker.specs.Top.{Replies, Reported, SaidRefusal};
 ghost use Rattle.colis_checker.specs.Top.{SaidReadFailed, FailedToWrite, RanOut, NoneRose, Completes, Refuses};
 ghost use Rattle.colis_checker.specs.Top.{OfWords};
 
 use crate::deliver::{OUT_OF_MEMORY, Reply, deliver};
 use crate::error_lines::{read_failed_line, refusal_line, usage_line};
-use crate::faults::{Refusal, TaskFault};
+use crate::faults::{CallRefusal, TaskFault};
 use crate::tasks::carry_out;
 use crate::written::Written;
 use case_pool::Gate;
@@ -35,19 +35,21 @@ fn reply<R: Threads + Sync, G: Gate, S: Shelf>(
     ensures replies { Replies (Ok request.now) (S.state shelf.old) (S.state shelf.new) result }
 {
     match read_task(alloc, request, shelf) {
-        Ok(task) => match carry_out(rt, alloc, gate, request, task) {
+        Ok(task) => match carry_out(rt, alloc, gate, task) {
             Ok(Written { text, status }) => Reply::Text { text, status },
-            Err(TaskFault::Refused(refusal)) => match refusal_line(alloc, request, refusal) {
-                Ok(line) => Reply::Refused { line },
-                Err(_) => Reply::NoMemory,
-            },
+            Err(TaskFault::Refused(refusal)) => {
+                match refusal_line(alloc, &CallRefusal::Task(refusal)) {
+                    Ok(line) => Reply::Refused { line },
+                    Err(_) => Reply::NoMemory,
+                }
+            }
             Err(TaskFault::Memory) => Reply::NoMemory,
         },
-        Err(Stop::Refused(fault)) => match refusal_line(alloc, request, Refusal::Input(fault)) {
+        Err(Stop::Refused(fault)) => match refusal_line(alloc, &CallRefusal::Input(fault)) {
             Ok(line) => Reply::Refused { line },
             Err(_) => Reply::NoMemory,
         },
-        Err(Stop::ReadFailed(file)) => match read_failed_line(alloc, request, file) {
+        Err(Stop::ReadFailed(name)) => match read_failed_line(alloc, name.as_str()) {
             Ok(line) => Reply::ReadFailed { line },
             Err(_) => Reply::NoMemory,
         },

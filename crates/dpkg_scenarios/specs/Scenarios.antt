@@ -1,6 +1,7 @@
 -- The six scenarios as tables, a line for each step: its number, what is done, the words of the call, what follows on
 -- success and what on failure; and beside its steps a record for each scenario. To be read beside Debian Policy, 6.5
--- (the calls), 6.6 (unpacking, and its unwinding), 6.7 (configuring) and 6.8 (removing and purging).
+-- (the calls), 6.6 (unpacking, and its unwinding), 6.7 (configuring) and 6.8 (removing and purging), which has the
+-- order of the scripts and their first words; the further words, and the states at the end, are this project's own.
 use Rattle.std.specs.Prelude.{ℕ, Bool, true, false, List, [], ◌∷◌, codes, if◌then◌else◌}
 use Rattle.script_names.specs.declared.reason.Reason.TheVariants.{Restore}
 use Rattle.dpkg_scenarios.specs.declared.columns.Before.{Before}

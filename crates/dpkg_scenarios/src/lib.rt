@@ -18,4 +18,4 @@ pub use columns::{Before, Columns, NewEntries, OwnFolders, all_scenarios, column
 pub use names::{scenario_name, scenario_named, script_name};
 pub use scenario::{Ending, Scenario, ScriptKind, State, StepNext, StepWork};
 pub use steps::{next, work};
-pub use verdicts::{ending_verdict, joint_verdict};
+pub use verdicts::{Judged, ending_verdict, joint_verdict, verdict_on};

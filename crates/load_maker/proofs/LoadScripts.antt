@@ -1,5 +1,8 @@
 -- The text of each number is an accepted script.
-use Rattle.std.proofs.Common.{◌≡◌, ℕ, zero, suc, ◌+◌, ◌/◌, ◌%◌, ◌<◌, ◌≤◌, true, false, List, [], ◌∷◌, ◌++◌, append_assoc, append-nil, length, Option, None, codes, refl, sym, subst, arith}
+use Rattle.std.proofs.Common.{◌≡◌, ℕ, zero, suc, ◌+◌, ◌/◌, ◌%◌, ◌<◌, ◌≤◌, Bool, true, false, List, [], ◌∷◌, ◌++◌, append_assoc, append-nil, length, Option, None, codes, refl, sym, ap, subst, arith}
+use Rattle.std.specs.Prelude.{◌&&◌, if◌then◌else◌, eqb}
+use Rattle.std.specs.List.{list_any}
+use Rattle.script_names.specs.Ascii.{equals}
 use Rattle.command_words.specs.declared.limits.TheConstants.{MOST_LOAD}
 use Rattle.shell_syntax.specs.declared.script.Script.{Script}
 use Rattle.shell_syntax.specs.declared.syntax.Command.{Command}
@@ -9,7 +12,8 @@ use Rattle.shell_lexer.specs.FirstLine.{nul_from}
 use Rattle.shell_lexer.specs.Lexed.{Cut}
 use Rattle.shell_lexer.specs.Parts.{Byte, look_by}
 use Rattle.shell_lexer.specs.Text.{Bytes, kind, offset}
-use Rattle.shell_grammar.specs.Look.{Tokens}
+use Rattle.shell_grammar.specs.declared.look.Look.TheVariants.{Assignment, Other}
+use Rattle.shell_grammar.specs.Look.{Tokens, whole_look, reserved}
 use Rattle.shell_grammar.specs.Spelling.{deep_64}
 use Rattle.shell_grammar.specs.Trees.{seq_of}
 use Rattle.shell_forms.specs.Names.{Text}
@@ -62,6 +66,14 @@ digits_plain k lt =
 path_plain : (k : ℕ) → k < 1000 → AllPlain (path k)
 path_plain k lt = (plain 47 (λ at t. refl) refl, (plain 115 (λ at t. refl) refl, (plain 114 (λ at t. refl) refl, (plain 118 (λ at t. refl) refl, (plain 47 (λ at t. refl) refl, (plain 107 (λ at t. refl) refl, digits_plain k lt))))))
 
+-- a path is no name, and no assignment either: its first byte is no byte of a name
+no_and : (x : Bool) → (x && false) ≡ false
+no_and true = refl
+no_and false = refl
+
+path_look : (k : ℕ) → whole_look (path k) (reserved (path k)) ≡ Other
+path_look k = ap (λ (b : Bool). if b then Assignment else Other) (no_and (list_any (λ b. eqb b equals) (path k)))
+
 -- ---- lines
 
 module _ (len : ℕ) where
@@ -102,7 +114,7 @@ module _ (len : ℕ) where
         lines = line_more deep_64 len line_at all good.tokens makes good.commands (look_plain (offset len first) (codes "mkdir") options)
             (command deep_64 len (offset len first) (codes "mkdir") options end _ refl (look_plain (offset len second) (codes "-p") paths)
             (word_more deep_64 len (offset len second) (codes "-p") paths end _ refl
-            (word_more deep_64 len (offset len third) (path k) end end [] refl (no_word_more deep_64 len line_at good.tokens))))
+            (word_more deep_64 len (offset len third) (path k) end end [] (path_look k) (no_word_more deep_64 len line_at good.tokens))))
             good.lines;
         formless = λ f. formless_more f makes good.commands (mkdir_formless f (offset len first) (offset len second) (offset len third) (path k) (member script_place) refl) (good.formless f);
         no_nul = nul_behind (codes "mkdir") (32 ∷ second) mkdir_plain

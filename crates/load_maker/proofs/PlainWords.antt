@@ -14,7 +14,7 @@ use Rattle.shell_lexer.specs.Late.{first_all, is_all_word, all_args, tilde, brac
 use Rattle.shell_lexer.specs.Reading.{Whole, Read, plain_run, token_at}
 use Rattle.shell_lexer.specs.Reading.{IsItems, items_end, items_pass, items_sign, items_word, IsWord, word_ends, word_byte}
 use Rattle.shell_lexer.proofs.PrintedBytes.{skip_first}
-use Rattle.shell_lexer.proofs.PrintedNotes.{if_none}
+use Rattle.token_laws.proofs.PrintedNotes.{if_none}
 
 -- ---- bytes
 

@@ -5,7 +5,7 @@ use Rattle.dpkg_scenarios.specs.declared.scenario.Ending.{Ending}
 use Rattle.outcome_report.specs.declared.outcome_report.ReportEntry.{ReportEntry}
 use Rattle.outcome_report.specs.declared.outcome_report.ReportPart.{ReportPart}
 use Rattle.outcome_report.specs.declared.outcome_report.Report.{Report}
-use Rattle.dpkg_scenarios.specs.Verdicts.{ending_verdict, joint_verdict}
+use Rattle.dpkg_scenarios.specs.Verdicts.{ending_verdict, verdict_on}
 use Rattle.load_summary.specs.declared.endings.ScenarioEndings.{ScenarioEndings}
 
 -- how an outcome ends
@@ -30,4 +30,4 @@ some_ends_so verdict scenarios = list_any (ends_so verdict) scenarios
 
 -- the verdict on the endings together
 abbrev pub endings_verdict : List ScenarioEndings → ℕ
-endings_verdict scenarios = joint_verdict (some_ends_so 1 scenarios) (some_ends_so 2 scenarios)
+endings_verdict scenarios = verdict_on (ends_so 1) (ends_so 2) scenarios

@@ -3,9 +3,9 @@
 ghost use Rattle.std.specs.Prelude.{◌≡◌};
 ghost use Rattle.outcome_report.specs.declared.outcome_report.Report.{Report};
 ghost use Rattle.outcome_report.specs.OutcomeReport.{verdict_of};
-ghost use Rattle.load_summary.specs.Endings.{HasEndings, ends_so, some_ends_so, endings_verdict};
+ghost use Rattle.load_summary.specs.Endings.{HasEndings, ends_so, endings_verdict};
 
-use dpkg_scenarios::{Ending, Scenario, ending_verdict, joint_verdict};
+use dpkg_scenarios::{Ending, Judged, Scenario, ending_verdict, verdict_on};
 use script_names::{Copied, List, Memory};
 use std::alloc::Global;
 
@@ -37,18 +37,25 @@ fn ends_so(scenario: &ScenarioEndings, verdict: u8) -> bool
         .any(|ending| ending_verdict(*ending) == verdict)
 }
 
-// Whether an ending of some scenario has this verdict.
-fn some_ends_so(scenarios: &[ScenarioEndings], verdict: u8) -> bool
-    ensures { result ≡ some_ends_so verdict scenarios.now }
-{
-    scenarios.iter().any(|scenario| ends_so(scenario, verdict))
+impl Judged for ScenarioEndings {
+    ghost failed = { ends_so 1 };
+
+    ghost unfinished = { ends_so 2 };
+
+    fn has_failed(&self) -> bool {
+        ends_so(self, 1)
+    }
+
+    fn is_unfinished(&self) -> bool {
+        ends_so(self, 2)
+    }
 }
 
 /// The verdict on the endings together.
 pub(crate) fn endings_verdict(scenarios: &[ScenarioEndings]) -> u8
     ensures { result ≡ endings_verdict scenarios.now }
 {
-    joint_verdict(some_ends_so(scenarios, 1), some_ends_so(scenarios, 2))
+    verdict_on(scenarios)
 }
 
 /// The verdict of a report, from the endings of its outcomes.

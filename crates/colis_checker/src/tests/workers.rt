@@ -42,6 +42,7 @@ impl Counting {
 const WORKED: &[Called] = &[
     Called(&["check", "p", "--brief"], NOTHING, (0, b"", b"")),
     Called(&["check", "p"], NOTHING, (0, b"", b"")),
+    Called(&["check", "p", "--json"], NOTHING, (0, b"", b"")),
     Called(&["load", "2"], &[], (1, b"", b"")),
 ];
 

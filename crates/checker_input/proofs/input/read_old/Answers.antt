@@ -1,18 +1,17 @@
-use Rattle.checker_input.specs.Input.{file_name}
 use Rattle.checker_input.proofs.Requests.{old_none, old_some, old_stops}
 use Rattle.checker_input.proofs.input.read_old.Goals as goal
 
 pub returns-in-None : goal.returns-in-None
-returns-in-None g c = let s = (g.S.Shelf.state c.args.shelf.now) in old_none (file_name c.args.request.now) s s s c.args.named.now c.in-None.is
+returns-in-None g c = let s = (g.S.Shelf.state c.args.shelf.now) in old_none s s s c.args.named.now c.in-None.is
 
 pub returns-in-Ok : goal.returns-in-Ok
 returns-in-Ok g c =
     let s = (g.S.Shelf.state c.args.shelf.now) in
     let t = (g.S.Shelf.state c.read_package.new.shelf) in
-    old_some (file_name c.args.request.now) s t t c.args.named.now _ c.in-Ok.own c.in-Some.is c.in-Ok.ensures
+    old_some s t t c.args.named.now _ c.in-Ok.own c.in-Some.is c.in-Ok.ensures
 
 pub returns-in-Err : goal.returns-in-Err
 returns-in-Err g c =
     let s = (g.S.Shelf.state c.args.shelf.now) in
     let t = (g.S.Shelf.state c.read_package.new.shelf) in
-    old_stops (file_name c.args.request.now) s t t c.args.named.now _ c.in-Err.stop c.in-Some.is c.in-Err.ensures
+    old_stops s t t c.args.named.now _ c.in-Err.stop c.in-Some.is c.in-Err.ensures

@@ -1,7 +1,7 @@
 use Rattle.std.proofs.Common.{Ok, Err}
 use Rattle.checker_io.proofs.Readings.{reads_done, reads_next, reads_stop}
 use Rattle.dpkg_scenarios.specs.declared.scenario.ScriptKind.TheVariants.{Preinst, Postinst, Prerm, Postrm}
-use Rattle.checker_input.specs.Input.{file_name, script_in, scripts_in}
+use Rattle.checker_input.specs.Input.{script_in, scripts_in}
 use Rattle.checker_input.specs.declared.package.Scripts.{Scripts}
 use Rattle.checker_input.proofs.Plans.{after_preinst, after_postinst, after_prerm, after_postrm}
 use Rattle.checker_input.proofs.read_package.read_scripts.Goals as goal
@@ -9,35 +9,35 @@ use Rattle.checker_input.proofs.read_package.read_scripts.Goals as goal
 pub returns-in-Err : goal.returns-in-Err
 unfolding scripts_in
 returns-in-Err g c =
-    reads_stop (file_name c.args.request.now) (g.S.Shelf.state c.args.shelf.now) (g.S.Shelf.state c.read_script.new.shelf) (script_in c.args.whose Preinst) (after_preinst c.args.whose) c.in-Err.stop c.in-Err.ensures
+    reads_stop (λ n. n) (g.S.Shelf.state c.args.shelf.now) (g.S.Shelf.state c.read_script.new.shelf) (script_in c.args.folder.now Preinst) (after_preinst c.args.folder.now) c.in-Err.stop c.in-Err.ensures
 
 pub returns-in-Err-read_script : goal.returns-in-Err-read_script
 unfolding scripts_in
 returns-in-Err-read_script g c =
-    reads_next (file_name c.args.request.now) (g.S.Shelf.state c.args.shelf.now) (g.S.Shelf.state c.read_script.new.shelf) (g.S.Shelf.state c.read_script-2.new.shelf) (script_in c.args.whose Preinst) (after_preinst c.args.whose) c.in-Ok.preinst (Err c.in-Err-read_script.stop) c.in-Ok.ensures (
-    reads_stop (file_name c.args.request.now) (g.S.Shelf.state c.read_script.new.shelf) (g.S.Shelf.state c.read_script-2.new.shelf) (script_in c.args.whose Postinst) (after_postinst c.args.whose c.in-Ok.preinst) c.in-Err-read_script.stop c.in-Err-read_script.ensures)
+    reads_next (λ n. n) (g.S.Shelf.state c.args.shelf.now) (g.S.Shelf.state c.read_script.new.shelf) (g.S.Shelf.state c.read_script-2.new.shelf) (script_in c.args.folder.now Preinst) (after_preinst c.args.folder.now) c.in-Ok.preinst (Err c.in-Err-read_script.stop) c.in-Ok.ensures (
+    reads_stop (λ n. n) (g.S.Shelf.state c.read_script.new.shelf) (g.S.Shelf.state c.read_script-2.new.shelf) (script_in c.args.folder.now Postinst) (after_postinst c.args.folder.now c.in-Ok.preinst) c.in-Err-read_script.stop c.in-Err-read_script.ensures)
 
 pub returns-in-Err-read_script-2 : goal.returns-in-Err-read_script-2
 unfolding scripts_in
 returns-in-Err-read_script-2 g c =
-    reads_next (file_name c.args.request.now) (g.S.Shelf.state c.args.shelf.now) (g.S.Shelf.state c.read_script.new.shelf) (g.S.Shelf.state c.read_script-3.new.shelf) (script_in c.args.whose Preinst) (after_preinst c.args.whose) c.in-Ok.preinst (Err c.in-Err-read_script-2.stop) c.in-Ok.ensures (
-    reads_next (file_name c.args.request.now) (g.S.Shelf.state c.read_script.new.shelf) (g.S.Shelf.state c.read_script-2.new.shelf) (g.S.Shelf.state c.read_script-3.new.shelf) (script_in c.args.whose Postinst) (after_postinst c.args.whose c.in-Ok.preinst) c.in-Ok-read_script.postinst (Err c.in-Err-read_script-2.stop) c.in-Ok-read_script.ensures (
-    reads_stop (file_name c.args.request.now) (g.S.Shelf.state c.read_script-2.new.shelf) (g.S.Shelf.state c.read_script-3.new.shelf) (script_in c.args.whose Prerm) (after_prerm c.args.whose c.in-Ok.preinst c.in-Ok-read_script.postinst) c.in-Err-read_script-2.stop c.in-Err-read_script-2.ensures))
+    reads_next (λ n. n) (g.S.Shelf.state c.args.shelf.now) (g.S.Shelf.state c.read_script.new.shelf) (g.S.Shelf.state c.read_script-3.new.shelf) (script_in c.args.folder.now Preinst) (after_preinst c.args.folder.now) c.in-Ok.preinst (Err c.in-Err-read_script-2.stop) c.in-Ok.ensures (
+    reads_next (λ n. n) (g.S.Shelf.state c.read_script.new.shelf) (g.S.Shelf.state c.read_script-2.new.shelf) (g.S.Shelf.state c.read_script-3.new.shelf) (script_in c.args.folder.now Postinst) (after_postinst c.args.folder.now c.in-Ok.preinst) c.in-Ok-read_script.postinst (Err c.in-Err-read_script-2.stop) c.in-Ok-read_script.ensures (
+    reads_stop (λ n. n) (g.S.Shelf.state c.read_script-2.new.shelf) (g.S.Shelf.state c.read_script-3.new.shelf) (script_in c.args.folder.now Prerm) (after_prerm c.args.folder.now c.in-Ok.preinst c.in-Ok-read_script.postinst) c.in-Err-read_script-2.stop c.in-Err-read_script-2.ensures))
 
 pub returns-in-Err-read_script-3 : goal.returns-in-Err-read_script-3
 unfolding scripts_in
 returns-in-Err-read_script-3 g c =
-    reads_next (file_name c.args.request.now) (g.S.Shelf.state c.args.shelf.now) (g.S.Shelf.state c.read_script.new.shelf) (g.S.Shelf.state c.read_script-4.new.shelf) (script_in c.args.whose Preinst) (after_preinst c.args.whose) c.in-Ok.preinst (Err c.in-Err-read_script-3.stop) c.in-Ok.ensures (
-    reads_next (file_name c.args.request.now) (g.S.Shelf.state c.read_script.new.shelf) (g.S.Shelf.state c.read_script-2.new.shelf) (g.S.Shelf.state c.read_script-4.new.shelf) (script_in c.args.whose Postinst) (after_postinst c.args.whose c.in-Ok.preinst) c.in-Ok-read_script.postinst (Err c.in-Err-read_script-3.stop) c.in-Ok-read_script.ensures (
-    reads_next (file_name c.args.request.now) (g.S.Shelf.state c.read_script-2.new.shelf) (g.S.Shelf.state c.read_script-3.new.shelf) (g.S.Shelf.state c.read_script-4.new.shelf) (script_in c.args.whose Prerm) (after_prerm c.args.whose c.in-Ok.preinst c.in-Ok-read_script.postinst) c.in-Ok-read_script-2.prerm (Err c.in-Err-read_script-3.stop) c.in-Ok-read_script-2.ensures (
-    reads_stop (file_name c.args.request.now) (g.S.Shelf.state c.read_script-3.new.shelf) (g.S.Shelf.state c.read_script-4.new.shelf) (script_in c.args.whose Postrm) (after_postrm c.in-Ok.preinst c.in-Ok-read_script.postinst c.in-Ok-read_script-2.prerm) c.in-Err-read_script-3.stop c.in-Err-read_script-3.ensures)))
+    reads_next (λ n. n) (g.S.Shelf.state c.args.shelf.now) (g.S.Shelf.state c.read_script.new.shelf) (g.S.Shelf.state c.read_script-4.new.shelf) (script_in c.args.folder.now Preinst) (after_preinst c.args.folder.now) c.in-Ok.preinst (Err c.in-Err-read_script-3.stop) c.in-Ok.ensures (
+    reads_next (λ n. n) (g.S.Shelf.state c.read_script.new.shelf) (g.S.Shelf.state c.read_script-2.new.shelf) (g.S.Shelf.state c.read_script-4.new.shelf) (script_in c.args.folder.now Postinst) (after_postinst c.args.folder.now c.in-Ok.preinst) c.in-Ok-read_script.postinst (Err c.in-Err-read_script-3.stop) c.in-Ok-read_script.ensures (
+    reads_next (λ n. n) (g.S.Shelf.state c.read_script-2.new.shelf) (g.S.Shelf.state c.read_script-3.new.shelf) (g.S.Shelf.state c.read_script-4.new.shelf) (script_in c.args.folder.now Prerm) (after_prerm c.args.folder.now c.in-Ok.preinst c.in-Ok-read_script.postinst) c.in-Ok-read_script-2.prerm (Err c.in-Err-read_script-3.stop) c.in-Ok-read_script-2.ensures (
+    reads_stop (λ n. n) (g.S.Shelf.state c.read_script-3.new.shelf) (g.S.Shelf.state c.read_script-4.new.shelf) (script_in c.args.folder.now Postrm) (after_postrm c.in-Ok.preinst c.in-Ok-read_script.postinst c.in-Ok-read_script-2.prerm) c.in-Err-read_script-3.stop c.in-Err-read_script-3.ensures)))
 
 pub returns : goal.returns
 unfolding scripts_in
 returns g c =
     let value : Scripts = record { preinst = c.in-Ok.preinst; postinst = c.in-Ok-read_script.postinst; prerm = c.in-Ok-read_script-2.prerm; postrm = c.in-Ok-read_script-3.postrm } in
-    reads_next (file_name c.args.request.now) (g.S.Shelf.state c.args.shelf.now) (g.S.Shelf.state c.read_script.new.shelf) (g.S.Shelf.state c.read_script-4.new.shelf) (script_in c.args.whose Preinst) (after_preinst c.args.whose) c.in-Ok.preinst (Ok value) c.in-Ok.ensures (
-    reads_next (file_name c.args.request.now) (g.S.Shelf.state c.read_script.new.shelf) (g.S.Shelf.state c.read_script-2.new.shelf) (g.S.Shelf.state c.read_script-4.new.shelf) (script_in c.args.whose Postinst) (after_postinst c.args.whose c.in-Ok.preinst) c.in-Ok-read_script.postinst (Ok value) c.in-Ok-read_script.ensures (
-    reads_next (file_name c.args.request.now) (g.S.Shelf.state c.read_script-2.new.shelf) (g.S.Shelf.state c.read_script-3.new.shelf) (g.S.Shelf.state c.read_script-4.new.shelf) (script_in c.args.whose Prerm) (after_prerm c.args.whose c.in-Ok.preinst c.in-Ok-read_script.postinst) c.in-Ok-read_script-2.prerm (Ok value) c.in-Ok-read_script-2.ensures (
-    reads_next (file_name c.args.request.now) (g.S.Shelf.state c.read_script-3.new.shelf) (g.S.Shelf.state c.read_script-4.new.shelf) (g.S.Shelf.state c.read_script-4.new.shelf) (script_in c.args.whose Postrm) (after_postrm c.in-Ok.preinst c.in-Ok-read_script.postinst c.in-Ok-read_script-2.prerm) c.in-Ok-read_script-3.postrm (Ok value) c.in-Ok-read_script-3.ensures (
-    reads_done (file_name c.args.request.now) (g.S.Shelf.state c.read_script-4.new.shelf) value))))
+    reads_next (λ n. n) (g.S.Shelf.state c.args.shelf.now) (g.S.Shelf.state c.read_script.new.shelf) (g.S.Shelf.state c.read_script-4.new.shelf) (script_in c.args.folder.now Preinst) (after_preinst c.args.folder.now) c.in-Ok.preinst (Ok value) c.in-Ok.ensures (
+    reads_next (λ n. n) (g.S.Shelf.state c.read_script.new.shelf) (g.S.Shelf.state c.read_script-2.new.shelf) (g.S.Shelf.state c.read_script-4.new.shelf) (script_in c.args.folder.now Postinst) (after_postinst c.args.folder.now c.in-Ok.preinst) c.in-Ok-read_script.postinst (Ok value) c.in-Ok-read_script.ensures (
+    reads_next (λ n. n) (g.S.Shelf.state c.read_script-2.new.shelf) (g.S.Shelf.state c.read_script-3.new.shelf) (g.S.Shelf.state c.read_script-4.new.shelf) (script_in c.args.folder.now Prerm) (after_prerm c.args.folder.now c.in-Ok.preinst c.in-Ok-read_script.postinst) c.in-Ok-read_script-2.prerm (Ok value) c.in-Ok-read_script-2.ensures (
+    reads_next (λ n. n) (g.S.Shelf.state c.read_script-3.new.shelf) (g.S.Shelf.state c.read_script-4.new.shelf) (g.S.Shelf.state c.read_script-4.new.shelf) (script_in c.args.folder.now Postrm) (after_postrm c.in-Ok.preinst c.in-Ok-read_script.postinst c.in-Ok-read_script-2.prerm) c.in-Ok-read_script-3.postrm (Ok value) c.in-Ok-read_script-3.ensures (
+    reads_done (λ n. n) (g.S.Shelf.state c.read_script-4.new.shelf) value))))

@@ -1,5 +1,4 @@
-use Rattle.std.proofs.Common.{refl, inl}
-use Rattle.colis_checker.proofs.Fitting.{fits}
+use Rattle.std.proofs.Common.{refl, inl, inr}
 use Rattle.colis_checker.proofs.top.reply.Goals as goal
 
 pub carry_out-requires : goal.carry_out-requires
@@ -7,9 +6,21 @@ carry_out-requires g c = (
   c.type_bounds.sync-R,
   (
     c.type_bounds.sync-G,
-    fits c.args.request.now c.in-Ok.task c.requires c.in-Ok.ensures.reads.ends.1.may c.in-Ok.ensures.tree,
+    c.in-Ok.ensures.sound c.requires,
   ),
 )
+
+pub returns-in-Ok-refusal_line-clause-replies : goal.returns-in-Ok-refusal_line-clause-replies
+returns-in-Ok-refusal_line-clause-replies g c =
+    let reads = c.in-Ok.ensures.reads in (
+      reads.ends.0,
+      record {
+        refusal = _;
+        is_refusal =
+            inr (c.in-Ok.task, c.in-Err-Refused-carry_out.refusal, refl, reads.ends.1, (rw c.in-Err-Refused-carry_out.field-0-is at c.in-Err-Refused-carry_out.ensures));
+        line_is = c.in-Ok-refusal_line.ensures;
+      },
+    )
 
 pub returns-in-Ok-refusal_line-2-clause-replies : goal.returns-in-Ok-refusal_line-2-clause-replies
 returns-in-Ok-refusal_line-2-clause-replies g c =

@@ -2,7 +2,7 @@ use Rattle.std.proofs.Common.{◌≡◌, ◌++◌, ◌∷◌, [], sym, ◌∙◌
 use Rattle.std.proofs.lemmas.List.{append-nil}
 use Rattle.colis_checker.specs.Settled.{settled}
 use Rattle.colis_checker.proofs.Settled.{settled_values, settled_fault, empty}
-use Rattle.colis_checker.proofs.reports.settle.Goals as goal
+use Rattle.colis_checker.proofs.scenarios.settle.Goals as goal
 
 pub returns-in-Err : goal.returns-in-Err
 returns-in-Err g c =

@@ -1,8 +1,0 @@
-use Rattle.colis_checker.specs.Reports.{chosen}
-use Rattle.colis_checker.proofs.ToldParts.{told_settle}
-use Rattle.colis_checker.proofs.told_reports.tell_chosen.Goals as goal
-
-pub returns : goal.returns
-returns g c =
-    told_settle c.args.packages.now c.args.turns c.args.limit (chosen c.args.scenario) c.in_ok-scenarios.scenarios
-    c.in_ok-answers.answers c.in_ok-all.all c.in_ok-scenarios.ensures c.in_ok-answers.ensures c.in_ok-all.ensures
