@@ -1,7 +1,7 @@
 //! Requests over files in memory, and what is answered.
 
 use crate::texts::told;
-use checker_input::{InputFile, InputRefusal, make_name, read_task};
+use checker_input::{FileFault, InputRefusal, read_task};
 use checker_io::{MemShelf, Stop};
 use command_words::{Request, read_words};
 use script_names::{Bytes, List, Memory, Text};
@@ -11,7 +11,19 @@ use std::alloc::Global;
 pub type File<'a> = (&'a str, &'a [u8]);
 
 /// Why a request is not answered.
-pub type Stopped = Stop<InputFile, InputRefusal>;
+#[derive(Drop)]
+pub enum Stopped {
+    Refused(InputRefusal),
+    ReadFailed(Text),
+    NoMemory,
+}
+
+/// How a request is to be stopped: a file of this name is refused for this, or could not be read.
+#[derive(Clone, Copy)]
+pub enum Wanted<'a> {
+    Refused(&'a str, FileFault),
+    ReadFailed(&'a str),
+}
 
 // The words of a line.
 fn words(alloc: Global, line: &str) -> Result<List<Text>, Memory> {
@@ -48,9 +60,11 @@ fn read(alloc: Global, request: &Request, shelf: &mut MemShelf) -> Result<Bytes,
     match read_task(alloc, request, shelf) {
         Ok(task) => match told(alloc, task) {
             Ok(text) => Ok(text),
-            Err(_) => Err(Stop::NoMemory),
+            Err(_) => Err(Stopped::NoMemory),
         },
-        Err(stop) => Err(stop),
+        Err(Stop::Refused(refusal)) => Err(Stopped::Refused(refusal)),
+        Err(Stop::ReadFailed(name)) => Err(Stopped::ReadFailed(name)),
+        Err(Stop::NoMemory) => Err(Stopped::NoMemory),
     }
 }
 
@@ -62,8 +76,12 @@ pub(crate) fn answer(
     files: &[File<'_>],
     failing: u32,
 ) -> Result<Bytes, Stopped> {
-    let request = request(alloc, line)?;
-    let mut shelf = shelf(alloc, files, failing)?;
+    let Ok(request) = request(alloc, line) else {
+        return Err(Stopped::NoMemory);
+    };
+    let Ok(mut shelf) = shelf(alloc, files, failing) else {
+        return Err(Stopped::NoMemory);
+    };
     read(alloc, &request, &mut shelf)
 }
 
@@ -73,22 +91,20 @@ pub(crate) fn is_stopped(
     line: &str,
     files: &[File<'_>],
     failing: u32,
-    want: Stopped,
+    want: Wanted<'_>,
 ) -> bool {
     match answer(alloc, line, files, failing) {
         Ok(_) => false,
-        Err(stop) => stop == want,
+        Err(Stopped::Refused(refusal)) => match want {
+            Wanted::Refused(name, fault) => {
+                refusal.file.as_str() == name && refusal.fault == fault
+            }
+            Wanted::ReadFailed(_) => false,
+        },
+        Err(Stopped::ReadFailed(file)) => match want {
+            Wanted::Refused(..) => false,
+            Wanted::ReadFailed(name) => file.as_str() == name,
+        },
+        Err(Stopped::NoMemory) => false,
     }
-}
-
-/// Whether a file of the request of a line has this name.
-pub(crate) fn is_named(
-    alloc: Global,
-    line: &str,
-    file: InputFile,
-    want: &str,
-) -> Result<bool, Memory> {
-    let request = request(alloc, line)?;
-    let name = make_name(alloc, &request, file)?;
-    Ok(name.as_str() == want)
 }

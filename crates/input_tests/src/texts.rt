@@ -1,15 +1,16 @@
 //! What was read, as a text: a line for each package and one for the base, then the lines of the tree. The line of a
 //! package has its version, a letter for each script and its entries. A script is `-` where there is none, `s` where it
 //! begins strict, and else `x`. In front of the path of an entry stands d for a directory, f for a file, c for a
-//! configuration file and l for a link; in front of that of a line of the base d for a directory, f for a file, a for
-//! nothing and n for no directory.
+//! configuration file and l for a link; in front of a path that the base knows d for a directory, f for a file, a for
+//! nothing and n for no directory. Behind its paths stand `fits` and `own` where it says so, and the stated calls.
 
 use checker_input::{Package, Packages, Scripts, Task};
-use feature_trees::put_tree;
-use package_lists::{BaseLine, Entry, EntryKind};
+use feature_trees::{Kind, Kinds, put_tree};
+use package_lists::{Entry, EntryKind};
 use script_names::{Bytes, Memory, Path, Slot};
 use shell_forms::Accepted;
 use std::alloc::Global;
+use system_base::{Base, KnownPath};
 use utility_calls::{CallEnd, StatedCall};
 
 fn put_path(text: &mut Bytes, letter: &[u8], path: &Path) -> Result<(), Memory> {
@@ -62,16 +63,34 @@ fn put_package(text: &mut Bytes, whose: &[u8], package: &Package) -> Result<(), 
     text.extend(b"\n")
 }
 
-fn put_base_line(text: &mut Bytes, line: &BaseLine) -> Result<(), Memory> {
-    match line {
-        BaseLine::Folder(path) => put_path(text, b" d", path),
-        BaseLine::File(path) => put_path(text, b" f", path),
-        BaseLine::Gone(path) => put_path(text, b" a", path),
-        BaseLine::NoFolder(path) => put_path(text, b" n", path),
-        BaseLine::Fits => text.extend(b" fits"),
-        BaseLine::Own => text.extend(b" own"),
-        BaseLine::Call(call) => put_call(text, call),
+fn kinds_letter(kinds: Kinds) -> &'static [u8] {
+    if kinds == Kinds::of(Kind::Dir) {
+        return b" d";
     }
+    if kinds == Kinds::of(Kind::Reg) {
+        return b" f";
+    }
+    if kinds == Kinds::of(Kind::Absent) {
+        return b" a";
+    }
+    if kinds == Kinds::but(Kind::Dir) {
+        return b" n";
+    }
+    b" ?"
+}
+
+fn put_known(text: &mut Bytes, known: &[KnownPath]) -> Result<(), Memory> {
+    for one in known {
+        put_path(text, kinds_letter(one.kinds), &one.path)?;
+    }
+    Ok(())
+}
+
+fn put_said(text: &mut Bytes, said: bool, word: &[u8]) -> Result<(), Memory> {
+    if !said {
+        return Ok(());
+    }
+    text.extend(word)
 }
 
 fn put_call(text: &mut Bytes, call: &StatedCall) -> Result<(), Memory> {
@@ -82,11 +101,19 @@ fn put_call(text: &mut Bytes, call: &StatedCall) -> Result<(), Memory> {
     text.extend(call.name.as_slice())
 }
 
-fn put_base(text: &mut Bytes, lines: &[BaseLine]) -> Result<(), Memory> {
-    text.extend(b"base")?;
-    for line in lines {
-        put_base_line(text, line)?;
+fn put_calls(text: &mut Bytes, calls: &[StatedCall]) -> Result<(), Memory> {
+    for call in calls {
+        put_call(text, call)?;
     }
+    Ok(())
+}
+
+fn put_base(text: &mut Bytes, base: &Base) -> Result<(), Memory> {
+    text.extend(b"base")?;
+    put_known(text, base.known.as_slice())?;
+    put_said(text, base.fits, b" fits")?;
+    put_said(text, base.own, b" own")?;
+    put_calls(text, base.calls.as_slice())?;
     text.extend(b"\n")
 }
 
@@ -96,24 +123,24 @@ fn put_packages(text: &mut Bytes, packages: &Packages) -> Result<(), Memory> {
         Some(package) => put_package(text, b"old ", package)?,
         None => {}
     }
-    put_base(text, packages.base.lines.as_slice())
+    put_base(text, &packages.base)
 }
 
 fn put_task(alloc: Global, text: &mut Bytes, task: &Task) -> Result<(), Memory> {
     match task {
-        Task::Check(packages) => put_packages(text, packages),
-        Task::Run(packages, tree) => {
+        Task::Check { packages, .. } => put_packages(text, packages),
+        Task::Run { packages, tree, .. } => {
             put_packages(text, packages)?;
             put_tree(alloc, text, tree)
         }
-        Task::Translate(script) => {
+        Task::Translate { script } => {
             if script.script().strict {
                 text.extend(b"strict\n")
             } else {
                 text.extend(b"lax\n")
             }
         }
-        Task::Load => text.extend(b"load\n"),
+        Task::Load { .. } => text.extend(b"load\n"),
     }
 }
 

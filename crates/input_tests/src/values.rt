@@ -43,7 +43,7 @@ const READ: &[(&str, &str)] = &[
     ),
     (
         "check o --base c",
-        "new 0 -s-x d/usr\nbase own ok/x fits fails/y\n",
+        "new 0 -s-x d/usr\nbase fits own ok/x fails/y\n",
     ),
     ("translate s", "strict\n"),
     ("translate lax", "lax\n"),

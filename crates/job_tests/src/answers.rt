@@ -5,8 +5,9 @@ use checker_io::MemShelf;
 use command_words::{Request, read_words};
 use dpkg_scenarios::Scenario;
 use feature_trees::{Kind, Kinds, Value};
-use outcome_report::{Report, make_part, render_brief, render_run};
+use outcome_report::{Report, make_part};
 use package_jobs::{job_of, needs_of};
+use report_text::{render_brief, render_run};
 use scenario_outcomes::OutcomesFault;
 use scenario_runs::{Job, Replayed, run};
 use script_names::{Bytes, Copied, List, Memory, Name, Path, Text};
@@ -157,7 +158,7 @@ fn ran_by_copies(
 // The text of a task's run, by copies.
 fn copied_task_text(alloc: Global, scenario: Scenario, task: &Task) -> Result<Bytes, Memory> {
     match task {
-        Task::Run(packages, tree) => ran_by_copies(alloc, scenario, packages, tree),
+        Task::Run { packages, tree, .. } => ran_by_copies(alloc, scenario, packages, tree),
         _ => Err(Memory),
     }
 }
@@ -165,10 +166,10 @@ fn copied_task_text(alloc: Global, scenario: Scenario, task: &Task) -> Result<By
 // What is said of a scenario for a task: what it needs for packages, or its run from a tree.
 fn task_text(alloc: Global, scenario: Scenario, task: &Task) -> Result<Bytes, Memory> {
     match task {
-        Task::Check(packages) => needed(alloc, scenario, packages),
-        Task::Run(packages, tree) => ran(alloc, scenario, packages, tree),
-        Task::Translate(_) => Err(Memory),
-        Task::Load => Err(Memory),
+        Task::Check { packages, .. } => needed(alloc, scenario, packages),
+        Task::Run { packages, tree, .. } => ran(alloc, scenario, packages, tree),
+        Task::Translate { .. } => Err(Memory),
+        Task::Load { .. } => Err(Memory),
     }
 }
 
@@ -232,7 +233,7 @@ fn reported(alloc: Global, scenario: Scenario, packages: &Packages) -> Result<By
 // The brief report on a scenario for a task.
 fn task_report(alloc: Global, scenario: Scenario, task: &Task) -> Result<Bytes, Memory> {
     match task {
-        Task::Check(packages) => reported(alloc, scenario, packages),
+        Task::Check { packages, .. } => reported(alloc, scenario, packages),
         _ => Err(Memory),
     }
 }

@@ -1,6 +1,6 @@
-//! Tests of package_jobs: what is needed of the trees that a scenario may begin from, and the runs of jobs, with each
-//! step that succeeds and each that fails, with stated calls, and with folders that hold no foreign entry. They stand
-//! apart from package_jobs, so that it is not proved twice.
+//! Tests of package_jobs: what is needed of the trees that a scenario may begin from, the acts of steps, and the runs of
+//! jobs, with each step that succeeds and each that fails, with stated calls, and with folders that hold no foreign
+//! entry. They stand apart from package_jobs, so that it is not proved twice.
 #![tactic(auto)]
 
 #[cfg(test)]
@@ -9,6 +9,8 @@ mod answers;
 mod needs;
 #[cfg(test)]
 mod owned;
+#[cfg(test)]
+mod placed;
 #[cfg(test)]
 mod runs;
 #[cfg(test)]

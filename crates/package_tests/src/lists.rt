@@ -1,11 +1,10 @@
 //! The files of packages by hand, a row for each: a text, and the line at fault with its why, or none.
 
-use package_lists::{
-    Entry, EntryKind, LineFault, read_base, read_conffiles, read_control, read_list,
-};
+use package_lists::{Entry, EntryKind, LineFault, read_conffiles, read_control, read_list};
 use script_names::{Bytes, List, Memory};
 use std::alloc::Global;
 use std::test::Fail;
+use system_base::read_base;
 
 const LISTS: &[(&[u8], u64, u8)] = &[
     (b"", 0, 0),

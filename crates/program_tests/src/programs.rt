@@ -6,10 +6,10 @@ use colis_syntax::{Program, print_program};
 use script_names::{Memory, Slot};
 use shell_forms::{Accepted, FormFault, accept};
 use shell_lexer::lex;
-use shell_lexer::theorems::limit_only_refuses;
 use shell_parser::parse;
 use shell_to_colis::translate;
 use std::alloc::Global;
+use token_laws::theorems::limit_only_refuses;
 
 // The script that was accepted; an error where it was not, whatever the reason.
 fn kept(alloc: Global, found: Result<Accepted, FormFault>) -> Result<Slot<Accepted>, Memory> {

@@ -1,4 +1,5 @@
-//! Tests of outcome_report, report_json and report_reader. They stand apart from these, so that none is proved twice.
+//! Tests of outcome_report, report_text, report_json and report_reader. They stand apart from these, so that none is
+//! proved twice.
 #![tactic(auto)]
 
 #[cfg(test)]

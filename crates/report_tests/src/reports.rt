@@ -2,7 +2,8 @@
 
 use crate::made::{PartRow, ShortRow, report, short_part};
 use dpkg_scenarios::{Ending, Scenario, ScriptKind, State};
-use outcome_report::{Report, render_brief, render_text, verdict};
+use outcome_report::{Report, verdict};
+use report_text::{render_brief, render_text};
 use scenario_runs::CallEnd;
 use script_names::{Copied, List, Memory, Reason, Site};
 use std::alloc::Global;

@@ -2,7 +2,8 @@
 
 use crate::made::{RunRow, replayed};
 use dpkg_scenarios::{Ending, ScriptKind, State};
-use outcome_report::{render_run, run_status};
+use outcome_report::run_status;
+use report_text::render_run;
 use scenario_runs::CallEnd;
 use script_names::{Reason, Site};
 use std::test::Fail;

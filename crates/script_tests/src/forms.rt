@@ -6,11 +6,11 @@ use rows::TABLES;
 use script_names::{Boxed, Bytes, Memory};
 use shell_forms::{Accepted, FormFault, accept};
 use shell_lexer::lex;
-use shell_lexer::theorems::limit_only_refuses;
 use shell_parser::parse;
 use shell_syntax::Form;
 use std::alloc::Global;
 use std::test::Fail;
+use token_laws::theorems::limit_only_refuses;
 
 // The name of a form that stands in the syntax.
 fn name(form: Form) -> &'static str {

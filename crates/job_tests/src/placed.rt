@@ -3,12 +3,12 @@
 //! configuration file, and the base is the usual one.
 
 use dpkg_scenarios::{Scenario, ScriptKind, StepWork};
-use package_lists::{
-    Base, Entry, LineFault, base_paths, file_acts, read_base, read_conffiles, read_list,
-};
+use package_jobs::file_acts;
+use package_lists::{Entry, LineFault, read_conffiles, read_list};
 use script_names::{Bytes, List, Memory, Path};
 use std::alloc::Global;
 use std::test::Fail;
+use system_base::{Base, base_paths, read_base};
 use utility_calls::acts::Act;
 
 const PACKAGE: &[u8] = b"/.\n/etc\n/etc/foo\n/etc/foo/a.conf\n/etc/foo/b\n/l -> x\n/srv/e/\n";
@@ -132,7 +132,7 @@ fn acts_text(
     base: &Base,
 ) -> Result<Bytes, LineFault> {
     let new = entries(alloc, PACKAGE, CONFFILES)?;
-    let kept = base_paths(alloc, base.lines.as_slice())?;
+    let kept = base_paths(alloc, base)?;
     let acts = file_acts(alloc, scenario, work, &new, old, base, &kept)?;
     let mut text = Bytes::new(alloc);
     for act in acts.as_slice() {
