@@ -16,7 +16,8 @@ pub record DirFaults : Type 0 where
   pub faults : ℕ
   pub failed : List ℕ
 
--- what any shelf is seen as, of a shelf over the file system: it tells no files
+-- what any shelf is seen as, of a shelf over the file system: it tells no files, since no contract can say what a
+-- disk holds. So clauses over it say that some contents give the answer
 abbrev pub dir_state : DirFaults → ShelfState
 dir_state shelf = record { holds = None; faults = shelf.faults; failed = shelf.failed }
 

@@ -19,7 +19,7 @@ LeavesLine words n =
     ((n ≤ length words) × (BeginsLine (take n words) → ⊥))
     ⊎ ((n ≡ length words + 1) × ((request : Request) → IsLine words request → ⊥))
 
--- the words spell a request exactly where they are a valid line for it
+-- the words spell a request exactly where they are a valid line for it: of `form` and `IsLine` one is to be believed
 abbrev pub FormIsLine : Type 0
 FormIsLine = (words : List (List ℕ)) (request : Request) → (form words ≡ Ok request) ↔ IsLine words request
 

@@ -50,6 +50,6 @@ bytes_after (suc passed) (b ∷ text) = bytes_after passed text
 abbrev pub if_spelled : List ℕ → List ℕ → Option (List ℕ)
 if_spelled text bytes = if bytes_eq (show bytes) text then Some bytes else None
 
--- the bytes that are spelled so
+-- the bytes that are spelled so. A text has one reading at most: `\x41` has none, since `A` stands for itself
 abbrev pub shown_of : List ℕ → Option (List ℕ)
 shown_of text = if bytes_eq text (codes "\\e") then Some [] else if_spelled text (bytes_after 0 text)

@@ -13,8 +13,8 @@ at_link Link count later = Some count
 at_link Other count later = later
 at_link Dir count later = later
 
--- how many names the first strict prefix of a path has at which a link stands, where there is one;
--- `count` names lead to this value, and the path goes on from it
+-- how many names the first strict prefix of a path has at which a link stands, where there is one; `count` names lead
+-- to this value, and the path goes on from it. That a link is not followed is this project's own
 abbrev pub link_on_way : ℕ → Value → List (List ℕ) → Option ℕ
 link_on_way count v [] = None
 link_on_way count v (f ∷ []) = None
