@@ -62,6 +62,14 @@ script_of() {
     { echo '#!/bin/sh' && cat; } | package "$1"
 }
 
+# ---- the kit
+
+# (README's line on the kit is that of the `rt` at hand, where there is one)
+if command -v rt >/dev/null; then
+    sed -n 's/^Proved with the kit `\([^`]*\)`.*/\1/p' "$repository/README.md" >said
+    rt version | same 'README: kit' said
+fi
+
 # ---- help
 
 for words in help -h --help 'check --help' 'run --help' 'translate --help' 'load --help' 'check -h' 'help check'; do
@@ -216,5 +224,91 @@ if [ -n "$terminals" ]; then
     typed "$call"
     echo 'status 130' | same "$call (terminal)" said
 fi
+
+# ---- building: by an rt that tells how it was called, and whose program prints `built`
+
+mkdir -p tools
+cat >tools/rt <<'EOF'
+#!/bin/sh
+echo "$(basename "$PWD") $1 $2" >>"$CALLS"
+case $1 in
+run)
+    [ -z "$REFUSED" ] || { echo 'not proved'; exit 1; }
+    mkdir -p out
+    printf '#!/bin/sh\necho built\n' >out/colis_checker
+    chmod +x out/colis_checker
+    ;;
+esac
+EOF
+chmod +x tools/rt
+CALLS=$folder/calls REFUSED=
+export CALLS REFUSED
+PATH=$folder/tools:$PATH
+mkdir -p top/crates/low/src top/crates/low/specs top/crates/high/src top/crates/colis_checker/src top/crates/other/src
+printf '%s\n' '# crates' 'low:' 'high: low' 'colis_checker: high low std' 'other: low' >top/crates.txt
+touch -d '1 hour ago' old
+cp -p old top/crates/low/src/lib.rt
+cp -p old top/crates/low/src/more.rt
+cp -p old top/crates/high/src/lib.rt
+
+# builds NAME: a call builds, and the next ones don't.
+builds() {
+    : >calls
+    piped 'colis load 1 2>/dev/null'
+    cat calls >>said
+    printf '%s\n' built 'status 0' 'colis_checker run ' | same "$1" said
+    : >calls
+    for turn in 1 2 3; do
+        piped 'colis load 1'
+        cat calls >>said
+        printf '%s\n' built 'status 0' | same "$1, and then $turn" said
+    done
+    sleep 0.1
+}
+
+rm top/crates/colis_checker/out/colis_checker
+piped 'colis load 1'
+{
+    echo built
+    echo 'colis: building the program, which proves it first: this may take an hour'
+    echo 'status 0'
+} | same 'the first call' said
+rm top/crates/colis_checker/out/colis_checker
+builds 'no program'
+echo x >>top/crates/low/src/lib.rt
+builds 'a source that was changed'
+echo x >>top/crates.txt
+builds 'crates.txt that was changed'
+rm top/crates/low/src/more.rt
+builds 'a source that was removed'
+cp -p old top/crates/high/src/more.rt
+builds 'an old file that was added'
+mv top/crates/high/src/more.rt top/crates/high/src/other.rt
+builds 'a source that was renamed'
+mkdir -p top/crates/high/proofs/a/b
+builds 'folders that were added'
+cp -p old top/crates/high/proofs/a/b/Answers.antt
+builds 'a file in them'
+mkdir top/crates/high/specs
+builds 'a folder of a crate that was added'
+: >calls
+mkdir top/crates/other/out
+touch top/crates/other/out/x top/crates/colis_checker/out/y
+for call in 'colis load 1' 'touch top/crates/colis_checker/out/colis_checker; colis load 1' \
+    'cp -a top moved; moved/colis load 1' 'rm -f top/crates/colis_checker/out/sources; colis load 1' \
+    'echo x >top/crates/colis_checker/out/sources; colis load 1' 'colis load 1'; do
+    piped "$call"
+    cat calls >>said
+    printf '%s\n' built 'status 0' | same "$call" said
+done
+REFUSED=1
+sleep 0.1
+echo x >>top/crates/low/src/lib.rt
+piped 'colis load 1 2>&1 | tail -n 2'
+printf '%s\n' 'not proved' 'colis: the program could not be built' 'status 0' | same 'a build that fails' said
+piped 'colis load 1 2>/dev/null'
+echo 'status 70' | same 'its status' said
+piped 'colis --version'
+{ head -n 1 top/docs/help.txt && echo 'status 0'; } | same 'the version without a program' said
 
 [ ! -s wrong ]
