@@ -5,7 +5,7 @@ use Rattle.std.specs.List.{list_all}
 use Rattle.std.proofs.lemmas.Bool.{and_parts, and_from, ne_eqb, not-true}
 use Rattle.std.proofs.lemmas.Fmt.{decimal_nonempty}
 use Rattle.shown_texts.specs.Show.{is_shown, show, are_bytes}
-use Rattle.shown_texts.specs.Numbers.{is_digit}
+use Rattle.script_names.specs.ShellNames.{is_digit}
 use Rattle.shown_texts.proofs.Lists.{all_weaker}
 use Rattle.shown_texts.proofs.Spelled.{show_shown, show_long}
 use Rattle.shown_texts.proofs.Numerals.{decimal_digits}

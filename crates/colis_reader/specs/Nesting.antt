@@ -1,6 +1,7 @@
 -- Nested text: words and lists in parentheses, read byte by byte with a stack of the open lists. Any text is read;
 -- what has the wrong form gives some members.
 use Rattle.std.specs.Prelude.{ℕ, ◌-◌, ◌==◌, List, [], ◌∷◌, ◌++◌, length, take, slice_index_or, if◌then◌else◌}
+use Rattle.script_names.specs.Ascii.{paren_close, paren_open, space}
 use Rattle.colis_reader.specs.declared.nest.Nest.{Nest}
 use Rattle.colis_reader.specs.declared.nest.Nest.TheVariants.{Node}
 
@@ -38,9 +39,9 @@ closed r = reading [] (around r.up ++ Node [] r.top ∷ []) (take (length r.up -
 -- a byte further: a space ends a word, parentheses begin and end a list
 abbrev pub step : Reading → ℕ → Reading
 step r byte =
-    if byte == 32 then ended r
-    else (if byte == 40 then opened (ended r)
-    else (if byte == 41 then closed (ended r)
+    if byte == space then ended r
+    else (if byte == paren_open then opened (ended r)
+    else (if byte == paren_close then closed (ended r)
     else reading (r.word ++ byte ∷ []) r.top r.up))
 
 -- a text further

@@ -8,7 +8,8 @@ use Rattle.command_words.specs.declared.field.Field.TheVariants as field
 use Rattle.command_words.specs.declared.request.Request.TheVariants.{Load}
 use Rattle.command_words.specs.declared.limits.TheConstants.{MOST_LOAD}
 use Rattle.command_words.specs.Fields.{texts}
-use Rattle.command_words.specs.Values.{is_digit, is_within, is_number, number_in}
+use Rattle.command_words.specs.Values.{is_within, is_number, number_in}
+use Rattle.script_names.specs.ShellNames.{is_digit}
 use Rattle.command_words.specs.CommandLines.{Texts, IsNumber, line_settings, AsksLoad}
 use Rattle.command_words.specs.Laws.{LoadsAreSmall}
 use Rattle.command_words.proofs.SpelledLines.{spells_line}

@@ -7,7 +7,7 @@ use Rattle.std.proofs.Math.Nat.{pow-le-pow_right}
 use Rattle.std.proofs.lemmas.Bool.{leb-true, and_parts, ne_eqb}
 use Rattle.std.proofs.lemmas.Str.{digit_value_digit}
 use Rattle.std.proofs.lemmas.Int.Digits.{digits_value-lt}
-use Rattle.command_words.specs.Values.{is_digit}
+use Rattle.script_names.specs.ShellNames.{is_digit}
 
 -- a digit has its value
 digit : (b : ℕ) → is_digit b ≡ true → (48 ≤ b) × (b ≤ 57)

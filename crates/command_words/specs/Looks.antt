@@ -1,6 +1,7 @@
 -- What a word of a command line is, while options may come.
 use Rattle.std.specs.Prelude.{ℕ, ◌==◌, List, [], ◌∷◌, codes, Option, Some, None, if◌then◌else◌}
 use Rattle.std.specs.Str.{bytes_eq}
+use Rattle.script_names.specs.Ascii.{equals}
 use Rattle.command_words.specs.declared.field.Field.{Field}
 use Rattle.command_words.specs.declared.field.Field.TheVariants as field
 use Rattle.command_words.specs.declared.look.Look.{Look}
@@ -16,7 +17,7 @@ put_before b (Some parts) = Some (b ∷ parts.0, parts.1)
 -- what stands before the first equals sign, and behind it
 abbrev pub cut : List ℕ → Option (List ℕ × List ℕ)
 cut [] = None
-cut (b ∷ bytes) = if b == 61 then Some ([], bytes) else put_before b (cut bytes)
+cut (b ∷ bytes) = if b == equals then Some ([], bytes) else put_before b (cut bytes)
 
 -- an option whose value is the next word
 abbrev pub awaits : Option Field → Look

@@ -5,6 +5,8 @@ use Rattle.std.specs.List.{list_all}
 use Rattle.std.specs.Option.{is_some}
 use Rattle.std.specs.Str.{bytes_eq}
 use Rattle.std.specs.Str.Parse.{digits_value}
+use Rattle.script_names.specs.Ascii.{hyphen}
+use Rattle.script_names.specs.ShellNames.{is_digit}
 use Rattle.dpkg_scenarios.specs.Names.{scenario_named}
 use Rattle.command_words.specs.declared.field.Command.{Command}
 use Rattle.command_words.specs.declared.field.Command.TheVariants as command
@@ -16,11 +18,7 @@ use Rattle.command_words.specs.declared.limits.TheConstants.{MOST_LOAD, MOST_TUR
 abbrev pub is_name : List ℕ → Bool
 is_name [] = true
 is_name (b ∷ []) = true
-is_name (b ∷ c ∷ bs) = not (b == 45)
-
--- a decimal digit
-abbrev pub is_digit : ℕ → Bool
-is_digit b = nat_le 48 b && nat_le b 57
+is_name (b ∷ c ∷ bs) = not (b == hyphen)
 
 -- from the one number to the other
 abbrev pub is_within : ℕ → ℕ → ℕ → Bool

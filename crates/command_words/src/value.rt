@@ -1,7 +1,8 @@
 // The values of options.
 ghost use Rattle.std.specs.Prelude.{◌≡◌};
 ghost use Rattle.std.specs.List.{list_all};
-ghost use Rattle.command_words.specs.Values.{is_name, is_digit, number_in, is_flag, may_name, is_value};
+ghost use Rattle.command_words.specs.Values.{is_name, number_in, is_flag, may_name, is_value};
+ghost use Rattle.script_names.specs.ShellNames.{is_digit};
 
 use crate::field::{Command, Field};
 use crate::limits::{MOST_LIMIT, MOST_LOAD, MOST_TURNS};

@@ -1,10 +1,11 @@
 -- The text of the script of a made package.
 use Rattle.std.specs.Prelude.{ℕ, zero, suc, ◌+◌, ◌/◌, ◌%◌, List, [], ◌∷◌, ◌++◌, codes}
+use Rattle.script_names.specs.Ascii.{digit_zero}
 use Rattle.shown_texts.specs.Lines.{line}
 
 -- a number below 1,000 in three decimal digits
 abbrev pub three_digits : ℕ → List ℕ
-three_digits k = (48 + k / 100) ∷ (48 + (k / 10) % 10) ∷ (48 + k % 10) ∷ []
+three_digits k = (digit_zero + k / 100) ∷ (digit_zero + (k / 10) % 10) ∷ (digit_zero + k % 10) ∷ []
 
 -- a line of words with a number behind them
 abbrev pub numbered_line : List ℕ → ℕ → List ℕ

@@ -2,6 +2,7 @@
 use Rattle.std.specs.Prelude.{ℕ, ◌+◌, Bool, false, not, ◌&&◌, ◌||◌, ◌==◌, nat_eq, List, [], ◌∷◌, ◌++◌, map, codes}
 use Rattle.std.specs.Prelude.{Option, Some, None, Result, Ok, Err, if◌then◌else◌}
 use Rattle.std.specs.List.{starts_with}
+use Rattle.script_names.specs.Ascii.{slash}
 use Rattle.script_names.specs.Paths.{PathParts}
 use Rattle.feature_trees.specs.TreeLines.{text_lines}
 use Rattle.package_lists.specs.declared.fault.LineFault.{LineFault}
@@ -20,7 +21,7 @@ has_space_slash (b ∷ bs) = starts_with nat_eq (b ∷ bs) (codes " /") || has_s
 -- a line with a flag before its path, as `remove-on-upgrade /etc/a`
 abbrev pub is_flagged : List ℕ → Bool
 is_flagged [] = false
-is_flagged (b ∷ bs) = not (b == 47) && has_space_slash (b ∷ bs)
+is_flagged (b ∷ bs) = not (b == slash) && has_space_slash (b ∷ bs)
 
 -- why a line that is no path is at fault: 4, it has a flag; 1, it is not of the form
 abbrev pub form_why : List ℕ → ℕ

@@ -2,6 +2,8 @@
 use Rattle.std.specs.Prelude.{ℕ, ◌+◌, Bool, ◌&&◌, ◌||◌, ◌==◌, nat_eq, nat_le, List, [], ◌∷◌}
 use Rattle.std.specs.Prelude.{drop, codes, Result, Ok, Err, if◌then◌else◌}
 use Rattle.std.specs.List.{list_all, starts_with}
+use Rattle.script_names.specs.Ascii.{colon, digit_nine, digit_zero, full_stop, hyphen, lower_a, lower_z, plus, space}
+use Rattle.script_names.specs.Ascii.{tab, tilde, upper_a, upper_z}
 use Rattle.script_names.specs.Paths.{is_filled}
 use Rattle.feature_trees.specs.TreeLines.{text_lines}
 use Rattle.package_lists.specs.declared.fault.LineFault.{LineFault}
@@ -9,7 +11,7 @@ use Rattle.package_lists.specs.declared.fault.LineFault.TheVariants.{Line}
 
 -- a space or a tab
 abbrev pub is_blank : ℕ → Bool
-is_blank b = (b == 32) || (b == 9)
+is_blank b = (b == space) || (b == tab)
 
 -- bytes without the blanks at their beginning
 abbrev pub after_blanks : List ℕ → List ℕ
@@ -28,8 +30,9 @@ trimmed bytes = before_blanks (after_blanks bytes)
 -- a byte that a version may have: a letter, a digit, `.`, `+`, `-`, `:` or `~`
 abbrev pub is_version_byte : ℕ → Bool
 is_version_byte b =
-    (nat_le 97 b && nat_le b 122) || (nat_le 65 b && nat_le b 90) || (nat_le 48 b && nat_le b 57) || (b == 46)
-    || (b == 43) || (b == 45) || (b == 58) || (b == 126)
+    (nat_le lower_a b && nat_le b lower_z) || (nat_le upper_a b && nat_le b upper_z)
+    || (nat_le digit_zero b && nat_le b digit_nine) || (b == full_stop) || (b == plus) || (b == hyphen) || (b == colon)
+    || (b == tilde)
 
 -- a version: such bytes, at least one
 abbrev pub is_version : List ℕ → Bool

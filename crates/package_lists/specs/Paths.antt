@@ -4,6 +4,7 @@ use Rattle.std.specs.Prelude.{take, Option, Some, None, if◌then◌else◌}
 use Rattle.std.specs.List.{flat_map, list_all, list_any}
 use Rattle.std.specs.Option.{option_map}
 use Rattle.std.specs.Str.{bytes_eq}
+use Rattle.script_names.specs.Ascii.{slash}
 use Rattle.script_names.specs.declared.path.TheConstants.{MAX_NAMES}
 use Rattle.script_names.specs.Names.{is_name}
 use Rattle.script_names.specs.Paths.{PathParts}
@@ -17,7 +18,7 @@ if_names names =
 -- the names of the path that is written so
 abbrev pub path_names : List ℕ → Option (List (List ℕ))
 path_names [] = None
-path_names (b ∷ rest) = if b == 47 then if_names (parts 47 rest) else None
+path_names (b ∷ rest) = if b == slash then if_names (parts slash rest) else None
 
 -- the path of these names, without a slash behind them
 abbrev pub plain_path : List (List ℕ) → PathParts

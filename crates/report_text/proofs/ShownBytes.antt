@@ -8,7 +8,7 @@ use Rattle.script_names.specs.declared.mark.Site.{Site}
 use Rattle.script_names.specs.declared.reason.Reason.{Reason}
 use Rattle.script_names.specs.declared.reason.Reason.TheVariants as reason
 use Rattle.shown_texts.specs.Marks.{site_text, mark_text, is_site, is_mark, reason_name}
-use Rattle.shown_texts.specs.Numbers.{is_digit}
+use Rattle.script_names.specs.ShellNames.{is_digit}
 use Rattle.shown_texts.specs.Parts.{lacks}
 use Rattle.shown_texts.specs.Show.{is_shown}
 use Rattle.shown_texts.proofs.Lists.{all_weaker, all_both}

@@ -57,6 +57,10 @@ star = 42
 abbrev pub plus : ℕ
 plus = 43
 
+-- `,`
+abbrev pub comma : ℕ
+comma = 44
+
 -- `-`
 abbrev pub hyphen : ℕ
 hyphen = 45
@@ -68,6 +72,22 @@ full_stop = 46
 -- `/`
 abbrev pub slash : ℕ
 slash = 47
+
+-- `0`
+abbrev pub digit_zero : ℕ
+digit_zero = 48
+
+-- `1`
+abbrev pub digit_one : ℕ
+digit_one = 49
+
+-- `2`
+abbrev pub digit_two : ℕ
+digit_two = 50
+
+-- `9`
+abbrev pub digit_nine : ℕ
+digit_nine = 57
 
 -- `:`
 abbrev pub colon : ℕ
@@ -97,6 +117,14 @@ question = 63
 abbrev pub commercial_at : ℕ
 commercial_at = 64
 
+-- `A`
+abbrev pub upper_a : ℕ
+upper_a = 65
+
+-- `Z`
+abbrev pub upper_z : ℕ
+upper_z = 90
+
 -- `[`
 abbrev pub bracket_open : ℕ
 bracket_open = 91
@@ -120,6 +148,18 @@ underscore = 95
 -- a backquote
 abbrev pub backquote : ℕ
 backquote = 96
+
+-- `a`
+abbrev pub lower_a : ℕ
+lower_a = 97
+
+-- `x`
+abbrev pub lower_x : ℕ
+lower_x = 120
+
+-- `z`
+abbrev pub lower_z : ℕ
+lower_z = 122
 
 -- `{`
 abbrev pub brace_open : ℕ

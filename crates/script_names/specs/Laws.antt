@@ -1,13 +1,14 @@
 -- What holds of words, paths and their parents.
 use Rattle.std.specs.Prelude.{◌≡◌, ℕ, List, Some, None, All, IsTrue, false}
 use Rattle.std.specs.List.{join_with_byte}
+use Rattle.script_names.specs.Ascii.{slash}
 use Rattle.script_names.specs.Names.{is_name}
 use Rattle.script_names.specs.Paths.{PathParts, is_slash, components, spelled_names, path_fault, parent_of, joined}
 use Rattle.script_names.specs.Paths.{IsStrictPrefix}
 
 -- the components of a word, joined by slashes, are the word again
 abbrev pub JoinsAgain : Type 0
-JoinsAgain = (word : List ℕ) → join_with_byte 47 (components word) ≡ word
+JoinsAgain = (word : List ℕ) → join_with_byte slash (components word) ≡ word
 
 -- a byte of a component is no slash
 abbrev pub HasNoSlash : Type 0

@@ -5,6 +5,7 @@ use Rattle.std.specs.Prelude.{List, [], ◌∷◌, ◌++◌, length, take, filte
 use Rattle.std.specs.Prelude.{if◌then◌else◌}
 use Rattle.std.specs.List.{list_any, slice_split, last_or, ends_with}
 use Rattle.std.specs.Option.{option_map_or}
+use Rattle.script_names.specs.Ascii.{full_stop, nul, slash as slash_byte}
 use Rattle.script_names.specs.declared.name.TheConstants.{NAME_MAX}
 use Rattle.script_names.specs.declared.path.TheConstants.{MAX_NAMES}
 use Rattle.script_names.specs.declared.path.PathFault.{PathFault}
@@ -21,11 +22,11 @@ IsPath names slash = (length names ≤ MAX_NAMES) × (IsTrue slash → 0 < lengt
 
 -- `/`
 abbrev pub is_slash : ℕ → Bool
-is_slash b = b == 47
+is_slash b = b == slash_byte
 
 -- NUL
 abbrev pub is_nul : ℕ → Bool
-is_nul b = b == 0
+is_nul b = b == nul
 
 -- the components of a word: what stands between its slashes, before the first and after the last too; each may be
 -- empty
@@ -40,14 +41,14 @@ is_filled (b ∷ bs) = true
 -- `.`, which names the directory itself
 abbrev pub is_dot : List ℕ → Bool
 is_dot [] = false
-is_dot (a ∷ []) = a == 46
+is_dot (a ∷ []) = a == full_stop
 is_dot (a ∷ b ∷ rest) = false
 
 -- `..`, which names the directory above
 abbrev pub is_dot_dot : List ℕ → Bool
 is_dot_dot [] = false
 is_dot_dot (a ∷ []) = false
-is_dot_dot (a ∷ b ∷ []) = (a == 46) && (b == 46)
+is_dot_dot (a ∷ b ∷ []) = (a == full_stop) && (b == full_stop)
 is_dot_dot (a ∷ b ∷ c ∷ rest) = false
 
 -- more bytes than a name may have
@@ -70,7 +71,7 @@ ends_in_dot word = option_map_or is_dot (last_or None (filter is_filled (compone
 abbrev pub path_of : List ℕ → PathParts
 path_of word = record {
   names = spelled_names word;
-  slash = nat_lt 0 (length (spelled_names word)) && ends_with nat_eq word (47 ∷ []);
+  slash = nat_lt 0 (length (spelled_names word)) && ends_with nat_eq word (slash_byte ∷ []);
 }
 
 -- why a word spells no path: the first of these that applies

@@ -2,7 +2,7 @@
 -- `"$@"`, a tilde, a brace, and the word `case` in a substitution. The least offset decides.
 use Rattle.std.specs.Prelude.{ℕ, zero, suc, Bool, true, false, if◌then◌else◌, ◌&&◌, ◌||◌, nat_eq, nat_le, List, []}
 use Rattle.std.specs.Prelude.{◌∷◌, Option, Some, None, codes}
-use Rattle.script_names.specs.Ascii.{brace_open, colon, equals, full_stop, tilde as tilde_byte}
+use Rattle.script_names.specs.Ascii.{brace_open, colon, comma, equals, full_stop, tilde as tilde_byte}
 use Rattle.shell_syntax.specs.declared.form.Form.{Form}
 use Rattle.shell_syntax.specs.declared.form.Form.TheVariants as form
 use Rattle.shell_lexer.specs.declared.fault.LexFault.{LexFault}
@@ -41,7 +41,7 @@ has_list dot [] = false
 has_list dot (Gap ∷ ms) = has_list false ms
 has_list dot (All at quoted ∷ ms) = has_list false ms
 has_list dot (Plain b at ∷ ms) =
-    (nat_eq b 44 || (dot && nat_eq b full_stop)) || has_list (nat_eq b full_stop) ms
+    (nat_eq b comma || (dot && nat_eq b full_stop)) || has_list (nat_eq b full_stop) ms
 
 -- the first plain `{`, where a comma or two dots come behind it
 abbrev pub brace : List ByteNote → Option ℕ

@@ -4,7 +4,7 @@
 use Rattle.std.specs.Prelude.{ℕ, if◌then◌else◌, ◌&&◌, ◌||◌, nat_eq, [], ◌∷◌, Option, Some}
 use Rattle.std.specs.Prelude.{None, codes}
 use Rattle.std.specs.Str.{bytes_eq}
-use Rattle.script_names.specs.Ascii.{ampersand, bar, newline, paren_open, semicolon}
+use Rattle.script_names.specs.Ascii.{ampersand, bar, digit_one, digit_two, newline, paren_open, semicolon}
 use Rattle.script_names.specs.Ascii.{greater as greater_byte, less as less_byte}
 use Rattle.shell_syntax.specs.declared.redirect.Redirect.{Redirect}
 use Rattle.shell_syntax.specs.declared.redirect.Redirect.TheVariants.{OutNull, ErrNull, InNull, OutToErr, ErrToOut}
@@ -47,8 +47,8 @@ in_from number = if bytes_eq number [] || bytes_eq number (codes "0") then Some 
 -- what is copied by the number before `>&` and the digit behind it
 abbrev pub copy_of : Bytes → ℕ → Option Redirect
 copy_of number b =
-    if (bytes_eq number [] || bytes_eq number (codes "1")) && nat_eq b 50 then Some OutToErr
-    else (if bytes_eq number (codes "2") && nat_eq b 49 then Some ErrToOut else None)
+    if (bytes_eq number [] || bytes_eq number (codes "1")) && nat_eq b digit_two then Some OutToErr
+    else (if bytes_eq number (codes "2") && nat_eq b digit_one then Some ErrToOut else None)
 
 -- the redirection where it is one and its word is whole, else the form that is not supported, at the place of `<` or
 -- `>`

@@ -1,7 +1,7 @@
 -- What stands in a word, and in double quotes, by the next byte that counts (POSIX.1-2017, XCU 2.2 Quoting, 2.5
 -- Parameters and Variables, 2.6.2 Parameter Expansion, 2.6.3 Command Substitution).
 use Rattle.std.specs.Prelude.{ℕ, ◌-◌, Bool, true, false, if◌then◌else◌, ◌||◌, nat_eq, [], ◌∷◌, Option, Some, None}
-use Rattle.script_names.specs.Ascii.{brace_close, colon, hyphen, paren_open, single_quote}
+use Rattle.script_names.specs.Ascii.{brace_close, colon, digit_zero, hyphen, paren_open, single_quote}
 use Rattle.script_names.specs.Ascii.{dollar as dollar_byte}
 use Rattle.shell_syntax.specs.declared.form.Form.TheVariants as form
 use Rattle.shell_syntax.specs.declared.key.Key.{Key}
@@ -62,7 +62,7 @@ behind_key quoted at key (b ∷ rest) =
 -- `1` to `9`
 abbrev pub number_key : Bool → ℕ → ℕ → Bytes → Look
 number_key quoted at b rest =
-    if nat_eq b 48 then bad_param at else behind_key quoted at (Arg (b - 48)) (skip rest)
+    if nat_eq b digit_zero then bad_param at else behind_key quoted at (Arg (b - digit_zero)) (skip rest)
 
 -- behind `${`, by the byte that comes next
 abbrev pub braced_by : Bool → ℕ → ℕ → ByteKind → Bytes → Look
@@ -83,7 +83,7 @@ named_part quoted text = Piece (Param (Named (run Names text)) None quoted) (beh
 -- `$1` to `$9`
 abbrev pub number_part : Bool → ℕ → ℕ → Bytes → Look
 number_part quoted at b rest =
-    if nat_eq b 48 then bad_param at else Piece (Param (Arg (b - 48)) None quoted) rest
+    if nat_eq b digit_zero then bad_param at else Piece (Param (Arg (b - digit_zero)) None quoted) rest
 
 -- `$(`, unless another parenthesis follows
 abbrev pub parenthesis : ℕ → Bytes → Look

@@ -3,6 +3,7 @@
 use Rattle.std.specs.Prelude.{Bool, true, false, if◌then◌else◌, nat_le, List, [], ◌∷◌, ◌++◌, map, Option, Some, None}
 use Rattle.std.specs.Prelude.{codes}
 use Rattle.std.specs.List.{flat_map}
+use Rattle.script_names.specs.Ascii.{equals}
 use Rattle.shell_syntax.specs.declared.redirect.Redirect.{Redirect}
 use Rattle.shell_syntax.specs.declared.level.Level.{Level}
 use Rattle.shell_syntax.specs.declared.level.Level.TheVariants as level
@@ -102,12 +103,12 @@ loop_token false = plain_token (codes "while")
 
 -- the parts of a word that begins with a name and `=`, from those behind it: its first bytes are one plain part
 abbrev pub assign_seen : Text → seen.RawPart-F RawPart TokenKind Token → RawPart → List RawPart → List RawPart
-assign_seen name (seen.Plain bytes) part parts = raw.Plain (name ++ 61 ∷ bytes) ∷ parts
-assign_seen name _ part parts = raw.Plain (name ++ 61 ∷ []) ∷ part ∷ parts
+assign_seen name (seen.Plain bytes) part parts = raw.Plain (name ++ equals ∷ bytes) ∷ parts
+assign_seen name _ part parts = raw.Plain (name ++ equals ∷ []) ∷ part ∷ parts
 
 -- the parts of an assignment (XCU 2.9.1)
 abbrev pub assign_parts : Text → List RawPart → List RawPart
-assign_parts name [] = raw.Plain (name ++ 61 ∷ []) ∷ []
+assign_parts name [] = raw.Plain (name ++ equals ∷ []) ∷ []
 assign_parts name (part ∷ parts) = assign_seen name (out-RawPart part) part parts
 
 -- ---- one layer of the syntax, from what is printed for the members

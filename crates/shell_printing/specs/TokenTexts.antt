@@ -2,6 +2,7 @@
 -- Recognition, 2.6 Word Expansions).
 use Rattle.std.specs.Prelude.{List, ◌∷◌, codes}
 use Rattle.std.specs.List.{flat_map}
+use Rattle.script_names.specs.Ascii.{space}
 use Rattle.shell_syntax.specs.PrintedParts.{Text, quoted_text, param_text, run_text}
 use Rattle.shell_syntax.specs.Printed.{redirect_text}
 use Rattle.shell_lexer.specs.declared.token.Token.{Token}
@@ -22,7 +23,7 @@ raw_layer (seen.Run at tokens quoted) = run_text (flat_map (λ t. t) tokens) quo
 
 -- what kind of token it is
 abbrev pub kind_layer : seen.TokenKind-F Text Text Text → Text
-kind_layer (seen.Word parts) = 32 ∷ flat_map (λ p. p) parts
+kind_layer (seen.Word parts) = space ∷ flat_map (λ p. p) parts
 kind_layer seen.Newline = codes "\n"
 kind_layer seen.Semi = codes " ;"
 kind_layer seen.DoubleSemi = codes " ;;"

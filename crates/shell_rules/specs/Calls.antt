@@ -6,7 +6,7 @@ use Rattle.std.specs.Prelude.{Option, Some, None, option_map, codes, if◌then�
 use Rattle.std.specs.List.{list_any, list_all}
 use Rattle.std.specs.Str.{bytes_eq}
 use Rattle.std.specs.FinMap as map
-use Rattle.script_names.specs.Ascii.{equals}
+use Rattle.script_names.specs.Ascii.{digit_zero, equals}
 use Rattle.script_names.specs.declared.mark.Mark.{Mark}
 use Rattle.script_names.specs.declared.reason.Done.{Done}
 use Rattle.script_names.specs.declared.reason.Done.TheVariants as done
@@ -137,7 +137,7 @@ do_function at body words p s =
 -- the number of some digits, behind those that were read
 abbrev pub number_behind : ℕ → Text → ℕ
 number_behind n [] = n
-number_behind n (b ∷ rest) = number_behind (n * 10 + (b - 48)) rest
+number_behind n (b ∷ rest) = number_behind (n * 10 + (b - digit_zero)) rest
 
 -- a status: 1 to 3 digits, at most MAX_STATUS
 abbrev pub is_status : Text → Bool

@@ -4,6 +4,7 @@
 use Rattle.std.specs.Prelude.{ℕ, Bool, true, false, if◌then◌else◌, nat_le, List, [], ◌∷◌, ◌++◌, Option, Some, None}
 use Rattle.std.specs.Prelude.{codes}
 use Rattle.std.specs.List.{flat_map}
+use Rattle.script_names.specs.Ascii.{space}
 use Rattle.shell_syntax.specs.declared.redirect.Redirect.{Redirect}
 use Rattle.shell_syntax.specs.declared.redirect.Redirect.TheVariants.{OutNull, ErrNull, InNull, OutToErr, ErrToOut}
 use Rattle.shell_syntax.specs.declared.level.Level.{Level}
@@ -56,7 +57,7 @@ between separator text (x ∷ xs) = text x ++ flat_map (λ y. separator ++ text 
 
 -- a word behind its blank
 abbrev pub spaced : Text → Text
-spaced word = 32 ∷ word
+spaced word = space ∷ word
 
 -- ---- redirections (XCU 2.7)
 

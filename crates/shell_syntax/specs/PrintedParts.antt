@@ -4,6 +4,7 @@ use Rattle.std.specs.Prelude.{ℕ, Bool, true, false, if◌then◌else◌, not, 
 use Rattle.std.specs.Prelude.{Some, None, codes}
 use Rattle.std.specs.List.{flat_map}
 use Rattle.std.specs.Fmt.{decimal}
+use Rattle.script_names.specs.Ascii.{backquote, backslash, dollar, double_quote as double_quote_byte, newline}
 use Rattle.shell_syntax.specs.declared.key.Key.{Key}
 use Rattle.shell_syntax.specs.declared.key.Key.TheVariants.{Named, Arg, Count}
 
@@ -13,16 +14,17 @@ Text = List ℕ
 
 -- a byte that keeps a meaning of its own in double quotes: `"`, `$`, backslash or backquote (XCU 2.2.3)
 abbrev pub is_active : ℕ → Bool
-is_active byte = nat_eq byte 34 || (nat_eq byte 36 || (nat_eq byte 92 || nat_eq byte 96))
+is_active byte =
+    nat_eq byte double_quote_byte || (nat_eq byte dollar || (nat_eq byte backslash || nat_eq byte backquote))
 
 -- a byte as it stands for itself in double quotes
 abbrev pub escaped : ℕ → Text
-escaped byte = if is_active byte then 92 ∷ byte ∷ [] else byte ∷ []
+escaped byte = if is_active byte then backslash ∷ byte ∷ [] else byte ∷ []
 
 -- whether there is one byte alone that a backslash can quote, which is any but a newline (XCU 2.2.1)
 abbrev pub is_one_byte : Text → Bool
 is_one_byte [] = false
-is_one_byte (byte ∷ []) = not (nat_eq byte 10)
+is_one_byte (byte ∷ []) = not (nat_eq byte newline)
 is_one_byte (byte ∷ other ∷ bytes) = false
 
 -- Quoted bytes: one byte behind a backslash, any others in double quotes of their own. Single quotes could not hold

@@ -6,7 +6,8 @@ use Rattle.std.specs.Str.Parse.{digits_value}
 use Rattle.std.proofs.lemmas.Bool.{ltb-true, leb-true, eqb-true, lt-ltb, le-leb, eq-eqb, ne_eqb, and_parts, and_from}
 use Rattle.std.proofs.lemmas.Str.Parse.{IsDigitsTest, IsNumeralModel, numerals_by_value}
 use Rattle.std.proofs.lemmas.Fmt.{digits_decimal, digits_value-decimal, decimal-digits_value, decimal_digit, decimal_nonempty, first_decimal}
-use Rattle.shown_texts.specs.Numbers.{is_digit, is_numeral, number_of}
+use Rattle.shown_texts.specs.Numbers.{is_numeral, number_of}
+use Rattle.script_names.specs.ShellNames.{is_digit}
 use Rattle.shown_texts.specs.Parts.{lacks}
 use Rattle.shown_texts.proofs.Lists.{all_weaker}
 use Rattle.shown_texts.proofs.LineTexts.{some_same}

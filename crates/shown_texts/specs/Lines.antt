@@ -2,6 +2,7 @@
 use Rattle.std.specs.Prelude.{ℕ, Bool, List, [], ◌∷◌, ◌++◌, Option, Some, None, if◌then◌else◌}
 use Rattle.std.specs.List.{flat_map}
 use Rattle.std.specs.Option.{option_map}
+use Rattle.script_names.specs.Ascii.{newline}
 use Rattle.script_names.specs.Paths.{is_filled}
 use Rattle.shown_texts.specs.Parts.{parts, lacks}
 
@@ -15,7 +16,7 @@ lines_text lines = flat_map line lines
 
 -- what may stand in a line: no newline
 abbrev pub is_line : List ℕ → Bool
-is_line text = lacks 10 text
+is_line text = lacks newline text
 
 -- parts but the last, which is to have no byte
 abbrev pub but_last : List (List ℕ) → Option (List (List ℕ))
@@ -25,4 +26,4 @@ but_last (part ∷ next ∷ texts) = option_map (λ lines. part ∷ lines) (but_
 
 -- the lines of a text; it has none, or ends in a newline
 abbrev pub lines_of : List ℕ → Option (List (List ℕ))
-lines_of text = but_last (parts 10 text)
+lines_of text = but_last (parts newline text)

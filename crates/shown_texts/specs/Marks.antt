@@ -4,6 +4,7 @@ use Rattle.std.specs.List.{join_with_byte}
 use Rattle.std.specs.Option.{option_map, option_and_then}
 use Rattle.std.specs.Str.{bytes_eq}
 use Rattle.std.specs.Fmt.{decimal}
+use Rattle.script_names.specs.Ascii.{colon}
 use Rattle.script_names.specs.declared.mark.Mark.{Mark}
 use Rattle.script_names.specs.declared.mark.Site.{Site}
 use Rattle.script_names.specs.declared.reason.Reason.{Reason}
@@ -13,11 +14,11 @@ use Rattle.shown_texts.specs.Numbers.{u8_max, u16_max, u32_max, number_of}
 
 -- a site: its step, a colon, and the place in the step
 abbrev pub site_text : Site → List ℕ
-site_text site = join_with_byte 58 (decimal site.step ∷ decimal site.at ∷ [])
+site_text site = join_with_byte colon (decimal site.step ∷ decimal site.at ∷ [])
 
 -- a mark: its site, a colon, and its row
 abbrev pub mark_text : Mark → List ℕ
-mark_text mark = join_with_byte 58 (decimal mark.site.step ∷ decimal mark.site.at ∷ decimal mark.row ∷ [])
+mark_text mark = join_with_byte colon (decimal mark.site.step ∷ decimal mark.site.at ∷ decimal mark.row ∷ [])
 
 -- the site of a step and a place that are written so
 abbrev pub site_from : List ℕ → List ℕ → Option Site
@@ -34,7 +35,7 @@ site_of_parts (step ∷ at ∷ row ∷ texts) = None
 
 -- the site that is written so
 abbrev pub site_of : List ℕ → Option Site
-site_of text = site_of_parts (parts 58 text)
+site_of text = site_of_parts (parts colon text)
 
 -- the mark of a step, a place and a row that are written so
 abbrev pub mark_from : List ℕ → List ℕ → List ℕ → Option Mark
@@ -52,7 +53,7 @@ mark_of_parts (step ∷ at ∷ row ∷ text ∷ texts) = None
 
 -- the mark that is written so
 abbrev pub mark_of : List ℕ → Option Mark
-mark_of text = mark_of_parts (parts 58 text)
+mark_of text = mark_of_parts (parts colon text)
 
 -- a site whose numbers fit their types
 abbrev pub is_site : Site → Bool

@@ -1,7 +1,8 @@
 ghost use Rattle.std.specs.Prelude.{◌≡◌, ◌++◌, ◌≤◌, length, take, OnOk, OnErr, IfSome};
 ghost use Rattle.std.specs.List.{list_all};
 ghost use Rattle.std.specs.Fmt.{decimal};
-ghost use Rattle.shown_texts.specs.Numbers.{is_digit, is_numeral, number_of};
+ghost use Rattle.shown_texts.specs.Numbers.{is_numeral, number_of};
+ghost use Rattle.script_names.specs.ShellNames.{is_digit};
 
 use script_names::{Bytes, Memory};
 

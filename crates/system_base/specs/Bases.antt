@@ -3,6 +3,7 @@ use Rattle.std.specs.Prelude.{ℕ, ◌+◌, Bool, true, false, not, ◌&&◌, �
 use Rattle.std.specs.Prelude.{codes, Option, Some, None, Result, Ok, Err, if◌then◌else◌}
 use Rattle.std.specs.List.{starts_with, list_any}
 use Rattle.std.specs.Str.{bytes_eq}
+use Rattle.script_names.specs.Ascii.{hash, space}
 use Rattle.script_names.specs.Paths.{PathParts}
 use Rattle.shown_texts.specs.Parts.{parts}
 use Rattle.feature_trees.specs.declared.kind.Kind.TheVariants.{Absent, Reg, Dir}
@@ -29,7 +30,7 @@ nothing_known = record { known = []; fits = false; own = false; calls = [] }
 -- a line that is passed over: an empty one, and one that begins with `#`
 abbrev pub is_passed : List ℕ → Bool
 is_passed [] = true
-is_passed (b ∷ bs) = b == 35
+is_passed (b ∷ bs) = b == hash
 
 -- the base with one of these kinds at the path that line n names; it is at fault where it names none
 abbrev pub with_path : ℕ → Base → Kinds → Option PathParts → Result Base LineFault
@@ -75,7 +76,7 @@ with_line n base line =
     if is_passed line then Ok base
     else (if bytes_eq line (codes "fits") then Ok (record base { fits = true })
     else (if bytes_eq line (codes "own") then Ok (record base { own = true })
-    else (if starts_with nat_eq line (codes "call ") then with_call_words n base (parts 32 (drop 5 line))
+    else (if starts_with nat_eq line (codes "call ") then with_call_words n base (parts space (drop 5 line))
     else with_path_line n base line)))
 
 -- ---- what a text says

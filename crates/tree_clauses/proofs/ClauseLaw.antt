@@ -6,7 +6,8 @@ use Rattle.std.proofs.lemmas.Bool.{leb-true, eqb-true, and_parts, and_from}
 use Rattle.script_names.specs.Names.{is_name}
 use Rattle.feature_trees.specs.declared.kind.Kinds.{Kinds}
 use Rattle.script_names.specs.Paths.{is_filled}
-use Rattle.shown_texts.specs.Numbers.{u32_max, is_digit}
+use Rattle.shown_texts.specs.Numbers.{u32_max}
+use Rattle.script_names.specs.ShellNames.{is_digit}
 use Rattle.shown_texts.specs.Paths.{if_name, name_of, names_onto}
 use Rattle.shown_texts.specs.Show.{is_shown, show}
 use Rattle.shown_texts.specs.Lines.{line}

@@ -1,7 +1,7 @@
 use Rattle.std.proofs.Common.{sym, ap, ◌∙◌, arith}
 use Rattle.std.specs.List.{list_all}
 use Rattle.std.proofs.lemmas.Bool.{eqb-false}
-use Rattle.command_words.specs.Values.{is_digit}
+use Rattle.script_names.specs.ShellNames.{is_digit}
 use Rattle.command_words.proofs.Numbers.{reads}
 use Rattle.command_words.proofs.value.read_number.Goals as goal
 

@@ -5,7 +5,8 @@ use Rattle.std.specs.Char.{digit_value}
 use Rattle.std.specs.Str.Parse.{digits_value, digits_value_after}
 use Rattle.std.proofs.lemmas.Bool.{leb-true, lt-leb, and_parts}
 use Rattle.std.proofs.lemmas.Str.{digit_value_digit}
-use Rattle.shown_texts.specs.Numbers.{is_digit, is_numeral, number_of}
+use Rattle.shown_texts.specs.Numbers.{is_numeral, number_of}
+use Rattle.script_names.specs.ShellNames.{is_digit}
 use Rattle.shown_texts.proofs.number.read_number.Goals as goal
 
 grows : (n : ℕ) (ds : List ℕ) → n ≤ digits_value_after 10 n ds
