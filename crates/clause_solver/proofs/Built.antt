@@ -33,7 +33,7 @@ with_grown : (b : Kind) (es : List Entry) (f : List ℕ) (t : Value) → with_en
 with_grown kind.Absent es f t = refl
 with_grown kind.Reg es f t = refl
 with_grown kind.Link es f t = refl
-with_grown kind.Other es f t = refl
+with_grown (kind.Special s) es f t = refl
 with_grown kind.Dir es f t = refl
 
 module _ (vars : List Variable) (best : List Kind) (marks : List Bool) (z : List ℕ) where

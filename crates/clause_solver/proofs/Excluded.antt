@@ -1,7 +1,8 @@
 -- A variable has one of the kinds that it can have.
 use Rattle.std.proofs.Common.{◌≡◌, ℕ, ◌<◌, true, false, ◌&&◌, IsTrue, List, length, refl, sym, ap, ◌∙◌}
 use Rattle.feature_trees.specs.declared.kind.Kind.{Kind}
-use Rattle.feature_trees.specs.declared.kind.Kind.TheVariants.{Absent, Reg, Link, Other, Dir}
+use Rattle.feature_trees.specs.declared.kind.Kind.TheVariants.{Absent, Reg, Link, Special, Dir}
+use Rattle.feature_trees.specs.declared.kind.Special.TheVariants.{Fifo, Socket, Block, Char}
 use Rattle.feature_trees.specs.declared.kind.Kinds.{Kinds}
 use Rattle.feature_trees.specs.declared.value.Value.{Value}
 use Rattle.feature_trees.specs.Kinds.{has, none, of, both}
@@ -20,14 +21,20 @@ none_has : (k : Kind) → has none k ≡ false
 none_has Absent = refl
 none_has Reg = refl
 none_has Link = refl
-none_has Other = refl
+none_has (Special Fifo) = refl
+none_has (Special Socket) = refl
+none_has (Special Block) = refl
+none_has (Special Char) = refl
 none_has Dir = refl
 
 has_of : (k : Kind) → IsTrue (has (of k) k)
 has_of Absent = refl
 has_of Reg = refl
 has_of Link = refl
-has_of Other = refl
+has_of (Special Fifo) = refl
+has_of (Special Socket) = refl
+has_of (Special Block) = refl
+has_of (Special Char) = refl
 has_of Dir = refl
 
 by_definition : (g : Valuation) (i : ℕ) (d : Definition) (ks : Kinds) → value_of_variable g i ≡ defined g d → IsTrue (has ks (kind_of (value_of_variable g i))) → IsTrue (has (possible_by d ks) (kind_of (value_of_variable g i)))

@@ -2,7 +2,7 @@
 use Rattle.std.proofs.Common.{◌≡◌, ◌≢◌, ◌⊎◌, inl, inr, ℕ, ◌+◌, ◌<◌, ◌≤◌, ◌&&◌, Bool, true, IsTrue, Option, None, Some, List, length, refl, sym, ap, ◌∙◌, arith, set, length-set, get_or-set_other, get_or-set_same}
 use Rattle.std.proofs.lemmas.Bool.{and_parts, and_from}
 use Rattle.feature_trees.specs.declared.kind.Kind.{Kind}
-use Rattle.feature_trees.specs.declared.kind.Kind.TheVariants.{Absent, Reg, Link, Other, Dir}
+use Rattle.feature_trees.specs.declared.kind.Kind.TheVariants.{Absent, Reg, Link, Special, Dir}
 use Rattle.feature_trees.specs.declared.kind.Kinds.{Kinds}
 use Rattle.feature_trees.specs.Kinds.{has}
 use Rattle.clause_solver.specs.declared.kin.Kin.{Kin}
@@ -20,7 +20,7 @@ pub absent_cases : (k : Kind) → (k ≡ Absent) ⊎ (k ≢ Absent)
 absent_cases Absent = inl refl
 absent_cases Reg = inr (λ e. cc)
 absent_cases Link = inr (λ e. cc)
-absent_cases Other = inr (λ e. cc)
+absent_cases (Special s) = inr (λ e. cc)
 absent_cases Dir = inr (λ e. cc)
 
 pub child_cases : (d : Definition) (m : ℕ) → ((f : List ℕ) × (d ≡ Child m f)) ⊎ ((p : ℕ) (f : List ℕ) → d ≡ Child p f → p ≢ m)

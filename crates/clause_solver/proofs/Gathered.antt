@@ -79,5 +79,5 @@ pub finished_pair : (place : Gathered) (f : List ℕ) (v : Value) → finished (
 finished_pair (value.Absent, ps) f v = refl
 finished_pair (value.Reg, ps) f v = refl
 finished_pair (value.Link b, ps) f v = refl
-finished_pair (value.Other, ps) f v = refl
+finished_pair ((value.Special s), ps) f v = refl
 finished_pair (value.Dir es, ps) f v = ap value.Dir (all_set_push es ps (f, v))

@@ -32,14 +32,14 @@ pub kind_grown : (k : Kind) (es : List Entry) → kind_of (grown k es) ≡ k
 kind_grown kind.Absent es = refl
 kind_grown kind.Reg es = refl
 kind_grown kind.Link es = refl
-kind_grown kind.Other es = refl
+kind_grown (kind.Special s) es = refl
 kind_grown kind.Dir es = refl
 
 grown_sound : (k : Kind) (es : List Entry) → IsTrue (sound_all es) → IsTrue (sound (grown k es))
 grown_sound kind.Absent es s = refl
 grown_sound kind.Reg es s = refl
 grown_sound kind.Link es s = refl
-grown_sound kind.Other es s = refl
+grown_sound (kind.Special which) es s = refl
 grown_sound kind.Dir es s = s
 
 -- a child's name is a name
@@ -170,7 +170,7 @@ grown_entry : (b : Kind) (es : List Entry) (h : List ℕ) → entry (grown b es)
 grown_entry kind.Absent es h some = absurd (some refl)
 grown_entry kind.Reg es h some = absurd (some refl)
 grown_entry kind.Link es h some = absurd (some refl)
-grown_entry kind.Other es h some = absurd (some refl)
+grown_entry (kind.Special s) es h some = absurd (some refl)
 grown_entry kind.Dir es h some = some
 
 module _ (best : List Kind) (open_at : ℕ → Bool) (z : List ℕ) (zn : IsTrue (is_name z)) where

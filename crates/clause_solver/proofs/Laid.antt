@@ -26,7 +26,7 @@ with_nothing : (v : Value) → with_all v [] ≡ v
 with_nothing value.Absent = refl
 with_nothing value.Reg = refl
 with_nothing (value.Link b) = refl
-with_nothing value.Other = refl
+with_nothing (value.Special s) = refl
 with_nothing (value.Dir es) = refl
 
 value_finished : (gs : List Gathered) (k : ℕ) → k < length gs → value_of_variable (map finished gs) k ≡ finished (place_at gs k)

@@ -10,13 +10,30 @@ beq_same true false e = absurd (cc e)
 beq_same false true e = absurd (cc e)
 beq_same false false e = refl
 
-kinds_by : (a r l o d b s m p e : Bool) → a ≡ b → r ≡ s → l ≡ m → o ≡ p → d ≡ e → ◌≡◌ {A = Kinds} (record { absent = a; reg = r; link = l; other = o; dir = d }) (record { absent = b; reg = s; link = m; other = p; dir = e })
-kinds_by a r l o d b s m p e same_a same_r same_l same_o same_d = rw (same_a, same_r, same_l, same_o, same_d) refl
-
-pub same_kinds : (a b : Kinds) → (beq a.absent b.absent && (beq a.reg b.reg && (beq a.link b.link && (beq a.other b.other && beq a.dir b.dir)))) ≡ true → a ≡ b
+pub same_kinds : (a b : Kinds) → (beq a.absent b.absent && (beq a.reg b.reg && (beq a.link b.link && (beq a.fifo b.fifo && (beq a.socket b.socket && (beq a.block b.block && (beq a.char b.char && (beq a.dir b.dir)))))))) ≡ true → a ≡ b
 same_kinds a b t =
     let absent = and_parts (beq a.absent b.absent) _ t in
     let reg = and_parts (beq a.reg b.reg) _ absent.1 in
     let link = and_parts (beq a.link b.link) _ reg.1 in
-    let other = and_parts (beq a.other b.other) (beq a.dir b.dir) link.1 in
-    kinds_by a.absent a.reg a.link a.other a.dir b.absent b.reg b.link b.other b.dir (beq_same a.absent b.absent absent.0) (beq_same a.reg b.reg reg.0) (beq_same a.link b.link link.0) (beq_same a.other b.other other.0) (beq_same a.dir b.dir other.1)
+    let fifo = and_parts (beq a.fifo b.fifo) _ link.1 in
+    let socket = and_parts (beq a.socket b.socket) _ fifo.1 in
+    let block = and_parts (beq a.block b.block) _ socket.1 in
+    let char = and_parts (beq a.char b.char) (beq a.dir b.dir) block.1 in
+    let same_absent = beq_same a.absent b.absent absent.0 in
+    let same_reg = beq_same a.reg b.reg reg.0 in
+    let same_link = beq_same a.link b.link link.0 in
+    let same_fifo = beq_same a.fifo b.fifo fifo.0 in
+    let same_socket = beq_same a.socket b.socket socket.0 in
+    let same_block = beq_same a.block b.block block.0 in
+    let same_char = beq_same a.char b.char char.0 in
+    let same_dir = beq_same a.dir b.dir char.1 in
+    λ i. record {
+      absent = same_absent i;
+      reg = same_reg i;
+      link = same_link i;
+      fifo = same_fifo i;
+      socket = same_socket i;
+      block = same_block i;
+      char = same_char i;
+      dir = same_dir i;
+    }

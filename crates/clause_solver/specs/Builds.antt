@@ -49,7 +49,7 @@ abbrev pub with_entry : Value → List ℕ → Value → Value
 with_entry value.Absent f v = value.Absent
 with_entry value.Reg f v = value.Reg
 with_entry (value.Link b) f v = value.Link b
-with_entry value.Other f v = value.Other
+with_entry (value.Special s) f v = value.Special s
 with_entry (value.Dir es) f v = value.Dir (update es f v)
 
 -- the values, with one more moved into its parent where it is an entry

@@ -37,7 +37,7 @@ abbrev pub with_all : Value → List Pair → Value
 with_all value.Absent ps = value.Absent
 with_all value.Reg ps = value.Reg
 with_all (value.Link b) ps = value.Link b
-with_all value.Other ps = value.Other
+with_all (value.Special s) ps = value.Special s
 with_all (value.Dir es) ps = value.Dir (all_set es ps)
 
 -- the value with its entries

@@ -2,7 +2,8 @@
 use Rattle.std.specs.Prelude.{◌≡◌, ◌≢◌, ℕ, ◌<◌, List, [], ◌∷◌, length, Option, Some, None, slice_index_or, IsTrue}
 use Rattle.std.specs.Prelude.{Bool, true, false, ◌&&◌, if◌then◌else◌}
 use Rattle.feature_trees.specs.declared.kind.Kind.{Kind}
-use Rattle.feature_trees.specs.declared.kind.Kind.TheVariants.{Absent, Reg, Link, Other, Dir}
+use Rattle.feature_trees.specs.declared.kind.Kind.TheVariants.{Absent, Reg, Link, Special, Dir}
+use Rattle.feature_trees.specs.declared.kind.Special.TheVariants.{Fifo, Socket, Block, Char}
 use Rattle.feature_trees.specs.declared.kind.Kinds.{Kinds}
 use Rattle.feature_trees.specs.Kinds.{has}
 use Rattle.feature_trees.specs.Tree.{kind_of}
@@ -15,17 +16,23 @@ use Rattle.clause_solver.specs.Variables.{var_at, Listed, allowed, made_value, i
 abbrev pub kind_at : List Kind → ℕ → Kind
 kind_at best i = slice_index_or best i Absent
 
--- the greatest kind of a set: a directory where it may be one, and absent last
+-- the first of the special kinds in a set, or absent
+abbrev pub choose_special : Kinds → Kind
+choose_special s =
+    if s.fifo then Special Fifo
+    else (if s.socket then Special Socket
+    else (if s.block then Special Block else (if s.char then Special Char else Absent)))
+
+-- the greatest kind of a set: a directory where it may be one, then a file, a link or a special kind, and absent last
 abbrev pub choose : Kinds → Kind
-choose s =
-    if s.dir then Dir else (if s.reg then Reg else (if s.link then Link else (if s.other then Other else Absent)))
+choose s = if s.dir then Dir else (if s.reg then Reg else (if s.link then Link else choose_special s))
 
 -- whether the kind is a directory
 abbrev pub is_dir : Kind → Bool
 is_dir Absent = false
 is_dir Reg = false
 is_dir Link = false
-is_dir Other = false
+is_dir (Special s) = false
 is_dir Dir = true
 
 -- the greatest kind by a definition, given those of the earlier variables

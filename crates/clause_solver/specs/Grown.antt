@@ -3,7 +3,7 @@ use Rattle.std.specs.Prelude.{ℕ, suc, List, [], ◌∷◌, Bool, true, false, 
 use Rattle.feature_trees.specs.declared.kind.Kind.{Kind}
 use Rattle.feature_trees.specs.declared.kind.Kind.TheVariants as kind
 use Rattle.feature_trees.specs.declared.value.Value.{Value}
-use Rattle.feature_trees.specs.declared.value.Value.TheVariants.{Absent, Reg, Link, Other, Dir}
+use Rattle.feature_trees.specs.declared.value.Value.TheVariants.{Absent, Reg, Link, Special, Dir}
 use Rattle.feature_trees.specs.declared.shape.Entry.{Entry}
 use Rattle.feature_trees.specs.Tree.{update}
 use Rattle.feature_trees.specs.View.{node_of}
@@ -22,7 +22,7 @@ abbrev pub grown : Kind → List Entry → Value
 grown kind.Absent es = Absent
 grown kind.Reg es = Reg
 grown kind.Link es = Link some_target
-grown kind.Other es = Other
+grown (kind.Special s) es = Special s
 grown kind.Dir es = Dir es
 
 -- the entries of the place p with the value of one more variable, where the variable is an entry of p

@@ -33,7 +33,7 @@ definition_literals i (Made m) = made_literals i m
 
 -- whether every kind is in the set
 abbrev pub is_all : Kinds → Bool
-is_all s = s.absent && (s.reg && (s.link && (s.other && s.dir)))
+is_all s = s.absent && (s.reg && (s.link && (s.fifo && (s.socket && (s.block && (s.char && s.dir))))))
 
 -- the literal of the kinds, which is left out where they are all kinds
 abbrev pub kinds_literals : ℕ → Kinds → List Literal

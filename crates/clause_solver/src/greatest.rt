@@ -1,7 +1,7 @@
 ghost use Rattle.std.specs.Prelude.{◌≡◌, ℕ, ◌<◌, ◌↔◌, List, [], ◌∷◌, length, IsTrue, ◌≢◌};
 ghost use Rattle.clause_solver.specs.Variables.{Ordered, Listed, member, allowed, var_at, is_node, made_value};
 ghost use Rattle.clause_solver.specs.Greatest.{HasEntryOutside, IsOpen, IsPresentChild, kind_at, best_by, best_of};
-ghost use Rattle.clause_solver.specs.Greatest.{choose, unfenced_if};
+ghost use Rattle.clause_solver.specs.Greatest.{choose, choose_special, unfenced_if};
 ghost use Rattle.clause_solver.specs.Appends.{Within};
 ghost use Rattle.clause_solver.specs.Linked.{AreLinked};
 ghost use Rattle.clause_solver.specs.ReplacedNames.{names};
@@ -12,12 +12,12 @@ use crate::children::kin_at;
 use crate::kin::Kin;
 use crate::places::{definition_at, kind_at, var_at};
 use crate::variable::{Definition, MadeValue, Variable};
-use feature_trees::{Kind, Kinds};
+use feature_trees::{Kind, Kinds, Special};
 use script_names::{List, Name};
 use shared_table::Shared;
 use std::cmp::Ordering;
 
-// The greatest kind of a set: a directory where it may be one, and absent last.
+// The greatest kind of a set: a directory where it may be one, then a file, a link or a special kind, and absent last.
 pub(crate) fn choose(kinds: Kinds) -> Kind
     ensures { result ≡ choose kinds }
 {
@@ -27,8 +27,23 @@ pub(crate) fn choose(kinds: Kinds) -> Kind
         Kind::Reg
     } else if kinds.has(Kind::Link) {
         Kind::Link
-    } else if kinds.has(Kind::Other) {
-        Kind::Other
+    } else {
+        choose_special(kinds)
+    }
+}
+
+// The first of the special kinds in a set, or absent.
+fn choose_special(kinds: Kinds) -> Kind
+    ensures { result ≡ choose_special kinds }
+{
+    if kinds.fifo {
+        Kind::Special(Special::Fifo)
+    } else if kinds.socket {
+        Kind::Special(Special::Socket)
+    } else if kinds.block {
+        Kind::Special(Special::Block)
+    } else if kinds.char {
+        Kind::Special(Special::Char)
     } else {
         Kind::Absent
     }

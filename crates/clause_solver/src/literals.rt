@@ -15,11 +15,14 @@ use tree_clauses::{Literal, Var};
 fn is_all(kinds: Kinds) -> bool
     ensures { result ≡ is_all kinds }
 {
-    kinds.has(Kind::Absent)
-        && kinds.has(Kind::Reg)
-        && kinds.has(Kind::Link)
-        && kinds.has(Kind::Other)
-        && kinds.has(Kind::Dir)
+    kinds.absent
+        && kinds.reg
+        && kinds.link
+        && kinds.fifo
+        && kinds.socket
+        && kinds.block
+        && kinds.char
+        && kinds.dir
 }
 
 // Adds the literals of a made value.

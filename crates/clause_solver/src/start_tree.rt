@@ -44,7 +44,7 @@ fn value_without_children(
         Kind::Absent => Ok(Value::Absent),
         Kind::Reg => Ok(Value::Reg),
         Kind::Link => Ok(Value::Link(Bytes::from_slice(alloc, b"x")?)),
-        Kind::Other => Ok(Value::Other),
+        Kind::Special(s) => Ok(Value::Special(s)),
         Kind::Dir => dir_without_children(alloc, wanted, z),
     }
 }

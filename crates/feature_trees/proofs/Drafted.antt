@@ -11,7 +11,7 @@ use Rattle.feature_trees.specs.declared.put.PutFault.{PutFault}
 use Rattle.feature_trees.specs.declared.shape.Entry.{Entry}
 use Rattle.feature_trees.specs.declared.value.NamedValue.{NamedValue}
 use Rattle.feature_trees.specs.declared.value.Value.{Value}
-use Rattle.feature_trees.specs.declared.value.Value.TheVariants.{Absent, Reg, Link, Other, Dir}
+use Rattle.feature_trees.specs.declared.value.Value.TheVariants.{Absent, Reg, Link, Special, Dir}
 use Rattle.feature_trees.specs.Drafts.{draft_value, seen_drafts}
 use Rattle.feature_trees.specs.Sound.{sound, sound_all}
 use Rattle.feature_trees.specs.Tree.{find, name_cmp, present, by_order, update, put, has_parents, entry_if_present}
@@ -30,7 +30,7 @@ by_bytes f k = name_cmp f k.items
 pub draft_there : (d : Draft) → IsThere (draft_value d)
 draft_there D.Reg = tt
 draft_there (D.Link b) = tt
-draft_there D.Other = tt
+draft_there (D.Special s) = tt
 draft_there (D.Dir es) = tt
 
 back : (d : Draft) → value_of (node_of (draft_value d)) ≡ draft_value d
@@ -59,14 +59,14 @@ present_is : (v w : Value) → present v ≡ Some w → v ≡ w
 present_is Absent w e = cc
 present_is Reg w e = cc
 present_is (Link b) w e = cc
-present_is Other w e = cc
+present_is (Special s) w e = cc
 present_is (Dir es) w e = cc
 
 present_not : (v : Value) → present v ≡ None → v ≡ Absent
 present_not Absent e = refl
 present_not Reg e = cc
 present_not (Link b) e = cc
-present_not Other e = cc
+present_not (Special s) e = cc
 present_not (Dir es) e = cc
 
 pub found_draft : (es : List Item) (f : List ℕ) (d : Draft) → Rises (seen_drafts es) → lookup (is_at (by_bytes f)) es ≡ Some d → find (seen_drafts es) f ≡ draft_value d
@@ -184,5 +184,5 @@ pub none_so : (v : Value) → None ≡ present v → false ≡ is_there v
 none_so Absent e = refl
 none_so Reg e = cc
 none_so (Link b) e = cc
-none_so Other e = cc
+none_so (Special s) e = cc
 none_so (Dir es) e = cc

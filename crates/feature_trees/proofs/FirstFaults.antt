@@ -4,7 +4,7 @@ use Rattle.std.specs.Prelude.{◌⊎◌, if◌then◌else◌}
 use Rattle.std.proofs.lemmas.Bool.{and_from}
 use Rattle.feature_trees.specs.declared.kind.Kind.TheVariants as kind
 use Rattle.feature_trees.specs.declared.value.Value.{Value}
-use Rattle.feature_trees.specs.declared.value.Value.TheVariants.{Absent, Reg, Link, Other, Dir}
+use Rattle.feature_trees.specs.declared.value.Value.TheVariants.{Absent, Reg, Link, Special, Dir}
 use Rattle.feature_trees.specs.declared.read.TreeFault.{TreeFault}
 use Rattle.feature_trees.specs.declared.read.TreeFault.TheVariants.{Line}
 use Rattle.feature_trees.specs.declared.read.TreeLine.{TreeLine}
@@ -80,7 +80,7 @@ dir_above : (u : Value) (f : List ℕ) (p : List (List ℕ)) → is_dir (at (ent
 dir_above Absent f p h = let e = sym (ap is_dir (at_Absent p)) ∙ h in cc
 dir_above Reg f p h = let e = sym (ap is_dir (at_Absent p)) ∙ h in cc
 dir_above (Link b) f p h = let e = sym (ap is_dir (at_Absent p)) ∙ h in cc
-dir_above Other f p h = let e = sym (ap is_dir (at_Absent p)) ∙ h in cc
+dir_above (Special s) f p h = let e = sym (ap is_dir (at_Absent p)) ∙ h in cc
 dir_above (Dir es) f p h = refl
 
 -- below a directory an entry has its parents
@@ -92,21 +92,21 @@ dir_bare : (v : Value) → without_entries v ≡ Dir [] → is_dir v ≡ true
 dir_bare Absent e = cc
 dir_bare Reg e = cc
 dir_bare (Link b) e = cc
-dir_bare Other e = cc
+dir_bare (Special s) e = cc
 dir_bare (Dir es) e = refl
 
 pub kind_dir : (v : Value) → kind_of v ≡ kind.Dir → is_dir v ≡ true
 kind_dir Absent e = cc
 kind_dir Reg e = cc
 kind_dir (Link b) e = cc
-kind_dir Other e = cc
+kind_dir (Special s) e = cc
 kind_dir (Dir es) e = refl
 
 bare_there : (v : Value) → is_there v ≡ true → IsThere (without_entries v)
 bare_there Absent h = cc
 bare_there Reg h = tt
 bare_there (Link b) h = tt
-bare_there Other h = tt
+bare_there (Special s) h = tt
 bare_there (Dir es) h = tt
 
 -- a path, cut before its last name

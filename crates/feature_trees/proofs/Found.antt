@@ -7,7 +7,7 @@ use Rattle.std.specs.FinMap.{slice_cmp-IsAntisymmetric, nat_cmp-IsAntisymmetric}
 use Rattle.feature_trees.specs.declared.shape.Entry.{Entry}
 use Rattle.feature_trees.specs.declared.value.NamedValue.{NamedValue}
 use Rattle.feature_trees.specs.declared.value.Value.{Value}
-use Rattle.feature_trees.specs.declared.value.Value.TheVariants.{Absent, Reg, Link, Other, Dir}
+use Rattle.feature_trees.specs.declared.value.Value.TheVariants.{Absent, Reg, Link, Special, Dir}
 use Rattle.feature_trees.specs.Tree.{find, name_cmp, present, by_order, at, entry, update, entry_if_present}
 use Rattle.feature_trees.specs.View.{seen, IsThere, AllThere, value_of, node_of, value_of-node_of}
 use Rattle.feature_trees.specs.Place.{Passed, BeginsAt, BeginsAfter, IsAt, IsGap}
@@ -16,14 +16,14 @@ pub present-there : (v : Value) → IsThere v → present v ≡ Some v
 present-there Absent h = absurd h
 present-there Reg h = refl
 present-there (Link b) h = refl
-present-there Other h = refl
+present-there (Special s) h = refl
 present-there (Dir es) h = refl
 
 not_present : (v : Value) → present v ≡ None → v ≡ Absent
 not_present Absent h = refl
 not_present Reg h = cc
 not_present (Link b) h = cc
-not_present Other h = cc
+not_present (Special s) h = cc
 not_present (Dir es) h = cc
 
 pub at_Absent : (p : List (List ℕ)) → at Absent p ≡ Absent
@@ -102,7 +102,7 @@ pub entry_if_present-there : (f : List ℕ) (v : Value) → IsThere v → entry_
 entry_if_present-there f Absent h = absurd h
 entry_if_present-there f Reg h = refl
 entry_if_present-there f (Link b) h = refl
-entry_if_present-there f Other h = refl
+entry_if_present-there f (Special s) h = refl
 entry_if_present-there f (Dir es) h = refl
 
 inserted : (hs : List NamedValue) (f : List ℕ) (i : ℕ) (v : Value) → IsThere v → Passed hs f i → BeginsAfter (drop i hs) f → seen (insert hs i (record { name = f; value = v })) ≡ update (seen hs) f v

@@ -11,7 +11,7 @@ use Rattle.feature_trees.specs.declared.shape.Node.TheVariants as N
 use Rattle.feature_trees.specs.declared.shape.Node.TheViews.{out-Node, roll-Node, roll-out-Node}
 use Rattle.feature_trees.specs.declared.shape.Node.TheFolds.{fold-roll-Node}
 use Rattle.feature_trees.specs.declared.value.Value.{Value}
-use Rattle.feature_trees.specs.declared.value.Value.TheVariants.{Absent, Reg, Link, Other, Dir}
+use Rattle.feature_trees.specs.declared.value.Value.TheVariants.{Absent, Reg, Link, Special, Dir}
 use Rattle.script_names.specs.Names.{is_name}
 use Rattle.feature_trees.specs.Tree.{find, name_cmp, by_order, update, entry_if_present, put, entry, entries_of, kind_of}
 use Rattle.feature_trees.specs.declared.kind.Kind.TheVariants as kind
@@ -41,31 +41,31 @@ made [] r s = refl
 made (e ∷ es) r s = and_made _ _ s.0 (and_made _ _ s.1 (and_made _ _ (before_of e.name es r.0) (made es r.1 s.2)))
 
 node_sound : (w : Value) → IsTrue (sound w) → IsTrue (sound_node (node_of w))
-node_sound Absent s = ap sound_node (sym N.rolls-Other) ∙ fold-roll-Node Bool (List ℕ × Bool) sound_layer entry_layer Open.Other
+node_sound Absent s = ap sound_node (sym N.rolls-Reg) ∙ fold-roll-Node Bool (List ℕ × Bool) sound_layer entry_layer Open.Reg
 node_sound Reg s = ap sound_node (sym N.rolls-Reg) ∙ fold-roll-Node Bool (List ℕ × Bool) sound_layer entry_layer Open.Reg
 node_sound (Link b) s = ap sound_node (sym (N.rolls-Link b)) ∙ fold-roll-Node Bool (List ℕ × Bool) sound_layer entry_layer (Open.Link b)
-node_sound Other s = ap sound_node (sym N.rolls-Other) ∙ fold-roll-Node Bool (List ℕ × Bool) sound_layer entry_layer Open.Other
+node_sound (Special which) s = ap sound_node (sym (N.rolls-Special which)) ∙ fold-roll-Node Bool (List ℕ × Bool) sound_layer entry_layer (Open.Special which)
 node_sound (Dir es) s = subst IsTrue (sym (sound_Dir es)) s
 
 each_inserted : (f : List ℕ) (w : Value) (es : List Entry) → IsTrue (is_name f) → IsTrue (sound w) → EachSound es → EachSound (entry_if_present f w ++ es)
 each_inserted f Absent es n s h = h
 each_inserted f Reg es n s h = (n, node_sound Reg s, h)
 each_inserted f (Link b) es n s h = (n, node_sound (Link b) s, h)
-each_inserted f Other es n s h = (n, node_sound Other s, h)
+each_inserted f (Special which) es n s h = (n, node_sound (Special which) s, h)
 each_inserted f (Dir ds) es n s h = (n, node_sound (Dir ds) s, h)
 
 rises_inserted : (f : List ℕ) (w : Value) (es : List Entry) → Above f es → Rises es → Rises (entry_if_present f w ++ es)
 rises_inserted f Absent es a r = r
 rises_inserted f Reg es a r = (a, r)
 rises_inserted f (Link b) es a r = (a, r)
-rises_inserted f Other es a r = (a, r)
+rises_inserted f (Special s) es a r = (a, r)
 rises_inserted f (Dir ds) es a r = (a, r)
 
 above_inserted : (n f : List ℕ) (w : Value) (es : List Entry) → name_cmp n f ≡ Less → Above n es → Above n (entry_if_present f w ++ es)
 above_inserted n f Absent es lt a = a
 above_inserted n f Reg es lt a = lt
 above_inserted n f (Link b) es lt a = lt
-above_inserted n f Other es lt a = lt
+above_inserted n f (Special s) es lt a = lt
 above_inserted n f (Dir ds) es lt a = lt
 
 above_update : (n : List ℕ) (es : List Entry) (f : List ℕ) (w : Value) → name_cmp n f ≡ Less → Above n es → Rises es → Above n (update es f w)
@@ -107,7 +107,7 @@ node_of-value_of n = layer (out-Node n) ∙ roll-out-Node n
     layer : (x : Open.Node-F Node Entry) → node_of (value_layer x) ≡ roll-Node x
     layer Open.Reg = sym N.rolls-Reg
     layer (Open.Link b) = sym (N.rolls-Link b)
-    layer Open.Other = sym N.rolls-Other
+    layer (Open.Special s) = sym (N.rolls-Special s)
     layer (Open.Dir es) = sym (N.rolls-Dir es)
 
 pub value_there : (n : Node) → IsThere (value_of n)
@@ -116,7 +116,7 @@ value_there n = layer (out-Node n)
     layer : (x : Open.Node-F Node Entry) → IsThere (value_layer x)
     layer Open.Reg = tt
     layer (Open.Link b) = tt
-    layer Open.Other = tt
+    layer (Open.Special s) = tt
     layer (Open.Dir es) = tt
 
 pub find_first : (e : Entry) (es : List Entry) → find (e ∷ es) e.name ≡ value_of e.node
@@ -164,7 +164,7 @@ pub sound_entries : (v : Value) → IsTrue (sound v) → IsTrue (sound_all (entr
 sound_entries Absent s = refl
 sound_entries Reg s = refl
 sound_entries (Link b) s = refl
-sound_entries Other s = refl
+sound_entries (Special which) s = refl
 sound_entries (Dir es) s = s
 
 -- a put of a sound value at names keeps a value sound
@@ -179,8 +179,8 @@ same_dirs (Dir es) (Dir ds) s t d e h = ap Dir (same_finds es ds (rises_of es s)
 same_dirs Absent w s t d e h = cc
 same_dirs Reg w s t d e h = cc
 same_dirs (Link b) w s t d e h = cc
-same_dirs Other w s t d e h = cc
+same_dirs (Special which) w s t d e h = cc
 same_dirs (Dir es) Absent s t d e h = cc
 same_dirs (Dir es) Reg s t d e h = cc
 same_dirs (Dir es) (Link b) s t d e h = cc
-same_dirs (Dir es) Other s t d e h = cc
+same_dirs (Dir es) (Special which) s t d e h = cc

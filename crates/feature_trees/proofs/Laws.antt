@@ -11,7 +11,7 @@ use Rattle.feature_trees.specs.declared.shape.Node.TheOpen as Open
 use Rattle.feature_trees.specs.declared.shape.Node.TheVariants as N
 use Rattle.feature_trees.specs.declared.shape.Node.TheViews.{out-Node, roll-Node, roll-out-Node}
 use Rattle.feature_trees.specs.declared.value.Value.{Value}
-use Rattle.feature_trees.specs.declared.value.Value.TheVariants.{Absent, Reg, Link, Other, Dir}
+use Rattle.feature_trees.specs.declared.value.Value.TheVariants.{Absent, Reg, Link, Special, Dir}
 use Rattle.script_names.specs.Names.{is_name}
 use Rattle.feature_trees.specs.Tree.{find, name_cmp, by_order, at, put, entry, update, entry_if_present, has_parents, is_dir, entries_of}
 use Rattle.feature_trees.specs.View.{value_layer, value_of, node_of, value_of-node_of}
@@ -70,7 +70,7 @@ rises_v : (v : Value) → IsTrue (sound v) → Rises (entries_of v)
 rises_v Absent s = tt
 rises_v Reg s = tt
 rises_v (Link b) s = tt
-rises_v Other s = tt
+rises_v (Special which) s = tt
 rises_v (Dir es) s = rises_of es s
 
 pub sound_value : (n : Node) → IsTrue (sound_node n) → IsTrue (sound (value_of n))
@@ -79,7 +79,7 @@ sound_value n h = layer (out-Node n) (subst (λ x. IsTrue (sound_node x)) (sym (
     layer : (x : Open.Node-F Node Entry) → IsTrue (sound_node (roll-Node x)) → IsTrue (sound (value_layer x))
     layer Open.Reg h = refl
     layer (Open.Link b) h = refl
-    layer Open.Other h = refl
+    layer (Open.Special s) h = refl
     layer (Open.Dir es) h = subst IsTrue (ap sound_node (N.rolls-Dir es) ∙ sound_Dir es) h
 
 sound-find : (es : List Entry) (f : List ℕ) → IsTrue (sound_all es) → IsTrue (sound (find es f))
@@ -96,7 +96,7 @@ pub sound-entry : (v : Value) (f : List ℕ) → IsTrue (sound v) → IsTrue (so
 sound-entry Absent f s = refl
 sound-entry Reg f s = refl
 sound-entry (Link b) f s = refl
-sound-entry Other f s = refl
+sound-entry (Special which) f s = refl
 sound-entry (Dir es) f s = sound-find es f s
 
 -- an entry in front of others
@@ -104,7 +104,7 @@ find_inserted_same : (f : List ℕ) (w : Value) (es : List Entry) → find es f 
 find_inserted_same f Absent es h = h
 find_inserted_same f Reg es h = rw (tied_itself ord f) (value_of-node_of Reg tt)
 find_inserted_same f (Link b) es h = rw (tied_itself ord f) (value_of-node_of (Link b) tt)
-find_inserted_same f Other es h = rw (tied_itself ord f) (value_of-node_of Other tt)
+find_inserted_same f (Special s) es h = rw (tied_itself ord f) (value_of-node_of (Special s) tt)
 find_inserted_same f (Dir ds) es h = rw (tied_itself ord f) (value_of-node_of (Dir ds) tt)
 
 find_equal : (e : Entry) (es : List Entry) (f : List ℕ) → name_cmp f e.name ≡ Less → find (e ∷ es) f ≡ Absent
@@ -132,7 +132,7 @@ find_inserted_other : (f g : List ℕ) (w : Value) (es : List Entry) → (f ≡ 
 find_inserted_other f g Absent es differ low = refl
 find_inserted_other f g Reg es differ low = one_other f g (node_of Reg) es differ low
 find_inserted_other f g (Link b) es differ low = one_other f g (node_of (Link b)) es differ low
-find_inserted_other f g Other es differ low = one_other f g (node_of Other) es differ low
+find_inserted_other f g (Special s) es differ low = one_other f g (node_of (Special s)) es differ low
 find_inserted_other f g (Dir ds) es differ low = one_other f g (node_of (Dir ds)) es differ low
 
 -- every other entry stays
@@ -164,7 +164,7 @@ entry_of-entries : (v : Value) (g : List ℕ) → find (entries_of v) g ≡ entr
 entry_of-entries Absent g = refl
 entry_of-entries Reg g = refl
 entry_of-entries (Link b) g = refl
-entry_of-entries Other g = refl
+entry_of-entries (Special s) g = refl
 entry_of-entries (Dir es) g = refl
 
 -- at a path that parts from it at a name all is as before

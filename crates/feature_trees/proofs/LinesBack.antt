@@ -19,7 +19,9 @@ use Rattle.feature_trees.specs.declared.shape.Node.TheOpen as Open
 use Rattle.feature_trees.specs.declared.shape.Node.TheViews.{out-Node, roll-Node, roll-out-Node}
 use Rattle.feature_trees.specs.declared.shape.Node.TheFolds.{fold-Entry, fold-roll-Node, fold-roll-Entry}
 use Rattle.feature_trees.specs.declared.value.Value.{Value}
-use Rattle.feature_trees.specs.declared.value.Value.TheVariants.{Absent, Reg, Link, Other, Dir}
+use Rattle.feature_trees.specs.declared.kind.Special.TheVariants.{Fifo, Socket, Block, Char}
+use Rattle.feature_trees.specs.declared.kind.Special.TheVariants.{Fifo, Socket, Block, Char}
+use Rattle.feature_trees.specs.declared.value.Value.TheVariants.{Absent, Reg, Link, Special, Dir}
 use Rattle.feature_trees.specs.declared.read.TheConstants.{MOST_NAMES}
 use Rattle.feature_trees.specs.declared.read.TreeLine.{TreeLine}
 use Rattle.feature_trees.specs.Tree.{entries_of}
@@ -28,7 +30,7 @@ use Rattle.feature_trees.specs.Shape.{count_all, entry_weight_of}
 use Rattle.feature_trees.specs.Sound.{before, sound_all, sound_node}
 use Rattle.feature_trees.specs.Readable.{greatest, depth_layer, entry_depth_layer, node_depth, entries_depth, bytes_layer, entry_bytes_layer, node_bytes, entries_bytes, of_bytes}
 use Rattle.feature_trees.specs.TreeLines.{line_of_names, line_at, line_of_words, line_says}
-use Rattle.feature_trees.specs.TreeText.{path_below, entry_lines, entries_lines, node_lines, value_lines}
+use Rattle.feature_trees.specs.TreeText.{special_mark, path_below, entry_lines, entries_lines, node_lines, value_lines}
 use Rattle.feature_trees.proofs.Kept.{node_of-value_of, value_there, sound_entries}
 use Rattle.feature_trees.proofs.Laws.{sound_value}
 use Rattle.feature_trees.proofs.Printed.{entry_lines_of, node_lines_of}
@@ -55,7 +57,7 @@ depth_of n = ap node_depth (sym (roll-out-Node n)) ∙ layer (out-Node n)
     layer : (x : Open.Node-F Node Entry) → node_depth (roll-Node x) ≡ entries_depth (entries_of (value_layer x))
     layer Open.Reg = fold-roll-Node ℕ ℕ depth_layer entry_depth_layer Open.Reg
     layer (Open.Link b) = fold-roll-Node ℕ ℕ depth_layer entry_depth_layer (Open.Link b)
-    layer Open.Other = fold-roll-Node ℕ ℕ depth_layer entry_depth_layer Open.Other
+    layer (Open.Special s) = fold-roll-Node ℕ ℕ depth_layer entry_depth_layer (Open.Special s)
     layer (Open.Dir es) = fold-roll-Node ℕ ℕ depth_layer entry_depth_layer (Open.Dir es) ∙ ap greatest (entry_depths es)
 
 abbrev pub entry_bytes : Entry → Bool
@@ -77,14 +79,14 @@ bytes_of n = ap node_bytes (sym (roll-out-Node n)) ∙ layer (out-Node n)
     layer : (x : Open.Node-F Node Entry) → node_bytes (roll-Node x) ≡ of_bytes (value_layer x)
     layer Open.Reg = fold-roll-Node Bool Bool bytes_layer entry_bytes_layer Open.Reg
     layer (Open.Link b) = fold-roll-Node Bool Bool bytes_layer entry_bytes_layer (Open.Link b)
-    layer Open.Other = fold-roll-Node Bool Bool bytes_layer entry_bytes_layer Open.Other
+    layer (Open.Special s) = fold-roll-Node Bool Bool bytes_layer entry_bytes_layer (Open.Special s)
     layer (Open.Dir es) = fold-roll-Node Bool Bool bytes_layer entry_bytes_layer (Open.Dir es) ∙ entry_bytes_all es
 
 pub inner_bytes : (w : Value) → of_bytes w ≡ true → entries_bytes (entries_of w) ≡ true
 inner_bytes Absent h = refl
 inner_bytes Reg h = refl
 inner_bytes (Link b) h = refl
-inner_bytes Other h = refl
+inner_bytes (Special s) h = refl
 inner_bytes (Dir es) h = h
 
 -- ---- a path
@@ -138,7 +140,7 @@ abbrev pub value_line : Value → List ℕ → List ℕ
 value_line Absent path = []
 value_line Reg path = codes "f " ++ path
 value_line (Link b) path = codes "l " ++ path ++ codes " " ++ show b
-value_line Other path = codes "o " ++ path
+value_line (Special s) path = special_mark s ++ path
 value_line (Dir es) path = codes "d " ++ path
 
 pub two_words : (letter path : List ℕ) → lacks 32 letter ≡ true → lacks 32 path ≡ true → parts 32 (letter ++ 32 ∷ path) ≡ letter ∷ path ∷ []
@@ -164,7 +166,10 @@ line_back (Link b) p t h g f =
     ∙ ap line_of_words (three_words (codes "l") (spelled p) (show b) refl (no_blank (spelled p) (spelled_shown p g)) (no_blank (show b) (show_shown b h)))
     ∙ ap (λ o. option_and_then (line_at (spelled p)) (option_map (λ bytes. Link bytes) o)) (show_read b h)
     ∙ path_back p (Link b) g f
-line_back Other p t h g f = ap line_of_words (two_words (codes "o") (spelled p) refl (no_blank (spelled p) (spelled_shown p g))) ∙ path_back p Other g f
+line_back (Special Fifo) p t h g f = ap line_of_words (two_words (codes "p") (spelled p) refl (no_blank (spelled p) (spelled_shown p g))) ∙ path_back p (Special Fifo) g f
+line_back (Special Socket) p t h g f = ap line_of_words (two_words (codes "s") (spelled p) refl (no_blank (spelled p) (spelled_shown p g))) ∙ path_back p (Special Socket) g f
+line_back (Special Block) p t h g f = ap line_of_words (two_words (codes "b") (spelled p) refl (no_blank (spelled p) (spelled_shown p g))) ∙ path_back p (Special Block) g f
+line_back (Special Char) p t h g f = ap line_of_words (two_words (codes "c") (spelled p) refl (no_blank (spelled p) (spelled_shown p g))) ∙ path_back p (Special Char) g f
 line_back (Dir es) p t h g f = ap line_of_words (two_words (codes "d") (spelled p) refl (no_blank (spelled p) (spelled_shown p g))) ∙ path_back p (Dir []) g f
 
 line_whole : (w : Value) (path : List ℕ) → IsThere w → of_bytes w ≡ true → lacks 10 path ≡ true → is_line (value_line w path) ≡ true
@@ -172,7 +177,10 @@ line_whole Absent path t h g = absurd t
 line_whole Reg path t h g = g
 line_whole (Link b) path t h g =
     all_both (λ x. not (x == 10)) (path ++ 32 ∷ []) (show b) (all_both (λ x. not (x == 10)) path (32 ∷ []) g refl) (no_newline (show b) (show_shown b h))
-line_whole Other path t h g = g
+line_whole (Special Fifo) path t h g = g
+line_whole (Special Socket) path t h g = g
+line_whole (Special Block) path t h g = g
+line_whole (Special Char) path t h g = g
 line_whole (Dir es) path t h g = g
 
 -- ---- the lines of entries
@@ -278,7 +286,7 @@ value_listed : (w : Value) (path : List ℕ) (more : List (List ℕ)) → IsTher
 value_listed Absent path more t d n = absurd t
 value_listed Reg path more t d n = ap (λ ls. value_line Reg path ∷ ls) (n refl)
 value_listed (Link b) path more t d n = ap (λ ls. value_line (Link b) path ∷ ls) (n refl)
-value_listed Other path more t d n = ap (λ ls. value_line Other path ∷ ls) (n refl)
+value_listed (Special s) path more t d n = ap (λ ls. value_line (Special s) path ∷ ls) (n refl)
 value_listed (Dir ds) path more t d n = ap (λ ls. value_line (Dir ds) path ∷ ls) (d ds refl)
 
 no_lines : (k : ℕ) (p : List (List ℕ)) (es : List Entry) → es ≡ [] → listed k p es ≡ []

@@ -13,8 +13,10 @@ use Rattle.shown_texts.specs.Parts.{parts}
 use Rattle.shown_texts.specs.Paths.{if_name, name_of, names_onto, names_of, path_of}
 use Rattle.shown_texts.specs.Show.{shown_of}
 use Rattle.feature_trees.specs.declared.kind.Kind.TheVariants as kind
+use Rattle.feature_trees.specs.declared.kind.Special as which
+use Rattle.feature_trees.specs.declared.kind.Special as which
 use Rattle.feature_trees.specs.declared.value.Value.{Value}
-use Rattle.feature_trees.specs.declared.value.Value.TheVariants.{Absent, Reg, Link, Other, Dir}
+use Rattle.feature_trees.specs.declared.value.Value.TheVariants.{Absent, Reg, Link, Special, Dir}
 use Rattle.feature_trees.specs.declared.read.TheConstants.{MOST_NAMES}
 use Rattle.feature_trees.specs.declared.read.TreeFault.{TreeFault}
 use Rattle.feature_trees.specs.declared.read.TreeFault.TheVariants.{Line}
@@ -22,7 +24,7 @@ use Rattle.feature_trees.specs.declared.read.TreeLine.{TreeLine}
 use Rattle.feature_trees.specs.Sound.{sound}
 use Rattle.feature_trees.specs.TextLaws.{without_entries, IsSaid, StandAsSaid}
 use Rattle.feature_trees.specs.Tree.{at, entry, put, has_parents, is_dir, kind_of, name_cmp}
-use Rattle.feature_trees.specs.TreeLines.{letter_value, link_value, line_of_names, line_at, line_of_words, line_says, is_there, with_line, and_then, with_lines, text_lines, tree_of}
+use Rattle.feature_trees.specs.TreeLines.{special_of, letter_value, link_value, line_of_names, line_at, line_of_words, line_says, is_there, with_line, and_then, with_lines, text_lines, tree_of}
 use Rattle.feature_trees.specs.View.{IsThere}
 use Rattle.feature_trees.proofs.Found.{same_name, at_Absent}
 use Rattle.feature_trees.proofs.Kept.{sound-put}
@@ -116,13 +118,13 @@ module _ (w : Value) (there : IsThere w) (no_entries : without_entries w ≡ w) 
       step (Some names) d e = names_facts names x (path_names path names d) e
 
 letter_facts : (letter path : List ℕ) (x : TreeLine) → option_and_then (line_at path) (letter_value letter) ≡ Some x → Facts x
-letter_facts letter path x e = step (bytes_eq letter (codes "d")) (bytes_eq letter (codes "f")) (bytes_eq letter (codes "o")) e
+letter_facts letter path x e = step (bytes_eq letter (codes "d")) (bytes_eq letter (codes "f")) (special_of letter) e
   where
-    step : (d f o : Bool) → option_and_then (line_at path) (if d then Some (Dir []) else (if f then Some Reg else (if o then Some Other else None))) ≡ Some x → Facts x
+    step : (d f : Bool) (o : Option which.Special) → option_and_then (line_at path) (if d then Some (Dir []) else (if f then Some Reg else option_map (λ s. Special s) o)) ≡ Some x → Facts x
     step true f o e = at_facts (Dir []) tt refl (λ g. refl) refl path x e
     step false true o e = at_facts Reg tt refl (λ g. refl) refl path x e
-    step false false true e = at_facts Other tt refl (λ g. refl) refl path x e
-    step false false false e = cc
+    step false false (Some s) e = at_facts (Special s) tt refl (λ g. refl) refl path x e
+    step false false None e = cc
 
 link_facts : (letter path target : List ℕ) (x : TreeLine) → option_and_then (line_at path) (link_value letter target) ≡ Some x → Facts x
 link_facts letter path target x e = step (bytes_eq letter (codes "l")) (shown_of target) e
@@ -148,7 +150,7 @@ dir_alone : (v : Value) → is_dir v ≡ true → Dir [] ≡ without_entries v
 dir_alone Absent h = cc
 dir_alone Reg h = cc
 dir_alone (Link b) h = cc
-dir_alone Other h = cc
+dir_alone (Special s) h = cc
 dir_alone (Dir es) h = refl
 
 apart : (f g : List ℕ) (o : Ordering) → name_cmp f g ≡ o → (o ≡ Equal → ⊥) → f ≡ g → ⊥
@@ -189,7 +191,7 @@ pub not_there : (v : Value) → is_there v ≡ false → v ≡ Absent
 not_there Absent h = refl
 not_there Reg h = cc
 not_there (Link b) h = cc
-not_there Other h = cc
+not_there (Special s) h = cc
 not_there (Dir es) h = cc
 
 -- a line that stands

@@ -9,7 +9,7 @@ use Rattle.feature_trees.specs.declared.shape.Node.TheOpen as Open
 use Rattle.feature_trees.specs.declared.shape.Node.TheFolds.{fold-roll-Node, fold-roll-Entry}
 use Rattle.feature_trees.specs.declared.value.NamedValue.{NamedValue}
 use Rattle.feature_trees.specs.declared.value.Value.{Value}
-use Rattle.feature_trees.specs.declared.value.Value.TheVariants.{Absent, Reg, Link, Other, Dir}
+use Rattle.feature_trees.specs.declared.value.Value.TheVariants.{Absent, Reg, Link, Special, Dir}
 use Rattle.feature_trees.specs.View.{seen, node_of, IsThere, AllThere}
 use Rattle.feature_trees.specs.TreeText.{Lines, in_turn, node_layer, entry_layer, node_lines, entry_lines, entries_lines, value_lines, path_below}
 
@@ -32,8 +32,8 @@ node_lines_of Reg path there =
     ap (λ (n : Node). node_lines n path) (sym N.rolls-Reg) ∙ ap (λ (f : Lines). f path) (fold-roll-Node Lines Lines node_layer entry_layer Open.Reg)
 node_lines_of (Link b) path there =
     ap (λ (n : Node). node_lines n path) (sym (N.rolls-Link b)) ∙ ap (λ (f : Lines). f path) (fold-roll-Node Lines Lines node_layer entry_layer (Open.Link b))
-node_lines_of Other path there =
-    ap (λ (n : Node). node_lines n path) (sym N.rolls-Other) ∙ ap (λ (f : Lines). f path) (fold-roll-Node Lines Lines node_layer entry_layer Open.Other)
+node_lines_of (Special s) path there =
+    ap (λ (n : Node). node_lines n path) (sym (N.rolls-Special s)) ∙ ap (λ (f : Lines). f path) (fold-roll-Node Lines Lines node_layer entry_layer (Open.Special s))
 node_lines_of (Dir es) path there =
     ap (λ (n : Node). node_lines n path) (sym (N.rolls-Dir es))
     ∙ ap (λ (f : Lines). f path) (fold-roll-Node Lines Lines node_layer entry_layer (Open.Dir es))

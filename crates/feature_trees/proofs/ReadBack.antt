@@ -8,7 +8,7 @@ use Rattle.shown_texts.specs.Lines.{lines_text, but_last}
 use Rattle.shown_texts.proofs.LineTexts.{lines_read}
 use Rattle.feature_trees.specs.declared.shape.Entry.{Entry}
 use Rattle.feature_trees.specs.declared.value.Value.{Value}
-use Rattle.feature_trees.specs.declared.value.Value.TheVariants.{Absent, Reg, Link, Other, Dir}
+use Rattle.feature_trees.specs.declared.value.Value.TheVariants.{Absent, Reg, Link, Special, Dir}
 use Rattle.feature_trees.specs.declared.read.TheConstants.{MOST_NAMES}
 use Rattle.feature_trees.specs.declared.read.TreeFault.TheVariants.{Line}
 use Rattle.feature_trees.specs.declared.read.TreeLine.{TreeLine}
@@ -17,7 +17,8 @@ use Rattle.feature_trees.specs.Shape.{count_all}
 use Rattle.feature_trees.specs.Sound.{IsTree, sound_all}
 use Rattle.feature_trees.specs.Readable.{depth, of_bytes, entries_depth, entries_bytes}
 use Rattle.feature_trees.specs.TreeLines.{is_there, whole_lines, text_lines, line_says, with_line, and_then, with_lines, tree_of}
-use Rattle.feature_trees.specs.TreeText.{entries_lines, tree_text}
+use Rattle.feature_trees.specs.TreeText.{entries_lines, tree_lines, tree_text, first_version_line}
+use Rattle.feature_trees.proofs.FirstVersion.{lines_whole as whole_firsts, lines_say_same}
 use Rattle.feature_trees.proofs.TreeAdds.{add, add_all, adds, adds_build}
 use Rattle.feature_trees.proofs.LinesBack.{AreReadable, listed, under, lines_back, lines_whole, lines_listed}
 
@@ -76,9 +77,28 @@ entries_back es s b d =
     ∙ ap (with_lines 1 (Dir [])) lines
     ∙ all_stand 1 (Dir []) (Dir es) ls (adds k es) (lines_back k [] es readable ∙ ap (map Some) (under_none (adds k es))) (adds_build k es s (omega arith))
 
+-- as the first version has the lines
+first_back : (es : List Entry) → sound_all es ≡ true → entries_bytes es ≡ true → entries_depth es ≤ MOST_NAMES → tree_of (lines_text (map first_version_line (entries_lines es []))) ≡ Ok (Dir es)
+first_back es s b d =
+    let k = count_all es in
+    let ls = listed k [] es in
+    let firsts = map first_version_line ls in
+    let readable : AreReadable [] es = (refl, s, b, omega (arith, d)) in
+    let lines : text_lines (lines_text firsts) ≡ firsts = whole_is (parts 10 (lines_text firsts)) firsts (lines_read firsts (whole_firsts ls (lines_whole k [] es readable))) in
+    ap (λ ls. tree_of (lines_text (map first_version_line ls))) (sym (lines_listed k [] es (omega arith)))
+    ∙ ap (with_lines 1 (Dir [])) lines
+    ∙ all_stand 1 (Dir []) (Dir es) firsts (adds k es) (lines_say_same ls ∙ lines_back k [] es readable ∙ ap (map Some) (under_none (adds k es))) (adds_build k es s (omega arith))
+
+pub first_read_back : (v : Value) → IsTree v → depth v ≤ MOST_NAMES → IsTrue (of_bytes v) → tree_of (lines_text (map first_version_line (tree_lines v))) ≡ Ok v
+first_read_back Absent t d b = let e = t.dir in cc
+first_read_back Reg t d b = let e = t.dir in cc
+first_read_back (Link x) t d b = let e = t.dir in cc
+first_read_back (Special s) t d b = let e = t.dir in cc
+first_read_back (Dir es) t d b = first_back es t.sound b d
+
 pub read_back : (v : Value) → IsTree v → depth v ≤ MOST_NAMES → IsTrue (of_bytes v) → tree_of (tree_text v) ≡ Ok v
 read_back Absent t d b = let e = t.dir in cc
 read_back Reg t d b = let e = t.dir in cc
 read_back (Link x) t d b = let e = t.dir in cc
-read_back Other t d b = let e = t.dir in cc
+read_back (Special s) t d b = let e = t.dir in cc
 read_back (Dir es) t d b = entries_back es t.sound b d

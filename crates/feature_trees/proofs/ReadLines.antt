@@ -3,7 +3,7 @@ use Rattle.std.proofs.Common.{◌≡◌, ℕ, ◌+◌, ◌<◌, Bool, true, fals
 use Rattle.std.specs.Prelude.{if◌then◌else◌}
 use Rattle.feature_trees.specs.declared.kind.Kind.TheVariants as kind
 use Rattle.feature_trees.specs.declared.value.Value.{Value}
-use Rattle.feature_trees.specs.declared.value.Value.TheVariants.{Absent, Reg, Link, Other, Dir}
+use Rattle.feature_trees.specs.declared.value.Value.TheVariants.{Absent, Reg, Link, Special, Dir}
 use Rattle.feature_trees.specs.declared.read.TreeFault.{TreeFault}
 use Rattle.feature_trees.specs.declared.read.TreeFault.TheVariants.{Line}
 use Rattle.feature_trees.specs.declared.read.TreeLine.{TreeLine}
@@ -29,7 +29,7 @@ root_dir : (n : ℕ) (tree more w : Value) → (if is_there tree then Err (Line 
 root_dir n Absent more w e d = cc
 root_dir n Reg more w e d = cc
 root_dir n (Link b) more w e d = cc
-root_dir n Other more w e d = cc
+root_dir n (Special s) more w e d = cc
 root_dir n (Dir es) more w e d = cc
 
 -- a directory with a line is a directory

@@ -9,7 +9,7 @@ use Rattle.std.proofs.lemmas.Cmp.{tied_itself}
 use Rattle.script_names.specs.Names.{is_name}
 use Rattle.feature_trees.specs.declared.shape.Entry.{Entry}
 use Rattle.feature_trees.specs.declared.value.Value.{Value}
-use Rattle.feature_trees.specs.declared.value.Value.TheVariants.{Absent, Reg, Link, Other, Dir}
+use Rattle.feature_trees.specs.declared.value.Value.TheVariants.{Absent, Reg, Link, Special, Dir}
 use Rattle.feature_trees.specs.declared.read.TreeLine.{TreeLine}
 use Rattle.feature_trees.specs.Tree.{find, name_cmp, by_order, at, put, update, entry_if_present, entries_of, has_parents}
 use Rattle.feature_trees.specs.View.{value_of, node_of, IsThere}
@@ -25,7 +25,7 @@ abbrev pub leaf : Value → Value
 leaf Absent = Absent
 leaf Reg = Reg
 leaf (Link b) = Link b
-leaf Other = Other
+leaf (Special s) = Special s
 leaf (Dir es) = Dir []
 
 -- one more line
@@ -54,7 +54,7 @@ pub entry_there : (f : List ℕ) (w : Value) → IsThere w → entry_if_present 
 entry_there f Absent h = absurd h
 entry_there f Reg h = refl
 entry_there f (Link b) h = refl
-entry_there f Other h = refl
+entry_there f (Special s) h = refl
 entry_there f (Dir es) h = refl
 
 -- an entry is what stands under its name
@@ -69,7 +69,7 @@ update_first f Absent b (e ∷ es) h =
     ap (λ o. by_order o (entry_if_present f b ++ (e ∷ es)) (entry_if_present f b ++ es) (e ∷ update es f b)) h
 update_first f Reg b es h = rw (tied_itself ord f) refl
 update_first f (Link t) b es h = rw (tied_itself ord f) refl
-update_first f Other b es h = rw (tied_itself ord f) refl
+update_first f (Special s) b es h = rw (tied_itself ord f) refl
 update_first f (Dir ds) b es h = rw (tied_itself ord f) refl
 
 -- the later of two updates under one name
@@ -183,7 +183,7 @@ inside : (k : ℕ) (w : Value) → ((ds : List Entry) → w ≡ Dir ds → add_a
 inside k Absent more = ap (add_all Absent) (no_adds k)
 inside k Reg more = ap (add_all Reg) (no_adds k)
 inside k (Link b) more = ap (add_all (Link b)) (no_adds k)
-inside k Other more = ap (add_all Other) (no_adds k)
+inside k (Special s) more = ap (add_all (Special s)) (no_adds k)
 inside k (Dir ds) more = more ds refl
 
 pub weight_of : (e : Entry) (ds : List Entry) → value_of e.node ≡ Dir ds → weight e.node ≡ count_all ds

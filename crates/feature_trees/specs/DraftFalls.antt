@@ -4,7 +4,7 @@ use Rattle.std.specs.Global.{Vec}
 use Rattle.std.proofs.Common.{arith}
 use denote.Param.Weighed.{most}
 use Rattle.feature_trees.specs.declared.draft.Draft.{Draft}
-use Rattle.feature_trees.specs.declared.draft.Draft.TheVariants.{Reg, Link, Other, Dir}
+use Rattle.feature_trees.specs.declared.draft.Draft.TheVariants.{Reg, Link, Special, Dir}
 use Rattle.feature_trees.specs.declared.draft.Drafts.TheDeep.{deep-Draft}
 use Rattle.feature_trees.specs.Drafts.{draft_value, seen_drafts}
 use Rattle.feature_trees.specs.Shape.{weight, count_all, weight_Dir, entry_weight_of}
@@ -14,7 +14,7 @@ use Rattle.feature_trees.specs.View.{node_of}
 deep_le : (d : Draft) → deep-Draft d ≤ weight (node_of (draft_value d)) + 1
 deep_le Reg = omega arith
 deep_le (Link b) = omega arith
-deep_le Other = omega arith
+deep_le (Special s) = omega arith
 deep_le (Dir es) = omega (arith, weight_Dir es)
 
 -- no draft that a directory holds is deeper than the directory has entries

@@ -5,14 +5,14 @@ use Rattle.feature_trees.specs.declared.draft.Draft.{Draft}
 use Rattle.feature_trees.specs.declared.draft.Draft.TheVariants as D
 use Rattle.feature_trees.specs.declared.shape.Entry.{Entry}
 use Rattle.feature_trees.specs.declared.value.Value.{Value}
-use Rattle.feature_trees.specs.declared.value.Value.TheVariants.{Reg, Link, Other, Dir}
+use Rattle.feature_trees.specs.declared.value.Value.TheVariants.{Reg, Link, Special, Dir}
 use Rattle.feature_trees.specs.View.{node_of}
 
 -- the value that a draft stands for
 abbrev pub draft_value : Draft → Value
 draft_value D.Reg = Reg
 draft_value (D.Link target) = Link target
-draft_value D.Other = Other
+draft_value (D.Special s) = Special s
 draft_value (D.Dir es) = Dir es
 
 -- the entries of a directory, from its map

@@ -7,7 +7,7 @@ use Rattle.feature_trees.specs.Shape.{count_all, weight_Dir, entry_weight_of}
 use Rattle.feature_trees.specs.View.{seen}
 use Rattle.feature_trees.specs.View.{node_of}
 use Rattle.feature_trees.specs.declared.value.Value.{Value}
-use Rattle.feature_trees.specs.declared.value.Value.TheVariants.{Absent, Reg, Link, Other, Dir}
+use Rattle.feature_trees.specs.declared.value.Value.TheVariants.{Absent, Reg, Link, Special, Dir}
 use Rattle.feature_trees.specs.declared.value.Entries.TheDeep.{deep-NamedValue, deep-Value}
 use Rattle.feature_trees.specs.Shape.{weight}
 
@@ -16,7 +16,7 @@ deep_le : (v : Value) → deep-Value v ≤ weight (node_of v) + 1
 deep_le Absent = omega arith
 deep_le Reg = omega arith
 deep_le (Link b) = omega arith
-deep_le Other = omega arith
+deep_le (Special s) = omega arith
 deep_le (Dir e) = omega (arith, weight_Dir e)
 
 -- no value that a directory holds is deeper than the directory has entries

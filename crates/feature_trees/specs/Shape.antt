@@ -16,7 +16,7 @@ total (n ∷ ns) = n + total ns
 abbrev pub weight_layer : Open.Node-F ℕ ℕ → ℕ
 weight_layer Open.Reg = 0
 weight_layer (Open.Link b) = 0
-weight_layer Open.Other = 0
+weight_layer (Open.Special s) = 0
 weight_layer (Open.Dir es) = total es
 
 -- of one entry, from the weight of its node: the entry itself counts one

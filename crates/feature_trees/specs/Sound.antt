@@ -8,7 +8,7 @@ use Rattle.feature_trees.specs.declared.shape.Node.TheVariants as N
 use Rattle.feature_trees.specs.declared.shape.Node.TheOpen as Open
 use Rattle.feature_trees.specs.declared.shape.Node.TheFolds.{fold-Node, fold-Entry, fold-roll-Node, fold-roll-Entry}
 use Rattle.feature_trees.specs.declared.value.Value.{Value}
-use Rattle.feature_trees.specs.declared.value.Value.TheVariants.{Absent, Reg, Link, Other, Dir}
+use Rattle.feature_trees.specs.declared.value.Value.TheVariants.{Absent, Reg, Link, Special, Dir}
 use Rattle.script_names.specs.Names.{is_name}
 use Rattle.feature_trees.specs.declared.kind.Kind.TheVariants as kind
 use Rattle.feature_trees.specs.Tree.{name_cmp, kind_of}
@@ -27,7 +27,7 @@ rises (x ∷ xs) = is_name x.0 && (x.1 && (before x.0 xs && rises xs))
 abbrev pub sound_layer : Open.Node-F Bool (List ℕ × Bool) → Bool
 sound_layer Open.Reg = true
 sound_layer (Open.Link b) = true
-sound_layer Open.Other = true
+sound_layer (Open.Special s) = true
 sound_layer (Open.Dir xs) = rises xs
 
 -- an entry's name, and whether its node is sound
@@ -51,7 +51,7 @@ abbrev pub sound : Value → Bool
 sound Absent = true
 sound Reg = true
 sound (Link b) = true
-sound Other = true
+sound (Special s) = true
 sound (Dir es) = sound_all es
 
 -- a tree of files: a directory that is sound

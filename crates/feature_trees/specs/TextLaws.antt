@@ -1,17 +1,18 @@
 -- What holds of the texts of trees: what the tree of a text is, which line is at fault and why, and that a tree's own
--- text is read as the tree.
+-- text is read as the tree, also as the first version of reports has it.
 use Rattle.std.specs.Prelude.{◌≡◌, ◌≢◌, ◌⊎◌, ◌↔◌, ◌≤◌, ◌+◌, ℕ, IsTrue, List, [], ◌∷◌, ◌++◌, length, Some, None, Ok}
-use Rattle.std.specs.Prelude.{Err}
+use Rattle.std.specs.Prelude.{Err, map}
+use Rattle.shown_texts.specs.Lines.{lines_text}
 use Rattle.feature_trees.specs.declared.read.TheConstants.{MOST_NAMES}
 use Rattle.feature_trees.specs.declared.read.TreeFault.TheVariants.{Line}
 use Rattle.feature_trees.specs.declared.read.TreeLine.{TreeLine}
 use Rattle.feature_trees.specs.declared.value.Value.{Value}
-use Rattle.feature_trees.specs.declared.value.Value.TheVariants.{Absent, Reg, Link, Other, Dir}
+use Rattle.feature_trees.specs.declared.value.Value.TheVariants.{Absent, Reg, Link, Special, Dir}
 use Rattle.feature_trees.specs.Readable.{depth, of_bytes}
 use Rattle.feature_trees.specs.Sound.{IsTree}
 use Rattle.feature_trees.specs.Tree.{at}
 use Rattle.feature_trees.specs.TreeLines.{text_lines, line_says, with_lines, tree_of}
-use Rattle.feature_trees.specs.TreeText.{tree_text}
+use Rattle.feature_trees.specs.TreeText.{tree_lines, tree_text, first_version_line}
 use Rattle.feature_trees.specs.View.{IsThere}
 
 -- a value, without the entries of a directory
@@ -19,7 +20,7 @@ abbrev pub without_entries : Value → Value
 without_entries Absent = Absent
 without_entries Reg = Reg
 without_entries (Link target) = Link target
-without_entries Other = Other
+without_entries (Special s) = Special s
 without_entries (Dir es) = Dir []
 
 -- one of these lines says that this value stands at the path of these names
@@ -82,3 +83,13 @@ abbrev pub TreesReadBack : Type 0
 TreesReadBack =
     (tree : Value) → IsTree tree → depth tree ≤ MOST_NAMES → IsTrue (of_bytes tree)
     → tree_of (tree_text tree) ≡ Ok tree
+
+-- a line says what it says as the first version of reports has it
+abbrev pub FirstVersionSays : Type 0
+FirstVersionSays = (line : List ℕ) → line_says (first_version_line line) ≡ line_says line
+
+-- so is the text of its lines as the first version of reports has them
+abbrev pub OldTreesReadBack : Type 0
+OldTreesReadBack =
+    (tree : Value) → IsTree tree → depth tree ≤ MOST_NAMES → IsTrue (of_bytes tree)
+    → tree_of (lines_text (map first_version_line (tree_lines tree))) ≡ Ok tree

@@ -6,7 +6,7 @@ use Rattle.std.specs.Ordering.{nat_cmp}
 use Rattle.std.specs.Cmp.Lexicographic.{slice_cmp}
 use Rattle.feature_trees.specs.declared.shape.Entry.{Entry}
 use Rattle.feature_trees.specs.declared.value.Value.{Value}
-use Rattle.feature_trees.specs.declared.value.Value.TheVariants.{Absent, Reg, Link, Other, Dir}
+use Rattle.feature_trees.specs.declared.value.Value.TheVariants.{Absent, Reg, Link, Special, Dir}
 use Rattle.feature_trees.specs.declared.kind.Kind.{Kind}
 use Rattle.feature_trees.specs.declared.kind.Kind.TheVariants as kind
 use Rattle.feature_trees.specs.View.{node_of, value_of}
@@ -16,7 +16,7 @@ abbrev pub kind_of : Value → Kind
 kind_of Absent = kind.Absent
 kind_of Reg = kind.Reg
 kind_of (Link b) = kind.Link
-kind_of Other = kind.Other
+kind_of (Special s) = kind.Special s
 kind_of (Dir es) = kind.Dir
 
 -- the order of names
@@ -39,7 +39,7 @@ abbrev pub entry : Value → List ℕ → Value
 entry Absent f = Absent
 entry Reg f = Absent
 entry (Link b) f = Absent
-entry Other f = Absent
+entry (Special s) f = Absent
 entry (Dir es) f = find es f
 
 -- the value at a path
@@ -52,7 +52,7 @@ abbrev pub present : Value → Option Value
 present Absent = None
 present Reg = Some Reg
 present (Link b) = Some (Link b)
-present Other = Some Other
+present (Special s) = Some (Special s)
 present (Dir es) = Some (Dir es)
 
 -- whether a value is a directory
@@ -60,7 +60,7 @@ abbrev pub is_dir : Value → Bool
 is_dir Absent = false
 is_dir Reg = false
 is_dir (Link b) = false
-is_dir Other = false
+is_dir (Special s) = false
 is_dir (Dir es) = true
 
 -- the entries of a directory; other values have none
@@ -68,7 +68,7 @@ abbrev pub entries_of : Value → List Entry
 entries_of Absent = []
 entries_of Reg = []
 entries_of (Link b) = []
-entries_of Other = []
+entries_of (Special s) = []
 entries_of (Dir es) = es
 
 -- one entry, or none where nothing stands there
@@ -76,7 +76,7 @@ abbrev pub entry_if_present : List ℕ → Value → List Entry
 entry_if_present f Absent = []
 entry_if_present f Reg = record { name = f; node = node_of Reg } ∷ []
 entry_if_present f (Link b) = record { name = f; node = node_of (Link b) } ∷ []
-entry_if_present f Other = record { name = f; node = node_of Other } ∷ []
+entry_if_present f (Special s) = record { name = f; node = node_of (Special s) } ∷ []
 entry_if_present f (Dir es) = record { name = f; node = node_of (Dir es) } ∷ []
 
 -- the entries with this value under a name, and the others as before

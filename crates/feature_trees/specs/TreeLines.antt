@@ -3,12 +3,16 @@ use Rattle.std.specs.Prelude.{◌≡◌, ℕ, ◌+◌, Bool, true, false, ◌&&�
 use Rattle.std.specs.Prelude.{Option, Some, None, Result, Ok, Err, if◌then◌else◌}
 use Rattle.std.specs.Option.{option_map, option_and_then}
 use Rattle.std.specs.Str.{bytes_eq}
+use Rattle.script_names.specs.Ascii.{newline, space}
 use Rattle.script_names.specs.Paths.{is_filled}
 use Rattle.shown_texts.specs.Parts.{parts}
 use Rattle.shown_texts.specs.Paths.{path_of}
 use Rattle.shown_texts.specs.Show.{shown_of}
 use Rattle.feature_trees.specs.declared.value.Value.{Value}
-use Rattle.feature_trees.specs.declared.value.Value.TheVariants.{Absent, Reg, Link, Other, Dir}
+use Rattle.feature_trees.specs.declared.value.Value.TheVariants as V
+use Rattle.feature_trees.specs.declared.value.Value.TheVariants.{Absent, Reg, Link, Dir}
+use Rattle.feature_trees.specs.declared.kind.Special.{Special}
+use Rattle.feature_trees.specs.declared.kind.Special.TheVariants.{Fifo, Socket, Block, Char}
 use Rattle.feature_trees.specs.declared.read.TheConstants.{MOST_NAMES}
 use Rattle.feature_trees.specs.declared.read.TreeFault.{TreeFault}
 use Rattle.feature_trees.specs.declared.read.TreeFault.TheVariants.{Line, Memory}
@@ -23,13 +27,22 @@ whole_lines (part ∷ next ∷ texts) = part ∷ whole_lines (next ∷ texts)
 
 -- the lines of a text, of which the last may lack its newline
 abbrev pub text_lines : List ℕ → List (List ℕ)
-text_lines text = whole_lines (parts 10 text)
+text_lines text = whole_lines (parts newline text)
 
--- what stands at the path of a line without a target: `d` a directory, empty as yet, `f` a file, `o` another thing
+-- the special thing of a letter: `p` a pipe, `s` a socket, `b` a block device, `c` a character device, and `o`, which
+-- once stood for each of the four, a pipe
+abbrev pub special_of : List ℕ → Option Special
+special_of letter =
+    if bytes_eq letter (codes "p") then Some Fifo
+    else (if bytes_eq letter (codes "s") then Some Socket
+    else (if bytes_eq letter (codes "b") then Some Block
+    else (if bytes_eq letter (codes "c") then Some Char else (if bytes_eq letter (codes "o") then Some Fifo else None))))
+
+-- what stands at the path of a line without a target: `d` a directory, empty as yet, `f` a file, or a special thing
 abbrev pub letter_value : List ℕ → Option Value
 letter_value letter =
     if bytes_eq letter (codes "d") then Some (Dir [])
-    else (if bytes_eq letter (codes "f") then Some Reg else (if bytes_eq letter (codes "o") then Some Other else None))
+    else (if bytes_eq letter (codes "f") then Some Reg else option_map (λ s. V.Special s) (special_of letter))
 
 -- what stands at the path of a line with a target: `l` a link
 abbrev pub link_value : List ℕ → List ℕ → Option Value
@@ -56,14 +69,14 @@ line_of_words (letter ∷ path ∷ target ∷ word ∷ words) = None
 
 -- what a line says; nothing, where it is not of the form
 abbrev pub line_says : List ℕ → Option TreeLine
-line_says line = line_of_words (parts 32 line)
+line_says line = line_of_words (parts space line)
 
 -- something stands there
 abbrev pub is_there : Value → Bool
 is_there Absent = false
 is_there Reg = true
 is_there (Link target) = true
-is_there Other = true
+is_there (V.Special s) = true
 is_there (Dir es) = true
 
 -- the tree with what line n says, or why it cannot stand there: 1, it is not of the form; 2, its path is named

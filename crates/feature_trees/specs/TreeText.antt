@@ -1,11 +1,15 @@
 -- The text of a tree: one line per entry but the root, by names in byte order, a directory before its entries.
-use Rattle.std.specs.Prelude.{ℕ, List, [], ◌∷◌, ◌++◌, codes}
+use Rattle.std.specs.Prelude.{ℕ, List, [], ◌∷◌, ◌++◌, codes, take, drop, if◌then◌else◌}
+use Rattle.std.specs.Str.{bytes_eq}
 use Rattle.feature_trees.specs.declared.shape.Entry.{Entry}
 use Rattle.feature_trees.specs.declared.shape.Node.{Node}
 use Rattle.feature_trees.specs.declared.shape.Node.TheOpen as Open
 use Rattle.feature_trees.specs.declared.shape.Node.TheFolds.{fold-Node, fold-Entry}
 use Rattle.feature_trees.specs.declared.value.Value.{Value}
-use Rattle.feature_trees.specs.declared.value.Value.TheVariants.{Absent, Reg, Link, Other, Dir}
+use Rattle.feature_trees.specs.declared.value.Value.TheVariants as V
+use Rattle.feature_trees.specs.declared.value.Value.TheVariants.{Absent, Reg, Link, Dir}
+use Rattle.feature_trees.specs.declared.kind.Special.{Special}
+use Rattle.feature_trees.specs.declared.kind.Special.TheVariants.{Fifo, Socket, Block, Char}
 use Rattle.shown_texts.specs.Lines.{lines_text}
 use Rattle.shown_texts.specs.Paths.{after_slash}
 use Rattle.shown_texts.specs.Show.{show}
@@ -13,6 +17,13 @@ use Rattle.shown_texts.specs.Show.{show}
 -- the path of a name below a path; the root's path is no bytes here
 abbrev pub path_below : List ℕ → List ℕ → List ℕ
 path_below path name = path ++ after_slash name
+
+-- how the line of a special thing begins: `p` is a pipe, `s` a socket, `b` a block device, `c` a character device
+abbrev pub special_mark : Special → List ℕ
+special_mark Fifo = codes "p "
+special_mark Socket = codes "s "
+special_mark Block = codes "b "
+special_mark Char = codes "c "
 
 -- the lines of what stands at a path, without their newlines
 abbrev pub Lines : Type 0
@@ -27,7 +38,7 @@ in_turn (lines ∷ rest) path = lines path ++ in_turn rest path
 abbrev pub node_layer : Open.Node-F Lines Lines → Lines
 node_layer Open.Reg path = (codes "f " ++ path) ∷ []
 node_layer (Open.Link target) path = (codes "l " ++ path ++ codes " " ++ show target) ∷ []
-node_layer Open.Other path = (codes "o " ++ path) ∷ []
+node_layer (Open.Special s) path = (special_mark s ++ path) ∷ []
 node_layer (Open.Dir entries) path = (codes "d " ++ path) ∷ in_turn entries path
 
 -- the lines of an entry, given the path above it
@@ -52,7 +63,7 @@ abbrev pub value_lines : Value → Lines
 value_lines Absent path = []
 value_lines Reg path = (codes "f " ++ path) ∷ []
 value_lines (Link target) path = (codes "l " ++ path ++ codes " " ++ show target) ∷ []
-value_lines Other path = (codes "o " ++ path) ∷ []
+value_lines (V.Special s) path = (special_mark s ++ path) ∷ []
 value_lines (Dir es) path = (codes "d " ++ path) ∷ entries_lines es path
 
 -- the lines of a tree
@@ -60,9 +71,14 @@ abbrev pub tree_lines : Value → List (List ℕ)
 tree_lines Absent = []
 tree_lines Reg = []
 tree_lines (Link target) = []
-tree_lines Other = []
+tree_lines (V.Special s) = []
 tree_lines (Dir es) = entries_lines es []
 
 -- the text of a tree
 abbrev pub tree_text : Value → List ℕ
 tree_text tree = lines_text (tree_lines tree)
+
+-- a line as the first version of reports has it, where `o` stood for every special thing: a line that begins with `p `
+-- begins with `o ` instead
+abbrev pub first_version_line : List ℕ → List ℕ
+first_version_line line = if bytes_eq (take 2 line) (codes "p ") then codes "o " ++ drop 2 line else line

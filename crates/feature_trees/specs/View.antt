@@ -3,7 +3,7 @@ use Rattle.std.specs.Prelude.{◌≡◌, List, [], ◌∷◌}
 use Rattle.std.proofs.Common.{ap}
 use Rattle.feature_trees.specs.declared.shape.Node.TheOpen as Open
 use Rattle.feature_trees.specs.declared.shape.Node.TheViews.{out-Node}
-use Rattle.feature_trees.specs.declared.shape.Node.TheVariants.{outs-Reg, outs-Link, outs-Other, outs-Dir}
+use Rattle.feature_trees.specs.declared.shape.Node.TheVariants.{outs-Reg, outs-Link, outs-Special, outs-Dir}
 use Rattle.feature_trees.specs.declared.shape.Entry.{Entry}
 use Rattle.feature_trees.specs.declared.shape.Node.TheVariants as N
 use Rattle.feature_trees.specs.declared.shape.Node.{Node}
@@ -13,10 +13,10 @@ use Rattle.feature_trees.specs.declared.value.NamedValue.{NamedValue}
 
 -- a value as a node; nothing is asked of Absent, which no entry has
 abbrev pub node_of : Value → Node
-node_of V.Absent = N.Other
+node_of V.Absent = N.Reg
 node_of V.Reg = N.Reg
 node_of (V.Link b) = N.Link b
-node_of V.Other = N.Other
+node_of (V.Special s) = N.Special s
 node_of (V.Dir e) = N.Dir e
 
 -- the entries of a directory, from what it holds
@@ -28,7 +28,7 @@ seen (h ∷ rest) = record { name = h.name; node = node_of h.value } ∷ seen re
 abbrev pub value_layer : Open.Node-F Node Entry → Value
 value_layer Open.Reg = V.Reg
 value_layer (Open.Link b) = V.Link b
-value_layer Open.Other = V.Other
+value_layer (Open.Special s) = V.Special s
 value_layer (Open.Dir es) = V.Dir es
 
 -- a node as a value
@@ -40,7 +40,7 @@ abbrev pub IsThere : Value → Type 0
 IsThere V.Absent = ⊥
 IsThere V.Reg = Unit {0}
 IsThere (V.Link b) = Unit {0}
-IsThere V.Other = Unit {0}
+IsThere (V.Special s) = Unit {0}
 IsThere (V.Dir e) = Unit {0}
 
 -- none of them is absent
@@ -53,5 +53,5 @@ pub value_of-node_of : (v : Value) → IsThere v → value_of (node_of v) ≡ v
 value_of-node_of V.Absent h = absurd h
 value_of-node_of V.Reg h = ap value_layer (outs-Reg)
 value_of-node_of (V.Link b) h = ap value_layer (outs-Link b)
-value_of-node_of V.Other h = ap value_layer (outs-Other)
+value_of-node_of (V.Special s) h = ap value_layer (outs-Special s)
 value_of-node_of (V.Dir e) h = ap value_layer (outs-Dir e)

@@ -10,6 +10,7 @@ ghost use Rattle.feature_trees.specs.View.{seen, AllThere, IsThere};
 ghost use Rattle.feature_trees.specs.declared.put.PutFault.TheVariants.{NoParent};
 ghost use Rattle.feature_trees.specs.declared.value.Value.TheVariants.{Dir};
 
+use crate::kind::Special;
 use crate::put::PutFault;
 use crate::value::{Entries, NamedValue, Value};
 use script_names::{Bytes, Copied, Memory, Name, NameFault};
@@ -23,7 +24,7 @@ use std::marker::Model;
 pub(crate) enum Draft {
     Reg,
     Link(Bytes),
-    Other,
+    Special(Special),
     Dir(Drafts),
 }
 
@@ -105,7 +106,7 @@ impl Draft {
             Value::Absent => unreachable!(),
             Value::Reg => Draft::Reg,
             Value::Link(target) => Draft::Link(target),
-            Value::Other => Draft::Other,
+            Value::Special(s) => Draft::Special(s),
             Value::Dir(_) => Draft::Dir(Drafts::new(alloc)),
         }
     }
@@ -223,7 +224,7 @@ pub(crate) fn make_value(alloc: Global, draft: &Draft) -> Result<Value, Memory>
     match draft {
         Draft::Reg => Ok(Value::Reg),
         Draft::Link(target) => Ok(Value::Link(target.copy(alloc)?)),
-        Draft::Other => Ok(Value::Other),
+        Draft::Special(s) => Ok(Value::Special(*s)),
         Draft::Dir(drafts) => {
             let items = make_items(alloc, &drafts.items)?;
             Ok(Value::Dir(Entries { items }))

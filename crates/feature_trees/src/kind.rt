@@ -1,18 +1,27 @@
 ghost use Rattle.std.specs.Prelude.{◌≡◌, ◌↔◌, IsTrue};
-ghost use Rattle.feature_trees.specs.Kinds.{has, none, of, all, but, both, either};
+ghost use Rattle.feature_trees.specs.Kinds.{has, none, of, special, all, but, both, either};
 ghost use Rattle.feature_trees.specs.Tree.{kind_of};
 
 use crate::value::Value;
 use script_names::{Copied, Memory};
 use std::alloc::Global;
 
-/// What kind of thing stands at a place. `Other` is a device, a socket or a pipe.
+/// What is no directory, regular file or link: a pipe, a socket, a block device or a character device.
+#[derive(Clone, Copy, Debug, PartialEq, Eq)]
+pub enum Special {
+    Fifo,
+    Socket,
+    Block,
+    Char,
+}
+
+/// What kind of thing stands at a place.
 #[derive(Clone, Copy, Debug, PartialEq, Eq)]
 pub enum Kind {
     Absent,
     Reg,
     Link,
-    Other,
+    Special(Special),
     Dir,
 }
 
@@ -22,7 +31,10 @@ pub struct Kinds {
     pub absent: bool,
     pub reg: bool,
     pub link: bool,
-    pub other: bool,
+    pub fifo: bool,
+    pub socket: bool,
+    pub block: bool,
+    pub char: bool,
     pub dir: bool,
 }
 
@@ -32,7 +44,22 @@ impl Kinds {
         absent: false,
         reg: false,
         link: false,
-        other: false,
+        fifo: false,
+        socket: false,
+        block: false,
+        char: false,
+        dir: false,
+    };
+
+    /// The set of the four special kinds, for tables of constants.
+    pub const SPECIAL: Kinds = Kinds {
+        absent: false,
+        reg: false,
+        link: false,
+        fifo: true,
+        socket: true,
+        block: true,
+        char: true,
         dir: false,
     };
 
@@ -41,7 +68,10 @@ impl Kinds {
         absent: true,
         reg: true,
         link: true,
-        other: true,
+        fifo: true,
+        socket: true,
+        block: true,
+        char: true,
         dir: true,
     };
 
@@ -60,9 +90,19 @@ impl Kinds {
             absent: k == Kind::Absent,
             reg: k == Kind::Reg,
             link: k == Kind::Link,
-            other: k == Kind::Other,
+            fifo: k == Kind::Special(Special::Fifo),
+            socket: k == Kind::Special(Special::Socket),
+            block: k == Kind::Special(Special::Block),
+            char: k == Kind::Special(Special::Char),
             dir: k == Kind::Dir,
         }
+    }
+
+    /// The set of the four special kinds.
+    pub fn special() -> Kinds
+        ensures { result ≡ special }
+    {
+        Kinds::SPECIAL
     }
 
     /// The set of all kinds.
@@ -80,7 +120,10 @@ impl Kinds {
             absent: k != Kind::Absent,
             reg: k != Kind::Reg,
             link: k != Kind::Link,
-            other: k != Kind::Other,
+            fifo: k != Kind::Special(Special::Fifo),
+            socket: k != Kind::Special(Special::Socket),
+            block: k != Kind::Special(Special::Block),
+            char: k != Kind::Special(Special::Char),
             dir: k != Kind::Dir,
         }
     }
@@ -93,7 +136,10 @@ impl Kinds {
             absent: a.absent && b.absent,
             reg: a.reg && b.reg,
             link: a.link && b.link,
-            other: a.other && b.other,
+            fifo: a.fifo && b.fifo,
+            socket: a.socket && b.socket,
+            block: a.block && b.block,
+            char: a.char && b.char,
             dir: a.dir && b.dir,
         }
     }
@@ -106,7 +152,10 @@ impl Kinds {
             absent: a.absent || b.absent,
             reg: a.reg || b.reg,
             link: a.link || b.link,
-            other: a.other || b.other,
+            fifo: a.fifo || b.fifo,
+            socket: a.socket || b.socket,
+            block: a.block || b.block,
+            char: a.char || b.char,
             dir: a.dir || b.dir,
         }
     }
@@ -119,7 +168,10 @@ impl Kinds {
             Kind::Absent => self.absent,
             Kind::Reg => self.reg,
             Kind::Link => self.link,
-            Kind::Other => self.other,
+            Kind::Special(Special::Fifo) => self.fifo,
+            Kind::Special(Special::Socket) => self.socket,
+            Kind::Special(Special::Block) => self.block,
+            Kind::Special(Special::Char) => self.char,
             Kind::Dir => self.dir,
         }
     }
@@ -129,6 +181,12 @@ impl Kinds {
         ensures { IsTrue result ↔ (self.now ≡ none) }
     {
         *self == Kinds::NONE
+    }
+}
+
+impl Copied for Special {
+    fn copy(&self, _alloc: Global) -> Result<Special, Memory> {
+        Ok(*self)
     }
 }
 
@@ -153,7 +211,7 @@ impl Value {
             Value::Absent => Kind::Absent,
             Value::Reg => Kind::Reg,
             Value::Link(_) => Kind::Link,
-            Value::Other => Kind::Other,
+            Value::Special(s) => Kind::Special(*s),
             Value::Dir(_) => Kind::Dir,
         }
     }

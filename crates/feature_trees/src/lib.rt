@@ -4,6 +4,7 @@
 
 mod draft;
 mod kind;
+mod pipes;
 mod print;
 mod put;
 mod read;
@@ -11,9 +12,11 @@ mod same;
 pub mod shape;
 pub mod theorems;
 mod value;
+mod version;
 
-pub use kind::{Kind, Kinds};
-pub use print::{print_tree, put_tree, tree_lines};
+pub use kind::{Kind, Kinds, Special};
+pub use print::{first_version_line, print_tree, put_tree, tree_lines};
 pub use put::PutFault;
 pub use read::{MOST_NAMES, TreeFault, read_tree};
 pub use value::{Entries, Value};
+pub use version::Version;

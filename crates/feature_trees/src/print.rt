@@ -2,16 +2,18 @@ ghost use Rattle.std.specs.Prelude.{◌≡◌, ◌++◌, ◌∷◌, [], ℕ, Lis
 ghost use Rattle.std.specs.List.{flat_map};
 ghost use Rattle.feature_trees.specs.View.{seen, AllThere};
 ghost use Rattle.shown_texts.specs.Show.{show};
-ghost use Rattle.feature_trees.specs.TreeText.{path_below, entries_lines, value_lines, tree_lines, tree_text};
+ghost use Rattle.feature_trees.specs.TreeText.{path_below, special_mark, entries_lines, value_lines, tree_lines};
+ghost use Rattle.feature_trees.specs.TreeText.{tree_text, first_version_line};
 
+use crate::kind::Special;
 use crate::value::{NamedValue, Value};
 use script_names::{Bytes, List, Memory, Name};
 use shown_texts::{push_lines, push_name, push_shown};
 use std::alloc::Global;
 
 /// The lines of a tree, without their newlines: one per entry but the root, by names in byte order, a directory before
-/// its entries. A line is `d PATH`, `f PATH`, `o PATH` or `l PATH TARGET`; a path is `/` and its shown names joined by
-/// `/`. A value that is no directory has no entries, so it has no lines.
+/// its entries. A line is `d PATH`, `f PATH`, `p PATH`, `s PATH`, `b PATH`, `c PATH` or `l PATH TARGET`; a path is `/` and its
+/// shown names joined by `/`. A value that is no directory has no entries, so it has no lines.
 pub fn tree_lines(alloc: Global, tree: &Value) -> Result<List<Bytes>, Memory>
     ensures { IfOk result (λ lines. lines ≡ tree_lines tree.now) }
 {
@@ -75,11 +77,23 @@ fn add_value(
         Value::Absent => Ok(()),
         Value::Reg => add_line(alloc, lines, b"f ", path),
         Value::Link(target) => add_link(alloc, lines, path, target.as_slice()),
-        Value::Other => add_line(alloc, lines, b"o ", path),
+        Value::Special(s) => add_line(alloc, lines, special_mark(*s), path),
         Value::Dir(entries) => {
             add_line(alloc, lines, b"d ", path)?;
             add_entries(alloc, lines, path, entries.items.as_slice())
         }
+    }
+}
+
+// How the line of a special thing begins.
+fn special_mark(s: Special) -> &'static [u8]
+    ensures { result.now ≡ special_mark s }
+{
+    match s {
+        Special::Fifo => b"p ",
+        Special::Socket => b"s ",
+        Special::Block => b"b ",
+        Special::Char => b"c ",
     }
 }
 
@@ -120,4 +134,18 @@ fn add_link(
     line.extend(b" ")?;
     push_shown(&mut line, target)?;
     lines.add(line)
+}
+
+/// A line of a tree's text as the first version of reports has it: `o PATH` in place of `p PATH`.
+pub fn first_version_line(alloc: Global, line: &[u8]) -> Result<Bytes, Memory>
+    ensures { IfOk result (λ text. text ≡ first_version_line line.now) }
+{
+    match line.strip_prefix(b"p ".as_slice()) {
+        Some(path) => {
+            let mut text = Bytes::from_slice(alloc, b"o ")?;
+            text.extend(path)?;
+            Ok(text)
+        }
+        None => Bytes::from_slice(alloc, line),
+    }
 }

@@ -6,11 +6,12 @@ ghost use Rattle.feature_trees.specs.Drafts.{draft_value};
 ghost use Rattle.feature_trees.specs.Sound.{IsTree};
 ghost use Rattle.feature_trees.specs.TextLaws.{without_entries};
 ghost use Rattle.feature_trees.specs.View.{IsThere};
-ghost use Rattle.feature_trees.specs.TreeLines.{whole_lines, letter_value, link_value, line_of_names, line_at};
-ghost use Rattle.feature_trees.specs.TreeLines.{line_of_words, line_says};
+ghost use Rattle.feature_trees.specs.TreeLines.{whole_lines, special_of, letter_value, link_value, line_of_names};
+ghost use Rattle.feature_trees.specs.TreeLines.{line_at, line_of_words, line_says};
 ghost use Rattle.feature_trees.specs.TreeLines.{with_line, with_lines, tree_of, IsAnswer, IsLeft};
 
 use crate::draft::{Draft, make_value, put_draft};
+use crate::kind::Special;
 use crate::put::PutFault;
 use crate::value::{Entries, Value};
 use script_names::{Copied, List, Memory, Name};
@@ -53,8 +54,8 @@ struct TreeLine {
     value: Value,
 }
 
-/// The tree of a text: a line for each entry but the root, `d PATH`, `f PATH`, `o PATH` or `l PATH TARGET`, in any
-/// order in which a directory's line comes before those of its entries; the last line may lack its newline.
+/// The tree of a text: a line for each entry but the root, `d PATH`, `f PATH`, `p PATH`, `s PATH`, `b PATH`, `c PATH` or
+/// `l PATH TARGET`, or `o PATH` for a pipe, in any order in which a directory's line comes before those of its entries; the last line may lack its newline.
 pub fn read_tree(alloc: Global, text: &[u8]) -> Result<Value, TreeFault>
     ensures reads { IsAnswer (tree_of text.now) result }
     ensures tree { IfOk result IsTree }
@@ -187,8 +188,30 @@ fn letter_value(alloc: Global, letter: &[u8]) -> Option<Value>
     if letter == b"f".as_slice() {
         return Some(Value::Reg);
     }
+    match read_special(letter) {
+        Some(s) => Some(Value::Special(s)),
+        None => None,
+    }
+}
+
+// Which special thing a letter says.
+fn read_special(letter: &[u8]) -> Option<Special>
+    ensures { result ≡ special_of letter.now }
+{
+    if letter == b"p".as_slice() {
+        return Some(Special::Fifo);
+    }
+    if letter == b"s".as_slice() {
+        return Some(Special::Socket);
+    }
+    if letter == b"b".as_slice() {
+        return Some(Special::Block);
+    }
+    if letter == b"c".as_slice() {
+        return Some(Special::Char);
+    }
     if letter == b"o".as_slice() {
-        return Some(Value::Other);
+        return Some(Special::Fifo);
     }
     None
 }

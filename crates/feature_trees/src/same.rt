@@ -28,7 +28,7 @@ fn same_value(a: &Value, b: &Value) -> bool
         (Value::Absent, Value::Absent) => true,
         (Value::Reg, Value::Reg) => true,
         (Value::Link(x), Value::Link(y)) => x.equal(y),
-        (Value::Other, Value::Other) => true,
+        (Value::Special(x), Value::Special(y)) => x == y,
         (Value::Dir(x), Value::Dir(y)) => same_entries(x, y),
         _ => false,
     }
@@ -66,7 +66,7 @@ fn copy_value(alloc: Global, v: &Value) -> Result<Value, Memory>
         Value::Absent => Ok(Value::Absent),
         Value::Reg => Ok(Value::Reg),
         Value::Link(target) => Ok(Value::Link(target.copy(alloc)?)),
-        Value::Other => Ok(Value::Other),
+        Value::Special(s) => Ok(Value::Special(*s)),
         Value::Dir(entries) => {
             let items = copy_items(alloc, entries.items.as_slice())?;
             Ok(Value::Dir(Entries { items }))

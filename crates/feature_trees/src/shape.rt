@@ -1,5 +1,6 @@
 //! What contracts see of a directory's entries.
 
+use crate::kind::Special;
 use script_names::{Bytes, List};
 
 /// What stands under a name.
@@ -8,7 +9,7 @@ use script_names::{Bytes, List};
 pub enum Node {
     Reg,
     Link(Bytes),
-    Other,
+    Special(Special),
     Dir(List<Entry>),
 }
 

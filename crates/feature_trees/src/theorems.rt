@@ -2,7 +2,8 @@
 
 ghost use Rattle.feature_trees.specs.Laws.{StandsWherePut, StandsElsewhere, StandsBelow, StandsAbove, PutsStaySound};
 ghost use Rattle.feature_trees.specs.Laws.{EntriesDetermine};
-ghost use Rattle.feature_trees.specs.TextLaws.{LinesStand, FirstFaults, TreesReadBack};
+ghost use Rattle.feature_trees.specs.TextLaws.{LinesStand, FirstFaults, TreesReadBack, FirstVersionSays};
+ghost use Rattle.feature_trees.specs.TextLaws.{OldTreesReadBack};
 
 /// A put changes what stands at its path, and what stands elsewhere stays.
 pub fn puts_are_local()
@@ -25,7 +26,10 @@ pub fn texts_are_trees()
     ensures faults { FirstFaults }
 {}
 
-/// The text of a tree is read as the tree, where no path of it has more than 4,096 names.
+/// The text of a tree is read as the tree, where no path of it has more than 4,096 names; so is the text of its lines as
+/// the first version of reports has them, and each of these says what the tree's own line does.
 pub fn trees_read_back()
-    ensures { TreesReadBack }
+    ensures now { TreesReadBack }
+    ensures line { FirstVersionSays }
+    ensures first { OldTreesReadBack }
 {}

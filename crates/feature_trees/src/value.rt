@@ -5,6 +5,7 @@ ghost use Rattle.feature_trees.specs.View.{seen, node_of, AllThere, IsThere};
 ghost use Rattle.feature_trees.specs.Sound.{sound, sound_all};
 ghost use Rattle.feature_trees.specs.Tree.{find, entry, at, present, update};
 
+use crate::kind::Special;
 use script_names::{Bytes, Copied, Memory, Name, Path};
 use std::alloc::Global;
 use std::marker::Model;
@@ -16,7 +17,7 @@ pub enum Value {
     Absent,
     Reg,
     Link(Bytes),
-    Other,
+    Special(Special),
     Dir(Entries),
 }
 

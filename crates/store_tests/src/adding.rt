@@ -41,7 +41,7 @@ rmdir /a 67; rmdir /b 67; | mv /a /b | 73 74 75 76
 rmdir /a 67; mkdir /b 68; | mv /a /b | 73";
 
 // Calls with the row that each takes, from all trees on; the clause of the store behind them; and the shown start tree,
-// where each place is of its greatest kind: a directory, else a file, a link, another thing, nothing. `|` is a newline.
+// where each place is of its greatest kind: a directory, else a file, a link, a special thing, nothing. `|` is a newline.
 const CLAUSES: &str =
     "rmdir /a 67; -> now v0|kind v0 dir|entry v0 a v1|kind v1 dir|notempty v1| -> d /a|f /a/aaaaaaaaaaaaaaaaaaaaaaaaaaaaaaaa|
 rmdir /a 68; -> now v3|kind v0 dir|entry v0 a v1|kind v1 dir|fence v1 {}|kind v2 absent|similar v3 {a} v0|entry v3 a v2| -> d /a|

@@ -22,9 +22,9 @@ const QUESTIONS: &[Printed] = &[
         2,
         "clause start v0 now v0
 kind v0 dir
-kind v0 absent,reg,other,dir
+kind v0 absent,reg,fifo,socket,block,char,dir
 entry v0 a v1
-kind v1 absent,reg,other,dir
+kind v1 absent,reg,fifo,socket,block,char,dir
 entry v1 b v2
 kind v2 absent
 ",
@@ -42,6 +42,30 @@ kind v1 link
 ",
     ),
     (
+        "test -S /a",
+        66,
+        "failed",
+        1,
+        "clause start v0 now v0
+kind v0 dir
+kind v0 absent,reg,fifo,socket,block,char,dir
+entry v0 a v1
+kind v1 absent,reg,fifo,block,char,dir
+",
+    ),
+    (
+        "test -S /a",
+        67,
+        "ok",
+        1,
+        "clause start v0 now v0
+kind v0 dir
+kind v0 dir
+entry v0 a v1
+kind v1 socket
+",
+    ),
+    (
         "test -x /a",
         68,
         "run",
@@ -50,7 +74,7 @@ kind v1 link
 kind v0 dir
 kind v0 dir
 entry v0 a v1
-kind v1 reg,other
+kind v1 reg,fifo,socket,block,char
 ",
     ),
     (
@@ -72,9 +96,9 @@ kind v1 link
         2,
         "clause start v0 now v0
 kind v0 dir
-kind v0 absent,reg,other,dir
+kind v0 absent,reg,fifo,socket,block,char,dir
 entry v0 a v1
-kind v1 absent,reg,other,dir
+kind v1 absent,reg,fifo,socket,block,char,dir
 entry v1 b v2
 kind v2 absent,dir
 ",
@@ -114,11 +138,11 @@ const CHANGES: &[Printed] = &[
         2,
         "clause start v0 now v0
 kind v0 dir
-kind v0 absent,reg,other,dir
+kind v0 absent,reg,fifo,socket,block,char,dir
 entry v0 a v1
-kind v1 absent,reg,other
+kind v1 absent,reg,fifo,socket,block,char
 entry v1 b v2
-kind v2 absent,reg,link,other,dir
+kind v2 absent,reg,link,fifo,socket,block,char,dir
 ",
     ),
     (
@@ -165,7 +189,7 @@ entry v3 a v2
 kind v0 dir
 kind v0 dir
 entry v0 a v1
-kind v1 reg,link,other
+kind v1 reg,link,fifo,socket,block,char
 ",
     ),
     (
@@ -206,7 +230,7 @@ entry v3 a v2
 kind v0 dir
 kind v0 dir
 entry v0 a v1
-kind v1 reg,link,other
+kind v1 reg,link,fifo,socket,block,char
 kind v2 absent
 similar v3 {a} v0
 entry v3 a v2
@@ -219,11 +243,11 @@ entry v3 a v2
         2,
         "clause start v0 now v0
 kind v0 dir
-kind v0 absent,reg,other,dir
+kind v0 absent,reg,fifo,socket,block,char,dir
 entry v0 a v1
-kind v1 absent,reg,other
+kind v1 absent,reg,fifo,socket,block,char
 entry v1 b v2
-kind v2 absent,reg,link,other,dir
+kind v2 absent,reg,link,fifo,socket,block,char,dir
 ",
     ),
     (
@@ -267,7 +291,7 @@ kind v0 dir
 entry v0 a v1
 kind v1 dir
 entry v1 b v2
-kind v2 absent,reg,other
+kind v2 absent,reg,fifo,socket,block,char
 target v3 ../t
 similar v4 {b} v1
 entry v4 b v3
@@ -306,10 +330,10 @@ const MOVES: &[Printed] = &[
         1,
         "clause start v0 now v0
 kind v0 dir
-kind v0 absent,reg,other,dir
+kind v0 absent,reg,fifo,socket,block,char,dir
 entry v0 a v1
 kind v1 absent
-kind v0 absent,reg,link,other,dir
+kind v0 absent,reg,link,fifo,socket,block,char,dir
 ",
     ),
     (
@@ -321,7 +345,7 @@ kind v0 absent,reg,link,other,dir
 kind v0 dir
 kind v0 dir
 entry v0 a v1
-kind v1 reg,link,other
+kind v1 reg,link,fifo,socket,block,char
 kind v0 dir
 entry v0 b v2
 kind v2 absent
@@ -330,7 +354,7 @@ similar v4 {a} v0
 entry v4 a v3
 kind v4 dir
 entry v4 b v5
-kind v5 absent,reg,link,other,dir
+kind v5 absent,reg,link,fifo,socket,block,char,dir
 similar v6 {b} v4
 entry v6 b v1
 ",
@@ -346,7 +370,7 @@ kind v0 dir
 entry v0 a v1
 kind v1 dir
 entry v1 b v2
-kind v2 reg,link,other
+kind v2 reg,link,fifo,socket,block,char
 kind v0 dir
 entry v0 c v3
 kind v3 absent
@@ -357,7 +381,7 @@ similar v6 {a} v0
 entry v6 a v5
 kind v6 dir
 entry v6 c v7
-kind v7 absent,reg,link,other,dir
+kind v7 absent,reg,link,fifo,socket,block,char,dir
 similar v8 {c} v6
 entry v8 c v2
 ",
@@ -385,7 +409,7 @@ kind v5 dir
 entry v5 b v6
 kind v6 dir
 entry v6 a v7
-kind v7 absent,reg,link,other,dir
+kind v7 absent,reg,link,fifo,socket,block,char,dir
 similar v8 {a} v6
 entry v8 a v1
 similar v9 {b} v5
@@ -399,14 +423,14 @@ entry v9 b v8
         3,
         "clause start v0 now v0
 kind v0 dir
-kind v0 absent,reg,other,dir
+kind v0 absent,reg,fifo,socket,block,char,dir
 entry v0 a v1
-kind v1 absent,reg,link,other,dir
-kind v0 absent,reg,other,dir
+kind v1 absent,reg,link,fifo,socket,block,char,dir
+kind v0 absent,reg,fifo,socket,block,char,dir
 entry v0 a v2
-kind v2 absent,reg,other,dir
+kind v2 absent,reg,fifo,socket,block,char,dir
 entry v2 b v3
-kind v3 absent,reg,other,dir
+kind v3 absent,reg,fifo,socket,block,char,dir
 ",
     ),
     (
@@ -418,7 +442,7 @@ kind v3 absent,reg,other,dir
 kind v0 dir
 kind v0 dir
 entry v0 a v1
-kind v1 reg,link,other,dir
+kind v1 reg,link,fifo,socket,block,char,dir
 kind v0 dir
 entry v0 b v2
 kind v2 link
@@ -437,7 +461,7 @@ const PLACED: &[Printed] = &[
 kind v0 dir
 kind v0 dir
 entry v0 a v1
-kind v1 absent,reg,link,other
+kind v1 absent,reg,link,fifo,socket,block,char
 kind v2 reg
 similar v3 {a} v0
 entry v3 a v2
@@ -454,7 +478,7 @@ kind v0 dir
 entry v0 a v1
 kind v1 dir
 entry v1 b v2
-kind v2 absent,reg,link,other
+kind v2 absent,reg,link,fifo,socket,block,char
 target v3 t
 similar v4 {b} v1
 entry v4 b v3
@@ -471,7 +495,7 @@ entry v5 a v4
 kind v0 dir
 kind v0 dir
 entry v0 a v1
-kind v1 link,other
+kind v1 link,fifo,socket,block,char
 ",
     ),
     (
@@ -481,11 +505,11 @@ kind v1 link,other
         2,
         "clause start v0 now v0
 kind v0 dir
-kind v0 absent,reg,other,dir
+kind v0 absent,reg,fifo,socket,block,char,dir
 entry v0 a v1
-kind v1 absent,reg,other
+kind v1 absent,reg,fifo,socket,block,char
 entry v1 b v2
-kind v2 absent,reg,link,other,dir
+kind v2 absent,reg,link,fifo,socket,block,char,dir
 ",
     ),
     (

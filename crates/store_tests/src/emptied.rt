@@ -5,7 +5,7 @@ ghost use Rattle.std.specs.Prelude.{◌<◌, ◌≤◌, IfOk, IfSome, IsTrue};
 ghost use Rattle.clause_solver.specs.Stands.{Alive};
 
 use clause_solver::Store;
-use feature_trees::{Kind, Kinds, Value, print_tree};
+use feature_trees::{Kind, Kinds, Special, Value, print_tree};
 use script_names::{Bytes, Memory, Name, NameFault};
 use std::alloc::Global;
 use std::test::Fail;
@@ -106,7 +106,31 @@ fn knows_that_nothing_is_left(rt: HostRuntime) -> Result<(), Fail> {
 const FILLED: &[(Kind, Kind, &str)] = &[
     (Kind::Reg, Kind::Reg, "d /srv\nf /srv/b\n"),
     (Kind::Link, Kind::Link, "d /srv\nl /srv/b x\n"),
-    (Kind::Other, Kind::Absent, "d /srv\no /srv/b\n"),
+    (
+        Kind::Special(Special::Fifo),
+        Kind::Absent,
+        "d /srv\np /srv/b\n",
+    ),
+    (
+        Kind::Absent,
+        Kind::Special(Special::Socket),
+        "d /srv\ns /srv/b\n",
+    ),
+    (
+        Kind::Special(Special::Block),
+        Kind::Absent,
+        "d /srv\nb /srv/b\n",
+    ),
+    (
+        Kind::Absent,
+        Kind::Special(Special::Char),
+        "d /srv\nc /srv/b\n",
+    ),
+    (
+        Kind::Special(Special::Char),
+        Kind::Special(Special::Socket),
+        "d /srv\ns /srv/b\n",
+    ),
     (Kind::Absent, Kind::Reg, "d /srv\nf /srv/b\n"),
     (Kind::Reg, Kind::Dir, "d /srv\nd /srv/b\n"),
     (

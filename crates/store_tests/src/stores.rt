@@ -5,7 +5,7 @@ ghost use Rattle.clause_solver.specs.Stands.{Alive};
 
 use crate::clause_texts::has_clause;
 use clause_solver::Store;
-use feature_trees::{Kind, Kinds, Value, print_tree};
+use feature_trees::{Kind, Kinds, Special, Value, print_tree};
 use script_names::{Bytes, Memory, Name, NameFault};
 use std::alloc::Global;
 use std::test::Fail;
@@ -153,12 +153,21 @@ entry v2 bin v3
 kind v3 dir
 ";
 
+// A special kind, or nothing.
+fn or_absent(kind: Special) -> Kinds {
+    Kinds::either(Kinds::of(Kind::Absent), Kinds::of(Kind::Special(kind)))
+}
+
 // The kinds of an entry of `/etc`, by its name.
 fn kinds_of(word: &[u8]) -> Kinds {
     match word {
         b"r" => Kinds::of(Kind::Reg),
         b"l" => Kinds::of(Kind::Link),
-        b"o" => Kinds::either(Kinds::of(Kind::Absent), Kinds::of(Kind::Other)),
+        b"p" => or_absent(Special::Fifo),
+        b"s" => or_absent(Special::Socket),
+        b"b" => or_absent(Special::Block),
+        b"c" => or_absent(Special::Char),
+        b"x" => Kinds::special(),
         b"a" => Kinds::of(Kind::Absent),
         _ => Kinds::all(),
     }
@@ -177,9 +186,41 @@ fn limit_each(alloc: Global, s: &mut Store, entries: &[&[u8]]) -> Result<bool, N
 #[test]
 fn shows_each_kind(rt: HostRuntime) -> Result<(), Fail> {
     let mut s = Store::start(rt.alloc())?;
-    assert!(rt; limit_each(rt.alloc(), &mut s, &[b"r", b"l", b"o", b"a", b"d"])?);
-    let wanted: &[u8] = b"d /etc\nd /etc/d\nl /etc/l x\no /etc/o\nf /etc/r\n";
+    assert!(rt; limit_each(rt.alloc(), &mut s, &[b"r", b"l", b"a", b"d"])?);
+    let wanted: &[u8] = b"d /etc\nd /etc/d\nl /etc/l x\nf /etc/r\n";
     assert!(rt; shows(rt.alloc(), &mut s, wanted)?);
+    Ok(())
+}
+
+#[test]
+fn shows_each_special_kind(rt: HostRuntime) -> Result<(), Fail> {
+    let mut s = Store::start(rt.alloc())?;
+    assert!(rt; limit_each(rt.alloc(), &mut s, &[b"p", b"s", b"b", b"c", b"x"])?);
+    let wanted: &[u8] = b"d /etc\nb /etc/b\nc /etc/c\np /etc/p\ns /etc/s\np /etc/x\n";
+    assert!(rt; shows(rt.alloc(), &mut s, wanted)?);
+    Ok(())
+}
+
+// Lets `/etc` be a pipe, a block device or nothing; whether a pair is left.
+fn limit_pipe(alloc: Global, s: &mut Store) -> Result<bool, NameFault> {
+    let fifo = or_absent(Special::Fifo);
+    let kinds = Kinds::either(fifo, Kinds::of(Kind::Special(Special::Block)));
+    let etc = limited(alloc, s, &[b"etc"], kinds)?;
+    Ok(etc == Some(Var(1)))
+}
+
+// Where `/etc` is a pipe, a block device or nothing.
+const PIPE_OR_BLOCK: &str = "clause start v0 now v0
+kind v0 dir
+entry v0 etc v1
+kind v1 absent,fifo,block
+";
+
+#[test]
+fn limits_to_a_set_with_pipes(rt: HostRuntime) -> Result<(), Fail> {
+    let mut s = Store::start(rt.alloc())?;
+    assert!(rt; limit_pipe(rt.alloc(), &mut s)?);
+    assert!(rt; comes_to(rt.alloc(), &mut s, PIPE_OR_BLOCK, "p /etc\n")?);
     Ok(())
 }
 

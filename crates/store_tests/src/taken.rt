@@ -10,19 +10,22 @@ use std::process::Abort;
 use std::test::Fail;
 use tree_clauses::{Case, Clause, Var, meets};
 
-// The tree of these tests: `d` is a directory, `f` a file, `o` another thing, `l` a link.
+// The tree of these tests: `d` is a directory, `f` a file, `l` a link, `p` a pipe, `s` a socket, `b` a
+// block device, `c` a character device.
 const SAMPLE: &str = "d /d
 d /d/e
 f /d/f
 l /d/l t
-o /d/o
+s /d/o
 d /d/g
 d /d/g/g
 d /e
 f /f
 f /h
 l /l t
-o /o
+b /o
+p /p
+c /c
 d /g
 d /x
 d /x/f
@@ -53,6 +56,16 @@ const QUESTIONS: &[Taken] = &[
     ("test -h /l/", 64),
     ("test -h /f", 66),
     ("test -h /l", 67),
+    ("test -p /f/", 64),
+    ("test -p /l", 65),
+    ("test -p /d/o", 66),
+    ("test -p /p", 67),
+    ("test -S /o", 66),
+    ("test -S /d/o", 67),
+    ("test -b /c", 66),
+    ("test -b /o", 67),
+    ("test -c /n", 66),
+    ("test -c /c", 67),
     ("test -x /f/", 64),
     ("test -x /l", 65),
     ("test -x /n", 66),

@@ -5,9 +5,10 @@ use Rattle.std.specs.Option.{option_map}
 use Rattle.std.proofs.lemmas.Bool.{lt-ltb, eqb-true}
 use Rattle.feature_trees.specs.declared.shape.Entry.{Entry}
 use Rattle.feature_trees.specs.declared.value.Value.{Value}
-use Rattle.feature_trees.specs.declared.value.Value.TheVariants.{Absent, Reg, Link, Other, Dir}
+use Rattle.feature_trees.specs.declared.value.Value.TheVariants.{Absent, Reg, Link, Special, Dir}
 use Rattle.feature_trees.specs.declared.kind.Kind.{Kind}
 use Rattle.feature_trees.specs.declared.kind.Kind.TheVariants as kind
+use Rattle.feature_trees.specs.declared.kind.Special.TheVariants.{Fifo, Socket, Block, Char}
 use Rattle.feature_trees.specs.declared.kind.Kinds.{Kinds}
 use Rattle.feature_trees.specs.Kinds.{has, of}
 use Rattle.feature_trees.specs.Tree.{entry, kind_of, find, entries_of, is_dir}
@@ -58,7 +59,7 @@ pub dir_from : (v : Value) → is_dir v ≡ true → kind_of v ≡ kind.Dir
 dir_from Absent e = cc
 dir_from Reg e = cc
 dir_from (Link b) e = cc
-dir_from Other e = cc
+dir_from (Special s) e = cc
 dir_from (Dir es) e = refl
 
 pub similar_by : (v w : Value) (names : List (List ℕ)) (left right : List Entry) (b : Bool) → IsTrue (sound v) → IsTrue (sound w) → is_dir v ≡ true → left ≡ without (entries_of v) names → right ≡ without (entries_of w) names → IsTrue b ↔ (left ≡ right) → IsTrue b ↔ ((kind_of v ≡ kind.Dir) × AgreesOutside v names w)
@@ -126,7 +127,10 @@ only_dir : (k : Kind) → IsTrue (has (of kind.Dir) k) → k ≡ kind.Dir
 only_dir kind.Absent h = cc
 only_dir kind.Reg h = cc
 only_dir kind.Link h = cc
-only_dir kind.Other h = cc
+only_dir (kind.Special Fifo) h = cc
+only_dir (kind.Special Socket) h = cc
+only_dir (kind.Special Block) h = cc
+only_dir (kind.Special Char) h = cc
 only_dir kind.Dir h = refl
 
 begins_empty : (g : Valuation) (y : ℕ) (literals : List Literal) → BeginEmpty y literals → MeetsAll g literals → (f : List ℕ) → ¬ (Contains [] f) → entry (value_of_variable g y) f ≡ Absent

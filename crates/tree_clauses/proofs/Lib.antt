@@ -13,3 +13,5 @@ pub mod Pieces
 pub mod ClauseLaw
 pub mod PlainCases
 pub mod KindSets
+pub mod KindWords
+pub mod ToldLines

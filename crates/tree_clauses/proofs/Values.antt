@@ -4,7 +4,7 @@ use Rattle.std.specs.List.{Contains}
 use Rattle.script_names.specs.Names.{is_name}
 use Rattle.feature_trees.specs.declared.kind.Kind.TheVariants as kind
 use Rattle.feature_trees.specs.declared.value.Value.{Value}
-use Rattle.feature_trees.specs.declared.value.Value.TheVariants.{Absent, Reg, Link, Other, Dir}
+use Rattle.feature_trees.specs.declared.value.Value.TheVariants.{Absent, Reg, Link, Special, Dir}
 use Rattle.feature_trees.specs.Tree.{entry, kind_of, find, update, entries_of}
 use Rattle.feature_trees.specs.Sound.{sound, sound_all}
 use Rattle.feature_trees.proofs.Laws.{Rises, rises_of, find-update_same, find-update_other}
@@ -28,7 +28,7 @@ pub entry_of_dir : (v : Value) (f : List ℕ) → (kind_of v ≡ kind.Dir) ⊎ (
 entry_of_dir Absent f = inr refl
 entry_of_dir Reg f = inr refl
 entry_of_dir (Link b) f = inr refl
-entry_of_dir Other f = inr refl
+entry_of_dir (Special s) f = inr refl
 entry_of_dir (Dir es) f = inl refl
 
 -- a value is absent or not
@@ -36,35 +36,35 @@ pub absent_or_not : (v : Value) → (v ≡ Absent) ⊎ (v ≢ Absent)
 absent_or_not Absent = inl refl
 absent_or_not Reg = inr (λ e. let q : kind.Reg ≡ kind.Absent = ap kind_of e in cc)
 absent_or_not (Link b) = inr (λ e. let q : kind.Link ≡ kind.Absent = ap kind_of e in cc)
-absent_or_not Other = inr (λ e. let q : kind.Other ≡ kind.Absent = ap kind_of e in cc)
+absent_or_not (Special s) = inr (λ e. let q : (kind.Special s) ≡ kind.Absent = ap kind_of e in cc)
 absent_or_not (Dir es) = inr (λ e. let q : kind.Dir ≡ kind.Absent = ap kind_of e in cc)
 
 pub present_kind : (v : Value) → v ≢ Absent → kind_of v ≢ kind.Absent
 present_kind Absent h = λ e. h refl
 present_kind Reg h = λ e. cc
 present_kind (Link b) h = λ e. cc
-present_kind Other h = λ e. cc
+present_kind (Special s) h = λ e. cc
 present_kind (Dir es) h = λ e. cc
 
 pub absent_kind : (v : Value) → kind_of v ≡ kind.Absent → v ≡ Absent
 absent_kind Absent h = refl
 absent_kind Reg h = cc
 absent_kind (Link b) h = cc
-absent_kind Other h = cc
+absent_kind (Special s) h = cc
 absent_kind (Dir es) h = cc
 
 pub reg_kind : (v : Value) → kind_of v ≡ kind.Reg → v ≡ Reg
 reg_kind Absent h = cc
 reg_kind Reg h = refl
 reg_kind (Link b) h = cc
-reg_kind Other h = cc
+reg_kind (Special s) h = cc
 reg_kind (Dir es) h = cc
 
 pub dir_kind : (v : Value) → kind_of v ≡ kind.Dir → v ≡ Dir (entries_of v)
 dir_kind Absent h = cc
 dir_kind Reg h = cc
 dir_kind (Link b) h = cc
-dir_kind Other h = cc
+dir_kind (Special s) h = cc
 dir_kind (Dir es) h = refl
 
 -- an entry is found among the entries
@@ -72,7 +72,7 @@ pub entry_is : (v : Value) (f : List ℕ) → find (entries_of v) f ≡ entry v 
 entry_is Absent f = refl
 entry_is Reg f = refl
 entry_is (Link b) f = refl
-entry_is Other f = refl
+entry_is (Special s) f = refl
 entry_is (Dir es) f = refl
 
 pub rises_entries : (v : Value) → IsTrue (sound v) → Rises (entries_of v)

@@ -1,5 +1,5 @@
--- Reading a clause's text. The reader is loose: what it reads is printed again and compared.
-use Rattle.std.specs.Prelude.{◌≡◌, ℕ, ◌&&◌, nat_le, Bool, IsTrue, List, [], ◌∷◌, ◌++◌, codes}
+-- Reading a clause's text. The reader is loose: what it reads is printed again and compared, line by line.
+use Rattle.std.specs.Prelude.{◌≡◌, ℕ, ◌&&◌, ◌||◌, nat_le, Bool, true, false, IsTrue, List, [], ◌∷◌, ◌++◌, codes}
 use Rattle.std.specs.Prelude.{Option, Some, None, option_map, option_and_then, Result, Ok, Err, if◌then◌else◌}
 use Rattle.std.specs.List.{list_any, list_all}
 use Rattle.std.specs.Str.{bytes_eq}
@@ -8,14 +8,14 @@ use Rattle.shown_texts.specs.Numbers.{u32_max, number_of}
 use Rattle.shown_texts.specs.Paths.{name_of, names_onto}
 use Rattle.shown_texts.specs.Show.{are_bytes, shown_of}
 use Rattle.feature_trees.specs.declared.kind.Kinds.{Kinds}
-use Rattle.feature_trees.specs.declared.kind.Kind as kind
-use Rattle.feature_trees.specs.declared.kind.Kind.TheVariants as kinds
-use Rattle.feature_trees.specs.Kinds.{none, of, either}
+use Rattle.feature_trees.specs.declared.version.Version.{Version}
+use Rattle.feature_trees.specs.declared.version.Version.TheVariants.{First, Second}
 use Rattle.tree_clauses.specs.declared.clause.Var.{Var}
 use Rattle.tree_clauses.specs.declared.clause.Literal.{Literal}
 use Rattle.tree_clauses.specs.declared.clause.Literal.TheVariants.{Entry, Kind, Fence, NotEmpty, Similar, Target}
 use Rattle.tree_clauses.specs.declared.clause.Clause.{Clause}
-use Rattle.tree_clauses.specs.ClauseText.{clause_text}
+use Rattle.shown_texts.specs.Lines.{lines_of}
+use Rattle.tree_clauses.specs.ClauseText.{literal_content, head_content, clause_text, is_first_literal, is_first_clause}
 use Rattle.tree_clauses.specs.declared.read.ClauseFault.{ClauseFault}
 use Rattle.tree_clauses.specs.declared.read.ClauseFault.TheVariants.{Bad, Memory}
 use Rattle.tree_clauses.specs.Cuts.{pieces, ends_line, ends_word, ends_member}
@@ -29,18 +29,28 @@ var_of (v ∷ digits) = option_map (λ n. record { 0 = n }) (number_of u32_max d
 abbrev pub names_of : List ℕ → Option (List (List ℕ))
 names_of text = names_onto [] (pieces ends_member text)
 
--- a kind, where its word is there
-abbrev pub with_kind : List (List ℕ) → List ℕ → kind.Kind → Kinds → Kinds
-with_kind words word k set = if list_any (λ part. bytes_eq part word) words then either set (of k) else set
+-- whether a word is among these
+abbrev pub has_word : List (List ℕ) → List ℕ → Bool
+has_word words word = list_any (λ part. bytes_eq part word) words
+
+-- the set of kinds of these words; the word `other` stands for all four special kinds
+abbrev pub kinds_of_words : List (List ℕ) → Kinds
+kinds_of_words words =
+    let other = has_word words (codes "other") in
+    record {
+      absent = has_word words (codes "absent");
+      reg = has_word words (codes "reg");
+      link = has_word words (codes "link");
+      fifo = other || has_word words (codes "fifo");
+      socket = other || has_word words (codes "socket");
+      block = other || has_word words (codes "block");
+      char = other || has_word words (codes "char");
+      dir = has_word words (codes "dir");
+    }
 
 -- a set of kinds
 abbrev pub kinds_of : List ℕ → Kinds
-kinds_of text =
-    let words = pieces ends_member text in
-    with_kind words (codes "dir") kinds.Dir
-    (with_kind words (codes "other") kinds.Other
-    (with_kind words (codes "link") kinds.Link
-    (with_kind words (codes "reg") kinds.Reg (with_kind words (codes "absent") kinds.Absent none))))
+kinds_of text = kinds_of_words (pieces ends_member text)
 
 -- the literal of two variables and a name, of these words
 abbrev pub entry_of : List ℕ → List ℕ → List ℕ → Option Literal
@@ -118,10 +128,33 @@ is_literal (Target x target) = is_var x && are_bytes target
 abbrev pub is_clause : Clause → Bool
 is_clause clause = is_var clause.start && (is_var clause.now && list_all is_literal clause.literals)
 
--- what reading answers: the clause that has this text, or that no clause has it, or want of memory
+-- a line is a literal's: that of the present version, or that of the first, where the literal has one
+abbrev pub tells_literal : Literal → List ℕ → Bool
+tells_literal literal line =
+    bytes_eq (literal_content Second literal) line
+    || (is_first_literal literal && bytes_eq (literal_content First literal) line)
+
+-- lines are those of literals, one of each
+abbrev pub tell_literals : List Literal → List (List ℕ) → Bool
+tell_literals [] [] = true
+tell_literals [] (line ∷ lines) = false
+tell_literals (literal ∷ literals) [] = false
+tell_literals (literal ∷ literals) (line ∷ lines) = tells_literal literal line && tell_literals literals lines
+
+-- lines are those of a clause
+abbrev pub tell_clause : Clause → Option (List (List ℕ)) → Bool
+tell_clause clause None = false
+tell_clause clause (Some []) = false
+tell_clause clause (Some (head ∷ lines)) = bytes_eq (head_content clause) head && tell_literals clause.literals lines
+
+-- a text tells a clause: it has the line of the two variables and a line of each literal, and nothing else
+abbrev pub tells : Clause → List ℕ → Bool
+tells clause text = tell_clause clause (lines_of text)
+
+-- what reading answers: the clause that this text tells, or that it tells none, or want of memory
 abbrev pub ReadsClause : List ℕ → Result Clause ClauseFault → Type 0
-ReadsClause text (Ok clause) = clause_text clause ≡ text
-ReadsClause text (Err Bad) = (clause : Clause) → IsTrue (is_clause clause) → ¬ (clause_text clause ≡ text)
+ReadsClause text (Ok clause) = IsTrue (tells clause text)
+ReadsClause text (Err Bad) = (clause : Clause) → IsTrue (is_clause clause) → ¬ (IsTrue (tells clause text))
 ReadsClause text (Err Memory) = Unit {0}
 
 -- a clause in an answer is one that the program's types represent
@@ -135,8 +168,20 @@ IsReadAs clause (Ok found) = found ≡ clause
 IsReadAs clause (Err Bad) = ⊥
 IsReadAs clause (Err Memory) = Unit {0}
 
--- the text of a clause determines it, and is no text that reading refuses
+-- a clause has a text of a version
+abbrev pub has_text : Version → Clause → Bool
+has_text First clause = is_first_clause clause
+has_text Second clause = true
+
+-- the text of a clause in either version determines it, and is no text that reading refuses
 abbrev pub ClausesReadBack : Type 0
 ClausesReadBack =
-    (clause : Clause) → IsTrue (is_clause clause) → (answer : Result Clause ClauseFault) → IsRepresentableClause answer
-    → ReadsClause (clause_text clause) answer → IsReadAs clause answer
+    (version : Version) (clause : Clause) → IsTrue (is_clause clause) → IsTrue (has_text version clause)
+    → (answer : Result Clause ClauseFault) → IsRepresentableClause answer
+    → ReadsClause (clause_text version clause) answer → IsReadAs clause answer
+
+-- whatever tells a clause tells it alone
+abbrev pub OneClauseIsTold : Type 0
+OneClauseIsTold =
+    (text : List ℕ) (one other : Clause) → IsTrue (is_clause one) → IsTrue (is_clause other)
+    → IsTrue (tells one text) → IsTrue (tells other text) → one ≡ other

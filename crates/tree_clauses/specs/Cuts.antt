@@ -2,6 +2,7 @@
 -- without a byte may be left out.
 use Rattle.std.specs.Prelude.{ℕ, Bool, ◌||◌, ◌==◌, List, filter}
 use Rattle.std.specs.List.{slice_split}
+use Rattle.script_names.specs.Ascii.{newline, space}
 use Rattle.script_names.specs.Paths.{is_filled}
 
 -- the pieces between bytes that pass the test, without those of no byte
@@ -10,11 +11,11 @@ pieces ends text = filter is_filled (slice_split ends text)
 
 -- what ends a line
 abbrev pub ends_line : ℕ → Bool
-ends_line b = b == 10
+ends_line b = b == newline
 
 -- what ends a word of a line
 abbrev pub ends_word : ℕ → Bool
-ends_word b = b == 32
+ends_word b = b == space
 
 -- what ends a member of a list: a comma or a brace
 abbrev pub ends_member : ℕ → Bool

@@ -385,7 +385,7 @@ fn is_absent(kind: Kind) -> bool
         Kind::Absent => true,
         Kind::Reg => false,
         Kind::Link => false,
-        Kind::Other => false,
+        Kind::Special(_) => false,
         Kind::Dir => false,
     }
 }

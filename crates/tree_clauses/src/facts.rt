@@ -153,6 +153,6 @@ pub(crate) fn copied_entries(alloc: Global, x: &Value) -> Result<Entries, Memory
 {
     match x.copy(alloc)? {
         Value::Dir(entries) => Ok(entries),
-        Value::Absent | Value::Reg | Value::Link(_) | Value::Other => Ok(Entries::new(alloc)),
+        Value::Absent | Value::Reg | Value::Link(_) | Value::Special(_) => Ok(Entries::new(alloc)),
     }
 }

@@ -11,6 +11,7 @@ mod clause;
 mod cuts;
 mod deciding;
 mod facts;
+mod first;
 mod known_values;
 mod making;
 mod read;

@@ -1,25 +1,26 @@
-ghost use Rattle.std.specs.Prelude.{◌≡◌, ◌↔◌, [], ◌∷◌, IfOk, IsTrue, map};
-ghost use Rattle.std.specs.List.{list_any};
+ghost use Rattle.std.specs.Prelude.{◌≡◌, [], ◌∷◌, Some, IfOk, map};
 ghost use Rattle.std.specs.Str.{bytes_eq};
 ghost use Rattle.shown_texts.specs.Paths.{name_of};
-ghost use Rattle.tree_clauses.specs.ClauseText.{clause_text};
+ghost use Rattle.tree_clauses.specs.ClauseText.{head_content};
 ghost use Rattle.tree_clauses.specs.Cuts.{pieces, ends_word};
-ghost use Rattle.tree_clauses.specs.ClauseRead.{var_of, names_of, with_kind, kinds_of, entry_of, similar_of};
+ghost use Rattle.tree_clauses.specs.ClauseRead.{var_of, names_of, has_word, kinds_of_words, kinds_of, entry_of, similar_of};
 ghost use Rattle.tree_clauses.specs.ClauseRead.{kind_of, fence_of, target_of, literal_of, literals_onto, headed};
 ghost use Rattle.tree_clauses.specs.ClauseRead.{lines_clause, clause_of, ReadsClause};
+ghost use Rattle.tree_clauses.specs.ClauseRead.{tells_literal, tell_literals, tell_clause, tells};
 
 use crate::clause::{Clause, Literal, Var};
 use crate::cuts::{line_pieces, member_pieces, word_pieces};
-use crate::text::print_clause;
-use feature_trees::{Kind, Kinds};
+use crate::first::is_first_literal;
+use crate::text::{print_head, print_literal};
+use feature_trees::{Kinds, Version};
 use script_names::{Copied, List, Memory, Name, NameFault};
-use shown_texts::{read_number, read_shown};
+use shown_texts::{read_lines as text_lines, read_number, read_shown};
 use std::alloc::Global;
 
 /// Why a text gave no clause.
 #[derive(Clone, Copy, Debug, PartialEq, Eq)]
 pub enum ClauseFault {
-    /// No clause has this text.
+    /// The text tells no clause.
     Bad,
     Memory,
 }
@@ -83,7 +84,7 @@ fn read_names(alloc: Global, text: &[u8]) -> Result<Option<List<Name>>, Memory>
 
 // Whether some member of a list is the word.
 fn has_word(pieces: &[&[u8]], word: &[u8]) -> bool
-    ensures { result ≡ list_any (λ piece. bytes_eq piece word.now) (map (λ piece. piece.now) pieces.now) }
+    ensures { result ≡ has_word (map (λ piece. piece.now) pieces.now) word.now }
 {
     for piece in pieces {
         if *piece == word {
@@ -93,14 +94,20 @@ fn has_word(pieces: &[&[u8]], word: &[u8]) -> bool
     false
 }
 
-// The set, with a kind where its word is there.
-fn with_kind(pieces: &[&[u8]], word: &[u8], kind: Kind, set: Kinds) -> Kinds
-    ensures { result ≡ with_kind (map (λ piece. piece.now) pieces.now) word.now kind set }
+// The set of kinds of these words.
+fn kinds_of_words(pieces: &[&[u8]]) -> Kinds
+    ensures { result ≡ kinds_of_words (map (λ piece. piece.now) pieces.now) }
 {
-    if has_word(pieces, word) {
-        Kinds::either(set, Kinds::of(kind))
-    } else {
-        set
+    let other = has_word(pieces, b"other");
+    Kinds {
+        absent: has_word(pieces, b"absent"),
+        reg: has_word(pieces, b"reg"),
+        link: has_word(pieces, b"link"),
+        fifo: other || has_word(pieces, b"fifo"),
+        socket: other || has_word(pieces, b"socket"),
+        block: other || has_word(pieces, b"block"),
+        char: other || has_word(pieces, b"char"),
+        dir: has_word(pieces, b"dir"),
     }
 }
 
@@ -108,11 +115,7 @@ fn read_kinds(alloc: Global, text: &[u8]) -> Result<Kinds, Memory>
     ensures { IfOk result (λ found. found ≡ kinds_of text.now) }
 {
     let pieces = member_pieces(alloc, text)?;
-    let set = with_kind(&pieces, b"absent", Kind::Absent, Kinds::none());
-    let set = with_kind(&pieces, b"reg", Kind::Reg, set);
-    let set = with_kind(&pieces, b"link", Kind::Link, set);
-    let set = with_kind(&pieces, b"other", Kind::Other, set);
-    Ok(with_kind(&pieces, b"dir", Kind::Dir, set))
+    Ok(kinds_of_words(&pieces))
 }
 
 fn read_entry(alloc: Global, x: &[u8], f: &[u8], y: &[u8]) -> Result<Option<Literal>, Memory>
@@ -298,15 +301,71 @@ fn read_loosely(alloc: Global, text: &[u8]) -> Result<Option<Clause>, Memory>
     read_lines(alloc, &lines)
 }
 
-// Whether the clause has this text.
-fn has_text(alloc: Global, clause: &Clause, text: &[u8]) -> Result<bool, Memory>
-    ensures { IfOk result (λ has. IsTrue has ↔ (clause_text clause.entry.now ≡ text.now)) }
+// Whether the line is the literal's, in one of the versions.
+fn tells_literal(alloc: Global, literal: &Literal, line: &[u8]) -> Result<bool, Memory>
+    ensures { IfOk result (λ told. told ≡ tells_literal literal.now line.now) }
 {
-    let again = print_clause(alloc, clause)?;
-    Ok(again.as_slice() == text)
+    let second = print_literal(alloc, Version::Second, literal)?;
+    if second.as_slice() == line {
+        return Ok(true);
+    }
+    if !is_first_literal(literal) {
+        return Ok(false);
+    }
+    let first = print_literal(alloc, Version::First, literal)?;
+    Ok(first.as_slice() == line)
 }
 
-/// The clause that has this text.
+// Whether the lines are those of the literals.
+fn tell_literals(alloc: Global, literals: &[Literal], lines: &[&[u8]]) -> Result<bool, Memory>
+    ensures { IfOk result (λ told. told ≡ tell_literals literals.now (map (λ line. line.now) lines.now)) }
+{
+    if literals.len() != lines.len() {
+        return Ok(false);
+    }
+    for at in 0..literals.len() {
+        if !tells_literal(alloc, &literals[at], lines[at])? {
+            return Ok(false);
+        }
+    }
+    Ok(true)
+}
+
+// Whether the line is that of the clause's two variables.
+fn tells_head(alloc: Global, clause: &Clause, line: &[u8]) -> Result<bool, Memory>
+    ensures { IfOk result (λ told. told ≡ bytes_eq (head_content clause.entry.now) line.now) }
+{
+    let head = print_head(alloc, clause)?;
+    Ok(head.as_slice() == line)
+}
+
+// Whether the lines are those of the clause.
+fn tell_clause(alloc: Global, clause: &Clause, lines: &[&[u8]]) -> Result<bool, Memory>
+    ensures { IfOk result (λ told. told ≡ tell_clause clause.entry.now (Some (map (λ line. line.now) lines.now))) }
+{
+    match lines {
+        [] => Ok(false),
+        [head, rest @ ..] => {
+            if !tells_head(alloc, clause, head)? {
+                return Ok(false);
+            }
+            tell_literals(alloc, clause.literals.as_slice(), rest)
+        }
+    }
+}
+
+// Whether the text tells the clause.
+fn tells(alloc: Global, clause: &Clause, text: &[u8]) -> Result<bool, Memory>
+    ensures { IfOk result (λ told. told ≡ tells clause.entry.now text.now) }
+{
+    match text_lines(alloc, text)? {
+        None => Ok(false),
+        Some(lines) => tell_clause(alloc, clause, &lines),
+    }
+}
+
+/// The clause that this text tells: it has the line of the clause's two variables, and a line of each literal, in the
+/// present version or in the first.
 pub fn read_clause(alloc: Global, text: &[u8]) -> Result<Clause, ClauseFault>
     ensures { ReadsClause text.now result }
 {
@@ -315,7 +374,7 @@ pub fn read_clause(alloc: Global, text: &[u8]) -> Result<Clause, ClauseFault>
         Ok(None) => return Err(ClauseFault::Bad),
         Err(_) => return Err(ClauseFault::Memory),
     };
-    match has_text(alloc, &clause, text) {
+    match tells(alloc, &clause, text) {
         Ok(true) => Ok(clause),
         Ok(false) => Err(ClauseFault::Bad),
         Err(_) => Err(ClauseFault::Memory),

@@ -1,22 +1,23 @@
 ghost use Rattle.std.specs.Prelude.{◌≡◌, ◌++◌, ◌||◌, ◌∷◌, [], codes, IfOk, OnOk, OnErr, map, if◌then◌else◌};
 ghost use Rattle.std.specs.List.{flat_map};
+ghost use Rattle.feature_trees.specs.declared.version.Version.TheVariants.{Second};
 ghost use Rattle.shown_texts.specs.Show.{show};
-ghost use Rattle.tree_clauses.specs.ClauseText.{after_comma, joined, var_text, kinds_text, names_text};
+ghost use Rattle.tree_clauses.specs.ClauseText.{after_comma, var_text, names_text, chosen};
+ghost use Rattle.tree_clauses.specs.ClauseText.{words_text, kinds_text, head_content};
 ghost use Rattle.tree_clauses.specs.ClauseText.{literal_content, literal_text, clause_text};
 
 use crate::clause::{Clause, Literal, Var};
-use feature_trees::{Kind, Kinds};
+use crate::first::has_all_special;
+use feature_trees::{Kinds, Version};
 use script_names::{Bytes, Memory, Name};
 use shown_texts::{push_number, push_shown};
 use std::alloc::Global;
 
 /// The text of a clause: the line of its two variables, then one line per literal, in their order.
 pub fn print_clause(alloc: Global, clause: &Clause) -> Result<Bytes, Memory>
-    ensures { IfOk result (λ text. text ≡ clause_text clause.entry.now) }
+    ensures { IfOk result (λ text. text ≡ clause_text Second clause.entry.now) }
 {
-    let mut text = Bytes::new(alloc);
-    put_var(&mut text, b"clause start ", clause.start)?;
-    put_var(&mut text, b" now ", clause.now)?;
+    let mut text = print_head(alloc, clause)?;
     text.extend(b"\n")?;
     put_literals(&mut text, clause.literals.as_slice())?;
     Ok(text)
@@ -24,36 +25,46 @@ pub fn print_clause(alloc: Global, clause: &Clause) -> Result<Bytes, Memory>
 
 /// Adds the text of a clause to a text; for want of memory the text is as before.
 pub fn put_clause(alloc: Global, text: &mut Bytes, clause: &Clause) -> Result<(), Memory>
-    ensures ok { OnOk result (text.new ≡ text.old ++ clause_text clause.entry.now) }
+    ensures ok { OnOk result (text.new ≡ text.old ++ clause_text Second clause.entry.now) }
     ensures kept { OnErr result (text.new ≡ text.old) }
 {
     let more = print_clause(alloc, clause)?;
     text.extend(more.as_slice())
 }
 
-/// The text of a literal, without the newline of its line.
-pub fn print_literal(alloc: Global, literal: &Literal) -> Result<Bytes, Memory>
-    ensures { IfOk result (λ text. text ≡ literal_content literal.now) }
+/// The line of a clause's two variables, without its newline.
+pub(crate) fn print_head(alloc: Global, clause: &Clause) -> Result<Bytes, Memory>
+    ensures { IfOk result (λ text. text ≡ head_content clause.entry.now) }
 {
     let mut text = Bytes::new(alloc);
-    put_literal(&mut text, literal)?;
+    put_var(&mut text, b"clause start ", clause.start)?;
+    put_var(&mut text, b" now ", clause.now)?;
+    Ok(text)
+}
+
+/// The text of a literal in a version, without the newline of its line.
+pub fn print_literal(alloc: Global, version: Version, literal: &Literal) -> Result<Bytes, Memory>
+    ensures { IfOk result (λ text. text ≡ literal_content version literal.now) }
+{
+    let mut text = Bytes::new(alloc);
+    put_literal(&mut text, version, literal)?;
     Ok(text)
 }
 
 // Adds the lines of literals.
 fn put_literals(text: &mut Bytes, literals: &[Literal]) -> Result<(), Memory>
-    ensures { OnOk result (text.new ≡ text.old ++ flat_map literal_text literals.now) }
+    ensures { OnOk result (text.new ≡ text.old ++ flat_map (literal_text Second) literals.now) }
 {
     for literal in literals {
-        put_literal(text, literal)?;
+        put_literal(text, Version::Second, literal)?;
         text.extend(b"\n")?;
     }
     Ok(())
 }
 
 // Adds a literal, without the newline of its line.
-fn put_literal(text: &mut Bytes, literal: &Literal) -> Result<(), Memory>
-    ensures { OnOk result (text.new ≡ text.old ++ literal_content literal.now) }
+fn put_literal(text: &mut Bytes, version: Version, literal: &Literal) -> Result<(), Memory>
+    ensures { OnOk result (text.new ≡ text.old ++ literal_content version literal.now) }
 {
     match literal {
         Literal::Entry(x, f, y) => {
@@ -63,7 +74,7 @@ fn put_literal(text: &mut Bytes, literal: &Literal) -> Result<(), Memory>
         }
         Literal::Kind(x, kinds) => {
             put_first(text, b"kind ", *x)?;
-            put_kinds(text, *kinds)
+            put_kinds(text, version, *kinds)
         }
         Literal::Fence(x, names) => {
             put_first(text, b"fence ", *x)?;
@@ -126,17 +137,48 @@ fn put_others(text: &mut Bytes, names: &[Name]) -> Result<(), Memory>
 }
 
 // Adds a set of kinds.
-fn put_kinds(text: &mut Bytes, kinds: Kinds) -> Result<(), Memory>
-    ensures { OnOk result (text.new ≡ text.old ++ kinds_text kinds) }
+fn put_kinds(text: &mut Bytes, version: Version, kinds: Kinds) -> Result<(), Memory>
+    ensures { OnOk result (text.new ≡ text.old ++ kinds_text version kinds) }
 {
-    if kinds.is_none() {
-        return text.extend(b"-");
+    match version {
+        Version::First => put_words(
+            text,
+            &[
+                (kinds.absent, b"absent".as_slice()),
+                (kinds.reg, b"reg".as_slice()),
+                (kinds.link, b"link".as_slice()),
+                (has_all_special(kinds), b"other".as_slice()),
+                (kinds.dir, b"dir".as_slice()),
+            ],
+        ),
+        Version::Second => put_words(
+            text,
+            &[
+                (kinds.absent, b"absent".as_slice()),
+                (kinds.reg, b"reg".as_slice()),
+                (kinds.link, b"link".as_slice()),
+                (kinds.fifo, b"fifo".as_slice()),
+                (kinds.socket, b"socket".as_slice()),
+                (kinds.block, b"block".as_slice()),
+                (kinds.char, b"char".as_slice()),
+                (kinds.dir, b"dir".as_slice()),
+            ],
+        ),
     }
-    let some = put_word(text, false, kinds.has(Kind::Absent), b"absent")?;
-    let some = put_word(text, some, kinds.has(Kind::Reg), b"reg")?;
-    let some = put_word(text, some, kinds.has(Kind::Link), b"link")?;
-    let some = put_word(text, some, kinds.has(Kind::Other), b"other")?;
-    let _some = put_word(text, some, kinds.has(Kind::Dir), b"dir")?;
+}
+
+// Adds those of the words that are in the set, with a comma between each two, or `-` where none is.
+fn put_words(text: &mut Bytes, words: &[(bool, &[u8])]) -> Result<(), Memory>
+    ensures { OnOk result (text.new ≡ text.old ++ words_text (chosen (map (λ word. (word.0, word.1.now)) words.now))) }
+{
+    let mut some = false;
+    for word in words {
+        some = put_word(text, some, word.0, word.1)?;
+    }
+    if some {
+        return Ok(());
+    }
+    text.extend(b"-")?;
     Ok(())
 }
 

@@ -5,6 +5,11 @@ use Rattle.clause_solver.specs.Variables.{var_at, is_node}
 use Rattle.clause_solver.proofs.Opens.{root_node, root_derived, root_ensured}
 use Rattle.clause_solver.proofs.start_tree.root.Goals as goal
 
+pub returns-in-Start-clause-root : goal.returns-in-Start-clause-root
+returns-in-Start-clause-root c r is =
+    let node : is_node (var_at c.args.vars.now c.loop-of.here).definition ≡ true = ap is_node (sym c.definition_at.ensures ∙ c.in-Start.is) in
+    ap Some (sym (root_node c.args.vars.now c.loop-of.here r node (c.loop-of.invariant.same r is)))
+
 pub returns-in-Start-clause-found : goal.returns-in-Start-clause-found
 returns-in-Start-clause-found c =
     let node : is_node (var_at c.args.vars.now c.loop-of.here).definition ≡ true = ap is_node (sym c.definition_at.ensures ∙ c.in-Start.is) in
