@@ -10,7 +10,7 @@ use Rattle.utility_calls.specs.declared.sights.Rule.{Rule}
 use Rattle.utility_calls.specs.Table.{rules, row_of, move_by}
 use Rattle.utility_calls.specs.Acts.{path_of, place_of, inner_name, moved, is_prefix, is_below, last_name, with_name, row, IsPerformed, link_row}
 use Rattle.utility_calls.specs.ActRows.{IsAmong}
-use Rattle.utility_calls.proofs.OneMove.{IsStillOrMove, still_or_move}
+use Rattle.utility_calls.proofs.ActChanges.{IsStillOrMove, still_or_move}
 use Rattle.tree_clauses.specs.declared.case.Case.{Case}
 use Rattle.act_cases.specs.Plans.{case_of}
 use Rattle.act_cases.specs.Tables.{link_plan, slash_plan}

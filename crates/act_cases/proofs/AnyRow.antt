@@ -1,7 +1,7 @@
 -- Which row an act takes on a tree.
 use Rattle.std.proofs.Common.{◌≡◌, ◌≢◌, ℕ, ◌+◌, ◌<◌, ◌≤◌, Bool, true, false, ◌||◌, if◌then◌else◌, None, List, length, refl, ap, ◌∙◌, arith}
 use Rattle.feature_trees.specs.declared.kind.Kind.{Kind}
-use Rattle.feature_trees.specs.declared.kind.Kind.TheVariants.{Absent, Reg, Link, Other, Dir}
+use Rattle.feature_trees.specs.declared.kind.Kind.TheVariants.{Absent, Reg, Link, Special, Dir}
 use Rattle.feature_trees.specs.declared.value.Value.{Value}
 use Rattle.feature_trees.specs.Tree.{at, kind_of}
 use Rattle.utility_calls.specs.declared.acts.Act.{Act}
@@ -20,7 +20,7 @@ slash_is false k r h na nd = absurd (cc)
 slash_is true Absent r h na nd = absurd (na refl)
 slash_is true Reg r h na nd = refl
 slash_is true Link r h na nd = refl
-slash_is true Other r h na nd = refl
+slash_is true (Special s) r h na nd = refl
 slash_is true Dir r h na nd = absurd (nd refl)
 
 module _ (act : Act) (t : Value) where

@@ -1,9 +1,10 @@
 -- Each case of an act on one path leads where its row is taken, and to the tree that the act leaves.
 use Rattle.std.proofs.Common.{◌≡◌, ◌≢◌, ℕ, zero, suc, ◌<◌, ◌≤◌, Bool, true, false, IsTrue, List, [], ◌∷◌, length, take, refl, sym, ap, subst, ◌∙◌, arith}
 use Rattle.feature_trees.specs.declared.kind.Kind.{Kind}
-use Rattle.feature_trees.specs.declared.kind.Kind.TheVariants.{Absent, Reg, Link, Other, Dir}
+use Rattle.feature_trees.specs.declared.kind.Kind.TheVariants.{Absent, Reg, Link, Special, Dir}
+use Rattle.feature_trees.specs.declared.kind.Special.TheVariants.{Fifo, Socket, Block, Char}
 use Rattle.feature_trees.specs.declared.value.Value.{Value}
-use Rattle.feature_trees.specs.Kinds.{has, of, three}
+use Rattle.feature_trees.specs.Kinds.{has, of}
 use Rattle.feature_trees.specs.Tree.{at, kind_of}
 use Rattle.feature_trees.specs.Sound.{IsTree}
 use Rattle.utility_calls.specs.declared.acts.Act.{Act}
@@ -12,7 +13,7 @@ use Rattle.utility_calls.specs.declared.sights.Effect.{Effect}
 use Rattle.utility_calls.specs.declared.sights.Effect.TheVariants.{Nothing, MakesDir, KeepsDir, MakesFile, MakesLink, LinksInside, TakesAway, Moves, MovesInside}
 use Rattle.utility_calls.specs.Ways.{kind_at, NoLinkOnWay}
 use Rattle.utility_calls.specs.declared.sights.Rule.{Rule}
-use Rattle.utility_calls.specs.Table.{rules, row_of}
+use Rattle.utility_calls.specs.Table.{no_dir, rules, row_of}
 use Rattle.utility_calls.specs.Acts.{path_of, inner_name, target_of, with_name, slash_row, row, effect_on, is_question, IsPerformed, link_row}
 use Rattle.utility_calls.specs.ActRows.{IsAmong, Reaches}
 use Rattle.tree_clauses.specs.declared.case.Case.{Case}
@@ -66,21 +67,27 @@ pub is_link : (k : Kind) → IsTrue (has (of Link) k) → k ≡ Link
 is_link Absent h = cc
 is_link Reg h = cc
 is_link Link h = refl
-is_link Other h = cc
+is_link (Special Fifo) h = cc
+is_link (Special Socket) h = cc
+is_link (Special Block) h = cc
+is_link (Special Char) h = cc
 is_link Dir h = cc
 
-pub thing : (k : Kind) → IsTrue (has (three Reg Link Other) k) → (k ≢ Absent) × (k ≢ Dir)
+pub thing : (k : Kind) → IsTrue (has no_dir k) → (k ≢ Absent) × (k ≢ Dir)
 thing Absent h = absurd (cc)
 thing Reg h = (λ e. cc, λ e. cc)
 thing Link h = (λ e. cc, λ e. cc)
-thing Other h = (λ e. cc, λ e. cc)
+thing (Special s) h = (λ e. cc, λ e. cc)
 thing Dir h = absurd (cc)
 
-pub is_thing : (k : Kind) → k ≢ Absent → k ≢ Dir → IsTrue (has (three Reg Link Other) k)
+pub is_thing : (k : Kind) → k ≢ Absent → k ≢ Dir → IsTrue (has no_dir k)
 is_thing Absent na nd = absurd (na refl)
 is_thing Reg na nd = refl
 is_thing Link na nd = refl
-is_thing Other na nd = refl
+is_thing (Special Fifo) na nd = refl
+is_thing (Special Socket) na nd = refl
+is_thing (Special Block) na nd = refl
+is_thing (Special Char) na nd = refl
 is_thing Dir na nd = absurd (nd refl)
 
 pub link_there : (k : Kind) → k ≡ Link → k ≢ Absent
@@ -153,13 +160,13 @@ module _ (act : Act) (one_path : IsOnOnePath act) (performed : IsPerformed act) 
       slash_taken act t x.0 s x.2 x.3)
       (λ t u tree h.
       let x = leads_from slash_plan names [] named t u h in
-      let parts = through_from (three Reg Link Other) t names x.0 in
+      let parts = through_from no_dir t names x.0 in
       let is = thing (kind_of (at t names)) parts.1 in
       (slash_taken act t (parents_clear t names parts.0) s is.0 is.1, x.2))
       (λ t u tree same is.
       let x = slash_says t (row act t).number (ap (λ (r : Row). r.number) same) tree.dir (row_says act one_path performed t tree.dir) in
       leads_to slash_plan names [] named t u tree
-      (through_to (three Reg Link Other) t names (there_parents t names x.2) (is_thing (kind_of (at t names)) x.2 x.3)) tt is)
+      (through_to no_dir t names (there_parents t names x.2) (is_thing (kind_of (at t names)) x.2 x.3)) tt is)
 
   -- ---- a row of the table
 

@@ -2,7 +2,7 @@
 use Rattle.std.proofs.Common.{◌≡◌, ◌≢◌, ℕ, true, false, List, [], ◌∷◌, refl, sym, subst, ◌∙◌}
 use Rattle.feature_trees.specs.declared.shape.Entry.{Entry}
 use Rattle.feature_trees.specs.declared.value.Value.{Value}
-use Rattle.feature_trees.specs.declared.value.Value.TheVariants.{Absent, Reg, Link, Other, Dir}
+use Rattle.feature_trees.specs.declared.value.Value.TheVariants.{Absent, Reg, Link, Special, Dir}
 use Rattle.feature_trees.specs.View.{IsThere}
 use Rattle.feature_trees.specs.Tree.{entry, find}
 use Rattle.feature_trees.proofs.Kept.{value_there, find_first}
@@ -17,7 +17,7 @@ pub none_has : (v : Value) → ((f : List ℕ) → entry v f ≡ Absent) → has
 none_has Absent h = refl
 none_has Reg h = refl
 none_has (Link b) h = refl
-none_has Other h = refl
+none_has (Special s) h = refl
 none_has (Dir []) h = refl
 none_has (Dir (e ∷ es)) h = absurd (first_there e es (h e.name))
 
@@ -25,7 +25,7 @@ pub has_none : (v : Value) (f : List ℕ) → has_entry v ≡ false → entry v 
 has_none Absent f h = refl
 has_none Reg f h = refl
 has_none (Link b) f h = refl
-has_none Other f h = refl
+has_none (Special s) f h = refl
 has_none (Dir []) f h = refl
 has_none (Dir (e ∷ es)) f h = absurd (cc)
 
@@ -33,7 +33,7 @@ pub some_has : (v : Value) (f : List ℕ) → entry v f ≢ Absent → has_entry
 some_has Absent f h = absurd (h refl)
 some_has Reg f h = absurd (h refl)
 some_has (Link b) f h = absurd (h refl)
-some_has Other f h = absurd (h refl)
+some_has (Special s) f h = absurd (h refl)
 some_has (Dir []) f h = absurd (h refl)
 some_has (Dir (e ∷ es)) f h = refl
 
@@ -41,6 +41,6 @@ pub has_some : (v : Value) → has_entry v ≡ true → (f : List ℕ) × (entry
 has_some Absent h = absurd (cc)
 has_some Reg h = absurd (cc)
 has_some (Link b) h = absurd (cc)
-has_some Other h = absurd (cc)
+has_some (Special s) h = absurd (cc)
 has_some (Dir []) h = absurd (cc)
 has_some (Dir (e ∷ es)) h = (e.name, first_there e es)

@@ -2,11 +2,11 @@
 use Rattle.std.proofs.Common.{◌≡◌, ◌≢◌, ℕ, ◌+◌, ◌-◌, ◌<◌, ◌≤◌, Bool, true, false, ◌||◌, IsTrue, Option, Some, None, List, [], ◌∷◌, length, take, refl, sym, ap, subst, ◌∙◌, arith}
 use Rattle.std.proofs.lemmas.Option.{slice_get-get_or}
 use Rattle.script_names.specs.Paths.{PathParts}
-use Rattle.feature_trees.specs.declared.kind.Kind.TheVariants.{Absent, Reg, Link, Other, Dir}
+use Rattle.feature_trees.specs.declared.kind.Kind.TheVariants.{Absent, Link, Dir}
 use Rattle.feature_trees.specs.declared.kind.Kinds.{Kinds}
 use Rattle.feature_trees.specs.declared.value.Value.{Value}
 use Rattle.feature_trees.specs.declared.value.Value.TheVariants as value
-use Rattle.feature_trees.specs.Kinds.{has, of, but, three}
+use Rattle.feature_trees.specs.Kinds.{has, of, but}
 use Rattle.feature_trees.specs.Tree.{at, kind_of, put, has_parents}
 use Rattle.feature_trees.specs.Sound.{sound}
 use Rattle.feature_trees.proofs.Laws.{and_parts, and_made}
@@ -21,7 +21,7 @@ use Rattle.utility_calls.specs.declared.sights.Where.{Where}
 use Rattle.utility_calls.specs.declared.sights.Where.TheVariants.{Anything, Is, Within, Inside, Outside, Empty, Full, Into, IntoEmpty, IntoFull}
 use Rattle.utility_calls.specs.Sights.{holds}
 use Rattle.utility_calls.specs.declared.sights.Rule.{Rule}
-use Rattle.utility_calls.specs.Table.{is_source, rule_holds, row_of, move_by}
+use Rattle.utility_calls.specs.Table.{no_dir, is_source, rule_holds, row_of, move_by}
 use Rattle.utility_calls.specs.Acts.{last_name, with_name, is_prefix, is_there, slash_row, row, effect_on, IsPerformed, link_row}
 use Rattle.utility_calls.specs.ActRows.{IsAmong, Reaches, LooksAtWay}
 use Rattle.act_cases.specs.Looks.{Sees}
@@ -163,13 +163,13 @@ module _ (a b : PathParts) (performed : IsPerformed (Move a b)) (few_a : length 
       slash_taken act t x.0 s x.2 x.3)
       (λ t u tree h.
       let x = leads_from slash_plan p [] named_a t u h in
-      let parts = through_from (three Reg Link Other) t p x.0 in
+      let parts = through_from no_dir t p x.0 in
       let is = thing (kind_of (at t p)) parts.1 in
       (slash_taken act t (parents_clear t p parts.0) s is.0 is.1, x.2))
       (λ t u tree same is.
       let x = slash_tells t (row act t).number (ap (λ (r : Row). r.number) same) (row_tells act t performed tree.dir) in
       leads_to slash_plan p [] named_a t u tree
-      (through_to (three Reg Link Other) t p (there_parents t p x.2) (is_thing (kind_of (at t p)) x.2 x.3)) tt is)
+      (through_to no_dir t p (there_parents t p x.2) (is_thing (kind_of (at t p)) x.2 x.3)) tt is)
 
   -- ---- a link on the way of the second path
 

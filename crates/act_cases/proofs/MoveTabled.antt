@@ -2,7 +2,8 @@
 use Rattle.std.proofs.Common.{◌≡◌, ◌≢◌, ◌<◌, Bool, true, false, not, ◌&&◌, ◌||◌, nat_lt, Option, Some, None, refl, sym, ap, ◌∙◌}
 use Rattle.std.proofs.lemmas.Bool.{ltb-true, not-true}
 use Rattle.feature_trees.specs.declared.kind.Kind.{Kind}
-use Rattle.feature_trees.specs.declared.kind.Kind.TheVariants.{Absent, Reg, Link, Other, Dir}
+use Rattle.feature_trees.specs.declared.kind.Kind.TheVariants.{Absent, Reg, Link, Special, Dir}
+use Rattle.feature_trees.specs.declared.kind.Special.TheVariants.{Fifo, Socket, Block, Char}
 use Rattle.feature_trees.specs.declared.kind.Kinds.{Kinds}
 use Rattle.feature_trees.specs.Kinds.{has}
 use Rattle.feature_trees.proofs.Laws.{and_parts}
@@ -12,6 +13,7 @@ use Rattle.utility_calls.specs.declared.sights.Rule.{Rule}
 use Rattle.utility_calls.specs.Table.{move_by, is_source}
 use Rattle.utility_calls.specs.Acts.{is_there}
 use Rattle.utility_calls.specs.ActRows.{IsAmong}
+use Rattle.utility_calls.proofs.ActRow.{all_kinds, each_kind}
 use Rattle.act_cases.specs.Tables.{is_inner}
 use Rattle.act_cases.specs.Moves.{is_anything, is_move}
 use Rattle.act_cases.proofs.Tabled.{all_of, test_of, apart, implies}
@@ -25,7 +27,7 @@ there_only (Some ks) = not (has ks Absent)
 -- whether the kinds are that of nothing alone
 abbrev pub absent_only : Option Kinds → Bool
 absent_only None = false
-absent_only (Some ks) = not ks.reg && (not ks.link && (not ks.other && not ks.dir))
+absent_only (Some ks) = all_kinds (λ k. implies (has ks k) (not (is_there k)))
 
 abbrev looks_by : Bool → Bool → Option Kinds → Bool
 looks_by true any source = not any
@@ -93,7 +95,10 @@ there_by : (k : Kind) → k ≢ Absent → is_there k ≡ true
 there_by Absent h = absurd (h refl)
 there_by Reg h = refl
 there_by Link h = refl
-there_by Other h = refl
+there_by (Special Fifo) h = refl
+there_by (Special Socket) h = refl
+there_by (Special Block) h = refl
+there_by (Special Char) h = refl
 there_by Dir h = refl
 
 no_kind : (b : Bool) → not b ≡ true → b ≡ true → false ≡ true
@@ -105,14 +110,9 @@ there_source None k h s = absurd (cc)
 there_source (Some ks) k h s = there_by k (λ e. let q : has ks Absent ≡ true = ap (has ks) (sym e) ∙ s in let bad = no_kind (has ks Absent) h q in cc)
 
 absent_kind : (ks : Kinds) (k : Kind) → absent_only (Some ks) ≡ true → has ks k ≡ true → is_there k ≡ false
-absent_kind ks Absent h s = refl
-absent_kind ks Reg h s = let bad = no_kind ks.reg (and_parts (not ks.reg) _ h).0 s in absurd (cc)
-absent_kind ks Link h s =
-    let bad = no_kind ks.link (and_parts (not ks.link) _ (and_parts (not ks.reg) _ h).1).0 s in absurd (cc)
-absent_kind ks Other h s =
-    let bad = no_kind ks.other (and_parts (not ks.other) _ (and_parts (not ks.link) _ (and_parts (not ks.reg) _ h).1).1).0 s in absurd (cc)
-absent_kind ks Dir h s =
-    let bad = no_kind ks.dir (and_parts (not ks.other) _ (and_parts (not ks.link) _ (and_parts (not ks.reg) _ h).1).1).1 s in absurd (cc)
+absent_kind ks k h s =
+    let only = each_kind (λ k. implies (has ks k) (not (is_there k))) h k in
+    not-true (is_there k) (implied (has ks k) (not (is_there k)) only s)
 
 absent_source : (o : Option Kinds) (k : Kind) → absent_only o ≡ true → is_source o k ≡ true → is_there k ≡ false
 absent_source None k h s = absurd (cc)

@@ -13,7 +13,7 @@ use Rattle.utility_calls.specs.Table.{rules, is_source, rule_holds, row_of}
 use Rattle.utility_calls.specs.Acts.{path_of, place_of, inner_name, inner_at, kind_at_path, source_of, begins, is_below, is_there, sight_on, row, IsPerformed}
 use Rattle.utility_calls.specs.ActRows.{IsAmong, Reaches}
 use Rattle.act_cases.specs.Cases.{IsOnOnePath}
-use Rattle.utility_calls.proofs.OneMove.{place_is}
+use Rattle.utility_calls.proofs.ActChanges.{place_is}
 use Rattle.act_cases.proofs.AnyRow.{table_taken, Tells, row_tells}
 use Rattle.act_cases.proofs.AnyRow.{way as tells_way, slash as tells_slash, second as tells_second, table as tells_table}
 

@@ -1,17 +1,17 @@
 -- Each case of an act on one path is plain.
-use Rattle.std.proofs.Common.{◌≡◌, ◌≢◌, ℕ, suc, ◌+◌, ◌<◌, ◌≤◌, inl, inr, ◌↔◌, Bool, true, false, not, ◌&&◌, IsTrue, if◌then◌else◌, Option, Some, None, List, [], ◌∷◌, ◌++◌, length, take, refl, subst, arith, append-nil}
+use Rattle.std.proofs.Common.{◌≡◌, ◌≢◌, ℕ, suc, ◌+◌, ◌<◌, ◌≤◌, inl, inr, ◌↔◌, Bool, true, false, not, ◌&&◌, if◌then◌else◌, Option, Some, None, List, [], ◌∷◌, ◌++◌, length, take, refl, subst, arith, append-nil}
 use Rattle.std.proofs.lemmas.Bool.{not-true}
 use Rattle.std.specs.List.{Contains}
 use Rattle.feature_trees.specs.declared.kind.Kind.TheVariants as kind
 use Rattle.feature_trees.specs.declared.kind.Kinds.{Kinds}
-use Rattle.feature_trees.specs.Kinds.{has, of}
+use Rattle.feature_trees.specs.Kinds.{has, of, two}
 use Rattle.feature_trees.specs.Tree.{kind_of}
 use Rattle.feature_trees.proofs.Laws.{and_parts}
 use Rattle.tree_clauses.specs.declared.clause.Literal.{Literal}
 use Rattle.tree_clauses.specs.declared.clause.Literal.TheVariants.{Kind}
 use Rattle.tree_clauses.specs.Literals.{Valuation, value_of_variable, MeetsAll}
 use Rattle.utility_calls.specs.declared.acts.Act.{Act}
-use Rattle.utility_calls.specs.declared.acts.Act.TheVariants.{Exists, IsReg, IsDir, IsLink, CanRun, MakeDir, EnsureDir, RemoveDir, Remove, Touch, Symlink, Move, PlaceFile, PlaceLink, PlaceConf, Discard, DiscardDir}
+use Rattle.utility_calls.specs.declared.acts.Act.TheVariants.{Exists, IsReg, IsDir, IsLink, CanRun, IsSpecial, MakeDir, EnsureDir, RemoveDir, Remove, Touch, Symlink, Move, PlaceFile, PlaceLink, PlaceConf, Discard, DiscardDir}
 use Rattle.utility_calls.specs.declared.sights.Effect.{Effect}
 use Rattle.utility_calls.specs.declared.sights.Effect.TheVariants.{Nothing, MakesDir, KeepsDir, MakesFile, MakesLink, LinksInside, TakesAway, Moves, MovesInside}
 use Rattle.utility_calls.specs.declared.sights.Where.{Where}
@@ -20,6 +20,7 @@ use Rattle.utility_calls.specs.declared.sights.Rule.{Rule}
 use Rattle.utility_calls.specs.Table.{rules, remove_by, symlink_by}
 use Rattle.utility_calls.specs.Acts.{path_of, inner_name, target_of, is_question, IsPerformed}
 use Rattle.utility_calls.specs.ActRows.{IsAmong}
+use Rattle.utility_calls.proofs.ActRow.{all_kinds, each_kind}
 use Rattle.act_cases.specs.declared.looks.Ways.{Ways}
 use Rattle.act_cases.specs.declared.plans.Plan.{Plan}
 use Rattle.act_cases.specs.declared.plans.End.{End}
@@ -32,6 +33,7 @@ use Rattle.tree_clauses.specs.Plain.{IsOneOf, AreNoneOrDir, IsLimited, PlainOrde
 use Rattle.act_cases.specs.Cases.{IsOnOnePath, rule_case}
 use Rattle.tree_clauses.proofs.KindSets.{of_dir}
 use Rattle.act_cases.proofs.Meets.{meets_split, end_length}
+use Rattle.act_cases.proofs.Seeing.{fits_by}
 use Rattle.act_cases.proofs.Tabled.{all_of, test_of, implies}
 use Rattle.act_cases.proofs.Ordered.{firsts, below_contains, contains_below, not_yet, Within, limited_within, AllKinds, through_limited, way_order, all_below, put_order}
 
@@ -183,19 +185,17 @@ through_ways s (Into ks) h = refl
 through_ways s IntoEmpty h = refl
 through_ways s IntoFull h = refl
 
-abbrev none_or_dir : Kinds → Bool
-none_or_dir ks = not ks.reg && (not ks.link && not ks.other)
+pub implied : (a b : Bool) → implies a b ≡ true → a ≡ true → b ≡ true
+implied true b h e = h
+implied false b h e = absurd (cc)
 
-not_both : {A : Type 0} (b : Bool) → not b ≡ true → IsTrue b → A
-not_both true h t = absurd (cc)
-not_both false h t = absurd (cc)
+abbrev none_or_dir : Kinds → Bool
+none_or_dir ks = all_kinds (λ k. implies (has ks k) (has (two kind.Absent kind.Dir) k))
 
 limits : (ks : Kinds) → none_or_dir ks ≡ true → AreNoneOrDir ks
-limits ks h kind.Absent t = inl refl
-limits ks h kind.Reg t = not_both ks.reg (and_parts (not ks.reg) _ h).0 t
-limits ks h kind.Link t = not_both ks.link (and_parts (not ks.link) _ (and_parts (not ks.reg) _ h).1).0 t
-limits ks h kind.Other t = not_both ks.other (and_parts (not ks.link) _ (and_parts (not ks.reg) _ h).1).1 t
-limits ks h kind.Dir t = inr refl
+limits ks h k t =
+    let only = each_kind (λ k. implies (has ks k) (has (two kind.Absent kind.Dir) k)) h k in
+    fits_by k (implied (has ks k) (has (two kind.Absent kind.Dir) k) only t)
 
 abbrev puts_well : Bool → Bool → Rule → Bool
 puts_well asks s r =
@@ -220,6 +220,7 @@ put_well (IsReg p) one = (refl, refl)
 put_well (IsDir p) one = (refl, refl)
 put_well (IsLink p) one = (refl, refl)
 put_well (CanRun p) one = (refl, refl)
+put_well (IsSpecial p kind) one = (refl, refl)
 put_well (MakeDir p) one = (refl, refl)
 put_well (EnsureDir p) one = (refl, refl)
 put_well (RemoveDir p) one = (refl, refl)
@@ -236,10 +237,6 @@ put_well (DiscardDir p) one = (refl, refl)
 well_by : (s asks : Bool) (rs : List Rule) (r : Rule) → PutWell rs asks → IsAmong r rs → puts_well asks s r ≡ true
 well_by false asks rs r h among = test_of (puts_well asks false) rs r h.0 among
 well_by true asks rs r h among = test_of (puts_well asks true) rs r h.1 among
-
-pub implied : (a b : Bool) → implies a b ≡ true → a ≡ true → b ≡ true
-implied true b h e = h
-implied false b h e = absurd (cc)
 
 longer : (names : List (List ℕ)) (m : Option (List ℕ)) (c : Bool) → names ≢ [] → names_at c names m ≢ []
 longer names m false ne = ne

@@ -43,7 +43,7 @@ dir_kind : (v : Value) → IsTrue (is_dir v) → kind_of v ≡ Dir
 dir_kind value.Absent h = cc
 dir_kind value.Reg h = cc
 dir_kind (value.Link b) h = cc
-dir_kind value.Other h = cc
+dir_kind (value.Special s) h = cc
 dir_kind (value.Dir es) h = refl
 
 kind_dir : (v : Value) → IsTrue (has (of Dir) (kind_of v)) → kind_of v ≡ Dir

@@ -1,14 +1,16 @@
 -- What a look along names says of what stands there.
 use Rattle.std.proofs.Common.{◌≡◌, ◌≢◌, ℕ, zero, suc, ◌⊎◌, inl, inr, Bool, true, false, IsTrue, List, [], ◌∷◌, ◌++◌, refl, sym, subst, ◌∙◌, arith}
 use Rattle.feature_trees.specs.declared.kind.Kind.{Kind}
-use Rattle.feature_trees.specs.declared.kind.Kind.TheVariants.{Absent, Reg, Link, Other, Dir}
+use Rattle.feature_trees.specs.declared.kind.Kind.TheVariants.{Absent, Reg, Link, Special, Dir}
+use Rattle.feature_trees.specs.declared.kind.Special.TheVariants.{Fifo, Socket, Block, Char}
 use Rattle.feature_trees.specs.declared.kind.Kinds.{Kinds}
 use Rattle.feature_trees.specs.declared.value.Value.{Value}
 use Rattle.feature_trees.specs.declared.value.Value.TheVariants as value
-use Rattle.feature_trees.specs.Kinds.{has, of, all, but, two, three}
+use Rattle.feature_trees.specs.Kinds.{has, of, all, but, either, two}
 use Rattle.feature_trees.specs.Tree.{entry, at, kind_of, is_dir, has_parents}
 use Rattle.feature_trees.proofs.Laws.{and_parts, and_made}
 use Rattle.tree_clauses.proofs.KindSets.{has_both}
+use Rattle.utility_calls.specs.Table.{file}
 use Rattle.utility_calls.specs.Ways.{in_dir}
 use Rattle.utility_calls.specs.Ways.{NoLinkOnWay}
 use Rattle.act_cases.specs.Looks.{kinds_from, Sees}
@@ -20,50 +22,62 @@ pub no_link : (k : Kind) → IsTrue (has (but Link) k) → k ≢ Link
 no_link Absent h = λ e. cc
 no_link Reg h = λ e. cc
 no_link Link h = cc
-no_link Other h = λ e. cc
+no_link (Special s) h = λ e. cc
 no_link Dir h = λ e. cc
 
 pub link_no : (k : Kind) → k ≢ Link → IsTrue (has (but Link) k)
 link_no Absent h = refl
 link_no Reg h = refl
 link_no Link h = absurd (h refl)
-link_no Other h = refl
+link_no (Special Fifo) h = refl
+link_no (Special Socket) h = refl
+link_no (Special Block) h = refl
+link_no (Special Char) h = refl
 link_no Dir h = refl
 
 pub has_all : (k : Kind) → IsTrue (has all k)
 has_all Absent = refl
 has_all Reg = refl
 has_all Link = refl
-has_all Other = refl
+has_all (Special Fifo) = refl
+has_all (Special Socket) = refl
+has_all (Special Block) = refl
+has_all (Special Char) = refl
 has_all Dir = refl
 
 -- what holds the last name and is no directory
-beside_no_link : (k : Kind) → IsTrue (has (three Absent Reg Other) k) → k ≢ Link
+beside_no_link : (k : Kind) → IsTrue (has (either (of Absent) file) k) → k ≢ Link
 beside_no_link Absent h = λ e. cc
 beside_no_link Reg h = λ e. cc
 beside_no_link Link h = cc
-beside_no_link Other h = λ e. cc
+beside_no_link (Special s) h = λ e. cc
 beside_no_link Dir h = cc
 
-beside_no_dir : (v : Value) → IsTrue (has (three Absent Reg Other) (kind_of v)) → is_dir v ≡ false
+beside_no_dir : (v : Value) → IsTrue (has (either (of Absent) file) (kind_of v)) → is_dir v ≡ false
 beside_no_dir value.Absent h = refl
 beside_no_dir value.Reg h = refl
 beside_no_dir (value.Link b) h = refl
-beside_no_dir value.Other h = refl
+beside_no_dir (value.Special s) h = refl
 beside_no_dir (value.Dir es) h = absurd (cc)
 
-no_dir_beside : (v : Value) → is_dir v ≡ false → kind_of v ≢ Link → IsTrue (has (three Absent Reg Other) (kind_of v))
+no_dir_beside : (v : Value) → is_dir v ≡ false → kind_of v ≢ Link → IsTrue (has (either (of Absent) file) (kind_of v))
 no_dir_beside value.Absent h n = refl
 no_dir_beside value.Reg h n = refl
 no_dir_beside (value.Link b) h n = absurd (n refl)
-no_dir_beside value.Other h n = refl
+no_dir_beside (value.Special Fifo) h n = refl
+no_dir_beside (value.Special Socket) h n = refl
+no_dir_beside (value.Special Block) h n = refl
+no_dir_beside (value.Special Char) h n = refl
 no_dir_beside (value.Dir es) h n = absurd (cc)
 
 pub dir_has : (v : Value) → has (of Dir) (kind_of v) ≡ is_dir v
 dir_has value.Absent = refl
 dir_has value.Reg = refl
 dir_has (value.Link b) = refl
-dir_has value.Other = refl
+dir_has (value.Special Fifo) = refl
+dir_has (value.Special Socket) = refl
+dir_has (value.Special Block) = refl
+dir_has (value.Special Char) = refl
 dir_has (value.Dir es) = refl
 
 -- ---- a slash
@@ -71,11 +85,14 @@ dir_has (value.Dir es) = refl
 abbrev pub Fits : Bool → Kind → Type 0
 Fits s k = IsTrue s → (k ≡ Absent) ⊎ (k ≡ Dir)
 
-fits_by : (k : Kind) → IsTrue (has (two Absent Dir) k) → (k ≡ Absent) ⊎ (k ≡ Dir)
+pub fits_by : (k : Kind) → IsTrue (has (two Absent Dir) k) → (k ≡ Absent) ⊎ (k ≡ Dir)
 fits_by Absent h = inl refl
 fits_by Reg h = cc
 fits_by Link h = cc
-fits_by Other h = cc
+fits_by (Special Fifo) h = cc
+fits_by (Special Socket) h = cc
+fits_by (Special Block) h = cc
+fits_by (Special Char) h = cc
 fits_by Dir h = inr refl
 
 by_fits : (k : Kind) → (k ≡ Absent) ⊎ (k ≡ Dir) → IsTrue (has (two Absent Dir) k)
@@ -139,7 +156,7 @@ dir_no_link : (v : Value) → IsTrue (is_dir v) → kind_of v ≢ Link
 dir_no_link value.Absent h = λ e. cc
 dir_no_link value.Reg h = λ e. cc
 dir_no_link (value.Link b) h = cc
-dir_no_link value.Other h = λ e. cc
+dir_no_link (value.Special s) h = λ e. cc
 dir_no_link (value.Dir es) h = λ e. cc
 
 pub parents_clear : (v : Value) (names : List (List ℕ)) → IsTrue (has_parents v names) → NoLinkOnWay v names

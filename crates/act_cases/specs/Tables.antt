@@ -1,13 +1,14 @@
 -- What a row of a table looks at.
 use Rattle.std.specs.Prelude.{ℕ, Bool, true, false, List, Option, if◌then◌else◌}
-use Rattle.feature_trees.specs.declared.kind.Kind.TheVariants.{Absent, Reg, Link, Other, Dir}
+use Rattle.feature_trees.specs.declared.kind.Kind.TheVariants.{Absent, Link, Dir}
 use Rattle.feature_trees.specs.declared.kind.Kinds.{Kinds}
-use Rattle.feature_trees.specs.Kinds.{has, of, all, but, both, two, three}
+use Rattle.feature_trees.specs.Kinds.{has, of, all, but, both, either, two}
 use Rattle.utility_calls.specs.declared.sights.Where.{Where}
 use Rattle.utility_calls.specs.declared.sights.Where.TheVariants.{Anything, Is, Within, Inside, Outside, Empty, Full}
 use Rattle.utility_calls.specs.declared.sights.Where.TheVariants.{Into, IntoEmpty, IntoFull}
 use Rattle.utility_calls.specs.declared.sights.Row.{Row}
 use Rattle.utility_calls.specs.declared.sights.Rule.{Rule}
+use Rattle.utility_calls.specs.Table.{file, no_dir}
 use Rattle.utility_calls.specs.Acts.{with_name, link_row, slash_row}
 use Rattle.act_cases.specs.declared.looks.Ways.{Ways}
 use Rattle.act_cases.specs.declared.plans.Plan.{Plan}
@@ -29,7 +30,7 @@ through kinds = record { strict = of Dir; parent = of Dir; last = kinds }
 
 -- no link on the way, and what holds the last name is no directory
 abbrev pub beside : Kinds → Ways
-beside kinds = record { strict = but Link; parent = three Absent Reg Other; last = kinds }
+beside kinds = record { strict = but Link; parent = either (of Absent) file; last = kinds }
 
 -- What a row looks at, by whether its path ends in a slash. Where something has to stand, directories are above it.
 abbrev pub ways_of : Bool → Where → Ways
@@ -94,6 +95,6 @@ plan_of_row r ways = record { number = r.number; answer = r.answer; ways = ways;
 abbrev pub link_plan : ℕ → Plan
 link_plan n = plan_of_row (link_row n) (through (of Link))
 
--- the row of a slash behind a file, a link or another thing
+-- the row of a slash behind a file, a link or a special file
 abbrev pub slash_plan : Plan
-slash_plan = plan_of_row slash_row (through (three Reg Link Other))
+slash_plan = plan_of_row slash_row (through no_dir)

@@ -66,7 +66,7 @@ fn through(kinds: Kinds) -> Ways
 fn beside(kinds: Kinds) -> Ways
     ensures { result ≡ beside kinds }
 {
-    let file = Kinds::either(Kinds::of(Kind::Reg), Kinds::of(Kind::Other));
+    let file = Kinds::either(Kinds::of(Kind::Reg), Kinds::special());
     Ways {
         strict: not_link(),
         parent: Kinds::either(Kinds::of(Kind::Absent), file),
@@ -167,12 +167,12 @@ fn link_plan(number: u8) -> Plan
     plan_of_row(Row::of_link(number), through(Kinds::of(Kind::Link)))
 }
 
-// The row of a slash behind a file, a link or another thing.
+// The row of a slash behind a file, a link or a special file.
 fn slash_plan() -> Plan
     ensures { result ≡ slash_plan }
 {
-    let things = Kinds::either(Kinds::of(Kind::Link), Kinds::of(Kind::Other));
-    let seen = Kinds::either(Kinds::of(Kind::Reg), things);
+    let file = Kinds::either(Kinds::of(Kind::Reg), Kinds::special());
+    let seen = Kinds::either(Kinds::of(Kind::Link), file);
     plan_of_row(Row::of_slash(), through(seen))
 }
 

@@ -5,6 +5,7 @@ use Rattle.script_names.specs.declared.mark.Mark.{Mark}
 use Rattle.feature_trees.specs.declared.value.Value.{Value}
 use Rattle.feature_trees.specs.declared.kind.Kind.{Kind}
 use Rattle.feature_trees.specs.declared.kind.Kind.TheVariants as kind
+use Rattle.feature_trees.specs.declared.kind.Special.TheVariants as special
 use Rattle.feature_trees.specs.declared.kind.Kinds.{Kinds}
 use Rattle.feature_trees.specs.Kinds.{has, all}
 use Rattle.feature_trees.specs.Tree.{kind_of}
@@ -69,7 +70,10 @@ each_kind : (k : Kind) → IsTrue (has all k)
 each_kind kind.Absent = search rules
 each_kind kind.Reg = search rules
 each_kind kind.Link = search rules
-each_kind kind.Other = search rules
+each_kind (kind.Special special.Fifo) = refl
+each_kind (kind.Special special.Socket) = refl
+each_kind (kind.Special special.Block) = refl
+each_kind (kind.Special special.Char) = refl
 each_kind kind.Dir = search rules
 
 -- a limit to all kinds keeps each pair

@@ -4,7 +4,7 @@ use Rattle.std.specs.declared.cmp.Ordering.{Ordering}
 use Rattle.std.specs.declared.cmp.Ordering.TheVariants.{Less, Equal, Greater}
 use Rattle.feature_trees.specs.declared.shape.Entry.{Entry}
 use Rattle.feature_trees.specs.declared.value.Value.{Value}
-use Rattle.feature_trees.specs.declared.value.Value.TheVariants.{Absent, Reg, Link, Other, Dir}
+use Rattle.feature_trees.specs.declared.value.Value.TheVariants.{Absent, Reg, Link, Special, Dir}
 use Rattle.feature_trees.specs.Tree.{find, name_cmp, by_order, at, put, update, entry_if_present, is_dir, entries_of}
 use Rattle.feature_trees.specs.View.{IsThere, value_of}
 use Rattle.feature_trees.proofs.Found.{same_name}
@@ -36,14 +36,14 @@ is_there Absent [] e = cc
 is_there Absent (f ∷ p) e = is_there Absent p e
 is_there Reg p e = tt
 is_there (Link b) p e = tt
-is_there Other p e = tt
+is_there (Special s) p e = tt
 is_there (Dir es) p e = tt
 
 same_dir : (v : Value) → is_dir v ≡ true → v ≡ Dir (entries_of v)
 same_dir Absent e = cc
 same_dir Reg e = cc
 same_dir (Link b) e = cc
-same_dir Other e = cc
+same_dir (Special s) e = cc
 same_dir (Dir es) e = refl
 
 -- what stands at the path of a directory, put there
@@ -52,7 +52,7 @@ put_back v [] e = refl
 put_back Absent (f ∷ p) e = absurd (is_there Absent p e)
 put_back Reg (f ∷ p) e = absurd (is_there Absent p e)
 put_back (Link b) (f ∷ p) e = absurd (is_there Absent p e)
-put_back Other (f ∷ p) e = absurd (is_there Absent p e)
+put_back (Special s) (f ∷ p) e = absurd (is_there Absent p e)
 put_back (Dir es) (f ∷ p) e =
     sym (ap Dir (ap (update es f) (sym (put_back (find es f) p e)) ∙ stays es f (is_there (find es f) p e)))
 

@@ -17,7 +17,7 @@ pub at_link : (v : Value) (g : List ℕ) (p : List (List ℕ)) → is_link (kind
 at_link value.Absent g p e = cc
 at_link value.Reg g p e = cc
 at_link (value.Link b) g p e = at_nothing p
-at_link value.Other g p e = cc
+at_link (value.Special s) g p e = cc
 at_link (value.Dir es) g p e = cc
 
 pub in_link : (v : Value) (g : List ℕ) (p : List (List ℕ)) → is_link (kind_of v) ≡ true → in_dir v (g ∷ p) ≡ false
@@ -25,7 +25,7 @@ in_link value.Absent g p e = cc
 in_link value.Reg g p e = cc
 in_link (value.Link b) g [] e = refl
 in_link (value.Link b) g (h ∷ p) e = in_nothing (h ∷ p)
-in_link value.Other g p e = cc
+in_link (value.Special s) g p e = cc
 in_link (value.Dir es) g p e = cc
 
 -- what a change leaves is the same in other words

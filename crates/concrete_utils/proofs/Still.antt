@@ -10,7 +10,7 @@ use Rattle.utility_calls.specs.Ways.{in_dir, link_on_way}
 use Rattle.utility_calls.specs.Sights.{sight_of}
 use Rattle.utility_calls.specs.Table.{rules, first_row}
 use Rattle.utility_calls.specs.Acts.{path_of, inner_name, inner_at, moved, kind_at_path, begins, is_there, second_link, by_way, own_row}
-use Rattle.utility_calls.proofs.OneMove.{place_is}
+use Rattle.utility_calls.proofs.ActChanges.{place_is}
 
 abbrev seen_row : Act → Value → Row
 seen_row a tree =

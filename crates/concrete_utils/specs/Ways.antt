@@ -8,5 +8,5 @@ abbrev pub is_link : Kind → Bool
 is_link kind.Absent = false
 is_link kind.Reg = false
 is_link kind.Link = true
-is_link kind.Other = false
+is_link (kind.Special s) = false
 is_link kind.Dir = false

@@ -11,7 +11,7 @@ ghost use Rattle.utility_calls.specs.Sights.{sight_of};
 ghost use Rattle.utility_calls.specs.Ways.{in_dir};
 
 use crate::walks::{Seen, entry_or, has_entry, walk};
-use feature_trees::{Entries, Kind, PutFault, Value};
+use feature_trees::{Entries, Kind, Kinds, PutFault, Value};
 use script_names::{Copied, Done, Memory, Name, Path};
 use std::alloc::Global;
 use utility_calls::acts::Act;
@@ -30,7 +30,7 @@ fn by_slash(slash: bool, kind: Kind, later: Row) -> Row
         Kind::Dir => later,
         Kind::Reg => Row::of_slash(),
         Kind::Link => Row::of_slash(),
-        Kind::Other => Row::of_slash(),
+        Kind::Special(_) => Row::of_slash(),
     }
 }
 
@@ -38,13 +38,7 @@ fn by_slash(slash: bool, kind: Kind, later: Row) -> Row
 fn is_there(kind: Kind) -> bool
     ensures { result ≡ is_there kind }
 {
-    match kind {
-        Kind::Absent => false,
-        Kind::Reg => true,
-        Kind::Link => true,
-        Kind::Other => true,
-        Kind::Dir => true,
-    }
+    Kinds::but(Kind::Absent).has(kind)
 }
 
 // The kind of what is moved, which stands at the end of the walk along the act's path.
@@ -204,7 +198,7 @@ fn dir_with(alloc: Global, value: Value, f: &Name, inner: Value) -> Result<Value
         Value::Absent => with_entry(Entries::new(alloc), f, inner),
         Value::Reg => with_entry(Entries::new(alloc), f, inner),
         Value::Link(_) => with_entry(Entries::new(alloc), f, inner),
-        Value::Other => with_entry(Entries::new(alloc), f, inner),
+        Value::Special(_) => with_entry(Entries::new(alloc), f, inner),
     }
 }
 

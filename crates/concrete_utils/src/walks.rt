@@ -39,7 +39,7 @@ fn is_dir(v: &Value) -> bool
         Value::Absent => false,
         Value::Reg => false,
         Value::Link(_) => false,
-        Value::Other => false,
+        Value::Special(_) => false,
     }
 }
 
@@ -52,7 +52,7 @@ pub(crate) fn has_entry(v: &Value) -> bool
         Value::Absent => false,
         Value::Reg => false,
         Value::Link(_) => false,
-        Value::Other => false,
+        Value::Special(_) => false,
     }
 }
 
@@ -64,7 +64,7 @@ fn is_link(v: &Value) -> bool
         Kind::Link => true,
         Kind::Absent => false,
         Kind::Reg => false,
-        Kind::Other => false,
+        Kind::Special(_) => false,
         Kind::Dir => false,
     }
 }

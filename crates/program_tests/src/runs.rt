@@ -11,7 +11,7 @@ use crate::pages::{Page, spelled};
 use crate::programs::translated;
 use answers::answer;
 use colis_syntax::Program;
-use rows::{CALLS, CASES_AND_FUNCTIONS, LOOPS, REDIRECTED, STATUS, WORDS, WORKED};
+use rows::{CALLS, CASES_AND_FUNCTIONS, LOOPS, REDIRECTED, SPECIAL, STATUS, WORDS, WORKED};
 use script_names::Slot;
 use std::alloc::Global;
 
@@ -93,6 +93,7 @@ const TABLES: &[(&str, u32)] = &[
     (LOOPS, 18),
     (CASES_AND_FUNCTIONS, 20),
     (CALLS, 33),
+    (SPECIAL, 8),
 ];
 
 #[test]

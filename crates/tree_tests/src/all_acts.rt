@@ -1,24 +1,28 @@
 use concrete_utils::steps::act;
-use feature_trees::{Entries, Value};
+use feature_trees::{Entries, Special, Value};
 use script_names::{Bytes, Copied, Done, List, Memory, Path, Reason};
 use std::alloc::Global;
 use std::test::Fail;
 use utility_calls::acts::Act;
 use utility_calls::calls::{Planned, plan};
 
-// What stands on the tree of the tests: `d` a directory, `f` a file, `o` another thing, `l` a link.
+// What stands on the tree of the tests: `d` a directory, `f` a file, `l` a link, `p` a pipe, `s` a socket, `b` a block
+// device, `c` a character device.
 const SAMPLE: &str = "d /d
 d /d/e
 f /d/f
 l /d/l
-o /d/o
+c /d/o
 d /d/g
 d /d/g/g
 d /e
 f /f
 f /h
 l /l
-o /o
+s /o
+p /p
+b /b
+c /c
 d /g
 d /x
 d /x/f
@@ -34,7 +38,10 @@ fn value(alloc: Global, letter: &[u8]) -> Result<Value, Memory> {
         b"d" => Ok(Value::Dir(Entries::new(alloc))),
         b"f" => Ok(Value::Reg),
         b"l" => Ok(Value::Link(Bytes::from_slice(alloc, b"t")?)),
-        b"o" => Ok(Value::Other),
+        b"p" => Ok(Value::Special(Special::Fifo)),
+        b"s" => Ok(Value::Special(Special::Socket)),
+        b"b" => Ok(Value::Special(Special::Block)),
+        b"c" => Ok(Value::Special(Special::Char)),
         _ => Ok(Value::Absent),
     }
 }
@@ -110,7 +117,7 @@ fn takes(alloc: Global, a: &Act, row: &Taken) -> Result<bool, Fail> {
     is_left(alloc, &tree, row.3)
 }
 
-fn words(alloc: Global, text: &str) -> Result<List<Bytes>, Memory> {
+pub(crate) fn words(alloc: Global, text: &str) -> Result<List<Bytes>, Memory> {
     let mut all = List::new(alloc);
     for part in text.split(' ') {
         let word = Bytes::from_slice(alloc, part.as_bytes())?;
@@ -165,7 +172,7 @@ fn place(alloc: Global, name: &[u8], p: Path) -> Result<Act, Memory> {
 }
 
 // The act of a package manager that a row names, by a word and a path.
-fn placed(alloc: Global, text: &str) -> Result<Act, Fail> {
+pub(crate) fn placed(alloc: Global, text: &str) -> Result<Act, Fail> {
     let (name, path) = text.split_once(' ').unwrap_or(("", "/"));
     let p = Path::read(alloc, path.as_bytes())?;
     Ok(place(alloc, name.as_bytes(), p)?)
@@ -206,6 +213,26 @@ const QUESTIONS: &[Taken] = &[
     ("test -x /n", 66, "failed", ""),
     ("test -x /d", 67, "ok", ""),
     ("test -x /f", 68, "run", ""),
+    ("test -x /c", 68, "run", ""),
+    ("test -p /l", 65, "link", ""),
+    ("test -p /o", 66, "failed", ""),
+    ("test -p /p", 67, "ok", ""),
+    ("test -S /l", 65, "link", ""),
+    ("test -S /b", 66, "failed", ""),
+    ("test -S /n", 66, "failed", ""),
+    ("test -S /o", 67, "ok", ""),
+    ("test -b /l", 65, "link", ""),
+    ("test -b /c", 66, "failed", ""),
+    ("test -b /b", 67, "ok", ""),
+    ("test -c /l", 65, "link", ""),
+    ("test -c /f", 66, "failed", ""),
+    ("test -c /c", 67, "ok", ""),
+    ("test -c /d/o", 67, "ok", ""),
+    ("test -c /", 66, "failed", ""),
+    ("test -S /l/a", 1, "link", ""),
+    ("test -S /o/", 64, "slash", ""),
+    ("test -S /n/", 66, "failed", ""),
+    ("test -S /d/", 66, "failed", ""),
     ("test -e /l/a", 1, "link", ""),
     ("test -e /d/l/a", 2, "link", ""),
     ("test -e /f/", 64, "slash", ""),
@@ -230,6 +257,7 @@ const CHANGES: &[Taken] = &[
     ("rm /n", 66, "failed", ""),
     ("rm /d", 67, "failed", ""),
     ("rm /l", 68, "ok", "- /l"),
+    ("rm /o", 68, "ok", "- /o"),
     ("rm -r /n", 66, "failed", ""),
     ("rm -r /d", 69, "ok", "- /d"),
     ("rm -f /d", 67, "failed", ""),
@@ -244,6 +272,7 @@ const CHANGES: &[Taken] = &[
     ("touch /n", 67, "ok", "f /n"),
     ("touch /f", 67, "ok", ""),
     ("touch /d", 68, "ok", ""),
+    ("touch /b", 68, "ok", ""),
     ("ln -s t /l", 65, "link", ""),
     ("ln -s t /f/a", 66, "failed", ""),
     ("ln -s t /f", 67, "failed", ""),
@@ -253,6 +282,7 @@ const CHANGES: &[Taken] = &[
     ("ln -sf t /l", 65, "link", ""),
     ("ln -sf t /f/a", 66, "failed", ""),
     ("ln -sf t /f", 69, "ok", "l /f"),
+    ("ln -sf t /c", 69, "ok", "l /c"),
     ("ln -sf t /n", 69, "ok", "l /n"),
     ("ln -sf e /d", 72, "failed", ""),
     ("ln -sf t /e", 73, "ok", "l /e/t"),
@@ -271,6 +301,7 @@ const MOVES: &[Taken] = &[
     ("mv /f /h/a", 67, "failed", ""),
     ("mv /f /n", 68, "ok", "- /f,f /n"),
     ("mv /l /n", 68, "ok", "- /l,l /n"),
+    ("mv /b /n", 68, "ok", "- /b,b /n"),
     ("mv /e /n", 69, "ok", "- /e,d /n"),
     ("mv /e /f", 70, "failed", ""),
     ("mv /f /e", 71, "ok", "- /f,f /e/f"),
@@ -281,6 +312,7 @@ const MOVES: &[Taken] = &[
     ("mv /x/g /d/g", 76, "ok", "- /x/g,d /d/g/g,f /d/g/g/a"),
     ("mv /f /h", 77, "ok", "- /f,f /h"),
     ("mv /f /o", 77, "ok", "- /f,f /o"),
+    ("mv /p /c", 77, "ok", "- /p,p /c"),
     ("mv /l /f", 78, "same", ""),
     ("mv /f /d", 79, "ok", "- /f,f /d/f"),
     ("mv /l /d", 80, "same", ""),
@@ -293,6 +325,7 @@ const PLACES: &[Taken] = &[
     ("PlaceFile /d", 67, "failed", ""),
     ("PlaceFile /n", 68, "ok", "f /n"),
     ("PlaceFile /l", 68, "ok", "f /l"),
+    ("PlaceFile /b", 68, "ok", "f /b"),
     ("PlaceLink /f/a", 66, "failed", ""),
     ("PlaceLink /d", 67, "link", ""),
     ("PlaceLink /f", 68, "ok", "l /f"),
@@ -300,9 +333,11 @@ const PLACES: &[Taken] = &[
     ("PlaceConf /d", 67, "failed", ""),
     ("PlaceConf /n", 68, "ok", "f /n"),
     ("PlaceConf /l", 69, "conffile", ""),
+    ("PlaceConf /p", 69, "conffile", ""),
     ("Discard /f/a", 66, "ok", ""),
     ("Discard /d", 67, "ok", ""),
     ("Discard /f", 68, "ok", "- /f"),
+    ("Discard /c", 68, "ok", "- /c"),
     ("DiscardDir /f", 66, "ok", ""),
     ("DiscardDir /d", 67, "ok", ""),
     ("DiscardDir /e", 68, "ok", "- /e"),

@@ -3,7 +3,7 @@
 mod rows;
 
 use feature_trees::{Value, read_tree};
-use rows::{DECIDED, REFUSED, WHOLE};
+use rows::{DECIDED, OLDER, REFUSED, WHOLE};
 use script_names::{Bytes, Memory};
 use std::alloc::Global;
 use std::test::Fail;
@@ -56,6 +56,29 @@ fn is_refused(alloc: Global, row: &str) -> Result<bool, Memory> {
 fn reads_what_is_printed(rt: HostRuntime) -> Result<(), Fail> {
     for row in WHOLE.lines() {
         assert!(rt; is_whole(rt.alloc(), row)?);
+    }
+    Ok(())
+}
+
+// Whether a row's first text is read as the clause of its second.
+fn is_older(alloc: Global, row: &str) -> Result<bool, Memory> {
+    let (older, printed) = row.split_once(" -> ").unwrap_or(("", ""));
+    let text = text_of(alloc, b"", older)?;
+    let wanted = text_of(alloc, b"", printed)?;
+    match read_clause(alloc, text.as_slice()) {
+        Ok(clause) => {
+            let again = print_clause(alloc, &clause)?;
+            Ok(again.as_slice() == wanted.as_slice())
+        }
+        Err(ClauseFault::Bad) => Ok(false),
+        Err(ClauseFault::Memory) => Err(Memory),
+    }
+}
+
+#[test]
+fn reads_the_word_for_the_four(rt: HostRuntime) -> Result<(), Fail> {
+    for row in OLDER.lines() {
+        assert!(rt; is_older(rt.alloc(), row)?, "{row}");
     }
     Ok(())
 }

@@ -11,6 +11,8 @@ mod clauses;
 #[cfg(test)]
 mod deep_paths;
 #[cfg(test)]
+mod each_kind;
+#[cfg(test)]
 mod plans;
 #[cfg(test)]
 mod tree_texts;

@@ -1,3 +1,4 @@
+use feature_trees::Special;
 use script_names::{Bytes, List, Memory, Path, Reason};
 use std::alloc::Global;
 use std::test::Fail;
@@ -100,6 +101,16 @@ fn put_move(out: &mut Bytes, a: &Path, b: &Path) -> Result<(), Memory> {
     put_path(out, b)
 }
 
+// The question whether something is of a special kind.
+fn special_name(kind: Special) -> &'static [u8] {
+    match kind {
+        Special::Fifo => b"IsFifo",
+        Special::Socket => b"IsSocket",
+        Special::Block => b"IsBlock",
+        Special::Char => b"IsChar",
+    }
+}
+
 fn put_act(out: &mut Bytes, act: &Act) -> Result<(), Memory> {
     match act {
         Act::Exists(p) => put_named(out, b"Exists", p),
@@ -107,6 +118,7 @@ fn put_act(out: &mut Bytes, act: &Act) -> Result<(), Memory> {
         Act::IsDir(p) => put_named(out, b"IsDir", p),
         Act::IsLink(p) => put_named(out, b"IsLink", p),
         Act::CanRun(p) => put_named(out, b"CanRun", p),
+        Act::IsSpecial { p, kind } => put_named(out, special_name(*kind), p),
         Act::MakeDir(p) => put_named(out, b"MakeDir", p),
         Act::EnsureDir(p) => put_named(out, b"EnsureDir", p),
         Act::RemoveDir(p) => put_named(out, b"RemoveDir", p),
@@ -384,6 +396,26 @@ test -d / -> ask IsDir /
 test -h /a -> ask IsLink /a
 test -L /a -> ask IsLink /a
 test -x /a -> ask CanRun /a
+test -p /a -> ask IsFifo /a
+test -S /a/b/ -> ask IsSocket /a/b/
+test -b / -> ask IsBlock /
+test -c a -> ask IsChar /a
+test -p '' -> no
+test -S '' -> no
+test -b '' -> no
+test -c '' -> no
+test -P /a -> call
+test -s /a -> call
+test -B /a -> call
+test -C /a -> call
+test -p /a/. -> dot
+test -b .. -> dotdot
+test -c @nul -> call
+test -p -> yes
+test ! -S /a -> not IsSocket /a
+test ! -b '' -> yes
+test ! ! -c /a -> ask IsChar /a
+test a -p b -> call
 test -e '' -> no
 test -x '' -> no
 test -e /a/. -> dot
@@ -436,6 +468,8 @@ test a b c d e -> call
 [ ! a ] -> no
 [ -d /a ] -> ask IsDir /a
 [ ! -d /a ] -> not IsDir /a
+[ -S /a ] -> ask IsSocket /a
+[ ! -p /a ] -> not IsFifo /a
 [ a = b ] -> no
 [ ! a = b ] -> yes
 [ -e /a ] b -> call

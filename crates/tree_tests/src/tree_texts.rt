@@ -1,6 +1,6 @@
 //! Texts of trees, each by hand with the tree's own text, or with the line at fault and why.
 
-use feature_trees::{Entries, TreeFault, Value, print_tree, read_tree};
+use feature_trees::{Entries, TreeFault, Value, first_version_line, print_tree, read_tree};
 use script_names::{Bytes, Memory, Name};
 use std::alloc::Global;
 use std::test::Fail;
@@ -11,7 +11,14 @@ const READ: &[(&str, &str)] = &[
     ("d /etc\n", "d /etc\n"),
     ("d /etc", "d /etc\n"),
     ("f /a\n", "f /a\n"),
-    ("o /a", "o /a\n"),
+    ("p /a", "p /a\n"),
+    ("s /a\n", "s /a\n"),
+    ("b /a", "b /a\n"),
+    ("c /a", "c /a\n"),
+    ("c /d\ns /b\nb /c\np /a\n", "p /a\ns /b\nb /c\nc /d\n"),
+    // an older letter for what is no directory, file or link
+    ("o /a", "p /a\n"),
+    ("d /a\no /a/b\no /c\n", "d /a\np /a/b\np /c\n"),
     ("l /a b\n", "l /a b\n"),
     ("l /a /b/./c/\n", "l /a /b/./c/\n"),
     ("l /a \\e\n", "l /a \\e\n"),
@@ -26,8 +33,8 @@ const READ: &[(&str, &str)] = &[
     ("d /a\nd /a/a\nd /a/a/a\n", "d /a\nd /a/a\nd /a/a/a\n"),
     ("f /a.b\nd /a\nf /a/x\n", "d /a\nf /a/x\nf /a.b\n"),
     (
-        "d /b\nd /a\nf /b/x\no /a/y\n",
-        "d /a\no /a/y\nd /b\nf /b/x\n",
+        "d /b\nd /a\nf /b/x\nc /a/y\n",
+        "d /a\nc /a/y\nd /b\nf /b/x\n",
     ),
     (
         "d /a\nf /a/b\nf /c\nl /a/a /",
@@ -58,7 +65,14 @@ const REFUSED: &[(&str, u64, u8)] = &[
     ("f\t/a", 1, 1),
     ("f /a\r\n", 1, 1),
     ("x /a", 1, 1),
-    ("s /a", 1, 1),
+    ("t /a", 1, 1),
+    ("S /a", 1, 1),
+    ("- /a", 1, 1),
+    ("p", 1, 1),
+    ("p /", 1, 1),
+    ("p /a b", 1, 1),
+    ("ps /a", 1, 1),
+    ("o /a b", 1, 1),
     ("D /a", 1, 1),
     ("df /a", 1, 1),
     ("l /a", 1, 1),
@@ -94,6 +108,8 @@ const REFUSED: &[(&str, u64, u8)] = &[
     ("d /a\nl /a b\n", 2, 2),
     ("f /a\nd /a\nf /a/b\n", 2, 2),
     ("d /a\nf /a/b\no /b\nf /a/b", 4, 2),
+    ("o /a\np /a\n", 2, 2),
+    ("c /a\nb /a\n", 2, 2),
     // a parent that is no earlier directory
     ("f /a/b", 1, 3),
     ("f /a/b\nd /a\n", 1, 3),
@@ -101,6 +117,10 @@ const REFUSED: &[(&str, u64, u8)] = &[
     ("f /a\nf /a/b\n", 2, 3),
     ("l /a b\nf /a/b\n", 2, 3),
     ("o /a\nf /a/b\n", 2, 3),
+    ("p /a\nf /a/b\n", 2, 3),
+    ("s /a\nf /a/b\n", 2, 3),
+    ("b /a\nf /a/b\n", 2, 3),
+    ("c /a\nf /a/b\n", 2, 3),
     ("d /a\nf /a/b/c\n", 2, 3),
     ("d /a\nd /a/b\nf /a/b/c\nf /a/c/d", 4, 3),
     // the least line
@@ -146,6 +166,67 @@ fn the_least_line_is_refused(rt: HostRuntime) {
             "{row:?}"
         );
     }
+}
+
+// Lines, and what each is in the first version.
+const FIRST_LINES: &[(&str, &str)] = &[
+    ("", ""),
+    ("p", "p"),
+    ("p ", "o "),
+    ("p /a", "o /a"),
+    ("p /p/p\\x20p", "o /p/p\\x20p"),
+    ("d /p", "d /p"),
+    ("f /a", "f /a"),
+    ("s /a", "s /a"),
+    ("b /a", "b /a"),
+    ("c /a", "c /a"),
+    ("o /a", "o /a"),
+    ("l /p p", "l /p p"),
+    (" p /a", " p /a"),
+    ("P /a", "P /a"),
+    ("pp /a", "pp /a"),
+];
+
+// Whether a line is this one in the first version.
+fn was(alloc: Global, line: &str, older: &str) -> Result<bool, Memory> {
+    let text = first_version_line(alloc, line.as_bytes())?;
+    Ok(text.as_slice() == older.as_bytes())
+}
+
+#[test]
+fn lines_of_the_first_version(rt: HostRuntime) -> Result<(), Fail> {
+    for row in FIRST_LINES {
+        assert!(rt; was(rt.alloc(), row.0, row.1)?, "{row:?}");
+    }
+    Ok(())
+}
+
+// Texts of trees that have, of the special kinds, pipes alone, and of others.
+const PIPES: &[(&str, bool)] = &[
+    ("", true),
+    ("f /a\nl /b c\nd /d\n", true),
+    ("p /a\n", true),
+    ("d /a\np /a/b\np /c\n", true),
+    ("o /a\n", true),
+    ("s /a\n", false),
+    ("b /a\n", false),
+    ("c /a\n", false),
+    ("p /a\nb /b\np /c\n", false),
+    ("d /a\nd /a/b\ns /a/b/c\nf /d\n", false),
+];
+
+// Whether the tree of a text has, of the special kinds, pipes alone.
+fn pipes_alone(alloc: Global, text: &str) -> Result<bool, Fail> {
+    let tree = read_tree(alloc, text.as_bytes())?;
+    Ok(tree.has_only_pipes())
+}
+
+#[test]
+fn trees_of_pipes_alone(rt: HostRuntime) -> Result<(), Fail> {
+    for row in PIPES {
+        assert!(rt; pipes_alone(rt.alloc(), row.0)? == row.1, "{row:?}");
+    }
+    Ok(())
 }
 
 // A line for a directory whose path has that many names.

@@ -1,4 +1,4 @@
-use feature_trees::{Entries, Kind, Kinds, PutFault, Value, print_tree, put_tree};
+use feature_trees::{Entries, Kind, Kinds, PutFault, Special, Value, print_tree, put_tree};
 use script_names::{Bytes, Copied, List, Memory, Name, NameFault, Path};
 use std::alloc::Global;
 use std::test::Fail;
@@ -20,7 +20,7 @@ fn value(alloc: Global, kind: Kind) -> Result<Value, Memory> {
         Kind::Absent => Ok(Value::Absent),
         Kind::Reg => Ok(Value::Reg),
         Kind::Link => Ok(Value::Link(Bytes::from_slice(alloc, b"to x")?)),
-        Kind::Other => Ok(Value::Other),
+        Kind::Special(special) => Ok(Value::Special(special)),
         Kind::Dir => Ok(Value::Dir(Entries::new(alloc))),
     }
 }
@@ -43,7 +43,10 @@ fn put(
 const SAMPLE: &[(&[&[u8]], Kind)] = &[
     (&[b"etc"], Kind::Dir),
     (&[b"dev"], Kind::Dir),
-    (&[b"dev", b"null"], Kind::Other),
+    (&[b"dev", b"null"], Kind::Special(Special::Char)),
+    (&[b"dev", b"log"], Kind::Special(Special::Socket)),
+    (&[b"dev", b"initctl"], Kind::Special(Special::Fifo)),
+    (&[b"dev", b"sda"], Kind::Special(Special::Block)),
     (&[b"dev", b"fd"], Kind::Link),
     (&[b"dev file"], Kind::Reg),
     (&[b"Z"], Kind::Reg),
@@ -86,10 +89,22 @@ fn prints_nothing(alloc: Global, kind: Kind) -> Result<bool, Memory> {
     is_printed(alloc, &empty, "")
 }
 
+// What has no text but at a path.
+const EMPTY: &[Kind] = &[
+    Kind::Dir,
+    Kind::Reg,
+    Kind::Link,
+    Kind::Absent,
+    Kind::Special(Special::Block),
+];
+
 const PRINTED: &str = "f /Z
 d /dev
 l /dev/fd to\\x20x
-o /dev/null
+p /dev/initctl
+s /dev/log
+c /dev/null
+b /dev/sda
 f /dev\\x20file
 d /etc
 l /\\xc3\\xa9 to\\x20x
@@ -97,7 +112,7 @@ l /\\xc3\\xa9 to\\x20x
 
 #[test]
 fn prints(rt: HostRuntime) -> Result<(), Fail> {
-    for kind in &[Kind::Dir, Kind::Reg, Kind::Link, Kind::Absent] {
+    for kind in EMPTY {
         assert!(rt; prints_nothing(rt.alloc(), *kind)?);
     }
     let tree = sample(rt.alloc())?;
@@ -131,7 +146,18 @@ const PUT: &[Put] = &[
     (&[b"dev", b"null"], Kind::Absent, Ok(()), Kind::Absent),
     (&[b"dev", b"none"], Kind::Absent, Ok(()), Kind::Absent),
     (&[b"dev", b"fd"], Kind::Reg, Ok(()), Kind::Reg),
-    (&[b"dev"], Kind::Other, Ok(()), Kind::Other),
+    (
+        &[b"dev"],
+        Kind::Special(Special::Fifo),
+        Ok(()),
+        Kind::Special(Special::Fifo),
+    ),
+    (
+        &[b"dev", b"sda", b"a"],
+        Kind::Reg,
+        Err(PutFault::NoParent),
+        Kind::Absent,
+    ),
 ];
 
 // Whether it is put so, and what stands elsewhere stays.
@@ -163,7 +189,10 @@ fn compares(rt: HostRuntime) -> Result<(), Fail> {
     let twin = tree.copy(rt.alloc())?;
     assert!(rt; tree.equal(&twin));
     assert!(rt; !equals_with(rt.alloc(), &mut tree, &twin, Kind::Reg)?);
-    assert!(rt; equals_with(rt.alloc(), &mut tree, &twin, Kind::Other)?);
+    for special in &[Special::Fifo, Special::Socket, Special::Block] {
+        assert!(rt; !equals_with(rt.alloc(), &mut tree, &twin, Kind::Special(*special))?);
+    }
+    assert!(rt; equals_with(rt.alloc(), &mut tree, &twin, Kind::Special(Special::Char))?);
     Ok(())
 }
 
@@ -213,4 +242,25 @@ fn sets_of_kinds(rt: HostRuntime) {
     assert!(rt; files.has(Kind::Reg) && files.has(Kind::Link) && !files.has(Kind::Dir));
     assert!(rt; Kinds::both(files, Kinds::of(Kind::Dir)).is_none());
     assert!(rt; Kinds::both(files, Kinds::all()) == files);
+    assert!(rt; !files.has(Kind::Special(Special::Fifo)));
+}
+
+#[test]
+fn special_kinds(rt: HostRuntime) {
+    for special in &[
+        Special::Fifo,
+        Special::Socket,
+        Special::Block,
+        Special::Char,
+    ] {
+        let kind = Kind::Special(*special);
+        assert!(rt;
+            Kinds::special().has(kind) && Kinds::of(kind).has(kind) && !Kinds::but(kind).has(kind)
+        );
+        assert!(rt; Kinds::both(Kinds::special(), Kinds::of(kind)) == Kinds::of(kind));
+        assert!(rt; Kinds::special() != Kinds::of(kind));
+    }
+    let others = Kinds::both(Kinds::but(Kind::Absent), Kinds::but(Kind::Dir));
+    let things = Kinds::either(Kinds::of(Kind::Reg), Kinds::of(Kind::Link));
+    assert!(rt; Kinds::either(things, Kinds::special()) == others);
 }

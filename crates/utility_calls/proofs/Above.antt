@@ -4,6 +4,7 @@ use Rattle.std.proofs.Common.{Option, Some, None, refl, sym, ap, subst, ◌∙�
 use Rattle.std.specs.Str.{bytes_eq}
 use Rattle.std.proofs.lemmas.Slice.Eq.{bytes_eq-Decides}
 use Rattle.feature_trees.specs.declared.kind.Kind.TheVariants.{Absent, Dir}
+use Rattle.feature_trees.specs.declared.kind.Special.TheVariants.{Fifo, Socket, Block, Char}
 use Rattle.feature_trees.specs.declared.value.Value.{Value}
 use Rattle.feature_trees.specs.declared.value.Value.TheVariants as value
 use Rattle.feature_trees.specs.Kinds.{has, of}
@@ -24,7 +25,7 @@ holds_entry : (v : Value) (f : List ℕ) (rest : List (List ℕ)) → kind_of (a
 holds_entry value.Absent f rest h = absurd (h (ap kind_of (at_absent rest)))
 holds_entry value.Reg f rest h = absurd (h (ap kind_of (at_absent rest)))
 holds_entry (value.Link b) f rest h = absurd (h (ap kind_of (at_absent rest)))
-holds_entry value.Other f rest h = absurd (h (ap kind_of (at_absent rest)))
+holds_entry (value.Special s) f rest h = absurd (h (ap kind_of (at_absent rest)))
 holds_entry (value.Dir es) f rest h = refl
 
 pub there_parents : (v : Value) (names : List (List ℕ)) → kind_of (at v names) ≢ Absent → IsTrue (has_parents v names)
@@ -51,7 +52,10 @@ dir_seen : (v : Value) → has (of Dir) (kind_of v) ≡ true → is_dir v ≡ tr
 dir_seen value.Absent h = cc
 dir_seen value.Reg h = cc
 dir_seen (value.Link b) h = cc
-dir_seen value.Other h = cc
+dir_seen (value.Special Fifo) h = cc
+dir_seen (value.Special Socket) h = cc
+dir_seen (value.Special Block) h = cc
+dir_seen (value.Special Char) h = cc
 dir_seen (value.Dir es) h = refl
 
 -- below the path of a directory

@@ -1,18 +1,19 @@
--- The effects of the rows of acts.
-use Rattle.std.proofs.Common.{◌≡◌, ◌≢◌, ℕ, zero, suc, IsTrue, IfSome, arith, Bool, true, false, ◌&&◌, ◌||◌, if◌then◌else◌, Option, Some, None, List, [], ◌∷◌, ◌++◌, refl}
+-- The effects of the rows of acts, and the paths that acts look along.
+use Rattle.std.proofs.Common.{◌≡◌, ◌≢◌, ℕ, zero, suc, IsTrue, IfSome, arith, Bool, true, false, ◌&&◌, ◌||◌, if◌then◌else◌, Option, Some, None, List, [], ◌∷◌, ◌++◌, refl, subst}
 use Rattle.script_names.specs.Names.{is_name}
+use Rattle.script_names.specs.Paths.{PathParts}
 use Rattle.script_names.specs.declared.reason.Done.{Done}
 use Rattle.script_names.specs.declared.reason.Done.TheVariants as done
 use Rattle.feature_trees.specs.declared.value.Value.{Value}
 use Rattle.feature_trees.specs.declared.value.Value.TheVariants as value
 use Rattle.feature_trees.specs.declared.kind.Kind.{Kind}
-use Rattle.feature_trees.specs.declared.kind.Kind.TheVariants.{Absent, Reg, Link, Other, Dir}
+use Rattle.feature_trees.specs.declared.kind.Kind.TheVariants.{Absent, Reg, Link, Special, Dir}
 use Rattle.feature_trees.specs.Sound.{sound}
 use Rattle.feature_trees.specs.Tree.{entry, at, entries_of, kind_of, put}
 use Rattle.feature_trees.specs.Laws.{PutsStaySound}
 use Rattle.feature_trees.proofs.Laws.{sound-entry}
 use Rattle.utility_calls.specs.declared.acts.Act.{Act}
-use Rattle.utility_calls.specs.declared.acts.Act.TheVariants.{Exists, IsReg, IsDir, IsLink, CanRun, MakeDir, EnsureDir, RemoveDir, Remove, Touch, Symlink, Move, PlaceFile, PlaceLink, PlaceConf, Discard, DiscardDir}
+use Rattle.utility_calls.specs.declared.acts.Act.TheVariants.{Exists, IsReg, IsDir, IsLink, CanRun, IsSpecial, MakeDir, EnsureDir, RemoveDir, Remove, Touch, Symlink, Move, PlaceFile, PlaceLink, PlaceConf, Discard, DiscardDir}
 use Rattle.utility_calls.specs.declared.sights.Sight.{Sight}
 use Rattle.utility_calls.specs.declared.sights.Row.{Row}
 use Rattle.utility_calls.specs.declared.sights.Effect.{Effect}
@@ -20,7 +21,7 @@ use Rattle.utility_calls.specs.declared.sights.Effect.TheVariants.{Nothing, Make
 use Rattle.utility_calls.specs.Ways.{link_on_way}
 use Rattle.utility_calls.specs.declared.sights.Rule.{Rule}
 use Rattle.utility_calls.specs.Table.{rules, rule_holds, row_of, first_row, stop, remove_by, symlink_by, move_by}
-use Rattle.utility_calls.specs.Acts.{path_of, place_of, inner_name, target_of, with_name, source_of, is_below, second_link, by_way, by_slash, slash_row, sight_on, own_row, row, effect_on, is_question, tree_after, IsPerformed}
+use Rattle.utility_calls.specs.Acts.{path_of, place_of, moved, inner_name, target_of, with_name, source_of, is_below, second_link, by_way, by_slash, slash_row, sight_on, own_row, row, effect_on, is_question, tree_after, IsPerformed}
 use Rattle.utility_calls.specs.ActChanges.{AreNames, HasNames}
 
 -- ---- what holds of all rows of a table holds of the one that applies
@@ -55,7 +56,7 @@ module _ (p : Row → Bool) (stops : (n : ℕ) → p (record { number = n; answe
   slash_all true Absent r h = h
   slash_all true Reg r h = slashes
   slash_all true Link r h = slashes
-  slash_all true Other r h = slashes
+  slash_all true (Special s) r h = slashes
   slash_all true Dir r h = h
 
   pub row_all : (act : Act) (tree : Value) → all_rules p (rules (is_below act) act) ≡ true → p (row act tree) ≡ true
@@ -110,6 +111,7 @@ question_leaves (IsReg p) h = refl
 question_leaves (IsDir p) h = refl
 question_leaves (IsLink p) h = refl
 question_leaves (CanRun p) h = refl
+question_leaves (IsSpecial p kind) h = refl
 question_leaves (MakeDir p) h = cc
 question_leaves (EnsureDir p) h = cc
 question_leaves (RemoveDir p) h = cc
@@ -143,6 +145,7 @@ all_succeed (IsReg p) = refl
 all_succeed (IsDir p) = refl
 all_succeed (IsLink p) = refl
 all_succeed (CanRun p) = refl
+all_succeed (IsSpecial p kind) = refl
 all_succeed (MakeDir p) = refl
 all_succeed (EnsureDir p) = refl
 all_succeed (RemoveDir p) = refl
@@ -215,7 +218,7 @@ entries_sound : (v : Value) → IsTrue (sound v) → IsTrue (sound (value.Dir (e
 entries_sound value.Absent s = refl
 entries_sound value.Reg s = refl
 entries_sound (value.Link b) s = refl
-entries_sound value.Other s = refl
+entries_sound (value.Special which) s = refl
 entries_sound (value.Dir es) s = s
 
 -- names with one more behind them
@@ -252,3 +255,33 @@ effect_sound puts MovesInside act tree n s =
 
 pub sound_stays : PutsStaySound → (act : Act) (tree : Value) → HasNames act → IsTrue (sound tree) → IsTrue (sound (tree_after act tree))
 sound_stays puts act tree n s = effect_sound puts (row act tree).effect act tree n s
+
+-- ---- every act but a move looks along one path alone
+
+-- an act that moves nothing looks at its own path, and one that moves something is a move
+abbrev pub IsStillOrMove : Act → Option PathParts → Type 0
+IsStillOrMove act None = place_of act ≡ (path_of act).names
+IsStillOrMove act (Some a) = (b : PathParts) × (act ≡ Move a b)
+
+pub still_or_move : (act : Act) → IsStillOrMove act (moved act)
+still_or_move (Exists p) = refl
+still_or_move (IsReg p) = refl
+still_or_move (IsDir p) = refl
+still_or_move (IsLink p) = refl
+still_or_move (CanRun p) = refl
+still_or_move (IsSpecial p kind) = refl
+still_or_move (MakeDir p) = refl
+still_or_move (EnsureDir p) = refl
+still_or_move (RemoveDir p) = refl
+still_or_move (Remove p force deep) = refl
+still_or_move (Touch p) = refl
+still_or_move (Symlink p target last force) = refl
+still_or_move (Move a b) = (b, refl)
+still_or_move (PlaceFile p) = refl
+still_or_move (PlaceLink p target) = refl
+still_or_move (PlaceConf p) = refl
+still_or_move (Discard p) = refl
+still_or_move (DiscardDir p) = refl
+
+pub place_is : (act : Act) → moved act ≡ None → place_of act ≡ (path_of act).names
+place_is act still = subst (IsStillOrMove act) still (still_or_move act)

@@ -4,17 +4,19 @@ use Rattle.std.proofs.lemmas.Bool.{eqb-true}
 use Rattle.feature_trees.specs.declared.value.Value.{Value}
 use Rattle.feature_trees.specs.declared.value.Value.TheVariants as value
 use Rattle.feature_trees.specs.declared.kind.Kind.{Kind}
-use Rattle.feature_trees.specs.declared.kind.Kind.TheVariants.{Absent, Reg, Link, Other, Dir}
+use Rattle.feature_trees.specs.declared.kind.Kind.TheVariants.{Absent, Reg, Link, Special, Dir}
+use Rattle.feature_trees.specs.declared.kind.Special.{Special as SpecialKind}
+use Rattle.feature_trees.specs.declared.kind.Special.TheVariants.{Fifo, Socket, Block, Char}
 use Rattle.feature_trees.specs.Kinds.{has, of}
 use Rattle.feature_trees.specs.Tree.{entry, at, kind_of, is_dir}
 use Rattle.utility_calls.specs.declared.acts.Act.{Act}
-use Rattle.utility_calls.specs.declared.acts.Act.TheVariants.{Exists, IsReg, IsDir, IsLink, CanRun, MakeDir, EnsureDir, RemoveDir, Remove, Touch, Symlink, Move, PlaceFile, PlaceLink, PlaceConf, Discard, DiscardDir}
+use Rattle.utility_calls.specs.declared.acts.Act.TheVariants.{Exists, IsReg, IsDir, IsLink, CanRun, IsSpecial, MakeDir, EnsureDir, RemoveDir, Remove, Touch, Symlink, Move, PlaceFile, PlaceLink, PlaceConf, Discard, DiscardDir}
 use Rattle.utility_calls.specs.declared.sights.Sight.{Sight}
 use Rattle.utility_calls.specs.declared.sights.Row.{Row}
 use Rattle.utility_calls.specs.Ways.{link_on_way, in_dir, kind_at, NoLinkOnWay}
 use Rattle.utility_calls.specs.Sights.{sight, sight_of}
 use Rattle.utility_calls.specs.declared.sights.Rule.{Rule}
-use Rattle.utility_calls.specs.Table.{rules, rule_holds, row_of, first_row, exists_rules, is_reg_rules, is_dir_rules, is_link_rules, can_run_rules, make_dir_rules, ensure_dir_rules, remove_dir_rules, remove_rules, remove_deep_rules, remove_force_rules, remove_force_deep_rules, remove_by, touch_rules, place_file_rules, place_link_rules, place_conf_rules, discard_rules, discard_dir_rules, symlink_rules, symlink_force_rules, symlink_by, move_below_rules, move_rules, move_by}
+use Rattle.utility_calls.specs.Table.{rules, rule_holds, row_of, first_row, exists_rules, is_reg_rules, is_dir_rules, is_link_rules, can_run_rules, is_special_rules, make_dir_rules, ensure_dir_rules, remove_dir_rules, remove_rules, remove_deep_rules, remove_force_rules, remove_force_deep_rules, remove_by, touch_rules, place_file_rules, place_link_rules, place_conf_rules, discard_rules, discard_dir_rules, symlink_rules, symlink_force_rules, symlink_by, move_below_rules, move_rules, move_by}
 use Rattle.utility_calls.specs.Acts.{path_of, place_of, inner_of, source_of, is_prefix, is_below, is_there, second_link, by_way, by_slash, slash_row, sight_on, own_row, row, IsPerformed}
 use Rattle.utility_calls.specs.ActRows.{IsAmong, FitsSlash, Reaches, LooksAtWay, Applies, on_way, at_slash, on_second_way, own}
 use Rattle.utility_calls.proofs.Ways.{Found, IsFirstLink, found, counted}
@@ -84,19 +86,29 @@ some_row k s (o ∷ rs) one = some_by k s o rs (rule_holds k s o) refl one (some
 abbrev pub all_bools : (Bool → Bool) → Bool
 all_bools f = f false && f true
 
+abbrev pub all_specials : (SpecialKind → Bool) → Bool
+all_specials f = f Fifo && (f Socket && (f Block && f Char))
+
 abbrev pub all_kinds : (Kind → Bool) → Bool
-all_kinds f = f Absent && (f Reg && (f Link && (f Other && f Dir)))
+all_kinds f = f Absent && (f Reg && (f Link && (all_specials (λ s. f (Special s)) && f Dir)))
 
 pub each_bool : (f : Bool → Bool) → all_bools f ≡ true → (b : Bool) → f b ≡ true
 each_bool f h false = (both_true (f false) (f true) h).0
 each_bool f h true = (both_true (f false) (f true) h).1
 
+pub each_special : (f : SpecialKind → Bool) → all_specials f ≡ true → (s : SpecialKind) → f s ≡ true
+each_special f h Fifo = (both_true (f Fifo) _ h).0
+each_special f h Socket = (both_true (f Socket) _ (both_true (f Fifo) _ h).1).0
+each_special f h Block = (both_true (f Block) (f Char) (both_true (f Socket) _ (both_true (f Fifo) _ h).1).1).0
+each_special f h Char = (both_true (f Block) (f Char) (both_true (f Socket) _ (both_true (f Fifo) _ h).1).1).1
+
 pub each_kind : (f : Kind → Bool) → all_kinds f ≡ true → (k : Kind) → f k ≡ true
 each_kind f h Absent = (both_true (f Absent) _ h).0
 each_kind f h Reg = (both_true (f Reg) _ (both_true (f Absent) _ h).1).0
 each_kind f h Link = (both_true (f Link) _ (both_true (f Reg) _ (both_true (f Absent) _ h).1).1).0
-each_kind f h Other = (both_true (f Other) _ (both_true (f Link) _ (both_true (f Reg) _ (both_true (f Absent) _ h).1).1).1).0
-each_kind f h Dir = (both_true (f Other) _ (both_true (f Link) _ (both_true (f Reg) _ (both_true (f Absent) _ h).1).1).1).1
+each_kind f h (Special s) =
+    each_special (λ s. f (Special s)) (both_true (all_specials (λ s. f (Special s))) _ (both_true (f Link) _ (both_true (f Reg) _ (both_true (f Absent) _ h).1).1).1).0 s
+each_kind f h Dir = (both_true (all_specials (λ s. f (Special s))) (f Dir) (both_true (f Link) _ (both_true (f Reg) _ (both_true (f Absent) _ h).1).1).1).1
 
 abbrev pub all_sights : (Sight → Bool) → Bool
 all_sights f = all_bools (λ d. all_kinds (λ k. all_bools (λ e. all_kinds (λ l. all_bools (λ m. f (sight d k e l m))))))
@@ -131,6 +143,12 @@ asks_one rs k h s = eqb-true (count k s rs) 1 (each_sight (one rs k) h s)
 does_one : (rs : List Rule) (k : Kind) → all_sights (one_if_possible rs k) ≡ true → (s : Sight) → possible s ≡ true → count k s rs ≡ 1
 does_one rs k h s p = eqb-true (count k s rs) 1 (given_possible (possible s) (one rs k s) p (each_sight (one_if_possible rs k) h s))
 
+specials_one : (kind : SpecialKind) (s : Sight) → count Absent s (is_special_rules kind) ≡ 1
+specials_one Fifo = asks_one (is_special_rules Fifo) Absent refl
+specials_one Socket = asks_one (is_special_rules Socket) Absent refl
+specials_one Block = asks_one (is_special_rules Block) Absent refl
+specials_one Char = asks_one (is_special_rules Char) Absent refl
+
 removes_one : (force deep : Bool) (k : Kind) (s : Sight) → possible s ≡ true → count k s (remove_by force deep) ≡ 1
 removes_one false false k = does_one remove_rules k refl
 removes_one false true k = does_one remove_deep_rules k refl
@@ -146,7 +164,10 @@ moves_one true k = does_one move_below_rules k refl
 moves_one false Absent = does_one move_rules Absent refl
 moves_one false Reg = does_one move_rules Reg refl
 moves_one false Link = does_one move_rules Link refl
-moves_one false Other = does_one move_rules Other refl
+moves_one false (Special Fifo) = does_one move_rules (Special Fifo) refl
+moves_one false (Special Socket) = does_one move_rules (Special Socket) refl
+moves_one false (Special Block) = does_one move_rules (Special Block) refl
+moves_one false (Special Char) = does_one move_rules (Special Char) refl
 moves_one false Dir = does_one move_rules Dir refl
 
 -- ---- what is seen on a tree is possible
@@ -155,7 +176,7 @@ nothing_in : (v : Value) (f : List ℕ) → is_dir v ≡ false → entry v f ≡
 nothing_in value.Absent f e = refl
 nothing_in value.Reg f e = refl
 nothing_in (value.Link b) f e = refl
-nothing_in value.Other f e = refl
+nothing_in (value.Special s) f e = refl
 nothing_in (value.Dir es) f e = absurd (cc)
 
 pub nothing_outside : (v : Value) (f : List ℕ) (p : List (List ℕ)) → in_dir v (f ∷ p) ≡ false → at v (f ∷ p) ≡ value.Absent
@@ -178,6 +199,7 @@ one_holds (IsReg p) tree h = asks_one is_reg_rules Absent refl (sight_on (IsReg 
 one_holds (IsDir p) tree h = asks_one is_dir_rules Absent refl (sight_on (IsDir p) tree)
 one_holds (IsLink p) tree h = asks_one is_link_rules Absent refl (sight_on (IsLink p) tree)
 one_holds (CanRun p) tree h = asks_one can_run_rules Absent refl (sight_on (CanRun p) tree)
+one_holds (IsSpecial p kind) tree h = specials_one kind (sight_on (IsSpecial p kind) tree)
 one_holds (MakeDir p) tree h = does_one make_dir_rules Absent refl (sight_on (MakeDir p) tree) (seen_possible tree value.Absent p.names (h.0 refl).1)
 one_holds (EnsureDir p) tree h = does_one ensure_dir_rules Absent refl (sight_on (EnsureDir p) tree) (seen_possible tree value.Absent p.names (h.0 refl).1)
 one_holds (RemoveDir p) tree h = does_one remove_dir_rules Absent refl (sight_on (RemoveDir p) tree) (seen_possible tree value.Absent p.names (h.0 refl).1)
@@ -241,7 +263,7 @@ slash_is false k r h na nd = cc
 slash_is true Absent r h na nd = absurd (na refl)
 slash_is true Reg r h na nd = refl
 slash_is true Link r h na nd = refl
-slash_is true Other r h na nd = refl
+slash_is true (Special s) r h na nd = refl
 slash_is true Dir r h na nd = absurd (nd refl)
 
 pub no_slash_is : (s : Bool) (k : Kind) (r : Row) → (IsTrue s → (k ≡ Absent) ⊎ (k ≡ Dir)) → by_slash s k r ≡ r
@@ -283,7 +305,7 @@ module _ (act : Act) (tree : Value) (performed : IsPerformed act) (t : kind_of t
   slash_applies clear true se Absent e = after_applies clear (fits_by true se Absent e (λ h. inl refl))
   slash_applies clear true se Reg e = stopped_at clear se Reg e (λ h. cc) (λ h. cc)
   slash_applies clear true se Link e = stopped_at clear se Link e (λ h. cc) (λ h. cc)
-  slash_applies clear true se Other e = stopped_at clear se Other e (λ h. cc) (λ h. cc)
+  slash_applies clear true se (Special s) e = stopped_at clear se (Special s) e (λ h. cc) (λ h. cc)
   slash_applies clear true se Dir e = after_applies clear (fits_by true se Dir e (λ h. inr refl))
 
   way_applies : (o : Option ℕ) → Found names tree 0 o → Applies act tree (by_way o (by_slash (path_of act).slash end_kind after)).number

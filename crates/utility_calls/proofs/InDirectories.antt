@@ -5,14 +5,16 @@ use Rattle.std.proofs.Common.{refl, sym, ap, subst, ◌∙◌}
 use Rattle.feature_trees.specs.declared.value.Value.{Value}
 use Rattle.feature_trees.specs.declared.value.Value.TheVariants as value
 use Rattle.feature_trees.specs.declared.kind.Kind.{Kind}
-use Rattle.feature_trees.specs.declared.kind.Kind.TheVariants.{Absent, Reg, Link, Other, Dir}
+use Rattle.feature_trees.specs.declared.kind.Kind.TheVariants.{Absent, Reg, Link, Special, Dir}
+use Rattle.feature_trees.specs.declared.kind.Special.{Special as SpecialKind}
+use Rattle.feature_trees.specs.declared.kind.Special.TheVariants.{Fifo, Socket, Block, Char}
 use Rattle.feature_trees.specs.Kinds.{has, of}
 use Rattle.feature_trees.specs.Sound.{sound}
 use Rattle.feature_trees.specs.Tree.{at, kind_of, has_parents}
 use Rattle.feature_trees.proofs.Laws.{and_parts}
 use Rattle.script_names.specs.Paths.{PathParts}
 use Rattle.utility_calls.specs.declared.acts.Act.{Act}
-use Rattle.utility_calls.specs.declared.acts.Act.TheVariants.{Exists, IsReg, IsDir, IsLink, CanRun, MakeDir, EnsureDir}
+use Rattle.utility_calls.specs.declared.acts.Act.TheVariants.{Exists, IsReg, IsDir, IsLink, CanRun, IsSpecial, MakeDir, EnsureDir}
 use Rattle.utility_calls.specs.declared.acts.Act.TheVariants.{RemoveDir, Remove, Touch, Symlink, Move, PlaceFile}
 use Rattle.utility_calls.specs.declared.acts.Act.TheVariants.{PlaceLink, PlaceConf, Discard, DiscardDir}
 use Rattle.utility_calls.specs.declared.sights.Sight.{Sight}
@@ -22,7 +24,7 @@ use Rattle.utility_calls.specs.declared.sights.Effect.TheVariants.{Nothing, Make
 use Rattle.utility_calls.specs.declared.sights.Effect.TheVariants.{LinksInside, TakesAway, Moves, MovesInside}
 use Rattle.utility_calls.specs.Ways.{link_on_way}
 use Rattle.utility_calls.specs.declared.sights.Rule.{Rule}
-use Rattle.utility_calls.specs.Table.{rules, first_row, remove_by, symlink_by, move_by}
+use Rattle.utility_calls.specs.Table.{rules, first_row, is_special_rules, remove_by, symlink_by, move_by}
 use Rattle.utility_calls.specs.Acts.{path_of, place_of, inner_name, inner_of, with_name, source_of, is_prefix, is_below}
 use Rattle.utility_calls.specs.Acts.{is_there, second_link, by_way, by_slash, sight_on, own_row, row, is_question}
 use Rattle.utility_calls.specs.Acts.{IsPerformed}
@@ -65,6 +67,12 @@ fitting : (rs : List Rule) → all_sights (fits rs) ≡ true → (s : Sight) →
 fitting rs h s p =
     given_possible (possible s) (seen_by (first_row rs Absent s).effect s) p (each_sight (fits rs) h s)
 
+specials_fit : (kind : SpecialKind) → all_sights (fits (is_special_rules kind)) ≡ true
+specials_fit Fifo = refl
+specials_fit Socket = refl
+specials_fit Block = refl
+specials_fit Char = refl
+
 removes_fit : (force deep : Bool) → all_sights (fits (remove_by force deep)) ≡ true
 removes_fit false false = refl
 removes_fit false true = refl
@@ -82,12 +90,18 @@ moves_fit : (below : Bool) (k : Kind) → all_sights (move_fits below k) ≡ tru
 moves_fit true Absent = refl
 moves_fit true Reg = refl
 moves_fit true Link = refl
-moves_fit true Other = refl
+moves_fit true (Special Fifo) = refl
+moves_fit true (Special Socket) = refl
+moves_fit true (Special Block) = refl
+moves_fit true (Special Char) = refl
 moves_fit true Dir = refl
 moves_fit false Absent = refl
 moves_fit false Reg = refl
 moves_fit false Link = refl
-moves_fit false Other = refl
+moves_fit false (Special Fifo) = refl
+moves_fit false (Special Socket) = refl
+moves_fit false (Special Block) = refl
+moves_fit false (Special Char) = refl
 moves_fit false Dir = refl
 
 move_fitting : (below : Bool) (k : Kind) (s : Sight) → possible s ≡ true
@@ -184,7 +198,7 @@ module _ (P : Effect → Type 0) (nothing : P Nothing) where
   by_slash_has true Absent r h = h
   by_slash_has true Reg r h = nothing
   by_slash_has true Link r h = nothing
-  by_slash_has true Other r h = nothing
+  by_slash_has true (Special s) r h = nothing
   by_slash_has true Dir r h = h
 
   row_has : (act : Act) (tree : Value) → P (own_row act tree).effect → P (row act tree).effect
@@ -200,6 +214,7 @@ own_in (IsReg p) tree h ne s = own_still (IsReg p) tree ne refl refl refl
 own_in (IsDir p) tree h ne s = own_still (IsDir p) tree ne refl refl refl
 own_in (IsLink p) tree h ne s = own_still (IsLink p) tree ne refl refl refl
 own_in (CanRun p) tree h ne s = own_still (CanRun p) tree ne refl refl refl
+own_in (IsSpecial p kind) tree h ne s = own_still (IsSpecial p kind) tree ne refl refl (specials_fit kind)
 own_in (MakeDir p) tree h ne s = own_still (MakeDir p) tree ne refl refl refl
 own_in (EnsureDir p) tree h ne s = own_still (EnsureDir p) tree ne refl refl refl
 own_in (RemoveDir p) tree h ne s = own_still (RemoveDir p) tree ne refl refl refl

@@ -1,6 +1,5 @@
 pub mod Ways
 pub mod Plans
-pub mod OneMove
 pub mod ActRow
 pub mod ActChanges
 pub mod Performed

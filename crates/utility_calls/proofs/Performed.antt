@@ -60,6 +60,7 @@ asking_performed question.IsReg path = ((λ e. absurd (cc)), tt)
 asking_performed question.IsDir path = ((λ e. absurd (cc)), tt)
 asking_performed question.IsLink path = ((λ e. absurd (cc)), tt)
 asking_performed question.CanRun path = ((λ e. absurd (cc)), tt)
+asking_performed (question.IsSpecial kind) path = ((λ e. absurd (cc)), tt)
 
 ask_path_is_performed : (q : Question) (fault : Option PathFault) (path : PathParts) → IsPerformedPlan (ask_path q fault path)
 ask_path_is_performed q (Some fault) path = record { fact = tt }

@@ -1,14 +1,9 @@
 -- Parts of a call that are read one after another.
-use Rattle.std.proofs.Common.{◌≡◌, ℕ, zero, suc, ◌+◌, ◌-◌, ◌≤◌, List, [], ◌∷◌, ◌++◌, length, take, Option, Some, None, Result, Err, refl, ap, sym, ◌∙◌, arith, Bool, false, true, ◌<◌, ◌&&◌, if◌then◌else◌, subst}
-use Rattle.std.specs.Prelude.{nat_le}
-use Rattle.std.proofs.lemmas.Bool.{leb-true}
-use Rattle.std.specs.Str.{bytes_eq}
-use Rattle.script_names.specs.declared.path.TheConstants.{MAX_NAMES}
-use Rattle.utility_calls.specs.Pairs.{same_names}
+use Rattle.std.proofs.Common.{◌≡◌, ℕ, zero, suc, ◌+◌, ◌-◌, ◌≤◌, List, [], ◌∷◌, ◌++◌, take, Option, None, Result, Err, ap, sym, ◌∙◌, arith, false, subst}
 use Rattle.script_names.specs.declared.reason.Reason.{Reason}
 use Rattle.script_names.specs.declared.path.PathFault.{PathFault}
 use Rattle.script_names.specs.declared.path.PathFault.TheVariants.{Empty, Nul, DotDot, Dot, LongName, Many, Memory}
-use Rattle.script_names.specs.Paths.{PathParts, stated, join_fault}
+use Rattle.script_names.specs.Paths.{stated}
 use Rattle.utility_calls.specs.declared.fault.CallFault.{CallFault}
 use Rattle.utility_calls.specs.declared.fault.CallFault.TheVariants as fault
 use Rattle.utility_calls.specs.declared.acts.Act.{Act}
@@ -49,24 +44,3 @@ one_ensured names (suc k) acts le e =
     let a : suc k - 1 ≡ k = omega arith in
     let b : suc k + 1 - 1 ≡ suc k = omega arith in
     ap (λ (xs : List Act). xs ++ EnsureDir (record { names = take (suc k) names; slash = false }) ∷ []) (e ∙ ap (ensured names) a) ∙ sym (ap (ensured names) b)
-
--- ---- names
-
-and_no : (b : Bool) → (b && false) ≡ false
-and_no false = refl
-and_no true = refl
-
--- longer names are others
-pub longer : (p q : List (List ℕ)) → length p < length q → same_names p q ≡ false
-longer [] [] lt = absurd (omega arith)
-longer [] (g ∷ q) lt = refl
-longer (f ∷ p) [] lt = absurd (omega arith)
-longer (f ∷ p) (g ∷ q) lt = ap (λ b. bytes_eq f g && b) (longer p q (omega arith)) ∙ and_no (bytes_eq f g)
-
-full_is : (b : Bool) → (if b then Some Many else None) ≡ Some Many → b ≡ true
-full_is false e = absurd (cc)
-full_is true e = refl
-
--- a path that can have no name more has as many as a path may have
-pub full_path : (p : PathParts) → join_fault p ≡ Some Many → MAX_NAMES ≤ length p.names
-full_path p e = leb-true MAX_NAMES (length p.names) (full_is (nat_le MAX_NAMES (length p.names)) e)

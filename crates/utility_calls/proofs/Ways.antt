@@ -3,7 +3,7 @@ use Rattle.std.proofs.Common.{◌≡◌, ◌≢◌, ℕ, zero, suc, ◌+◌, ◌
 use Rattle.feature_trees.specs.declared.value.Value.{Value}
 use Rattle.feature_trees.specs.declared.value.Value.TheVariants as value
 use Rattle.feature_trees.specs.declared.kind.Kind.{Kind}
-use Rattle.feature_trees.specs.declared.kind.Kind.TheVariants.{Absent, Reg, Link, Other, Dir}
+use Rattle.feature_trees.specs.declared.kind.Kind.TheVariants.{Absent, Reg, Link, Special, Dir}
 use Rattle.feature_trees.specs.Tree.{entry, at, kind_of, has_parents}
 use Rattle.utility_calls.specs.Ways.{link_on_way, at_link, in_dir, kind_at}
 
@@ -12,7 +12,7 @@ pub link_or_not : (k : Kind) → (k ≡ Link) ⊎ (k ≢ Link)
 link_or_not Absent = inr (λ e. absurd (cc))
 link_or_not Reg = inr (λ e. absurd (cc))
 link_or_not Link = inl refl
-link_or_not Other = inr (λ e. absurd (cc))
+link_or_not (Special s) = inr (λ e. absurd (cc))
 link_or_not Dir = inr (λ e. absurd (cc))
 
 -- below what is absent nothing stands
@@ -25,7 +25,7 @@ entry_link : (v : Value) (f : List ℕ) → kind_of v ≡ Link → entry v f ≡
 entry_link value.Absent f e = refl
 entry_link value.Reg f e = refl
 entry_link (value.Link b) f e = refl
-entry_link value.Other f e = refl
+entry_link (value.Special s) f e = refl
 entry_link (value.Dir es) f e = absurd (cc)
 
 pub below_link : (v : Value) (f : List ℕ) (p : List (List ℕ)) → kind_of v ≡ Link → kind_of (at v (f ∷ p)) ≡ Absent
@@ -38,7 +38,7 @@ pub at_link_later : (k : Kind) (n : ℕ) (later : Option ℕ) → k ≢ Link →
 at_link_later Absent n later ne = refl
 at_link_later Reg n later ne = refl
 at_link_later Link n later ne = absurd (ne refl)
-at_link_later Other n later ne = refl
+at_link_later (Special s) n later ne = refl
 at_link_later Dir n later ne = refl
 
 -- a link at the first k names of a strict prefix is the one that is counted
@@ -93,10 +93,10 @@ pub parents : (v : Value) (f : List ℕ) (p : List (List ℕ)) → in_dir v (f �
 parents value.Absent f [] = refl
 parents value.Reg f [] = refl
 parents (value.Link b) f [] = refl
-parents value.Other f [] = refl
+parents (value.Special s) f [] = refl
 parents (value.Dir es) f [] = refl
 parents value.Absent f (g ∷ p) = nothing_within (g ∷ p)
 parents value.Reg f (g ∷ p) = nothing_within (g ∷ p)
 parents (value.Link b) f (g ∷ p) = nothing_within (g ∷ p)
-parents value.Other f (g ∷ p) = nothing_within (g ∷ p)
+parents (value.Special s) f (g ∷ p) = nothing_within (g ∷ p)
 parents (value.Dir es) f (g ∷ p) = parents (entry (value.Dir es) f) g p

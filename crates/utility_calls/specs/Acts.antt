@@ -9,12 +9,12 @@ use Rattle.feature_trees.specs.declared.value.Value.{Value}
 use Rattle.feature_trees.specs.declared.value.Value.TheVariants as value
 use Rattle.feature_trees.specs.declared.kind.Kind.{Kind}
 use Rattle.feature_trees.specs.declared.kind.Kind.TheVariants as kind
-use Rattle.feature_trees.specs.Kinds.{has, but, three}
+use Rattle.feature_trees.specs.Kinds.{has, but}
 use Rattle.feature_trees.specs.Tree.{entry, at, entries_of, kind_of, put}
 use Rattle.utility_calls.specs.declared.acts.Act.{Act}
-use Rattle.utility_calls.specs.declared.acts.Act.TheVariants.{Exists, IsReg, IsDir, IsLink, CanRun, MakeDir}
-use Rattle.utility_calls.specs.declared.acts.Act.TheVariants.{EnsureDir, RemoveDir, Remove, Touch, Symlink, Move}
-use Rattle.utility_calls.specs.declared.acts.Act.TheVariants.{PlaceFile, PlaceLink, PlaceConf, Discard, DiscardDir}
+use Rattle.utility_calls.specs.declared.acts.Act.TheVariants.{Exists, IsReg, IsDir, IsLink, CanRun, IsSpecial}
+use Rattle.utility_calls.specs.declared.acts.Act.TheVariants.{MakeDir, EnsureDir, RemoveDir, Remove, Touch, Symlink}
+use Rattle.utility_calls.specs.declared.acts.Act.TheVariants.{Move, PlaceFile, PlaceLink, PlaceConf, Discard, DiscardDir}
 use Rattle.utility_calls.specs.declared.sights.Sight.{Sight}
 use Rattle.utility_calls.specs.declared.sights.Effect.{Effect}
 use Rattle.utility_calls.specs.declared.sights.Effect.TheVariants.{Nothing, MakesDir, KeepsDir, MakesFile, MakesLink}
@@ -31,6 +31,7 @@ path_of (IsReg p) = p
 path_of (IsDir p) = p
 path_of (IsLink p) = p
 path_of (CanRun p) = p
+path_of (IsSpecial p kind) = p
 path_of (MakeDir p) = p
 path_of (EnsureDir p) = p
 path_of (RemoveDir p) = p
@@ -127,7 +128,7 @@ abbrev pub by_way : Option ℕ → Row → Row
 by_way None row = row
 by_way (Some n) row = link_row n
 
--- the row where a slash stands behind a file, a link or another thing
+-- the row where a slash stands behind a file, a link or a special file
 abbrev pub slash_row : Row
 slash_row = record { number = 64; answer = done.Stopped reason.Slash; effect = Nothing }
 
@@ -137,7 +138,7 @@ by_slash false k row = row
 by_slash true kind.Absent row = row
 by_slash true kind.Reg row = slash_row
 by_slash true kind.Link row = slash_row
-by_slash true kind.Other row = slash_row
+by_slash true (kind.Special s) row = slash_row
 by_slash true kind.Dir row = row
 
 -- what an act sees on a tree
@@ -180,6 +181,7 @@ is_question (IsReg p) = true
 is_question (IsDir p) = true
 is_question (IsLink p) = true
 is_question (CanRun p) = true
+is_question (IsSpecial p kind) = true
 is_question act = false
 
 -- the names of what is moved, where something is, differ from these

@@ -5,11 +5,13 @@ use Rattle.std.specs.Str.{bytes_eq}
 use Rattle.std.specs.List.{list_any}
 use Rattle.script_names.specs.declared.path.PathFault.{PathFault}
 use Rattle.script_names.specs.declared.reason.Reason.TheVariants as reason
+use Rattle.feature_trees.specs.declared.kind.Special.{Special}
+use Rattle.feature_trees.specs.declared.kind.Special.TheVariants.{Fifo, Socket, Block, Char}
 use Rattle.script_names.specs.Paths.{PathParts, is_filled, path_fault, path_of}
 use Rattle.utility_calls.specs.declared.fault.CallFault.{CallFault}
 use Rattle.utility_calls.specs.declared.fault.CallFault.TheVariants as fault
 use Rattle.utility_calls.specs.declared.acts.Act.{Act}
-use Rattle.utility_calls.specs.declared.acts.Act.TheVariants.{Exists, IsReg, IsDir, IsLink, CanRun}
+use Rattle.utility_calls.specs.declared.acts.Act.TheVariants.{Exists, IsReg, IsDir, IsLink, CanRun, IsSpecial}
 use Rattle.utility_calls.specs.declared.planned.Planned.{Planned}
 use Rattle.utility_calls.specs.declared.planned.Planned.TheVariants.{Known, Ask, Print, Change, Unspecified}
 use Rattle.utility_calls.specs.declared.questions.Question.{Question}
@@ -24,6 +26,20 @@ negated (Print text) = Print text
 negated (Change acts) = Change acts
 negated (Unspecified why) = Unspecified why
 
+-- the special kind of which an operator asks
+abbrev pub special_of : List ℕ → Option Special
+special_of op =
+    if bytes_eq op (codes "-p") then Some Fifo
+    else (if bytes_eq op (codes "-S") then Some Socket
+    else (if bytes_eq op (codes "-b") then Some Block
+    else (if bytes_eq op (codes "-c") then Some Char
+    else None)))
+
+-- the question whether something is of a special kind, where there is one
+abbrev pub special_question : Option Special → Option Question
+special_question None = None
+special_question (Some kind) = Some (question.IsSpecial kind)
+
 -- what an operator of one path asks
 abbrev pub question_of : List ℕ → Option Question
 question_of op =
@@ -32,7 +48,7 @@ question_of op =
     else (if bytes_eq op (codes "-d") then Some question.IsDir
     else (if bytes_eq op (codes "-h") || bytes_eq op (codes "-L") then Some question.IsLink
     else (if bytes_eq op (codes "-x") then Some question.CanRun
-    else None))))
+    else special_question (special_of op)))))
 
 -- the act that asks it of a path
 abbrev pub asking : Question → PathParts → Act
@@ -41,6 +57,7 @@ asking question.IsReg path = IsReg path
 asking question.IsDir path = IsDir path
 asking question.IsLink path = IsLink path
 asking question.CanRun path = CanRun path
+asking (question.IsSpecial kind) path = IsSpecial path kind
 
 -- what a plan is for a word that spells no path
 abbrev pub FaultPlan : CallFault → Planned → Type 0

@@ -1,18 +1,20 @@
 -- The table of the acts: for each act its rows, with number, condition, answer and effect (POSIX.1-2017, XCU; a link
 -- is followed nowhere). Below 64 a row is for a link on the way; row 64 is for a slash behind a file, a link or
--- another thing.
+-- a special file.
 use Rattle.std.specs.Prelude.{ℕ, Bool, true, false, ◌&&◌, List, [], ◌∷◌, Option, Some, None, if◌then◌else◌}
 use Rattle.script_names.specs.declared.reason.Reason.TheVariants as reason
 use Rattle.script_names.specs.declared.reason.Done.{Done}
 use Rattle.script_names.specs.declared.reason.Done.TheVariants.{Ok, Failed, Stopped}
 use Rattle.feature_trees.specs.declared.kind.Kind.{Kind}
-use Rattle.feature_trees.specs.declared.kind.Kind.TheVariants.{Absent, Reg, Link, Other, Dir}
+use Rattle.feature_trees.specs.declared.kind.Kind.TheVariants.{Absent, Reg, Link, Dir}
+use Rattle.feature_trees.specs.declared.kind.Kind.TheVariants as kind
+use Rattle.feature_trees.specs.declared.kind.Special.{Special}
 use Rattle.feature_trees.specs.declared.kind.Kinds.{Kinds}
-use Rattle.feature_trees.specs.Kinds.{has, of, but, two, three}
+use Rattle.feature_trees.specs.Kinds.{has, of, but, both, either, two, special}
 use Rattle.utility_calls.specs.declared.acts.Act.{Act}
-use Rattle.utility_calls.specs.declared.acts.Act.TheVariants.{Exists, IsReg, IsDir, IsLink, CanRun, MakeDir}
-use Rattle.utility_calls.specs.declared.acts.Act.TheVariants.{EnsureDir, RemoveDir, Remove, Touch, Symlink, Move}
-use Rattle.utility_calls.specs.declared.acts.Act.TheVariants.{PlaceFile, PlaceLink, PlaceConf, Discard, DiscardDir}
+use Rattle.utility_calls.specs.declared.acts.Act.TheVariants.{Exists, IsReg, IsDir, IsLink, CanRun, IsSpecial}
+use Rattle.utility_calls.specs.declared.acts.Act.TheVariants.{MakeDir, EnsureDir, RemoveDir, Remove, Touch, Symlink}
+use Rattle.utility_calls.specs.declared.acts.Act.TheVariants.{Move, PlaceFile, PlaceLink, PlaceConf, Discard, DiscardDir}
 use Rattle.utility_calls.specs.declared.sights.Sight.{Sight}
 use Rattle.utility_calls.specs.declared.sights.Effect.{Effect}
 use Rattle.utility_calls.specs.declared.sights.Effect.TheVariants.{Nothing, MakesDir, KeepsDir, MakesFile, MakesLink}
@@ -42,6 +44,18 @@ abbrev pub does_from : ℕ → Kinds → Where → Effect → Rule
 does_from n source place effect =
     record { number = n; source = Some source; place = place; answer = Ok; effect = effect }
 
+-- anything that is there
+abbrev pub some : Kinds
+some = but Absent
+
+-- a regular file, or one of the four special kinds
+abbrev pub file : Kinds
+file = either (of Reg) special
+
+-- what is there and no directory
+abbrev pub no_dir : Kinds
+no_dir = either (of Link) file
+
 -- where an act does not follow a link
 abbrev pub stop : Done
 stop = Stopped reason.Link
@@ -55,14 +69,14 @@ abbrev pub exists_rules : List Rule
 exists_rules =
     stops
     ∷ leaves 66 (Is (of Absent)) Failed
-    ∷ leaves 67 (Is (three Reg Other Dir)) Ok
+    ∷ leaves 67 (Is (either file (of Dir))) Ok
     ∷ []
 
 -- `test -f`
 abbrev pub is_reg_rules : List Rule
 is_reg_rules =
     stops
-    ∷ leaves 66 (Is (three Absent Other Dir)) Failed
+    ∷ leaves 66 (Is (either special (two Absent Dir))) Failed
     ∷ leaves 67 (Is (of Reg)) Ok
     ∷ []
 
@@ -70,7 +84,7 @@ is_reg_rules =
 abbrev pub is_dir_rules : List Rule
 is_dir_rules =
     stops
-    ∷ leaves 66 (Is (three Absent Reg Other)) Failed
+    ∷ leaves 66 (Is (either (of Absent) file)) Failed
     ∷ leaves 67 (Is (of Dir)) Ok
     ∷ []
 
@@ -87,7 +101,15 @@ can_run_rules =
     stops
     ∷ leaves 66 (Is (of Absent)) Failed
     ∷ leaves 67 (Is (of Dir)) Ok
-    ∷ leaves 68 (Is (two Reg Other)) (Stopped reason.Run)
+    ∷ leaves 68 (Is file) (Stopped reason.Run)
+    ∷ []
+
+-- `test -p`, `-S`, `-b` and `-c`, each for its special kind
+abbrev pub is_special_rules : Special → List Rule
+is_special_rules s =
+    stops
+    ∷ leaves 66 (Is (both (but Link) (but (kind.Special s)))) Failed
+    ∷ leaves 67 (Is (of (kind.Special s))) Ok
     ∷ []
 
 -- `mkdir`
@@ -103,7 +125,7 @@ abbrev pub ensure_dir_rules : List Rule
 ensure_dir_rules =
     stops
     ∷ leaves 66 Outside Failed
-    ∷ leaves 67 (Is (two Reg Other)) Failed
+    ∷ leaves 67 (Is file) Failed
     ∷ does 68 (Inside (two Absent Dir)) KeepsDir
     ∷ []
 
@@ -120,7 +142,7 @@ abbrev pub remove_rules : List Rule
 remove_rules =
     leaves 66 (Is (of Absent)) Failed
     ∷ leaves 67 (Is (of Dir)) Failed
-    ∷ does 68 (Is (three Reg Link Other)) TakesAway
+    ∷ does 68 (Is no_dir) TakesAway
     ∷ []
 
 -- `rm -r`
@@ -151,7 +173,7 @@ touch_rules =
     stops
     ∷ leaves 66 Outside Failed
     ∷ does 67 (Inside (two Absent Reg)) MakesFile
-    ∷ leaves 68 (Is (two Other Dir)) Ok
+    ∷ leaves 68 (Is (either special (of Dir))) Ok
     ∷ []
 
 -- a regular file of a package is placed
@@ -176,7 +198,7 @@ place_conf_rules =
     leaves 66 Outside Failed
     ∷ leaves 67 (Is (of Dir)) Failed
     ∷ does 68 (Inside (two Absent Reg)) MakesFile
-    ∷ leaves 69 (Is (two Link Other)) (Stopped reason.Conffile)
+    ∷ leaves 69 (Is (either (of Link) special)) (Stopped reason.Conffile)
     ∷ []
 
 -- what is no directory is discarded
@@ -200,7 +222,7 @@ abbrev pub symlink_rules : List Rule
 symlink_rules =
     stops
     ∷ leaves 66 Outside Failed
-    ∷ leaves 67 (Is (two Reg Other)) Failed
+    ∷ leaves 67 (Is file) Failed
     ∷ does 68 (Inside (of Absent)) MakesLink
     ∷ leaves 70 (Into (but Absent)) Failed
     ∷ does 71 (Into (of Absent)) LinksInside
@@ -211,7 +233,7 @@ abbrev pub symlink_force_rules : List Rule
 symlink_force_rules =
     stops
     ∷ leaves 66 Outside Failed
-    ∷ does 69 (Inside (three Absent Reg Other)) MakesLink
+    ∷ does 69 (Inside (either (of Absent) file)) MakesLink
     ∷ leaves 72 (Into (of Dir)) Failed
     ∷ does 73 (Into (but Dir)) LinksInside
     ∷ []
@@ -222,18 +244,6 @@ move_below_rules =
     stops
     ∷ leaves 66 (Is (but Link)) Failed
     ∷ []
-
--- what may be moved: anything that is there
-abbrev pub some : Kinds
-some = but Absent
-
--- what is there and no directory
-abbrev pub no_dir : Kinds
-no_dir = three Reg Link Other
-
--- a file, or another thing
-abbrev pub file : Kinds
-file = two Reg Other
 
 -- `mv` to another path; W is what stands there under the moved path's last name
 abbrev pub move_rules : List Rule
@@ -281,6 +291,7 @@ rules below (IsReg p) = is_reg_rules
 rules below (IsDir p) = is_dir_rules
 rules below (IsLink p) = is_link_rules
 rules below (CanRun p) = can_run_rules
+rules below (IsSpecial p kind) = is_special_rules kind
 rules below (MakeDir p) = make_dir_rules
 rules below (EnsureDir p) = ensure_dir_rules
 rules below (RemoveDir p) = remove_dir_rules

@@ -2,7 +2,7 @@
 use Rattle.std.specs.Prelude.{◌≡◌, ◌≢◌, ℕ, suc, ◌<◌, Bool, false, List, [], ◌∷◌, Option, Some, None, length, take}
 use Rattle.feature_trees.specs.declared.value.Value.{Value}
 use Rattle.feature_trees.specs.declared.kind.Kind.{Kind}
-use Rattle.feature_trees.specs.declared.kind.Kind.TheVariants.{Absent, Reg, Link, Other, Dir}
+use Rattle.feature_trees.specs.declared.kind.Kind.TheVariants.{Absent, Reg, Link, Special, Dir}
 use Rattle.feature_trees.specs.Tree.{entry, at, kind_of, is_dir, has_parents}
 
 -- this count where a link stands, else what comes later on the way
@@ -10,7 +10,7 @@ abbrev pub at_link : Kind → ℕ → Option ℕ → Option ℕ
 at_link Absent count later = later
 at_link Reg count later = later
 at_link Link count later = Some count
-at_link Other count later = later
+at_link (Special s) count later = later
 at_link Dir count later = later
 
 -- how many names the first strict prefix of a path has at which a link stands, where there is one; `count` names lead

@@ -1,6 +1,7 @@
 ghost use Rattle.std.specs.Prelude.{◌≡◌, IfOk};
-ghost use Rattle.utility_calls.specs.declared.acts.Act.TheVariants.{Remove, Symlink, Move, PlaceLink};
+ghost use Rattle.utility_calls.specs.declared.acts.Act.TheVariants.{IsSpecial, Remove, Symlink, Move, PlaceLink};
 
+use feature_trees::Special;
 use script_names::{Bytes, Copied, Memory, Name, Path};
 use std::alloc::Global;
 
@@ -18,6 +19,11 @@ pub enum Act {
     IsLink(Path),
     /// `test -x`: whether what stands at the path may be run or searched.
     CanRun(Path),
+    /// `test -p`, `-S`, `-b`, `-c`: whether what stands at the path is of this special kind.
+    IsSpecial {
+        p: Path,
+        kind: Special,
+    },
     /// `mkdir`: makes an empty directory at the path.
     MakeDir(Path),
     /// One step of `mkdir -p`: makes a directory at the path unless one stands there.
@@ -34,7 +40,7 @@ pub enum Act {
     /// `touch`: makes an empty regular file at the path unless something stands there.
     Touch(Path),
     /// `ln -s`: makes a symbolic link with this target at the path, or where a directory stands there, in it under the
-    /// target's last name; with `force` also in place of a file or another thing, and in a directory of a link.
+    /// target's last name; with `force` also in place of a file or a special file, and in a directory of a link.
     Symlink {
         p: Path,
         target: Bytes,
@@ -69,6 +75,7 @@ impl Copied for Act {
             Act::IsDir(p) => Ok(Act::IsDir(p.copy(alloc)?)),
             Act::IsLink(p) => Ok(Act::IsLink(p.copy(alloc)?)),
             Act::CanRun(p) => Ok(Act::CanRun(p.copy(alloc)?)),
+            Act::IsSpecial { p, kind } => copy_is_special(alloc, p, *kind),
             Act::MakeDir(p) => Ok(Act::MakeDir(p.copy(alloc)?)),
             Act::EnsureDir(p) => Ok(Act::EnsureDir(p.copy(alloc)?)),
             Act::RemoveDir(p) => Ok(Act::RemoveDir(p.copy(alloc)?)),
@@ -88,6 +95,14 @@ impl Copied for Act {
             Act::DiscardDir(p) => Ok(Act::DiscardDir(p.copy(alloc)?)),
         }
     }
+}
+
+// The question of a copy of the path.
+fn copy_is_special(alloc: Global, p: &Path, kind: Special) -> Result<Act, Memory>
+    ensures { IfOk result (λ act. act ≡ IsSpecial p.now kind) }
+{
+    let p = p.copy(alloc)?;
+    Ok(Act::IsSpecial { p, kind })
 }
 
 // `rm` of a copy of the path.

@@ -1,4 +1,4 @@
-ghost use Rattle.std.specs.Prelude.{◌≡◌, None, IfOk};
+ghost use Rattle.std.specs.Prelude.{◌≡◌, ◌++◌, ◌∷◌, [], None, IfOk};
 ghost use Rattle.std.specs.Str.{bytes_eq};
 ghost use Rattle.script_names.specs.Paths.{path_of as path_spelled, path_fault, spelled_names};
 ghost use Rattle.utility_calls.specs.Gives.{Gives};
@@ -91,31 +91,47 @@ fn not_full(path: Path) -> Result<Path, CallFault>
     }
 }
 
+// Whether names are those of a path, with this one behind them.
+fn is_in(target: &[Name], path: &[Name], last: &Name) -> bool
+    ensures { result ≡ same_names target.now (path.now ++ last.now ∷ []) }
+{
+    let mut left = target;
+    let mut right = path;
+    while let [g, more @ ..] = right {
+        match left {
+            [] => return false,
+            [f, rest @ ..] => {
+                if !same_name(f, g) {
+                    return false;
+                }
+                left = rest;
+                right = more;
+            }
+        }
+    }
+    match left {
+        [] => false,
+        [f, rest @ ..] => same_name(f, last) && rest.is_empty(),
+    }
+}
+
 // Whether a target that is read from the root on is this path, or stands in it under the target's last name.
 fn reaches(alloc: Global, target: &[u8], path: &Path, last: &Name) -> Result<bool, Memory>
     ensures { IfOk result (λ yes.
         yes ≡ reaches (path_fault target.now) (spelled_names target.now) path.now.names last.now) }
 {
     match Path::read(alloc, target) {
-        Ok(read) => same_or_below(alloc, &read, path, last),
+        Ok(read) => Ok(same_or_below(&read, path, last)),
         Err(PathFault::Memory) => Err(Memory),
         Err(_) => Ok(false),
     }
 }
 
 // Whether a path is this one, or stands in it under the name.
-fn same_or_below(alloc: Global, target: &Path, path: &Path, last: &Name) -> Result<bool, Memory>
-    ensures { IfOk result (λ yes. yes ≡ reaches None target.now.names path.now.names last.now) }
+fn same_or_below(target: &Path, path: &Path, last: &Name) -> bool
+    ensures { result ≡ reaches None target.now.names path.now.names last.now }
 {
-    if same_names(target.names(), path.names()) {
-        return Ok(true);
-    }
-    match path.join(alloc, last) {
-        Ok(below) => Ok(same_names(target.names(), below.names())),
-        // nothing stands below a path of 64 names
-        Err(PathFault::Many) => Ok(false),
-        Err(_) => Err(Memory),
-    }
+    same_names(target.names(), path.names()) || is_in(target.names(), path.names(), last)
 }
 
 // The path, unless a link that is put there with `-f` would be its own target.

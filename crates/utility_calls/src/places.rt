@@ -16,7 +16,8 @@ impl Act {
         match self {
             Act::Exists(p) | Act::IsReg(p) | Act::IsDir(p) | Act::IsLink(p) | Act::CanRun(p) => p,
             Act::MakeDir(p) | Act::EnsureDir(p) | Act::RemoveDir(p) | Act::Touch(p) => p,
-            Act::Remove { p, .. } | Act::Symlink { p, .. } | Act::PlaceLink { p, .. } => p,
+            Act::IsSpecial { p, .. } | Act::Remove { p, .. } => p,
+            Act::Symlink { p, .. } | Act::PlaceLink { p, .. } => p,
             Act::Move { a, .. } => a,
             Act::PlaceFile(p) | Act::PlaceConf(p) | Act::Discard(p) | Act::DiscardDir(p) => p,
         }
@@ -29,7 +30,8 @@ impl Act {
         match self {
             Act::Exists(p) | Act::IsReg(p) | Act::IsDir(p) | Act::IsLink(p) | Act::CanRun(p) => p,
             Act::MakeDir(p) | Act::EnsureDir(p) | Act::RemoveDir(p) | Act::Touch(p) => p,
-            Act::Remove { p, .. } | Act::Symlink { p, .. } | Act::PlaceLink { p, .. } => p,
+            Act::IsSpecial { p, .. } | Act::Remove { p, .. } => p,
+            Act::Symlink { p, .. } | Act::PlaceLink { p, .. } => p,
             Act::Move { b, .. } => b,
             Act::PlaceFile(p) | Act::PlaceConf(p) | Act::Discard(p) | Act::DiscardDir(p) => p,
         }
@@ -45,7 +47,7 @@ impl Act {
             Act::Exists(_) | Act::IsReg(_) | Act::IsDir(_) | Act::IsLink(_) | Act::CanRun(_) =>
                 None,
             Act::MakeDir(_) | Act::EnsureDir(_) | Act::RemoveDir(_) | Act::Touch(_) => None,
-            Act::Remove { .. } | Act::PlaceLink { .. } => None,
+            Act::IsSpecial { .. } | Act::Remove { .. } | Act::PlaceLink { .. } => None,
             Act::PlaceFile(_) | Act::PlaceConf(_) | Act::Discard(_) | Act::DiscardDir(_) => None,
         }
     }
@@ -63,7 +65,7 @@ impl Act {
             Act::MakeDir(_) | Act::EnsureDir(_) | Act::RemoveDir(_) | Act::Touch(_) => Ok(
                 Bytes::new(alloc),
             ),
-            Act::Remove { .. } | Act::Move { .. } => Ok(Bytes::new(alloc)),
+            Act::IsSpecial { .. } | Act::Remove { .. } | Act::Move { .. } => Ok(Bytes::new(alloc)),
             Act::PlaceFile(_) | Act::PlaceConf(_) | Act::Discard(_) | Act::DiscardDir(_) => Ok(
                 Bytes::new(alloc),
             ),
@@ -79,7 +81,8 @@ impl Act {
             Act::Exists(_) | Act::IsReg(_) | Act::IsDir(_) | Act::IsLink(_) | Act::CanRun(_) =>
                 None,
             Act::MakeDir(_) | Act::EnsureDir(_) | Act::RemoveDir(_) | Act::Touch(_) => None,
-            Act::Remove { .. } | Act::Symlink { .. } | Act::PlaceLink { .. } => None,
+            Act::IsSpecial { .. } | Act::Remove { .. } => None,
+            Act::Symlink { .. } | Act::PlaceLink { .. } => None,
             Act::PlaceFile(_) | Act::PlaceConf(_) | Act::Discard(_) | Act::DiscardDir(_) => None,
         }
     }
@@ -124,6 +127,7 @@ impl Act {
         match self {
             Act::Exists(_) | Act::IsReg(_) | Act::IsDir(_) | Act::IsLink(_) | Act::CanRun(_) =>
                 true,
+            Act::IsSpecial { .. } => true,
             Act::MakeDir(_) | Act::EnsureDir(_) | Act::RemoveDir(_) | Act::Touch(_) => false,
             Act::Remove { .. } | Act::Symlink { .. } | Act::PlaceLink { .. } | Act::Move { .. } =>
                 false,

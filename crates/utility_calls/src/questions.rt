@@ -1,8 +1,8 @@
 ghost use Rattle.std.specs.Prelude.{◌≡◌, Some, IfOk};
 ghost use Rattle.std.specs.Str.{bytes_eq};
 ghost use Rattle.std.specs.List.{list_any};
-ghost use Rattle.utility_calls.specs.Questions.{negated, question_of, asking, ask, is_not, test_one, test_two};
-ghost use Rattle.utility_calls.specs.Questions.{test_three, test_four, test_call, bracket_call};
+ghost use Rattle.utility_calls.specs.Questions.{negated, special_of, question_of, asking, ask, is_not, test_one};
+ghost use Rattle.utility_calls.specs.Questions.{test_two, test_three, test_four, test_call, bracket_call};
 ghost use Rattle.utility_calls.specs.Questions.{number_operators, file_operators, text_operators, is_other_operator};
 ghost use Rattle.utility_calls.specs.Questions.{FaultPlan};
 
@@ -10,6 +10,7 @@ use crate::acts::Act;
 use crate::fault::CallFault;
 use crate::operands::call_fault;
 use crate::planned::Planned;
+use feature_trees::Special;
 use script_names::{Bytes, Memory, Path, Reason};
 use std::alloc::Global;
 
@@ -21,6 +22,7 @@ pub enum Question {
     IsDir,
     IsLink,
     CanRun,
+    IsSpecial(Special),
 }
 
 // The opposite answer.
@@ -37,6 +39,25 @@ fn negated(planned: Planned) -> Planned
         Planned::Change(acts) => Planned::Change(acts),
         Planned::Unspecified(why) => Planned::Unspecified(why),
     }
+}
+
+// The special kind of which an operator asks.
+fn special_of(op: &[u8]) -> Option<Special>
+    ensures { result ≡ special_of op.now }
+{
+    if op == b"-p".as_slice() {
+        return Some(Special::Fifo);
+    }
+    if op == b"-S".as_slice() {
+        return Some(Special::Socket);
+    }
+    if op == b"-b".as_slice() {
+        return Some(Special::Block);
+    }
+    if op == b"-c".as_slice() {
+        return Some(Special::Char);
+    }
+    None
 }
 
 // What an operator of one path asks.
@@ -58,7 +79,10 @@ fn question_of(op: &[u8]) -> Option<Question>
     if op == b"-x".as_slice() {
         return Some(Question::CanRun);
     }
-    None
+    match special_of(op) {
+        Some(kind) => Some(Question::IsSpecial(kind)),
+        None => None,
+    }
 }
 
 // The act that asks it of a path.
@@ -71,6 +95,7 @@ fn asking(question: Question, path: Path) -> Act
         Question::IsDir => Act::IsDir(path),
         Question::IsLink => Act::IsLink(path),
         Question::CanRun => Act::CanRun(path),
+        Question::IsSpecial(kind) => Act::IsSpecial { p: path, kind },
     }
 }
 

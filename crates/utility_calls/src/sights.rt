@@ -188,7 +188,7 @@ impl Row {
         }
     }
 
-    /// The row of a slash behind a file, a link or another thing.
+    /// The row of a slash behind a file, a link or a special file.
     pub fn of_slash() -> Row
         ensures { result ≡ slash_row }
     {

@@ -1,5 +1,5 @@
 ghost use Rattle.std.specs.Prelude.{◌≡◌};
-ghost use Rattle.utility_calls.specs.Table.{first_row, rules, remove_by, symlink_by, move_by};
+ghost use Rattle.utility_calls.specs.Table.{first_row, rules, is_special_rules, remove_by, symlink_by, move_by};
 
 use crate::acts::Act;
 use crate::sights::Effect::{
@@ -9,7 +9,7 @@ use crate::sights::Where::{
     Anything, Empty, Full, Inside, Into, IntoEmpty, IntoFull, Is, Outside, Within,
 };
 use crate::sights::{Effect, Row, Rule, Sight};
-use feature_trees::{Kind, Kinds};
+use feature_trees::{Kind, Kinds, Special};
 use script_names::Done::{Failed, Stopped};
 use script_names::{Done, Reason};
 
@@ -18,9 +18,14 @@ macro_rules! kinds {
     ($($kind:ident)+) => { Kinds { $($kind: true,)+ ..Kinds::NONE } };
 }
 
-// All kinds but one.
+// The set of these kinds, and of the four special ones.
+macro_rules! special {
+    ($($kind:ident)*) => { Kinds { $($kind: true,)* ..Kinds::SPECIAL } };
+}
+
+// All kinds but these.
 macro_rules! but {
-    ($kind:ident) => { Kinds { $kind: false, ..Kinds::ALL } };
+    ($($kind:ident)+) => { Kinds { $($kind: false,)+ ..Kinds::ALL } };
 }
 
 // A row that changes nothing.
@@ -75,6 +80,16 @@ macro_rules! does_from {
     };
 }
 
+// The rows of the question whether something is of a special kind.
+macro_rules! special_rows {
+    ($kind:ident) => {
+        &[
+            STOPS, leaves!(66, Is(but!(link $kind)), Failed),
+            leaves!(67, Is(kinds!($kind)), Done::Ok),
+        ]
+    };
+}
+
 const ABSENT: Kinds = kinds!(absent);
 
 const REG: Kinds = kinds!(reg);
@@ -86,11 +101,11 @@ const DIR: Kinds = kinds!(dir);
 // Anything that is there.
 const SOME: Kinds = but!(absent);
 
-// What is there and no directory.
-const NO_DIR: Kinds = kinds!(reg link other);
+// A regular file, or one of the four special kinds.
+const FILE: Kinds = special!(reg);
 
-// A file, or another thing.
-const FILE: Kinds = kinds!(reg other);
+// What is there and no directory.
+const NO_DIR: Kinds = special!(reg link);
 
 // Where an act does not follow a link.
 const STOP: Done = Done::Stopped(Reason::Link);
@@ -102,20 +117,20 @@ const STOPS: Rule = leaves!(65, Is(LINK), STOP);
 const EXISTS: &[Rule] = &[
     STOPS,
     leaves!(66, Is(ABSENT), Failed),
-    leaves!(67, Is(kinds!(reg other dir)), Done::Ok),
+    leaves!(67, Is(special!(reg dir)), Done::Ok),
 ];
 
 // The rows of `test -f`.
 const IS_REG: &[Rule] = &[
     STOPS,
-    leaves!(66, Is(kinds!(absent other dir)), Failed),
+    leaves!(66, Is(special!(absent dir)), Failed),
     leaves!(67, Is(REG), Done::Ok),
 ];
 
 // The rows of `test -d`.
 const IS_DIR: &[Rule] = &[
     STOPS,
-    leaves!(66, Is(kinds!(absent reg other)), Failed),
+    leaves!(66, Is(special!(absent reg)), Failed),
     leaves!(67, Is(DIR), Done::Ok),
 ];
 
@@ -132,6 +147,18 @@ const CAN_RUN: &[Rule] = &[
     leaves!(67, Is(DIR), Done::Ok),
     leaves!(68, Is(FILE), Stopped(Reason::Run)),
 ];
+
+// The rows of `test -p`.
+const IS_FIFO: &[Rule] = special_rows!(fifo);
+
+// The rows of `test -S`.
+const IS_SOCKET: &[Rule] = special_rows!(socket);
+
+// The rows of `test -b`.
+const IS_BLOCK: &[Rule] = special_rows!(block);
+
+// The rows of `test -c`.
+const IS_CHAR: &[Rule] = special_rows!(char);
 
 // The rows of `mkdir`.
 const MAKE_DIR: &[Rule] = &[
@@ -183,7 +210,7 @@ const TOUCH: &[Rule] = &[
     STOPS,
     leaves!(66, Outside, Failed),
     does!(67, Inside(kinds!(absent reg)), MakesFile),
-    leaves!(68, Is(kinds!(other dir)), Done::Ok),
+    leaves!(68, Is(special!(dir)), Done::Ok),
 ];
 
 // The rows of a regular file of a package that is placed.
@@ -205,7 +232,7 @@ const PLACE_CONF: &[Rule] = &[
     leaves!(66, Outside, Failed),
     leaves!(67, Is(DIR), Failed),
     does!(68, Inside(kinds!(absent reg)), MakesFile),
-    leaves!(69, Is(kinds!(link other)), Stopped(Reason::Conffile)),
+    leaves!(69, Is(special!(link)), Stopped(Reason::Conffile)),
 ];
 
 // The rows of what is discarded unless it is a directory.
@@ -236,7 +263,7 @@ const SYMLINK: &[Rule] = &[
 const SYMLINK_FORCE: &[Rule] = &[
     STOPS,
     leaves!(66, Outside, Failed),
-    does!(69, Inside(kinds!(absent reg other)), MakesLink),
+    does!(69, Inside(special!(absent reg)), MakesLink),
     leaves!(72, Into(DIR), Failed),
     does!(73, Into(but!(dir)), LinksInside),
 ];
@@ -264,6 +291,18 @@ const MOVE: &[Rule] = &[
     leaves_from!(80, LINK, Into(NO_DIR), Stopped(Reason::Same)),
     leaves_from!(81, FILE, Into(LINK), Stopped(Reason::Same)),
 ];
+
+// The rows of the question whether something is of a special kind.
+fn is_special(kind: Special) -> &'static [Rule]
+    ensures { result.now ≡ is_special_rules kind }
+{
+    match kind {
+        Special::Fifo => IS_FIFO,
+        Special::Socket => IS_SOCKET,
+        Special::Block => IS_BLOCK,
+        Special::Char => IS_CHAR,
+    }
+}
 
 // The rows of `rm` by its options.
 fn remove_by(force: bool, deep: bool) -> &'static [Rule]
@@ -318,6 +357,7 @@ impl Act {
             Act::IsDir(_) => IS_DIR,
             Act::IsLink(_) => IS_LINK,
             Act::CanRun(_) => CAN_RUN,
+            Act::IsSpecial { p: _, kind } => is_special(*kind),
             Act::MakeDir(_) => MAKE_DIR,
             Act::EnsureDir(_) => ENSURE_DIR,
             Act::RemoveDir(_) => REMOVE_DIR,

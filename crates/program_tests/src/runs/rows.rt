@@ -502,3 +502,29 @@ end success%trace 3:10:67%turns 100%after%d /srv%f /srv/a%
 100 d /srv%
 touch /srv/a >&2 2>/dev/null </dev/null%
 end success%trace 3:10:67%turns 100%after%d /srv%f /srv/a%"#;
+
+// Pipes, sockets and devices.
+pub const SPECIAL: &str = r#"100 d /srv%s /srv/a%
+[ -S /srv/a ] && rm /srv/a%
+end success%trace 3:10:67 3:27:68%turns 100%after%d /srv%
+100 d /srv%b /srv/a%
+[ -S /srv/a ] || test -b /srv/a%
+end success%trace 3:10:66 3:27:67%turns 100%after%d /srv%b /srv/a%
+100 d /srv%l /srv/a x%
+test -p /srv/a%
+end stopped link 3:10%trace 3:10:65%turns 100%after%d /srv%l /srv/a x%
+100 d /srv%
+test -p /srv/a%
+end failure%trace 3:10:66%turns 100%after%d /srv%
+100 d /srv%p /srv/a%
+test -p /srv/a%
+end success%trace 3:10:67%turns 100%after%d /srv%p /srv/a%
+100 d /srv%o /srv/a%
+test -p /srv/a%
+end success%trace 3:10:67%turns 100%after%d /srv%p /srv/a%
+100 d /srv%c /srv/a%
+! test -c /srv/a%
+end failure%trace 3:12:67%turns 100%after%d /srv%c /srv/a%
+100 d /srv%c /srv/a%
+test -c ""%
+end failure%trace%turns 100%after%d /srv%c /srv/a%"#;

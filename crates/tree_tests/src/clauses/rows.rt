@@ -5,15 +5,26 @@ clause start v4294967295 now v0|
 clause start v0 now v2|entry v0 a\x20b v12|kind v12 reg,dir|fence v1 {bin,\x7b\x2c\x7d}|notempty v3|target v4 \e|
 clause start v0 now v2|similar v2 {etc} v0|entry v2 etc v1|
 clause start v0 now v0|kind v4294967295 -|
-clause start v0 now v0|kind v1 absent|kind v1 reg|kind v1 link|kind v1 other|kind v1 dir|
-clause start v0 now v0|kind v1 absent,other|kind v1 absent,reg,link,other,dir|
+clause start v0 now v0|kind v1 absent|kind v1 reg|kind v1 link|kind v1 fifo|kind v1 socket|kind v1 block|kind v1 char|kind v1 dir|
+clause start v0 now v0|kind v1 absent,fifo,socket,block,char|kind v1 absent,reg,link,fifo,socket,block,char,dir|
+clause start v0 now v0|kind v1 reg,socket|kind v1 fifo,char,dir|kind v1 link,fifo,socket,block|kind v1 socket,block|
 clause start v0 now v0|fence v1 {}|fence v1 {a}|fence v1 {b,a}|fence v1 {a,a}|
 clause start v0 now v0|similar v1 {} v0|similar v1 {b,a,b} v0|
 clause start v0 now v0|target v1 ..|target v1 /a/b|target v1 \x00\x5c\xff|
 clause start v0 now v0|entry v0 ... v1|entry v0 \xff v1|entry v0 - v0|
 clause start v0 now v0|notempty v0|notempty v0|kind v0 dir|";
 
-// Texts that no clause has, each with the reason.
+// Texts with the word for all four special kinds, and the text that each clause has.
+pub(super) const OLDER: &str =
+    r"clause start v0 now v0|kind v1 other| -> clause start v0 now v0|kind v1 fifo,socket,block,char|
+clause start v0 now v0|kind v1 absent,other| -> clause start v0 now v0|kind v1 absent,fifo,socket,block,char|
+clause start v0 now v0|kind v1 other,dir| -> clause start v0 now v0|kind v1 fifo,socket,block,char,dir|
+clause start v0 now v0|kind v1 link,other,dir| -> clause start v0 now v0|kind v1 link,fifo,socket,block,char,dir|
+clause start v0 now v0|kind v1 absent,reg,link,other,dir| -> clause start v0 now v0|kind v1 absent,reg,link,fifo,socket,block,char,dir|
+clause start v0 now v0|kind v1 reg,other|kind v2 fifo| -> clause start v0 now v0|kind v1 reg,fifo,socket,block,char|kind v2 fifo|
+clause start v0 now v0|kind v1 socket,char|entry v0 other v1|kind v2 other| -> clause start v0 now v0|kind v1 socket,char|entry v0 other v1|kind v2 fifo,socket,block,char|";
+
+// Texts that tell no clause, each with the reason.
 pub(super) const REFUSED: &str = r" ## no bytes
 | ## an empty line
 clause start v0 now v0 ## no newline at the end
@@ -55,6 +66,26 @@ clause start v0 now v0|kind v0| ## no kinds
 clause start v0 now v0|kind v0 dir,reg| ## kinds in another order
 clause start v0 now v0|kind v0 reg,reg| ## a kind twice
 clause start v0 now v0|kind v0 file| ## no such kind
+clause start v0 now v0|kind v0 special| ## no such kind
+clause start v0 now v0|kind v0 pipe| ## no such kind
+clause start v0 now v0|kind v0 Fifo| ## a capital letter
+clause start v0 now v0|kind v0 socket,fifo| ## kinds in another order
+clause start v0 now v0|kind v0 char,block| ## kinds in another order
+clause start v0 now v0|kind v0 fifo,link| ## kinds in another order
+clause start v0 now v0|kind v0 dir,char| ## kinds in another order
+clause start v0 now v0|kind v0 block,block| ## a kind twice
+clause start v0 now v0|kind v0 other,fifo| ## the word for the four and one of them
+clause start v0 now v0|kind v0 fifo,other| ## the word for the four and one of them
+clause start v0 now v0|kind v0 link,other,socket,dir| ## the word for the four and one of them
+clause start v0 now v0|kind v0 other,block| ## the word for the four and one of them
+clause start v0 now v0|kind v0 other,char| ## the word for the four and one of them
+clause start v0 now v0|kind v0 char,other,dir| ## the word for the four and one of them
+clause start v0 now v0|kind v0 other,fifo,socket,block,char| ## the word for the four and each of them
+clause start v0 now v0|kind v0 other,other| ## the word for the four twice
+clause start v0 now v0|kind v0 other,link| ## kinds in another order
+clause start v0 now v0|kind v0 dir,other| ## kinds in another order
+clause start v0 now v0|kind v0 -,other| ## no kinds and the word for the four
+clause start v0 now v0|kind v0 Other| ## a capital letter
 clause start v0 now v0|kind v0 Dir| ## a capital letter
 clause start v0 now v0|kind v0 reg,| ## a comma at the end
 clause start v0 now v0|kind v0 ,reg| ## a comma in front
@@ -128,12 +159,22 @@ apart v0 now v0|entry v0 a v1|kind v1 reg| on d /a|
 apart v0 now v0|entry v0 a v1|kind v1 reg| on f /b|
 covered v0 now v0|entry v0 a v1|kind v1 absent| on 
 covered v0 now v0|entry v0 a v1|kind v1 absent| on f /b|
-apart v0 now v0|entry v0 a v1|kind v1 absent| on o /a|
+apart v0 now v0|entry v0 a v1|kind v1 absent| on c /a|
 covered v0 now v0|entry v0 a v1|kind v1 absent,dir| on 
 covered v0 now v0|entry v0 a v1|kind v1 absent,dir| on d /a|
 apart v0 now v0|entry v0 a v1|kind v1 -| on 
 apart v0 now v0|entry v0 a v1|kind v1 -| on f /a|
 covered v0 now v0|entry v0 a v1|entry v1 b v2|kind v2 other| on d /a|o /a/b|
+covered v0 now v0|entry v0 a v1|entry v1 b v2|kind v2 other| on d /a|s /a/b|
+covered v0 now v0|entry v0 a v1|entry v1 b v2|kind v2 fifo| on d /a|p /a/b|
+covered v0 now v0|entry v0 a v1|entry v1 b v2|kind v2 fifo| on d /a|o /a/b|
+apart v0 now v0|entry v0 a v1|entry v1 b v2|kind v2 fifo| on d /a|s /a/b|
+covered v0 now v0|entry v0 a v1|entry v1 b v2|kind v2 block,char| on d /a|c /a/b|
+apart v0 now v0|entry v0 a v1|entry v1 b v2|kind v2 block,char| on d /a|p /a/b|
+covered v0 now v0|entry v0 a v1|kind v1 other|entry v0 b v2|kind v2 fifo| on b /a|p /b|
+apart v0 now v0|entry v0 a v1|kind v1 other|entry v0 b v2|kind v2 fifo| on p /a|b /b|
+covered v0 now v0|entry v0 a v1|entry v0 b v1| on b /a|b /b|
+apart v0 now v0|entry v0 a v1|entry v0 b v1| on b /a|c /b|
 apart v0 now v0|entry v0 a v1|entry v1 b v2|kind v2 other| on f /a|
 apart v0 now v0|entry v0 a v1|entry v1 b v2|kind v2 other| on d /a|f /a/b|
 covered v0 now v1|entry v0 a v1| on d /a|
@@ -248,6 +289,7 @@ apart v7 now v9|entry v7 a v3|kind v3 dir|similar v9 {b} v7|entry v9 b v3| on f 
 unsolved v0 now v0|kind v1 reg,dir| on f /a|
 unsolved v0 now v0|kind v1 link| on f /a|
 unsolved v0 now v0|kind v1 other| on f /a|
+unsolved v0 now v0|kind v1 socket| on f /a|
 unsolved v0 now v0|kind v1 -| on f /a|
 unsolved v0 now v0|kind v1 dir| on f /a|
 unsolved v0 now v0|kind v1 dir|fence v1 {a}| on f /a|
