@@ -1,6 +1,9 @@
 -- A file that was looked for by its name, and what its content came to.
-use Rattle.std.proofs.Common.{◌≡◌, ℕ, List, length, Bool, true, false, nat_lt, Option, Some, None, Result, Ok, Err, IfOk, inl, inr, refl, sym, ap, subst, ◌∙◌}
+use Rattle.std.proofs.Common.{◌≡◌, ◌≤◌, ℕ, List, length, Bool, true, false, nat_lt, Option, Some, None, Result, Ok, Err, IfOk, IfSome, inl, inr, refl, sym, ap, subst, ◌∙◌, arith}
+use Rattle.std.proofs.lemmas.Bool.{ltb-false}
 use Rattle.script_names.specs.declared.memory.Memory.{Memory}
+use Rattle.package_lists.specs.Entries.{EntryParts}
+use Rattle.package_lists.specs.FileLists.{MOST_ENTRIES}
 use Rattle.checker_io.specs.Reading.{Answers, Asks, Comes, Gives, Leads, Reads, Within, content, if_longer}
 use Rattle.checker_io.specs.Shelf.{Files, ShelfState}
 use Rattle.checker_io.specs.declared.stop.Stop.{Stop}
@@ -11,6 +14,7 @@ use Rattle.checker_input.specs.declared.faults.FileFault.TheVariants.{TooLong}
 use Rattle.checker_input.specs.declared.faults.InputRefusal.{InputRefusal}
 use Rattle.checker_input.specs.declared.read_file.Found.{Found}
 use Rattle.checker_input.specs.declared.read_file.TheConstants.{MAX_FILE}
+use Rattle.checker_input.specs.Lines.{AreFew}
 use Rattle.checker_input.specs.Input.{FileFound, OfFile, ReadsInput, of_file, one_file, refused}
 
 -- ---- a content that was read without its name
@@ -124,3 +128,44 @@ module _ {A : Type 0} (P : A → Type 0) (name : List ℕ) where
   pub good_file : (came : Result (Result A FileFault) Memory) (result : Result A (Stop (List ℕ) InputRefusal))
       → IfOk came (λ found. IfOk found P) → result ≡ of_file name came → IfOk result P
   good_file came result good same = subst (λ r. IfOk r P) (sym same) (ends_good came good)
+
+-- ---- a list of files, whose content is short
+
+abbrev IsShort : Option (List ℕ) → Type 0
+IsShort found = IfSome found (λ bytes. length bytes ≤ MAX_FILE)
+
+module _ (name : List ℕ) (s t : ShelfState) where
+  longer_short : (b : Bool) (bytes : List ℕ) (value : Option (List ℕ)) → nat_lt MAX_FILE (length bytes) ≡ b
+      → if_longer b (refused name TooLong) (IsContent MAX_FILE (refused name TooLong) (Some bytes)) (Ok value) → IsShort value
+  longer_short true bytes value e is = absurd (not_both MAX_FILE (refused name TooLong) value (refused name TooLong) is)
+  longer_short false bytes value e is =
+      let same : value ≡ Some bytes = cc in
+      subst IsShort (sym same) (ltb-false MAX_FILE (length bytes) e)
+
+  within_short : (at value : Option (List ℕ))
+      → Within MAX_FILE (refused name TooLong) (IsContent MAX_FILE (refused name TooLong)) at (Ok value) → IsShort value
+  within_short None value is = let same : value ≡ None = cc in subst IsShort (sym same) tt
+  within_short (Some bytes) value is = longer_short (nat_lt MAX_FILE (length bytes)) bytes value refl is
+
+  led_short : (at found : Option (List ℕ))
+      → Leads {A = Option (List ℕ)} (Within MAX_FILE (refused name TooLong) (IsContent MAX_FILE (refused name TooLong)) at)
+      (λ value. ◌≡◌ {A = Result (Option (List ℕ)) InputRefusal} (Ok value) (Ok found)) (Ok found)
+      → IsShort found
+  led_short at found (inl h) =
+      let same : h.0 ≡ found = cc in
+      subst IsShort same (within_short at h.0 h.1)
+  led_short at found (inr h) = absurd (not_both MAX_FILE (refused name TooLong) found h.0 h.2)
+
+  found_short : (found : Found) → FileFound name s t (Ok found) → IsShort found.content
+  found_short found is = led_short is.1.ends.1.may.0 found.content is.1.ends.1.may.1
+
+  few_short : (content : Option (List ℕ)) (entries : List EntryParts) → AreFew content entries → IsShort content → length entries ≤ MOST_ENTRIES
+  few_short None entries few short = absurd few
+  few_short (Some text) entries few short = omega (arith, few, short)
+
+  -- the entries that the list of a package comes to
+  pub entries_few : (found : Found) (came : Result (Result (List EntryParts) FileFault) Memory) (entries : List EntryParts)
+      → FileFound name s t (Ok found) → IfOk came (λ came. IfOk came (AreFew found.content)) → Ok entries ≡ of_file found.name came
+      → length entries ≤ MOST_ENTRIES
+  entries_few found came entries is few same =
+      few_short found.content entries (good_file (AreFew found.content) found.name came (Ok entries) few same) (found_short found is)

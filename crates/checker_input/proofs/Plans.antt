@@ -4,12 +4,12 @@ use Rattle.checker_io.specs.Reading.{done, and_then}
 use Rattle.command_words.specs.declared.request.Layout.{Layout}
 use Rattle.dpkg_scenarios.specs.declared.scenario.Scenario.{Scenario}
 use Rattle.dpkg_scenarios.specs.declared.scenario.ScriptKind.TheVariants.{Postinst, Prerm, Postrm}
+use Rattle.dpkg_scenarios.specs.declared.scripts.Scripts.{Scripts}
 use Rattle.system_base.specs.declared.base.Base.{Base}
 use Rattle.package_lists.specs.Entries.{EntryParts}
 use Rattle.shell_syntax.specs.declared.script.Script.{Script}
 use Rattle.checker_input.specs.declared.package.Package.{Package}
 use Rattle.checker_input.specs.declared.package.Packages.{Packages}
-use Rattle.checker_input.specs.declared.package.Scripts.{Scripts}
 use Rattle.checker_input.specs.declared.task.Task.{Task}
 use Rattle.checker_input.specs.declared.task.Task.TheVariants as task
 use Rattle.feature_trees.specs.declared.value.Value.{Value}
@@ -17,19 +17,19 @@ use Rattle.checker_input.specs.Input.{Input, script_in, scripts_in, list_in, con
 
 -- ---- what follows each file of a package
 
-abbrev pub after_postrm : Option Script → Option Script → Option Script → Option Script → Input Scripts
+abbrev pub after_postrm : Option Script → Option Script → Option Script → Option Script → Input (Scripts Script)
 after_postrm preinst postinst prerm postrm = done (Ok (record { preinst = preinst; postinst = postinst; prerm = prerm; postrm = postrm }))
 
-abbrev pub after_prerm : List ℕ → Option Script → Option Script → Option Script → Input Scripts
+abbrev pub after_prerm : List ℕ → Option Script → Option Script → Option Script → Input (Scripts Script)
 after_prerm folder preinst postinst prerm = and_then (script_in folder Postrm) (after_postrm preinst postinst prerm)
 
-abbrev pub after_postinst : List ℕ → Option Script → Option Script → Input Scripts
+abbrev pub after_postinst : List ℕ → Option Script → Option Script → Input (Scripts Script)
 after_postinst folder preinst postinst = and_then (script_in folder Prerm) (after_prerm folder preinst postinst)
 
-abbrev pub after_preinst : List ℕ → Option Script → Input Scripts
+abbrev pub after_preinst : List ℕ → Option Script → Input (Scripts Script)
 after_preinst folder preinst = and_then (script_in folder Postinst) (after_postinst folder preinst)
 
-abbrev pub after_scripts : List ℕ → List EntryParts → Scripts → Input Package
+abbrev pub after_scripts : List ℕ → List EntryParts → Scripts Script → Input Package
 after_scripts version entries scripts = done (Ok (record { version = version; entries = entries; scripts = scripts }))
 
 abbrev pub after_conffiles : List ℕ → List ℕ → List EntryParts → Input Package

@@ -11,6 +11,7 @@ use Rattle.command_words.specs.declared.request.Request.{Request}
 use Rattle.command_words.specs.declared.request.Request.TheVariants as request
 use Rattle.dpkg_scenarios.specs.declared.scenario.ScriptKind.{ScriptKind}
 use Rattle.dpkg_scenarios.specs.declared.scenario.ScriptKind.TheVariants.{Preinst, Postinst, Prerm, Postrm}
+use Rattle.dpkg_scenarios.specs.declared.scripts.Scripts.{Scripts}
 use Rattle.dpkg_scenarios.specs.Names.{script_name}
 use Rattle.feature_trees.specs.declared.value.Value.{Value}
 use Rattle.feature_trees.specs.Sound.{IsTree}
@@ -29,7 +30,6 @@ use Rattle.checker_input.specs.declared.names.PackageFile.{PackageFile}
 use Rattle.checker_input.specs.declared.names.PackageFile.TheVariants as of_package
 use Rattle.checker_input.specs.declared.package.Package.{Package}
 use Rattle.checker_input.specs.declared.package.Packages.{Packages}
-use Rattle.checker_input.specs.declared.package.Scripts.{Scripts}
 use Rattle.checker_input.specs.declared.read_file.Found.{Found}
 use Rattle.checker_input.specs.declared.read_file.TheConstants.{MAX_FILE}
 use Rattle.checker_input.specs.declared.task.Task.{Task}
@@ -123,7 +123,7 @@ unfoldable pub script_in : List ℕ → ScriptKind → Input (Option Script)
 script_in folder kind = one_file (file_in folder (of_package.Script kind)) ScriptComes
 
 -- the scripts of a package, in this order
-unfoldable pub scripts_in : List ℕ → Input Scripts
+unfoldable pub scripts_in : List ℕ → Input (Scripts Script)
 scripts_in folder =
     and_then (script_in folder Preinst) (λ preinst. and_then (script_in folder Postinst) (λ postinst.
     and_then (script_in folder Prerm) (λ prerm. and_then (script_in folder Postrm) (λ postrm.

@@ -15,6 +15,6 @@ mod understand;
 
 pub use faults::{FileFault, InputRefusal};
 pub use input::read_task;
-pub use package::{Package, Packages, Scripts};
+pub use package::{Package, Packages};
 pub use script::{ScriptFault, read_script};
 pub use task::Task;

@@ -1,39 +1,16 @@
-use package_lists::Entry;
-use script_names::{Bytes, Copied, List, Memory, Slot};
+use dpkg_scenarios::Scripts;
+use package_lists::FileList;
+use script_names::{Bytes, Copied, Memory};
 use shell_forms::Accepted;
 use std::alloc::Global;
 use system_base::Base;
-
-/// The maintainer scripts of a package, those that it has (Debian Policy, 6.1).
-#[derive(Drop)]
-pub struct Scripts {
-    pub preinst: Slot<Accepted>,
-    pub postinst: Slot<Accepted>,
-    pub prerm: Slot<Accepted>,
-    pub postrm: Slot<Accepted>,
-}
-
-impl Copied for Scripts {
-    fn copy(&self, alloc: Global) -> Result<Scripts, Memory> {
-        let preinst = self.preinst.copy(alloc)?;
-        let postinst = self.postinst.copy(alloc)?;
-        let prerm = self.prerm.copy(alloc)?;
-        let postrm = self.postrm.copy(alloc)?;
-        Ok(Scripts {
-            preinst,
-            postinst,
-            prerm,
-            postrm,
-        })
-    }
-}
 
 /// A package: its version, what it lists, and its scripts.
 #[derive(Drop)]
 pub struct Package {
     pub version: Bytes,
-    pub entries: List<Entry>,
-    pub scripts: Scripts,
+    pub entries: FileList,
+    pub scripts: Scripts<Accepted>,
 }
 
 impl Copied for Package {

@@ -3,13 +3,13 @@ ghost use Rattle.checker_input.specs.Input.{package_in};
 
 use crate::faults::InputRefusal;
 use crate::names::PackageFile;
-use crate::package::{Package, Scripts};
+use crate::package::Package;
 use crate::read_file::{of_file, read_own};
 use crate::understand::{control_version, list_entries, marked_entries, package_script};
 use checker_io::{Shelf, Stop};
-use dpkg_scenarios::ScriptKind;
-use package_lists::Entry;
-use script_names::{Bytes, List, Slot, Text};
+use dpkg_scenarios::{ScriptKind, Scripts};
+use package_lists::FileList;
+use script_names::{Bytes, Slot, Text};
 use shell_forms::Accepted;
 use std::alloc::Global;
 
@@ -34,7 +34,7 @@ fn read_entries<S: Shelf>(
     alloc: Global,
     folder: &Text,
     shelf: &mut S,
-) -> Result<List<Entry>, Stop<Text, InputRefusal>>
+) -> Result<FileList, Stop<Text, InputRefusal>>
     ensures { ReadsInput (S.state shelf.old) (S.state shelf.new) (list_in folder.now) result }
 {
     let found = match read_own(alloc, folder, PackageFile::List, shelf) {
@@ -42,16 +42,19 @@ fn read_entries<S: Shelf>(
         Err(stop) => return Err(stop),
     };
     let came = list_entries(alloc, &found.content);
-    of_file(found.name, came)
+    match of_file(found.name, came) {
+        Ok(entries) => Ok(FileList::new(entries)),
+        Err(stop) => Err(stop),
+    }
 }
 
 // The files of a package with its configuration files, from the list of these.
 fn mark_conffiles<S: Shelf>(
     alloc: Global,
     folder: &Text,
-    entries: List<Entry>,
+    entries: FileList,
     shelf: &mut S,
-) -> Result<List<Entry>, Stop<Text, InputRefusal>>
+) -> Result<FileList, Stop<Text, InputRefusal>>
     ensures { ReadsInput (S.state shelf.old) (S.state shelf.new)
         (conffiles_in folder.now entries) result }
 {
@@ -85,7 +88,7 @@ fn read_scripts<S: Shelf>(
     alloc: Global,
     folder: &Text,
     shelf: &mut S,
-) -> Result<Scripts, Stop<Text, InputRefusal>>
+) -> Result<Scripts<Accepted>, Stop<Text, InputRefusal>>
     ensures { ReadsInput (S.state shelf.old) (S.state shelf.new) (scripts_in folder.now) result }
 {
     let preinst = match read_script(alloc, folder, ScriptKind::Preinst, shelf) {

@@ -4,11 +4,12 @@ ghost use Rattle.std.specs.Prelude.{IfOk};
 ghost use Rattle.feature_trees.specs.Sound.{IsTree};
 ghost use Rattle.checker_input.specs.Input.{ControlComes, ListComes, ConffilesCome, ScriptComes, BaseComes};
 ghost use Rattle.checker_input.specs.Input.{StartComes, TranslatedComes};
+ghost use Rattle.checker_input.specs.Lines.{AreFew};
 
 use crate::faults::FileFault;
 use crate::script::read_script;
 use feature_trees::{TreeFault, Value, read_tree};
-use package_lists::{Entry, LineFault, read_conffiles, read_control, read_list};
+use package_lists::{Entry, FileList, LineFault, read_conffiles, read_control, read_list};
 use script_names::{Bytes, List, Memory, Slot};
 use shell_forms::Accepted;
 use std::alloc::Global;
@@ -34,12 +35,13 @@ pub fn control_version(
     }
 }
 
-/// The entries of a list of files, which has to be there.
+/// The entries of a list of files, which has to be there; no more than it has bytes.
 pub fn list_entries(
     alloc: Global,
     list: &Option<Bytes>,
 ) -> Result<Result<List<Entry>, FileFault>, Memory>
-    ensures { IfOk result (ListComes list.now) }
+    ensures comes { IfOk result (ListComes list.now) }
+    ensures few { IfOk result (λ came. IfOk came (AreFew list.now)) }
 {
     match list {
         None => Ok(Err(FileFault::Missing)),
@@ -55,16 +57,16 @@ pub fn list_entries(
 pub fn marked_entries(
     alloc: Global,
     conffiles: &Option<Bytes>,
-    entries: List<Entry>,
-) -> Result<Result<List<Entry>, FileFault>, Memory>
+    entries: FileList,
+) -> Result<Result<FileList, FileFault>, Memory>
     ensures { IfOk result (ConffilesCome entries conffiles.now) }
 {
     match conffiles {
         None => Ok(Ok(entries)),
         Some(text) => {
-            let mut marked = entries;
+            let mut marked = entries.into_list();
             match read_conffiles(alloc, text.as_slice(), &mut marked) {
-                Ok(()) => Ok(Ok(marked)),
+                Ok(()) => Ok(Ok(FileList::new(marked))),
                 Err(LineFault::Line { line, why }) => { Ok(Err(FileFault::Line { line, why })) }
                 Err(LineFault::Memory) => Err(Memory),
             }

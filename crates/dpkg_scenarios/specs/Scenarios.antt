@@ -2,7 +2,7 @@
 -- success and what on failure; and beside its steps a record for each scenario. To be read beside Debian Policy, 6.5
 -- (the calls), 6.6 (unpacking, and its unwinding), 6.7 (configuring) and 6.8 (removing and purging), which has the
 -- order of the scripts and their first words; the further words, and the states at the end, are this project's own.
-use Rattle.std.specs.Prelude.{ℕ, Bool, true, false, List, [], ◌∷◌, codes, if◌then◌else◌}
+use Rattle.std.specs.Prelude.{ℕ, Bool, List, [], ◌∷◌, codes, if◌then◌else◌}
 use Rattle.script_names.specs.declared.reason.Reason.TheVariants.{Restore}
 use Rattle.dpkg_scenarios.specs.declared.columns.Before.{Before}
 use Rattle.dpkg_scenarios.specs.declared.columns.Before.TheVariants as before
@@ -18,6 +18,7 @@ use Rattle.dpkg_scenarios.specs.declared.scenario.State.TheVariants.{Installed, 
 use Rattle.dpkg_scenarios.specs.declared.scenario.State.TheVariants.{ConfigFiles, NotInstalled}
 use Rattle.dpkg_scenarios.specs.declared.scenario.ScriptKind.{ScriptKind}
 use Rattle.dpkg_scenarios.specs.declared.scenario.ScriptKind.TheVariants.{Preinst, Postinst, Prerm, Postrm}
+use Rattle.dpkg_scenarios.specs.declared.scenario.Side.TheVariants.{New, Old}
 use Rattle.dpkg_scenarios.specs.declared.scenario.Ending.TheVariants as ending
 use Rattle.dpkg_scenarios.specs.declared.scenario.StepWork.{StepWork}
 use Rattle.dpkg_scenarios.specs.declared.scenario.StepWork.TheVariants.{Script, Unpack, RemoveFiles}
@@ -45,12 +46,12 @@ pub record Step : Type 0 where
 -- a script of the new package is called
 abbrev pub new : ℕ → ScriptKind → Words → Follows → Follows → Step
 new n script words ok failed =
-    record { number = n; work = Script false script; words = words; ok = ok; failed = failed }
+    record { number = n; work = Script New script; words = words; ok = ok; failed = failed }
 
 -- a script of the old package is called
 abbrev pub old : ℕ → ScriptKind → Words → Follows → Follows → Step
 old n script words ok failed =
-    record { number = n; work = Script true script; words = words; ok = ok; failed = failed }
+    record { number = n; work = Script Old script; words = words; ok = ok; failed = failed }
 
 -- files are placed, which can fail
 abbrev pub places : ℕ → StepWork → Follows → Follows → Step

@@ -40,6 +40,13 @@ pub enum ScriptKind {
     Postrm,
 }
 
+/// Which of the two packages of a scenario: the checked one, or the old one, which was there before it.
+#[derive(Clone, Copy, Debug, PartialEq, Eq)]
+pub enum Side {
+    New,
+    Old,
+}
+
 /// How a scenario ends: in a state, with success or with failure, or without one, where nothing is specified or no turn
 /// is left.
 #[derive(Clone, Copy, Debug, PartialEq, Eq)]
@@ -53,8 +60,8 @@ pub enum Ending {
 /// What is done in a step.
 #[derive(Clone, Copy, Debug, PartialEq, Eq)]
 pub enum StepWork {
-    /// A script of the checked package is called, or where `old` is set, of the old one.
-    Script { old: bool, script: ScriptKind },
+    /// A script of one of the packages is called.
+    Script { side: Side, script: ScriptKind },
     /// The files of the checked package are put in place.
     Unpack,
     /// The files of the checked package are taken away, without its configuration files.
@@ -86,6 +93,12 @@ impl Copied for State {
 
 impl Copied for ScriptKind {
     fn copy(&self, _alloc: Global) -> Result<ScriptKind, Memory> {
+        Ok(*self)
+    }
+}
+
+impl Copied for Side {
+    fn copy(&self, _alloc: Global) -> Result<Side, Memory> {
         Ok(*self)
     }
 }

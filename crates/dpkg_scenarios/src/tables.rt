@@ -7,7 +7,7 @@ use crate::scenario::ScriptKind::{Postinst, Postrm, Preinst, Prerm};
 use crate::scenario::State::{
     ConfigFiles, HalfConfigured, HalfInstalled, Installed, NotInstalled, Unpacked,
 };
-use crate::scenario::{Scenario, ScriptKind, State, StepWork};
+use crate::scenario::{Scenario, ScriptKind, Side, State, StepWork};
 use crate::tables::Then::{Done, Failed, Go, Removed, RestoreAct, RestoreCall};
 use crate::tables::Verb::{
     AbortInstall, AbortRemove, AbortUpgrade, Configure, FailedUpgrade, Install, Purge, Remove,
@@ -69,11 +69,14 @@ pub struct Line {
 
 // A script of the new package is called.
 fn new(script: ScriptKind, verb: Verb, versions: Versions, ok: Then, failed: Then) -> Line
-    ensures { let work = StepWork.Script false script in
+    ensures { let work = StepWork.Script Side.New script in
         result ≡ record { work = work; spoken = Spoken.Call verb versions; ok = ok; failed = failed } }
 {
     Line {
-        work: StepWork::Script { old: false, script },
+        work: StepWork::Script {
+            side: Side::New,
+            script,
+        },
         spoken: Spoken::Call(verb, versions),
         ok,
         failed,
@@ -82,11 +85,14 @@ fn new(script: ScriptKind, verb: Verb, versions: Versions, ok: Then, failed: The
 
 // A script of the old package is called.
 fn old(script: ScriptKind, verb: Verb, versions: Versions, ok: Then, failed: Then) -> Line
-    ensures { let work = StepWork.Script true script in
+    ensures { let work = StepWork.Script Side.Old script in
         result ≡ record { work = work; spoken = Spoken.Call verb versions; ok = ok; failed = failed } }
 {
     Line {
-        work: StepWork::Script { old: true, script },
+        work: StepWork::Script {
+            side: Side::Old,
+            script,
+        },
         spoken: Spoken::Call(verb, versions),
         ok,
         failed,

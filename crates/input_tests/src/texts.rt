@@ -4,7 +4,8 @@
 //! configuration file and l for a link; in front of a path that the base knows d for a directory, f for a file, a for
 //! nothing and n for no directory. Behind its paths stand `fits` and `own` where it says so, and the stated calls.
 
-use checker_input::{Package, Packages, Scripts, Task};
+use checker_input::{Package, Packages, Task};
+use dpkg_scenarios::Scripts;
 use feature_trees::{Kind, Kinds, put_tree};
 use package_lists::{Entry, EntryKind};
 use script_names::{Bytes, Memory, Path, Slot};
@@ -45,7 +46,7 @@ fn script_letter(script: &Slot<Accepted>) -> u8 {
     }
 }
 
-fn put_scripts(text: &mut Bytes, scripts: &Scripts) -> Result<(), Memory> {
+fn put_scripts(text: &mut Bytes, scripts: &Scripts<Accepted>) -> Result<(), Memory> {
     text.extend(&[
         script_letter(&scripts.preinst),
         script_letter(&scripts.postinst),

@@ -4,7 +4,7 @@ use checker_input::{Packages, Task, read_task};
 use checker_io::MemShelf;
 use command_words::{Request, read_words};
 use dpkg_scenarios::Scenario;
-use feature_trees::{Kind, Kinds, Value};
+use feature_trees::{Kind, Kinds, Special, Value};
 use outcome_report::{Report, make_part};
 use package_jobs::{job_of, needs_of};
 use report_text::{render_brief, render_run};
@@ -60,7 +60,10 @@ const LETTERS: &[(Kind, u8)] = &[
     (Kind::Absent, b'A'),
     (Kind::Reg, b'R'),
     (Kind::Link, b'L'),
-    (Kind::Other, b'O'),
+    (Kind::Special(Special::Fifo), b'F'),
+    (Kind::Special(Special::Socket), b'S'),
+    (Kind::Special(Special::Block), b'B'),
+    (Kind::Special(Special::Char), b'C'),
     (Kind::Dir, b'D'),
 ];
 
@@ -121,7 +124,7 @@ fn ran(
             let replayed = run(alloc, &job, tree)?;
             render_run(alloc, &replayed)
         }
-        _ => Err(Memory),
+        Value::Absent | Value::Reg | Value::Link(_) | Value::Special(_) => Err(Memory),
     }
 }
 
@@ -139,7 +142,7 @@ fn copied_run(alloc: Global, job: &Job, tree: &Value) -> Result<Bytes, Memory> {
             let replayed = run(alloc, &copy, tree)?;
             copied_text(alloc, &replayed)
         }
-        _ => Err(Memory),
+        Value::Absent | Value::Reg | Value::Link(_) | Value::Special(_) => Err(Memory),
     }
 }
 

@@ -28,7 +28,7 @@ const ROWS: &[(Scenario, &[u8], &str)] = &[
         Scenario::Purge,
         b"dir /etc\nfits\n",
         "\
-colis brief 1
+colis brief 2
 scenario purge outcomes 3
 outcome 1 done Not-Installed
 trace 2:0:67 4:0:68 4:1:67
@@ -43,7 +43,7 @@ verdict 0
         Scenario::Purge,
         b"dir /etc\nfits\nown\n",
         "\
-colis brief 1
+colis brief 2
 scenario purge outcomes 2
 outcome 1 done Not-Installed
 trace 2:0:67 4:0:68 4:1:68
@@ -56,7 +56,7 @@ verdict 0
         Scenario::Purge,
         b"dir /etc\nfile /etc/foo/a.conf\nown\n",
         "\
-colis brief 1
+colis brief 2
 scenario purge outcomes 1
 outcome 1 done Not-Installed
 trace 2:0:67 4:0:68 4:1:68
@@ -68,7 +68,7 @@ verdict 0
         Scenario::Purge,
         b"dir /etc\ndir /etc/foo\nown\n",
         "\
-colis brief 1
+colis brief 2
 scenario purge outcomes 1
 outcome 1 done Not-Installed
 trace 4:0:68
@@ -116,7 +116,7 @@ fn forty_folders_are_removed_in_one_way(rt: HostRuntime) -> Result<(), Fail> {
         begins(
             &text,
             "\
-colis brief 1
+colis brief 2
 scenario remove outcomes 1
 outcome 1 done Not-Installed
 "

@@ -2,7 +2,7 @@
 //! D takes something away and X an empty directory. The package lists `PACKAGE`, of which `/etc/foo/a.conf` is a
 //! configuration file, and the base is the usual one.
 
-use dpkg_scenarios::{Scenario, ScriptKind, StepWork};
+use dpkg_scenarios::{Scenario, ScriptKind, Side, StepWork};
 use package_jobs::file_acts;
 use package_lists::{Entry, LineFault, read_conffiles, read_list};
 use script_names::{Bytes, List, Memory, Path};
@@ -69,7 +69,7 @@ const ACTS: &[(Scenario, StepWork, &[u8], &[u8], &[u8])] = &[
     (
         Scenario::Purge,
         StepWork::Script {
-            old: false,
+            side: Side::New,
             script: ScriptKind::Prerm,
         },
         b"",

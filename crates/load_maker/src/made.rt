@@ -4,8 +4,10 @@ ghost use Rattle.load_maker.specs.Loaded.{IsLoaded};
 
 use crate::reading::accepted;
 use crate::script_text::load_text;
-use checker_input::{Package, Scripts};
-use script_names::{Bytes, List, Memory, Slot};
+use checker_input::Package;
+use dpkg_scenarios::Scripts;
+use package_lists::FileList;
+use script_names::{Bytes, Memory, Slot};
 use std::alloc::Global;
 
 /// The package of this number, from 1 to `MOST_LOAD`. Its version is `0`, it lists nothing, and its only script is a
@@ -20,7 +22,7 @@ pub fn load(alloc: Global, n: u16) -> Result<Package, Memory>
     let postinst = Slot::new(alloc, script)?;
     Ok(Package {
         version,
-        entries: List::new(alloc),
+        entries: FileList::empty(alloc),
         scripts: Scripts {
             preinst: Slot::empty(alloc),
             postinst,

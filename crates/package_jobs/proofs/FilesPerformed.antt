@@ -93,7 +93,7 @@ conf_done e named = either_done (is_conf e.kind) _ [] (discard e.names named) no
 
 pub acts_performed : (s : Scenario) (work : StepWork) (new old : List EntryParts) (base : Base)
     → All HasName new → All HasName old → Done (acts_of s work new old base)
-acts_performed s (Script o k) new old base n m = none_done
+acts_performed s (Script side k) new old base n m = none_done
 acts_performed s Unpack new old base n m =
     let placed = (columns_of s).conffiles in
     each_done (unpacked placed (has_at is_conf old)) (λ e named. placing_done e.names named e.kind (is_one_of placed (has_at is_conf old) (path_text e.names))) new n

@@ -1,5 +1,6 @@
 mod FileSteps
 mod FilesPerformed
+mod FilesFew
 mod NeedByNeed
 mod Plans
 mod WrittenTurns

@@ -8,7 +8,8 @@ use Rattle.feature_trees.specs.declared.value.Value.{Value}
 use Rattle.script_names.specs.Paths.{PathParts}
 use Rattle.feature_trees.specs.declared.kind.Kind.{Kind}
 use Rattle.feature_trees.specs.declared.kind.Kinds.{Kinds}
-use Rattle.feature_trees.specs.declared.kind.Kind.TheVariants.{Absent, Reg, Link, Other, Dir}
+use Rattle.feature_trees.specs.declared.kind.Kind.TheVariants.{Absent, Reg, Link, Special, Dir}
+use Rattle.feature_trees.specs.declared.kind.Special.TheVariants.{Fifo, Socket, Block, Char}
 use Rattle.feature_trees.specs.Kinds.{has, of, but, two}
 use Rattle.feature_trees.specs.Tree.{at, kind_of}
 use Rattle.start_trees.specs.declared.need.Need.{Need}
@@ -46,28 +47,40 @@ of_dir : (k : Kind) → IsTrue (has (of Dir) k) ↔ (k ≡ Dir)
 of_dir Absent = ((λ e. cc), (λ e. cc))
 of_dir Reg = ((λ e. cc), (λ e. cc))
 of_dir Link = ((λ e. cc), (λ e. cc))
-of_dir Other = ((λ e. cc), (λ e. cc))
+of_dir (Special Fifo) = ((λ e. cc), (λ e. cc))
+of_dir (Special Socket) = ((λ e. cc), (λ e. cc))
+of_dir (Special Block) = ((λ e. cc), (λ e. cc))
+of_dir (Special Char) = ((λ e. cc), (λ e. cc))
 of_dir Dir = ((λ e. refl), (λ e. refl))
 
 but_dir : (k : Kind) → IsTrue (has (but Dir) k) ↔ (k ≢ Dir)
 but_dir Absent = ((λ e f. cc), (λ e. refl))
 but_dir Reg = ((λ e f. cc), (λ e. refl))
 but_dir Link = ((λ e f. cc), (λ e. refl))
-but_dir Other = ((λ e f. cc), (λ e. refl))
+but_dir (Special Fifo) = ((λ e f. cc), (λ e. refl))
+but_dir (Special Socket) = ((λ e f. cc), (λ e. refl))
+but_dir (Special Block) = ((λ e f. cc), (λ e. refl))
+but_dir (Special Char) = ((λ e f. cc), (λ e. refl))
 but_dir Dir = ((λ e. cc), (λ e. absurd (e refl)))
 
 absent_or_dir : (k : Kind) → IsTrue (has (two Absent Dir) k) ↔ ((k ≡ Absent) ⊎ (k ≡ Dir))
 absent_or_dir Absent = ((λ e. inl refl), (λ e. refl))
 absent_or_dir Reg = ((λ e. cc), (λ s. elim s [ inl e ↦ cc | inr e ↦ cc ]))
 absent_or_dir Link = ((λ e. cc), (λ s. elim s [ inl e ↦ cc | inr e ↦ cc ]))
-absent_or_dir Other = ((λ e. cc), (λ s. elim s [ inl e ↦ cc | inr e ↦ cc ]))
+absent_or_dir (Special Fifo) = ((λ e. cc), (λ s. elim s [ inl e ↦ cc | inr e ↦ cc ]))
+absent_or_dir (Special Socket) = ((λ e. cc), (λ s. elim s [ inl e ↦ cc | inr e ↦ cc ]))
+absent_or_dir (Special Block) = ((λ e. cc), (λ s. elim s [ inl e ↦ cc | inr e ↦ cc ]))
+absent_or_dir (Special Char) = ((λ e. cc), (λ s. elim s [ inl e ↦ cc | inr e ↦ cc ]))
 absent_or_dir Dir = ((λ e. inr refl), (λ e. refl))
 
 absent_or_reg : (k : Kind) → IsTrue (has (two Absent Reg) k) ↔ ((k ≡ Absent) ⊎ (k ≡ Reg))
 absent_or_reg Absent = ((λ e. inl refl), (λ e. refl))
 absent_or_reg Reg = ((λ e. inr refl), (λ e. refl))
 absent_or_reg Link = ((λ e. cc), (λ s. elim s [ inl e ↦ cc | inr e ↦ cc ]))
-absent_or_reg Other = ((λ e. cc), (λ s. elim s [ inl e ↦ cc | inr e ↦ cc ]))
+absent_or_reg (Special Fifo) = ((λ e. cc), (λ s. elim s [ inl e ↦ cc | inr e ↦ cc ]))
+absent_or_reg (Special Socket) = ((λ e. cc), (λ s. elim s [ inl e ↦ cc | inr e ↦ cc ]))
+absent_or_reg (Special Block) = ((λ e. cc), (λ s. elim s [ inl e ↦ cc | inr e ↦ cc ]))
+absent_or_reg (Special Char) = ((λ e. cc), (λ s. elim s [ inl e ↦ cc | inr e ↦ cc ]))
 absent_or_reg Dir = ((λ e. cc), (λ s. elim s [ inl e ↦ cc | inr e ↦ cc ]))
 
 -- ---- needs

@@ -1,24 +1,26 @@
 -- The plan of a job is the written one.
-use Rattle.std.proofs.Common.{◌≡◌, ℕ, Bool, true, false, List, Option, sym, ap, subst}
+use Rattle.std.proofs.Common.{◌≡◌, ℕ, List, Option, sym, ap, subst}
 use Rattle.std.specs.Prelude.{option_map}
 use Rattle.feature_trees.specs.declared.value.Value.{Value}
 use Rattle.dpkg_scenarios.specs.declared.scenario.Scenario.{Scenario}
 use Rattle.dpkg_scenarios.specs.declared.scenario.ScriptKind.{ScriptKind}
 use Rattle.dpkg_scenarios.specs.declared.scenario.ScriptKind.TheVariants.{Preinst, Postinst, Prerm, Postrm}
+use Rattle.dpkg_scenarios.specs.declared.scenario.Side.{Side}
+use Rattle.dpkg_scenarios.specs.declared.scenario.Side.TheVariants.{New, Old}
+use Rattle.dpkg_scenarios.specs.declared.scripts.Scripts.{Scripts}
+use Rattle.dpkg_scenarios.specs.Scripts.{script_of}
 use Rattle.shell_syntax.specs.declared.script.Script.{Script}
 use Rattle.colis_syntax.specs.WellFormed.{ProgramParts}
 use Rattle.shell_to_colis.specs.Laws.{DoesTheSame}
 use Rattle.checker_input.specs.declared.package.Packages.{Packages}
-use Rattle.checker_input.specs.declared.package.Scripts as texts
-use Rattle.checker_input.specs.declared.package.Package as side
-use Rattle.scenario_runs.specs.declared.job.Scripts.{Scripts}
-use Rattle.scenario_runs.specs.declared.job.Package.{Package}
+use Rattle.checker_input.specs.declared.package.Package.{Package}
+use Rattle.scenario_runs.specs.declared.job.PackagePrograms.{PackagePrograms}
 use Rattle.scenario_runs.specs.declared.job.Job.{Job}
-use Rattle.scenario_runs.specs.Runs.{Plan, plan_of, run_of, scenario_run, program_meaning, script_of as program_of, package_of}
+use Rattle.scenario_runs.specs.Runs.{Plan, plan_of, run_of, scenario_run, program_meaning, package_of}
 use Rattle.package_jobs.specs.Made.{DoTheSame, IsMade}
 use Rattle.package_jobs.specs.Sides.{old_of}
 use Rattle.utility_calls.specs.declared.stated_call.StatedCall.{StatedCall}
-use Rattle.package_jobs.specs.Written.{script_of, side_of, script_meaning, stated_meaning, is_plain, files_of, written_plan, written_run}
+use Rattle.package_jobs.specs.Written.{side_of, script_meaning, stated_meaning, is_plain, files_of, written_plan, written_run}
 
 -- a program that does what a script does has the script's meaning
 pub meaning_same : (s : Script) (p : ProgramParts) → p.strict ≡ s.strict → DoesTheSame s p → program_meaning p ≡ script_meaning s
@@ -28,7 +30,7 @@ meaning_same s p flag same = λ i. record {
 }
 
 -- programs of each kind that do what the scripts of that kind do
-pub kinds_same : (calls : List StatedCall) (scripts : texts.Scripts) (preinst postinst prerm postrm : Option ProgramParts)
+pub kinds_same : (calls : List StatedCall) (scripts : Scripts Script) (preinst postinst prerm postrm : Option ProgramParts)
     → option_map program_meaning preinst ≡ option_map (stated_meaning calls) scripts.preinst → option_map program_meaning postinst ≡ option_map (stated_meaning calls) scripts.postinst
     → option_map program_meaning prerm ≡ option_map (stated_meaning calls) scripts.prerm → option_map program_meaning postrm ≡ option_map (stated_meaning calls) scripts.postrm
     → DoTheSame calls scripts (record { preinst = preinst; postinst = postinst; prerm = prerm; postrm = postrm })
@@ -38,17 +40,17 @@ kinds_same calls scripts a b c d e f g h Prerm = g
 kinds_same calls scripts a b c d e f g h Postrm = h
 
 -- a package with these programs in place of its scripts
-pub made_with : (calls : List StatedCall) (written : side.Package) (made : Package) (programs : Scripts)
+pub made_with : (calls : List StatedCall) (written : Package) (made : PackagePrograms) (programs : Scripts ProgramParts)
     → made.version ≡ written.version → made.scripts ≡ programs → DoTheSame calls written.scripts programs
     → IsMade calls written made
 made_with calls written made programs version scripts same =
     record { version = version; scripts = subst (DoTheSame calls written.scripts) (sym scripts) same }
 
 module _ (job : Job) (s : Scenario) (p : Packages) (turns : ℕ) where
-  scripts_same : IsMade p.base.calls p.new_package job.new_package → IsMade p.base.calls (old_of p) job.old_package → (old : Bool) (kind : ScriptKind)
-      → option_map program_meaning (program_of kind (package_of job old).scripts) ≡ option_map (stated_meaning p.base.calls) (script_of kind (side_of p old).scripts)
-  scripts_same new old true kind = old.scripts kind
-  scripts_same new old false kind = new.scripts kind
+  scripts_same : IsMade p.base.calls p.new_package job.new_package → IsMade p.base.calls (old_of p) job.old_package → (side : Side) (kind : ScriptKind)
+      → option_map program_meaning (script_of kind (package_of job side).scripts) ≡ option_map (stated_meaning p.base.calls) (script_of kind (side_of p side).scripts)
+  scripts_same new old New kind = new.scripts kind
+  scripts_same new old Old kind = old.scripts kind
 
   plan_same : job.scenario ≡ s → job.plain ≡ is_plain p.new_package → IsMade p.base.calls p.new_package job.new_package → IsMade p.base.calls (old_of p) job.old_package
       → job.files ≡ files_of s p.new_package.entries (old_of p).entries p.base → job.turns ≡ turns

@@ -11,10 +11,11 @@ use Rattle.colis_meaning.specs.Laws as programs
 use Rattle.shell_to_colis.specs.Shell.{sh_script}
 use Rattle.shell_to_colis.specs.Translated.{program_of}
 use Rattle.shell_to_colis.specs.Laws.{ProgramsDoTheSame}
+use Rattle.dpkg_scenarios.specs.Scripts.{script_of}
 use Rattle.scenario_runs.specs.Runs.{Meaning}
 use Rattle.scenario_runs.specs.Laws.{is_bound, IsSameWithMore, MoreTurnsOfPlans}
 use Rattle.stated_calls.specs.Scripts.{stated_script}
-use Rattle.package_jobs.specs.Written.{script_of, side_of, script_meaning, stated_meaning, written_plan}
+use Rattle.package_jobs.specs.Written.{side_of, script_meaning, stated_meaning, written_plan}
 use Rattle.package_jobs.specs.Laws.{MoreTurnsSameRun}
 
 -- what a script does, and what else does the same
@@ -49,6 +50,6 @@ written_same law does plans scenario packages turns more tree run is_run free =
     let each : (script : Script) → IsSameWithMore (stated_meaning calls script) = λ script. script_same law does (stated_script calls script) in
     not_bound (is_bound run.ending)
     (plans (written_plan scenario packages turns)
-    (λ old script. scripts_same (stated_meaning calls) each (script_of script (side_of packages old).scripts))
+    (λ side script. scripts_same (stated_meaning calls) each (script_of script (side_of packages side).scripts))
     more tree run is_run)
     free

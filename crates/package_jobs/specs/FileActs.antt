@@ -62,7 +62,7 @@ dir_gone base entry =
 -- list, with the configuration files of the scenario's record, taking away from its last entry to its first; a script
 -- has no acts of its own
 abbrev pub acts_of : Scenario → StepWork → List EntryParts → List EntryParts → Base → List Act
-acts_of scenario (Script old script) new before base = []
+acts_of scenario (Script side script) new before base = []
 acts_of scenario Unpack new before base =
     flat_map (unpacked (columns_of scenario).conffiles (has_at is_conf before)) new
 acts_of scenario RemoveFiles new before base = flat_map (removed (is_base base)) (reverse new)

@@ -1,26 +1,28 @@
 -- What is made of a written package, between the steps of making a job.
 use Rattle.std.specs.Prelude.{◌≡◌, List, option_map}
 use Rattle.dpkg_scenarios.specs.declared.scenario.ScriptKind.{ScriptKind}
-use Rattle.checker_input.specs.declared.package.Scripts as texts
-use Rattle.checker_input.specs.declared.package.Package as side
-use Rattle.scenario_runs.specs.declared.job.Scripts.{Scripts}
-use Rattle.scenario_runs.specs.declared.job.Package.{Package}
-use Rattle.scenario_runs.specs.Runs.{program_meaning, script_of as program_of}
+use Rattle.dpkg_scenarios.specs.declared.scripts.Scripts.{Scripts}
+use Rattle.dpkg_scenarios.specs.Scripts.{script_of}
+use Rattle.shell_syntax.specs.declared.script.Script.{Script}
+use Rattle.colis_syntax.specs.WellFormed.{ProgramParts}
+use Rattle.checker_input.specs.declared.package.Package.{Package}
+use Rattle.scenario_runs.specs.declared.job.PackagePrograms.{PackagePrograms}
+use Rattle.scenario_runs.specs.Runs.{program_meaning}
 use Rattle.utility_calls.specs.declared.stated_call.StatedCall.{StatedCall}
 use Rattle.checker_input.specs.declared.package.Packages.{Packages}
 use Rattle.package_jobs.specs.declared.programs.Programs.{Programs}
 use Rattle.package_jobs.specs.Sides.{old_of}
-use Rattle.package_jobs.specs.Written.{script_of, stated_meaning}
+use Rattle.package_jobs.specs.Written.{stated_meaning}
 
 -- each program does what the script of that kind does that is read under stated calls, and there is one exactly where
 -- there is a script
-abbrev pub DoTheSame : List StatedCall → texts.Scripts → Scripts → Type 0
+abbrev pub DoTheSame : List StatedCall → Scripts Script → Scripts ProgramParts → Type 0
 DoTheSame calls scripts programs =
     (kind : ScriptKind)
-    → option_map program_meaning (program_of kind programs) ≡ option_map (stated_meaning calls) (script_of kind scripts)
+    → option_map program_meaning (script_of kind programs) ≡ option_map (stated_meaning calls) (script_of kind scripts)
 
 -- a package with programs in place of its scripts
-pub record IsMade (calls : List StatedCall) (written : side.Package) (made : Package) : Type 0 where
+pub record IsMade (calls : List StatedCall) (written : Package) (made : PackagePrograms) : Type 0 where
   pub version : made.version ≡ written.version
   pub scripts : DoTheSame calls written.scripts made.scripts
 

@@ -1,13 +1,13 @@
 -- The run of a scenario as its packages are written: the scripts are those of the shell, read under the calls that the
 -- base states, and the acts on files are those of the packages' lists.
 use Rattle.std.specs.Prelude.{ℕ, Bool, not, ◌&&◌, List, Option, is_none, option_map}
-use Rattle.std.specs.Prelude.{if◌then◌else◌}
 use Rattle.std.specs.List.{list_any}
 use Rattle.feature_trees.specs.declared.value.Value.{Value}
 use Rattle.dpkg_scenarios.specs.declared.scenario.Scenario.{Scenario}
-use Rattle.dpkg_scenarios.specs.declared.scenario.ScriptKind.{ScriptKind}
-use Rattle.dpkg_scenarios.specs.declared.scenario.ScriptKind.TheVariants.{Preinst, Postinst, Prerm, Postrm}
+use Rattle.dpkg_scenarios.specs.declared.scenario.Side.{Side}
+use Rattle.dpkg_scenarios.specs.declared.scenario.Side.TheVariants.{New, Old}
 use Rattle.dpkg_scenarios.specs.declared.scenario.StepWork.TheVariants.{Unpack, RemoveFiles, RemoveOld, RemoveConf}
+use Rattle.dpkg_scenarios.specs.Scripts.{script_of}
 use Rattle.shell_syntax.specs.declared.script.Script.{Script}
 use Rattle.shell_to_colis.specs.Shell.{sh_script}
 use Rattle.utility_calls.specs.declared.stated_call.StatedCall.{StatedCall}
@@ -15,7 +15,6 @@ use Rattle.stated_calls.specs.Scripts.{stated_script}
 use Rattle.system_base.specs.declared.base.Base.{Base}
 use Rattle.package_lists.specs.Entries.{EntryParts, is_conf}
 use Rattle.package_jobs.specs.FileActs.{acts_of}
-use Rattle.checker_input.specs.declared.package.Scripts.{Scripts}
 use Rattle.checker_input.specs.declared.package.Package.{Package}
 use Rattle.checker_input.specs.declared.package.Packages.{Packages}
 use Rattle.scenario_runs.specs.declared.job.Files.{Files}
@@ -24,16 +23,10 @@ use Rattle.scenario_runs.specs.Runs.{Meaning, Plan, run_of}
 use Rattle.package_jobs.specs.Sides.{old_of}
 use Rattle.package_jobs.specs.StartTrees.{Entries}
 
--- a script of a package, if it has that one
-abbrev pub script_of : ScriptKind → Scripts → Option Script
-script_of Preinst scripts = scripts.preinst
-script_of Postinst scripts = scripts.postinst
-script_of Prerm scripts = scripts.prerm
-script_of Postrm scripts = scripts.postrm
-
--- the old package, or the new one
-abbrev pub side_of : Packages → Bool → Package
-side_of packages old = if old then old_of packages else packages.new_package
+-- one of the packages
+abbrev pub side_of : Packages → Side → Package
+side_of packages New = packages.new_package
+side_of packages Old = old_of packages
 
 -- what a script does, as the shell's rules say it; whether it begins strict is said on its first line
 abbrev pub script_meaning : Script → Meaning
@@ -67,8 +60,8 @@ written_plan scenario packages turns = record {
   plain = is_plain packages.new_package;
   old_version = (old_of packages).version;
   new_version = packages.new_package.version;
-  scripts = λ old script.
-      option_map (stated_meaning packages.base.calls) (script_of script (side_of packages old).scripts);
+  scripts = λ side script.
+      option_map (stated_meaning packages.base.calls) (script_of script (side_of packages side).scripts);
   files = files_of scenario packages.new_package.entries (old_of packages).entries packages.base;
   turns = turns;
 }

@@ -12,10 +12,11 @@ use crate::programs::{Programs, programs_of};
 use crate::sides::old_package;
 use crate::step_acts::file_acts;
 use checker_input::{Package, Packages};
-use dpkg_scenarios::{Scenario, StepWork};
-use package_lists::{Entry, PathSet};
-use scenario_runs::{FileActs, Files, Job, Scripts};
-use script_names::{Copied, List, Memory};
+use colis_syntax::Program;
+use dpkg_scenarios::{Scenario, Scripts, StepWork};
+use package_lists::{Entry, FileList, PathSet};
+use scenario_runs::{FileActs, Files, Job, PackagePrograms};
+use script_names::{Copied, Memory};
 use std::alloc::Global;
 use system_base::{Base, base_paths};
 
@@ -23,14 +24,14 @@ use system_base::{Base, base_paths};
 fn package_of(
     alloc: Global,
     written: &Package,
-    programs: &Scripts,
-) -> Result<scenario_runs::Package, Memory>
+    programs: &Scripts<Program>,
+) -> Result<PackagePrograms, Memory>
     ensures version { IfOk result (λ made. made.version ≡ written.now.version) }
     ensures scripts { IfOk result (λ made. made.scripts ≡ programs.now) }
 {
     let version = written.version.copy(alloc)?;
     let scripts = programs.copy(alloc)?;
-    Ok(scenario_runs::Package { version, scripts })
+    Ok(PackagePrograms { version, scripts })
 }
 
 /// Whether a package has neither a configuration file nor a postrm.
@@ -52,24 +53,24 @@ fn has_conffile(entries: &[Entry]) -> bool
     false
 }
 
-// The acts on files of a step, where `kept` has the directories of the base. More acts than a site can number,
-// 4,294,967,295, would need as many entries, which no memory holds: this is told as want of memory.
+// The acts on files of a step, where `kept` has the directories of the base. A site can number them, since there are at
+// most two for each entry.
 fn step_acts(
     alloc: Global,
     scenario: Scenario,
     work: StepWork,
-    new: &List<Entry>,
-    old: &List<Entry>,
+    new: &FileList,
+    old: &FileList,
     base: &Base,
     kept: &PathSet,
 ) -> Result<FileActs, Memory>
     requires { (path : ListOf ℕ) → has kept.now path ≡ is_base base.now path }
     ensures { IfOk result (λ acts. acts ≡ acts_of scenario work new.now old.now base.now) }
 {
-    let acts = file_acts(alloc, scenario, work, new, old, base, kept)?;
+    let acts = file_acts(alloc, scenario, work, new.list(), old.list(), base, kept)?;
     match FileActs::new(acts) {
         Some(acts) => Ok(acts),
-        None => Err(Memory),
+        None => unreachable!(),
     }
 }
 
@@ -77,8 +78,8 @@ fn step_acts(
 fn files_of(
     alloc: Global,
     scenario: Scenario,
-    new: &List<Entry>,
-    old: &List<Entry>,
+    new: &FileList,
+    old: &FileList,
     base: &Base,
 ) -> Result<Files, Memory>
     ensures { IfOk result (λ files. files ≡ files_of scenario new.now old.now base.now) }

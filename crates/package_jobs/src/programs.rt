@@ -4,8 +4,9 @@ ghost use Rattle.package_jobs.specs.Made.{DoTheSame, AreProgramsOf};
 ghost use Rattle.package_jobs.specs.Sides.{old_of};
 ghost use Rattle.package_jobs.specs.Written.{stated_meaning};
 
-use checker_input::{Packages, Scripts};
+use checker_input::Packages;
 use colis_syntax::Program;
+use dpkg_scenarios::Scripts;
 use script_names::{Copied, Memory, Slot};
 use shell_forms::Accepted;
 use shell_to_colis::translate;
@@ -18,8 +19,8 @@ use utility_calls::StatedCalls;
 /// all scenarios have their copies.
 #[derive(Drop)]
 pub struct Programs {
-    pub new_package: scenario_runs::Scripts,
-    pub old_package: scenario_runs::Scripts,
+    pub new_package: Scripts<Program>,
+    pub old_package: Scripts<Program>,
 }
 
 // The program of a script under stated calls.
@@ -55,15 +56,15 @@ fn program_of(
 fn scripts_programs(
     alloc: Global,
     calls: &StatedCalls,
-    scripts: &Scripts,
-) -> Result<scenario_runs::Scripts, Memory>
+    scripts: &Scripts<Accepted>,
+) -> Result<Scripts<Program>, Memory>
     ensures { IfOk result (λ programs. DoTheSame calls.now scripts.now programs) }
 {
     let preinst = program_of(alloc, calls, &scripts.preinst)?;
     let postinst = program_of(alloc, calls, &scripts.postinst)?;
     let prerm = program_of(alloc, calls, &scripts.prerm)?;
     let postrm = program_of(alloc, calls, &scripts.postrm)?;
-    Ok(scenario_runs::Scripts {
+    Ok(Scripts {
         preinst,
         postinst,
         prerm,
@@ -76,8 +77,8 @@ fn old_programs(
     alloc: Global,
     calls: &StatedCalls,
     packages: &Packages,
-    new_package: &scenario_runs::Scripts,
-) -> Result<scenario_runs::Scripts, Memory>
+    new_package: &Scripts<Program>,
+) -> Result<Scripts<Program>, Memory>
     requires { DoTheSame calls.now packages.now.new_package.scripts new_package.now }
     ensures { IfOk result (λ programs. DoTheSame calls.now (old_of packages.now).scripts programs) }
 {

@@ -1,4 +1,5 @@
-ghost use Rattle.std.specs.Prelude.{◌≡◌, ◌++◌, ℕ, List as ListOf, map, reverse, All, IfOk, OnOk};
+ghost use Rattle.std.specs.Prelude.{◌≡◌, ◌≤◌, ◌+◌, ◌*◌, ◌++◌, ℕ, List as ListOf, length, map, reverse, All, IfOk};
+ghost use Rattle.std.specs.Prelude.{OnOk};
 ghost use Rattle.std.specs.List.{flat_map};
 ghost use Rattle.utility_calls.specs.Acts.{IsPerformed};
 ghost use Rattle.system_base.specs.Bases.{is_base};
@@ -19,7 +20,7 @@ use utility_calls::acts::Act;
 /// The acts of a step of a scenario that places or takes away files, in order, from the entries of the new and of the
 /// old package and from the base, of which `kept` has the directories (Debian Policy, 6.6 and 6.8). Entries are placed
 /// in the order of the list, and taken away from the last one to the first; a directory of the base is not taken away.
-/// A step that calls a script has no acts. Each act can be done on every tree.
+/// A step that calls a script has no acts. Each act can be done on every tree; there are at most two for each entry.
 pub fn file_acts(
     alloc: Global,
     scenario: Scenario,
@@ -32,6 +33,7 @@ pub fn file_acts(
     requires { (path : ListOf ℕ) → has kept.now path ≡ is_base base.now path }
     ensures acts { IfOk result (λ acts. acts ≡ acts_of scenario work new.now old.now base.now) }
     ensures performed { IfOk result (λ acts. All IsPerformed acts) }
+    ensures few { IfOk result (λ acts. length acts ≤ 2 * (length new.now + length old.now)) }
 {
     entries_are_named(new.as_slice());
     entries_are_named(old.as_slice());

@@ -1,5 +1,6 @@
 mod NamesBelow
 mod Endings
+mod Few
 mod Names
 mod Arrows
 mod Trims

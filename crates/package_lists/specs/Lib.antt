@@ -4,6 +4,7 @@ pub mod Entries
 pub mod PathSets
 pub mod FolderNames
 pub mod EntrySets
+pub mod FileLists
 pub mod Faults
 pub mod Lists
 pub mod Indexes

@@ -1,4 +1,4 @@
-ghost use Rattle.std.specs.Prelude.{◌≡◌, map, Some, None, IfOk, OnErr};
+ghost use Rattle.std.specs.Prelude.{◌≡◌, length, map, Some, None, IfOk, OnErr};
 ghost use Rattle.package_lists.specs.Conffiles.{has_space_slash, is_flagged, form_why, line_why, path_why};
 ghost use Rattle.package_lists.specs.Conffiles.{marked_entry, conffiles_of};
 ghost use Rattle.package_lists.specs.Faults.{IsLeft};
@@ -25,6 +25,7 @@ pub fn read_conffiles(
 ) -> Result<(), LineFault>
     ensures marked { IsLeft (conffiles_of text.now entries.old) entries.new result }
     ensures kept { OnErr result (entries.new ≡ entries.old) }
+    ensures same_length { length entries.new ≡ length entries.old }
 {
     let lines = text_lines(alloc, text)?;
     let files = paths_of(alloc, Which::Files, entries.as_slice())?;

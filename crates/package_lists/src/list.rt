@@ -1,4 +1,5 @@
-ghost use Rattle.std.specs.Prelude.{◌≡◌, ◌&&◌, ◌||◌, ◌++◌, ◌∷◌, [], ℕ, List as ListOf, map, Some, None, IfOk, OnOk};
+ghost use Rattle.std.specs.Prelude.{◌≡◌, ◌≤◌, ◌&&◌, ◌||◌, ◌++◌, ◌∷◌, [], ℕ, List as ListOf, length, map};
+ghost use Rattle.std.specs.Prelude.{Some, None, IfOk, OnOk};
 ghost use Rattle.std.specs.Prelude.{if◌then◌else◌};
 ghost use Rattle.std.specs.List.{list_any};
 ghost use Rattle.std.specs.Option.{option_map};
@@ -46,9 +47,10 @@ struct Index {
 /// The entries of a list of files, in its order: a path a line, `/.` for the root, a directory's with a `/` at its end,
 /// which it may lack where something is listed below it, a symbolic link's with ` -> ` and its target. The last line
 /// may lack its newline. The whys: 1, the line is not of the form; 2, an earlier line names its path; 3, of a link and
-/// a line below its path it is the later one.
+/// a line below its path it is the later one. There are no more entries than bytes.
 pub fn read_list(alloc: Global, text: &[u8]) -> Result<List<Entry>, LineFault>
-    ensures { IsAnswer (list_of text.now) result }
+    ensures entries { IsAnswer (list_of text.now) result }
+    ensures few { IfOk result (λ entries. length entries ≤ length text.now) }
 {
     let lines = text_lines(alloc, text)?;
     let index = match read_lines(alloc, lines.as_slice()) {

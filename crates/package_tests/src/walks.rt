@@ -7,7 +7,7 @@ ghost use Rattle.dpkg_scenarios.specs.Steps.{IsStep};
 
 use dpkg_scenarios::theorems::scenarios_end;
 use dpkg_scenarios::{
-    Ending, Scenario, ScriptKind, State, StepNext, StepWork, call_words, next, work,
+    Ending, Scenario, ScriptKind, Side, State, StepNext, StepWork, call_words, next, work,
 };
 use script_names::{Bytes, Memory};
 use std::alloc::Global;
@@ -211,7 +211,7 @@ fn state_name(state: State) -> &'static [u8] {
 
 fn work_name(work: StepWork) -> &'static [u8] {
     match work {
-        StepWork::Script { old, script } => script_name(script),
+        StepWork::Script { script, .. } => script_name(script),
         StepWork::Unpack => b"unpack",
         StepWork::RemoveFiles => b"remove files",
         StepWork::RemoveOld => b"remove old",
@@ -222,7 +222,10 @@ fn work_name(work: StepWork) -> &'static [u8] {
 // `n` or `o` for the package of a script; nothing for files.
 fn package_name(work: StepWork) -> &'static [u8] {
     match work {
-        StepWork::Script { old, script } => { if old { b"o " } else { b"n " } }
+        StepWork::Script { side, .. } => match side {
+            Side::Old => b"o ",
+            Side::New => b"n ",
+        },
         StepWork::Unpack | StepWork::RemoveFiles | StepWork::RemoveOld | StepWork::RemoveConf =>
             b"",
     }

@@ -4,6 +4,7 @@ use Rattle.std.proofs.Common.{◌≡◌, ◌↔◌, ℕ, zero, suc, ◌≤◌, I
 use Rattle.std.proofs.lemmas.List.{get_or_past}
 use Rattle.feature_trees.specs.declared.kind.Kind.{Kind as KindOf}
 use Rattle.feature_trees.specs.declared.kind.Kind.TheVariants as kind
+use Rattle.feature_trees.specs.declared.kind.Special.TheVariants as special
 use Rattle.feature_trees.specs.declared.value.Value.{Value}
 use Rattle.feature_trees.specs.declared.value.Value.TheVariants as value
 use Rattle.feature_trees.specs.Kinds.{has, of}
@@ -110,14 +111,20 @@ is_dir : (k : KindOf) → IsTrue (has (of kind.Dir) k) → k ≡ kind.Dir
 is_dir kind.Absent h = cc
 is_dir kind.Reg h = cc
 is_dir kind.Link h = cc
-is_dir kind.Other h = cc
+is_dir (kind.Special special.Fifo) h = cc
+is_dir (kind.Special special.Socket) h = cc
+is_dir (kind.Special special.Block) h = cc
+is_dir (kind.Special special.Char) h = cc
 is_dir kind.Dir h = refl
 
 is_absent : (k : KindOf) → IsTrue (has (of kind.Absent) k) → k ≡ kind.Absent
 is_absent kind.Absent h = refl
 is_absent kind.Reg h = cc
 is_absent kind.Link h = cc
-is_absent kind.Other h = cc
+is_absent (kind.Special special.Fifo) h = cc
+is_absent (kind.Special special.Socket) h = cc
+is_absent (kind.Special special.Block) h = cc
+is_absent (kind.Special special.Char) h = cc
 is_absent kind.Dir h = cc
 
 module _ (s : Seen) (t u : Value) where

@@ -6,6 +6,7 @@ use Rattle.script_names.specs.declared.memory.Memory.{Memory}
 use Rattle.feature_trees.specs.declared.value.Value.{Value}
 use Rattle.dpkg_scenarios.specs.declared.scenario.Ending.{Ending}
 use Rattle.dpkg_scenarios.specs.declared.scenario.ScriptKind.{ScriptKind}
+use Rattle.dpkg_scenarios.specs.declared.scenario.Side.{Side}
 use Rattle.dpkg_scenarios.specs.declared.scenario.StepWork.{StepWork}
 use Rattle.dpkg_scenarios.specs.declared.scenario.StepWork.TheVariants as work
 use Rattle.dpkg_scenarios.specs.declared.scenario.StepNext.TheVariants.{Go, Stop}
@@ -20,17 +21,17 @@ use Rattle.scenario_runs.specs.Deciding.{reached}
 use Rattle.scenario_runs.proofs.Walking.{Comes, goes_on, ends}
 
 -- the call of a step's script is the work of its line
-pub script_works : (plan : Plan) (n : ℕ) (c : Course) (old : Bool) (script : ScriptKind) (r : Result Worked Memory) (what : StepWork)
-    → work_of plan.scenario n ≡ Some what → what ≡ work.Script old script
+pub script_works : (plan : Plan) (n : ℕ) (c : Course) (side : Side) (script : ScriptKind) (r : Result Worked Memory) (what : StepWork)
+    → work_of plan.scenario n ≡ Some what → what ≡ work.Script side script
     → ((words : List (List ℕ)) → words_of plan.scenario n plan.old_version plan.new_version ≡ Some words
-    → IfOk r (λ worked. worked ≡ call_script n old script words (plan.scripts old script) c))
+    → IfOk r (λ worked. worked ≡ call_script n side script words (plan.scripts side script) c))
     → IfOk r (λ worked. Works plan n c worked)
-script_works plan n c old script r what told is calls =
+script_works plan n c side script r what told is calls =
     let t : IsTold (λ step. step.work) (line plan.scenario n) what = is_told (λ step. step.work) (line plan.scenario n) what told in
     let words : List (List ℕ) = words_in plan t.step in
     let spoken : words_of plan.scenario n plan.old_version plan.new_version ≡ Some words =
     ap (option_map (λ step. step.words plan.old_version plan.new_version)) t.is_line in
-    IfOk-weaker r (λ worked. worked ≡ call_script n old script words (plan.scripts old script) c) (λ worked. Works plan n c worked)
+    IfOk-weaker r (λ worked. worked ≡ call_script n side script words (plan.scripts side script) c) (λ worked. Works plan n c worked)
     (λ worked e. record {
       step = t.step;
       is_line = t.is_line;

@@ -12,6 +12,7 @@ use Rattle.shell_rules.specs.Laws.{is_bound_end, ended_with_more}
 use Rattle.colis_syntax.specs.WellFormed.{ProgramParts}
 use Rattle.colis_meaning.specs.Laws as programs
 use Rattle.dpkg_scenarios.specs.declared.scenario.ScriptKind.{ScriptKind}
+use Rattle.dpkg_scenarios.specs.declared.scenario.Side.{Side}
 use Rattle.dpkg_scenarios.specs.declared.scenario.StepWork.{StepWork}
 use Rattle.dpkg_scenarios.specs.declared.scenario.StepWork.TheVariants as work
 use Rattle.dpkg_scenarios.specs.declared.scenario.StepNext.{StepNext}
@@ -24,7 +25,8 @@ use Rattle.scenario_runs.specs.declared.course.WorkEnd.TheVariants.{Succeeded, F
 use Rattle.scenario_runs.specs.declared.course.Worked.{Worked}
 use Rattle.scenario_runs.specs.declared.course.Reached.{Reached}
 use Rattle.scenario_runs.specs.declared.replayed.Replayed.{Replayed}
-use Rattle.scenario_runs.specs.Runs.{Meaning, Plan, begun_shell, script_end, called, call_script, acted, site_at, ended_behind, or_more, do_files, do_work, words_in, next_behind, followed, do_step, go_next, go_steps, begun, replayed_at, replayed, script_of, package_of, program_meaning, plan_of}
+use Rattle.dpkg_scenarios.specs.Scripts.{script_of}
+use Rattle.scenario_runs.specs.Runs.{Meaning, Plan, begun_shell, script_end, called, call_script, acted, site_at, ended_behind, or_more, do_files, do_work, words_in, next_behind, followed, do_step, go_next, go_steps, begun, replayed_at, replayed, package_of, program_meaning, plan_of}
 use Rattle.scenario_runs.specs.Laws.{is_bound, IsSameWithMore, AreSameWithMore, plan_with_more, MoreTurnsOfPlans, MoreTurns}
 
 -- ---- with more turns left
@@ -90,26 +92,26 @@ module _ (n : ℕ) where
   abbrev SameReached : Reached → Reached → Type 0
   SameReached r more = IsTrue (is_bound_next r.next) ⊎ (more ≡ reached_more n r)
 
-call_told : (n : ℕ) (old : Bool) (script : ScriptKind) (words : List (List ℕ)) (c : Course) (e more : Ended)
+call_told : (n : ℕ) (side : Side) (script : ScriptKind) (words : List (List ℕ)) (c : Course) (e more : Ended)
     → IsTrue (is_bound_end e.end) ⊎ (more ≡ ended_with_more n e)
-    → SameWork n (called old script words c e) (called old script words (course_more n c) more)
-call_told n old script words c e more (inl b) = inl (bound_script e.end b)
-call_told n old script words c e more (inr is) = inr (ap (called old script words (course_more n c)) is)
+    → SameWork n (called side script words c e) (called side script words (course_more n c) more)
+call_told n side script words c e more (inl b) = inl (bound_script e.end b)
+call_told n side script words c e more (inr is) = inr (ap (called side script words (course_more n c)) is)
 
-call_more : (n k : ℕ) (old : Bool) (script : ScriptKind) (words : List (List ℕ)) (o : Option Meaning) (c : Course)
+call_more : (n k : ℕ) (side : Side) (script : ScriptKind) (words : List (List ℕ)) (o : Option Meaning) (c : Course)
     → ((meaning : Meaning) → o ≡ Some meaning → IsSameWithMore meaning)
-    → SameWork n (call_script k old script words o c) (call_script k old script words o (course_more n c))
-call_more n k old script words None c same = inr refl
-call_more n k old script words (Some meaning) c same =
+    → SameWork n (call_script k side script words o c) (call_script k side script words o (course_more n c))
+call_more n k side script words None c same = inr refl
+call_more n k side script words (Some meaning) c same =
     let shell : Conc = begun_shell script words meaning.strict c.turns in
     let more : Conc = begun_shell script words meaning.strict (c.turns + n) in
-    call_told n old script words c (meaning.ends k shell c.tree c.trace) (meaning.ends k more c.tree c.trace)
+    call_told n side script words c (meaning.ends k shell c.tree c.trace) (meaning.ends k more c.tree c.trace)
     (same meaning refl n k shell c.tree c.trace)
 
 module _ (n : ℕ) (plan : Plan) (same : AreSameWithMore plan) where
   work_more : (k : ℕ) (what : StepWork) (words : List (List ℕ)) (c : Course)
       → SameWork n (do_work plan k what words c) (do_work (plan_with_more n plan) k what words (course_more n c))
-  work_more k (work.Script old script) words c = call_more n k old script words (plan.scripts old script) c (same old script)
+  work_more k (work.Script side script) words c = call_more n k side script words (plan.scripts side script) c (same side script)
   work_more k work.Unpack words c = inr (files_more n true k 0 plan.files.unpack c)
   work_more k work.RemoveFiles words c = inr (files_more n false k 0 plan.files.remove_files c)
   work_more k work.RemoveOld words c = inr (files_more n false k 0 plan.files.remove_old c)
@@ -191,5 +193,5 @@ programs_same law (Some program) meaning e =
 pub jobs_same : programs.MoreTurnsSameRun → MoreTurns
 jobs_same law job n tree run e =
     plans_same (plan_of job)
-    (λ old script. programs_same law (script_of script (package_of job old).scripts))
+    (λ side script. programs_same law (script_of script (package_of job side).scripts))
     n tree run e

@@ -14,6 +14,7 @@ use Rattle.shell_rules.specs.declared.run.End.{End}
 use Rattle.colis_syntax.specs.WellFormed.{ProgramParts}
 use Rattle.colis_meaning.specs.Decided.{IsDecided}
 use Rattle.dpkg_scenarios.specs.declared.scenario.ScriptKind.{ScriptKind}
+use Rattle.dpkg_scenarios.specs.declared.scenario.Side.{Side}
 use Rattle.dpkg_scenarios.specs.declared.scenario.StepWork.{StepWork}
 use Rattle.dpkg_scenarios.specs.declared.scenario.StepWork.TheVariants as work
 use Rattle.dpkg_scenarios.specs.declared.scenario.Ending.{Ending}
@@ -21,6 +22,7 @@ use Rattle.dpkg_scenarios.specs.declared.scenario.Ending.TheVariants as ending
 use Rattle.dpkg_scenarios.specs.declared.scenario.StepNext.{StepNext}
 use Rattle.dpkg_scenarios.specs.declared.scenario.StepNext.TheVariants.{Go, Stop}
 use Rattle.dpkg_scenarios.specs.Scenarios.{Step, table}
+use Rattle.dpkg_scenarios.specs.Scripts.{script_of}
 use Rattle.dpkg_scenarios.specs.Steps.{line}
 use Rattle.scenario_runs.specs.declared.job.Job.{Job}
 use Rattle.scenario_runs.specs.declared.call.ScriptCall.{ScriptCall}
@@ -75,32 +77,32 @@ files_play can_fail n at (act ∷ acts) calls turns performed =
 -- ---- scripts
 
 -- what a script leaves, but for the tree, the trace and the acts
-abbrev after : Bool → ScriptKind → List (List ℕ) → List ScriptCall → End × Conc → Came WorkEnd
-after old script words calls v =
-    let call : ScriptCall = record { old = old; script = script; words = words; how = r.call_end v.0 } in
+abbrev after : Side → ScriptKind → List (List ℕ) → List ScriptCall → End × Conc → Came WorkEnd
+after side script words calls v =
+    let call : ScriptCall = record { side = side; script = script; words = words; how = r.call_end v.0 } in
     record { value = r.script_end v.0; calls = calls ++ call ∷ []; turns = v.1.turns }
 
-module _ (n : ℕ) (old : Bool) (script : ScriptKind) (words : List (List ℕ)) (calls : List ScriptCall) (turns : ℕ) where
+module _ (n : ℕ) (side : Side) (script : ScriptKind) (words : List (List ℕ)) (calls : List ScriptCall) (turns : ℕ) where
   program_plays : (program : ProgramParts)
-      → Plays worked (λ tree trace acts. r.call_script n old script words (Some (r.program_meaning program))
+      → Plays worked (λ tree trace acts. r.call_script n side script words (Some (r.program_meaning program))
       (course_at calls turns tree trace acts))
   program_plays program =
       let shell : Conc = r.begun_shell script words program.strict turns in
       let d : IsDecided program n shell = runs_decided program n shell in
-      let next : End × Conc → Decision (Came WorkEnd) = λ v. Decided (after old script words calls v) in
+      let next : End × Conc → Decision (Came WorkEnd) = λ v. Decided (after side script words calls v) in
       let over : Played (End × Conc) → Worked =
-      λ p. came worked (after old script words calls p.value) p.tree p.trace p.acts in
+      λ p. came worked (after side script words calls p.value) p.tree p.trace p.acts in
       record {
         decision = bind d.decision next;
         performed = bind_performed d.decision next d.performed (λ v. tt);
         plays = λ tree trace acts.
-            ap (r.called old script words (course_at calls turns tree trace acts)) (d.played tree trace)
+            ap (r.called side script words (course_at calls turns tree trace acts)) (d.played tree trace)
             ∙ ap over (sym (plays_behind d.decision tree trace acts))
             ∙ ap (made worked) (sym (bind_plays d.decision next tree trace acts));
       }
 
   script_plays : (o : Option ProgramParts)
-      → Plays worked (λ tree trace acts. r.call_script n old script words (option_map r.program_meaning o)
+      → Plays worked (λ tree trace acts. r.call_script n side script words (option_map r.program_meaning o)
       (course_at calls turns tree trace acts))
   script_plays None = knows worked (record { value = Succeeded; calls = calls; turns = turns })
   script_plays (Some program) = program_plays program
@@ -110,8 +112,8 @@ module _ (n : ℕ) (old : Bool) (script : ScriptKind) (words : List (List ℕ)) 
 module _ (job : Job) (files : ArePerformed job.files) where
   work_plays : (n : ℕ) (what : StepWork) (words : List (List ℕ)) (calls : List ScriptCall) (turns : ℕ)
       → Plays worked (λ tree trace acts. r.do_work (r.plan_of job) n what words (course_at calls turns tree trace acts))
-  work_plays n (work.Script old script) words calls turns =
-      script_plays n old script words calls turns (r.script_of script (r.package_of job old).scripts)
+  work_plays n (work.Script side script) words calls turns =
+      script_plays n side script words calls turns (script_of script (r.package_of job side).scripts)
   work_plays n work.Unpack words calls turns = files_play true n 0 job.files.unpack calls turns files.unpack
   work_plays n work.RemoveFiles words calls turns =
       files_play false n 0 job.files.remove_files calls turns files.remove_files

@@ -7,6 +7,7 @@ use Rattle.utility_calls.specs.Decisions.{Decision, Played, play, AllPerformed}
 use Rattle.shell_rules.specs.declared.state.Conc.{Conc}
 use Rattle.shell_rules.specs.Laws.{is_bound_end, conc_with_more, ended_with_more}
 use Rattle.dpkg_scenarios.specs.declared.scenario.ScriptKind.{ScriptKind}
+use Rattle.dpkg_scenarios.specs.declared.scenario.Side.{Side}
 use Rattle.dpkg_scenarios.specs.declared.scenario.Ending.{Ending}
 use Rattle.dpkg_scenarios.specs.declared.scenario.Ending.TheVariants as ending
 use Rattle.scenario_runs.specs.declared.job.Job.{Job}
@@ -61,7 +62,7 @@ IsSameWithMore meaning =
 -- a run of any script of the plan that is not bound is the same run with more turns, but for the turns that are left
 abbrev pub AreSameWithMore : Plan → Type 0
 AreSameWithMore plan =
-    (old : Bool) (script : ScriptKind) (meaning : Meaning) → plan.scripts old script ≡ Some meaning
+    (side : Side) (script : ScriptKind) (meaning : Meaning) → plan.scripts side script ≡ Some meaning
     → IsSameWithMore meaning
 
 -- a plan, with more turns

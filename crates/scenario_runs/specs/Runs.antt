@@ -20,7 +20,8 @@ use Rattle.colis_syntax.specs.WellFormed.{ProgramParts}
 use Rattle.colis_meaning.specs.Meaning.{co_program}
 use Rattle.dpkg_scenarios.specs.declared.scenario.Scenario.{Scenario}
 use Rattle.dpkg_scenarios.specs.declared.scenario.ScriptKind.{ScriptKind}
-use Rattle.dpkg_scenarios.specs.declared.scenario.ScriptKind.TheVariants.{Preinst, Postinst, Prerm, Postrm}
+use Rattle.dpkg_scenarios.specs.declared.scenario.Side.{Side}
+use Rattle.dpkg_scenarios.specs.declared.scenario.Side.TheVariants.{New, Old}
 use Rattle.dpkg_scenarios.specs.declared.scenario.StepWork.{StepWork}
 use Rattle.dpkg_scenarios.specs.declared.scenario.StepWork.TheVariants as work
 use Rattle.dpkg_scenarios.specs.declared.scenario.StepNext.{StepNext}
@@ -28,9 +29,9 @@ use Rattle.dpkg_scenarios.specs.declared.scenario.StepNext.TheVariants.{Go, Stop
 use Rattle.dpkg_scenarios.specs.declared.scenario.Ending.TheVariants as ending
 use Rattle.dpkg_scenarios.specs.Names.{script_name}
 use Rattle.dpkg_scenarios.specs.Scenarios.{Step, table}
+use Rattle.dpkg_scenarios.specs.Scripts.{script_of}
 use Rattle.dpkg_scenarios.specs.Steps.{line, follows}
-use Rattle.scenario_runs.specs.declared.job.Scripts.{Scripts}
-use Rattle.scenario_runs.specs.declared.job.Package.{Package}
+use Rattle.scenario_runs.specs.declared.job.PackagePrograms.{PackagePrograms}
 use Rattle.scenario_runs.specs.declared.job.Files.{Files}
 use Rattle.scenario_runs.specs.declared.job.Job.{Job}
 use Rattle.scenario_runs.specs.declared.call.ScriptCall.{ScriptCall}
@@ -52,14 +53,14 @@ pub record Meaning : Type 0 where
   pub ends : ℕ → Conc → Value → List Mark → Ended
 
 -- What the run of a scenario needs: the scenario, whether the new package has neither a configuration file nor a
--- postrm, the versions of both packages, what each script of the old package (true) and of the new one does, where it
--- has that one, what is done with files, and how many turns of loops the scripts have, together.
+-- postrm, the versions of both packages, what each script of either package does, where it has that one, what is done
+-- with files, and how many turns of loops the scripts have, together.
 pub record Plan : Type 0 where
   pub scenario : Scenario
   pub plain : Bool
   pub old_version : List ℕ
   pub new_version : List ℕ
-  pub scripts : Bool → ScriptKind → Option Meaning
+  pub scripts : Side → ScriptKind → Option Meaning
   pub files : Files
   pub turns : ℕ
 
@@ -92,9 +93,9 @@ script_end (end.Stopped reason site) = Over (ending.Incomplete reason site)
 script_end (end.Bound site) = Over (ending.Bound site)
 
 -- what a script leaves
-abbrev pub called : Bool → ScriptKind → List (List ℕ) → Course → Ended → Worked
-called old script words c e =
-    let call : ScriptCall = record { old = old; script = script; words = words; how = call_end e.end } in
+abbrev pub called : Side → ScriptKind → List (List ℕ) → Course → Ended → Worked
+called side script words c e =
+    let call : ScriptCall = record { side = side; script = script; words = words; how = call_end e.end } in
     let course : Course = record {
       tree = e.tree;
       trace = e.trace;
@@ -104,11 +105,11 @@ called old script words c e =
     } in record { end = script_end e.end; course = course }
 
 -- a script is called in step n; a missing one is a success, and no call
-abbrev pub call_script : ℕ → Bool → ScriptKind → List (List ℕ) → Option Meaning → Course → Worked
-call_script n old script words None c = record { end = Succeeded; course = c }
-call_script n old script words (Some meaning) c =
+abbrev pub call_script : ℕ → Side → ScriptKind → List (List ℕ) → Option Meaning → Course → Worked
+call_script n side script words None c = record { end = Succeeded; course = c }
+call_script n side script words (Some meaning) c =
     let shell : Conc = begun_shell script words meaning.strict c.turns in
-    called old script words c (meaning.ends n shell c.tree c.trace)
+    called side script words c (meaning.ends n shell c.tree c.trace)
 
 -- ---- a step that places files, or takes them away
 
@@ -147,7 +148,7 @@ do_files can_fail n at (act ∷ acts) c =
 
 -- the work of step n, whose call has these words; of the steps on files, the one that places them can fail
 abbrev pub do_work : Plan → ℕ → StepWork → List (List ℕ) → Course → Worked
-do_work plan n (work.Script old script) words c = call_script n old script words (plan.scripts old script) c
+do_work plan n (work.Script side script) words c = call_script n side script words (plan.scripts side script) c
 do_work plan n work.Unpack words c = do_files true n 0 plan.files.unpack c
 do_work plan n work.RemoveFiles words c = do_files false n 0 plan.files.remove_files c
 do_work plan n work.RemoveOld words c = do_files false n 0 plan.files.remove_old c
@@ -207,16 +208,10 @@ run_of plan tree =
 
 -- ---- the run of a job, whose scripts are programs
 
--- a script of a package, if it has that one
-abbrev pub script_of : ScriptKind → Scripts → Option ProgramParts
-script_of Preinst scripts = scripts.preinst
-script_of Postinst scripts = scripts.postinst
-script_of Prerm scripts = scripts.prerm
-script_of Postrm scripts = scripts.postrm
-
--- the old package, or the new one
-abbrev pub package_of : Job → Bool → Package
-package_of job old = if old then job.old_package else job.new_package
+-- one of the packages
+abbrev pub package_of : Job → Side → PackagePrograms
+package_of job New = job.new_package
+package_of job Old = job.old_package
 
 -- what a program does
 abbrev pub program_meaning : ProgramParts → Meaning
@@ -229,7 +224,7 @@ plan_of job = record {
   plain = job.plain;
   old_version = job.old_package.version;
   new_version = job.new_package.version;
-  scripts = λ old script. option_map program_meaning (script_of script (package_of job old).scripts);
+  scripts = λ side script. option_map program_meaning (script_of script (package_of job side).scripts);
   files = job.files;
   turns = job.turns;
 }

@@ -1,7 +1,7 @@
 ghost use Rattle.std.specs.Prelude.{◌≡◌};
 ghost use Rattle.scenario_runs.specs.Runs.{call_end};
 
-use dpkg_scenarios::ScriptKind;
+use dpkg_scenarios::{ScriptKind, Side};
 use script_names::{Bytes, Copied, List, Memory};
 use shell_rules::End;
 use std::alloc::Global;
@@ -24,7 +24,7 @@ impl Copied for CallEnd {
 /// script is no call.
 #[derive(Debug, Drop)]
 pub struct ScriptCall {
-    pub old: bool,
+    pub side: Side,
     pub script: ScriptKind,
     pub words: List<Bytes>,
     pub how: CallEnd,
@@ -34,7 +34,7 @@ impl Copied for ScriptCall {
     fn copy(&self, alloc: Global) -> Result<ScriptCall, Memory> {
         let words = self.words.copy(alloc)?;
         Ok(ScriptCall {
-            old: self.old,
+            side: self.side,
             script: self.script,
             words,
             how: self.how,

@@ -1,64 +1,25 @@
 ghost use Rattle.std.specs.Prelude.{◌≡◌};
-ghost use Rattle.std.specs.Option.{option_copied};
 ghost use Rattle.scenario_runs.specs.Performed.{ArePerformed};
-ghost use Rattle.scenario_runs.specs.Runs.{script_of, package_of};
+ghost use Rattle.scenario_runs.specs.Runs.{package_of};
 
 use crate::file_acts::FileActs;
 use colis_syntax::Program;
-use dpkg_scenarios::{Scenario, ScriptKind};
-use script_names::{Bytes, Copied, Memory, Slot};
+use dpkg_scenarios::{Scenario, Scripts, Side};
+use script_names::{Bytes, Copied, Memory};
 use std::alloc::Global;
 
-/// The maintainer scripts of a package, those that it has (Debian Policy, 6.1).
+/// What the run of a scenario needs of a package: its version, which scripts are told, and its scripts as programs.
 #[derive(Drop)]
-pub struct Scripts {
-    pub preinst: Slot<Program>,
-    pub postinst: Slot<Program>,
-    pub prerm: Slot<Program>,
-    pub postrm: Slot<Program>,
-}
-
-impl Copied for Scripts {
-    fn copy(&self, alloc: Global) -> Result<Scripts, Memory> {
-        let preinst = self.preinst.copy(alloc)?;
-        let postinst = self.postinst.copy(alloc)?;
-        let prerm = self.prerm.copy(alloc)?;
-        let postrm = self.postrm.copy(alloc)?;
-        Ok(Scripts {
-            preinst,
-            postinst,
-            prerm,
-            postrm,
-        })
-    }
-}
-
-impl Scripts {
-    /// The script of this kind, where there is one.
-    pub(crate) fn get(&self, script: ScriptKind) -> Option<&Program>
-        ensures { option_copied result ≡ script_of script self.now }
-    {
-        match script {
-            ScriptKind::Preinst => self.preinst.get(),
-            ScriptKind::Postinst => self.postinst.get(),
-            ScriptKind::Prerm => self.prerm.get(),
-            ScriptKind::Postrm => self.postrm.get(),
-        }
-    }
-}
-
-/// A package, as far as its scripts and their words go.
-#[derive(Drop)]
-pub struct Package {
+pub struct PackagePrograms {
     pub version: Bytes,
-    pub scripts: Scripts,
+    pub scripts: Scripts<Program>,
 }
 
-impl Copied for Package {
-    fn copy(&self, alloc: Global) -> Result<Package, Memory> {
+impl Copied for PackagePrograms {
+    fn copy(&self, alloc: Global) -> Result<PackagePrograms, Memory> {
         let version = self.version.copy(alloc)?;
         let scripts = self.scripts.copy(alloc)?;
-        Ok(Package { version, scripts })
+        Ok(PackagePrograms { version, scripts })
     }
 }
 
@@ -92,8 +53,8 @@ impl Copied for Files {
 pub struct Job {
     pub scenario: Scenario,
     pub plain: bool,
-    pub new_package: Package,
-    pub old_package: Package,
+    pub new_package: PackagePrograms,
+    pub old_package: PackagePrograms,
     pub files: Files,
     pub turns: u32,
 }
@@ -115,14 +76,13 @@ impl Copied for Job {
 }
 
 impl Job {
-    /// The old package, or the new one.
-    pub(crate) fn package(&self, old: bool) -> &Package
-        ensures { result.now ≡ package_of self.now old }
+    /// One of the packages.
+    pub(crate) fn package(&self, side: Side) -> &PackagePrograms
+        ensures { result.now ≡ package_of self.now side }
     {
-        if old {
-            &self.old_package
-        } else {
-            &self.new_package
+        match side {
+            Side::New => &self.new_package,
+            Side::Old => &self.old_package,
         }
     }
 

@@ -18,6 +18,6 @@ pub mod theorems;
 pub use call::{CallEnd, ScriptCall};
 pub use course::{Course, Reached, WorkEnd, Worked};
 pub use file_acts::FileActs;
-pub use job::{Files, Job, Package, Scripts};
+pub use job::{Files, Job, PackagePrograms};
 pub use replayed::Replayed;
 pub use runs::run;

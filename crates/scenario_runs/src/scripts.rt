@@ -7,7 +7,7 @@ use crate::call::{ScriptCall, call_end};
 use crate::course::{Course, WorkEnd, Worked};
 use colis_interp::{Ran, run};
 use colis_syntax::Program;
-use dpkg_scenarios::{Ending, ScriptKind, script_name};
+use dpkg_scenarios::{Ending, ScriptKind, Side, script_name};
 use script_names::{Bytes, Copied, List, Memory};
 use shell_rules::{Conc, End};
 use shell_words::Env;
@@ -64,7 +64,7 @@ fn append(acts: &mut List<Act>, more: List<Act>) -> Result<(), Memory>
 pub(crate) fn call_script(
     alloc: Global,
     step: u16,
-    old: bool,
+    side: Side,
     script: ScriptKind,
     words: List<Bytes>,
     program: &Program,
@@ -72,7 +72,7 @@ pub(crate) fn call_script(
 ) -> Result<Worked, Memory>
     requires { kind_of course.tree ≡ Dir }
     ensures call { let meaning = program_meaning program.now in
-        IfOk result (λ worked. worked ≡ call_script step old script words (Some meaning) course) }
+        IfOk result (λ worked. worked ≡ call_script step side script words (Some meaning) course) }
     ensures dir { IfOk result (λ worked. kind_of worked.course.tree ≡ Dir) }
 {
     let Course {
@@ -86,7 +86,7 @@ pub(crate) fn call_script(
     let Ran { end, acts: done } = run(alloc, program, step, &mut shell, &mut tree, &mut trace)?;
     append(&mut acts, done)?;
     calls.add(ScriptCall {
-        old,
+        side,
         script,
         words,
         how: call_end(end),

@@ -12,7 +12,7 @@ use crate::files::do_files;
 use crate::job::Job;
 use crate::scripts::call_script;
 use dpkg_scenarios::theorems::scenarios_end;
-use dpkg_scenarios::{ScriptKind, StepNext, StepWork, call_words, next, work};
+use dpkg_scenarios::{ScriptKind, Side, StepNext, StepWork, call_words, next, work};
 use script_names::Memory;
 use std::alloc::Global;
 
@@ -21,7 +21,7 @@ fn call_step(
     alloc: Global,
     job: &Job,
     step: u16,
-    old: bool,
+    side: Side,
     script: ScriptKind,
     course: Course,
 ) -> Result<Worked, Memory>
@@ -30,12 +30,12 @@ fn call_step(
     ensures call { (words : List (List ℕ))
         → let o = job.now.old_package.version in
         let n = job.now.new_package.version in
-        let meaning = (plan_of job.now).scripts old script in
+        let meaning = (plan_of job.now).scripts side script in
         words_of job.now.scenario step o n ≡ Some words
-        → IfOk result (λ worked. worked ≡ call_script step old script words meaning course) }
+        → IfOk result (λ worked. worked ≡ call_script step side script words meaning course) }
     ensures dir { IfOk result (λ worked. kind_of worked.course.tree ≡ Dir) }
 {
-    match job.package(old).scripts.get(script) {
+    match job.package(side).scripts.get(script) {
         None => Ok(Worked {
             end: WorkEnd::Succeeded,
             course,
@@ -44,7 +44,7 @@ fn call_step(
             let before = &job.old_package.version;
             let now = &job.new_package.version;
             let words = call_words(alloc, job.scenario, step, before, now)?;
-            call_script(alloc, step, old, script, words, program, course)
+            call_script(alloc, step, side, script, words, program, course)
         }
     }
 }
@@ -57,7 +57,7 @@ fn do_work(alloc: Global, job: &Job, step: u16, course: Course) -> Result<Worked
     ensures dir { IfOk result (λ worked. kind_of worked.course.tree ≡ Dir) }
 {
     match work(job.scenario, step) {
-        StepWork::Script { old, script } => call_step(alloc, job, step, old, script, course),
+        StepWork::Script { side, script } => call_step(alloc, job, step, side, script, course),
         StepWork::Unpack => do_files(alloc, true, step, &job.files.unpack, course),
         StepWork::RemoveFiles => do_files(alloc, false, step, &job.files.remove_files, course),
         StepWork::RemoveOld => do_files(alloc, false, step, &job.files.remove_old, course),

@@ -111,7 +111,9 @@ usual = known_of (base_of usual_text)
 
 -- of these kinds a directory is the one
 abbrev pub is_directory : Kinds → Bool
-is_directory kinds = kinds.dir && (not kinds.absent && (not kinds.reg && (not kinds.link && not kinds.other)))
+is_directory kinds =
+    kinds.dir && (not kinds.absent && (not kinds.reg && (not kinds.link
+    && (not kinds.fifo && (not kinds.socket && (not kinds.block && not kinds.char))))))
 
 -- a path is this one, or that of a folder on the way to it
 abbrev pub is_on_way : List ℕ → PathParts → Bool

@@ -42,7 +42,10 @@ fn add_known(alloc: Global, set: &mut PathSet, known: &KnownPath) -> Result<(), 
 fn is_directory(kinds: Kinds) -> bool
     ensures { result ≡ is_directory kinds }
 {
-    kinds.dir && !kinds.absent && !kinds.reg && !kinds.link && !kinds.other
+    if kinds.fifo || kinds.socket || kinds.block || kinds.char {
+        return false;
+    }
+    kinds.dir && !kinds.absent && !kinds.reg && !kinds.link
 }
 
 // Adds a path and the folders on the way to it.

@@ -1,8 +1,9 @@
 use Rattle.std.proofs.Common.{Ok, Err}
 use Rattle.checker_io.proofs.Readings.{reads_done, reads_next, reads_stop}
 use Rattle.dpkg_scenarios.specs.declared.scenario.ScriptKind.TheVariants.{Preinst, Postinst, Prerm, Postrm}
+use Rattle.dpkg_scenarios.specs.declared.scripts.Scripts.{Scripts}
+use Rattle.shell_syntax.specs.declared.script.Script.{Script}
 use Rattle.checker_input.specs.Input.{script_in, scripts_in}
-use Rattle.checker_input.specs.declared.package.Scripts.{Scripts}
 use Rattle.checker_input.proofs.Plans.{after_preinst, after_postinst, after_prerm, after_postrm}
 use Rattle.checker_input.proofs.read_package.read_scripts.Goals as goal
 
@@ -35,7 +36,7 @@ returns-in-Err-read_script-3 g c =
 pub returns : goal.returns
 unfolding scripts_in
 returns g c =
-    let value : Scripts = record { preinst = c.in-Ok.preinst; postinst = c.in-Ok-read_script.postinst; prerm = c.in-Ok-read_script-2.prerm; postrm = c.in-Ok-read_script-3.postrm } in
+    let value : Scripts Script = record { preinst = c.in-Ok.preinst; postinst = c.in-Ok-read_script.postinst; prerm = c.in-Ok-read_script-2.prerm; postrm = c.in-Ok-read_script-3.postrm } in
     reads_next (λ n. n) (g.S.Shelf.state c.args.shelf.now) (g.S.Shelf.state c.read_script.new.shelf) (g.S.Shelf.state c.read_script-4.new.shelf) (script_in c.args.folder.now Preinst) (after_preinst c.args.folder.now) c.in-Ok.preinst (Ok value) c.in-Ok.ensures (
     reads_next (λ n. n) (g.S.Shelf.state c.read_script.new.shelf) (g.S.Shelf.state c.read_script-2.new.shelf) (g.S.Shelf.state c.read_script-4.new.shelf) (script_in c.args.folder.now Postinst) (after_postinst c.args.folder.now c.in-Ok.preinst) c.in-Ok-read_script.postinst (Ok value) c.in-Ok-read_script.ensures (
     reads_next (λ n. n) (g.S.Shelf.state c.read_script-2.new.shelf) (g.S.Shelf.state c.read_script-3.new.shelf) (g.S.Shelf.state c.read_script-4.new.shelf) (script_in c.args.folder.now Prerm) (after_prerm c.args.folder.now c.in-Ok.preinst c.in-Ok-read_script.postinst) c.in-Ok-read_script-2.prerm (Ok value) c.in-Ok-read_script-2.ensures (

@@ -12,6 +12,6 @@ accepted-requires c =
 
 pub returns : goal.returns
 returns c =
-    is_loaded c.args.n c.in_ok-version.version c.new-2.result c.empty.result c.in_ok-postinst.postinst c.empty-2.result c.empty-3.result
-    c.in_ok-text.text c.as_slice.result.now c.in_ok-script.script c.in_ok-version.ensures c.new-2.ensures c.empty.ensures
-    c.in_ok-postinst.ensures c.empty-2.ensures c.empty-3.ensures c.as_slice.ensures c.in_ok-text.ensures c.in_ok-script.ensures
+    is_loaded c.args.n c.in_ok-version.version c.empty.result c.empty-2.result c.in_ok-postinst.postinst c.empty-3.result c.empty-4.result
+    c.in_ok-text.text c.as_slice.result.now c.in_ok-script.script c.in_ok-version.ensures c.empty.ensures c.empty-2.ensures
+    c.in_ok-postinst.ensures c.empty-3.ensures c.empty-4.ensures c.as_slice.ensures c.in_ok-text.ensures c.in_ok-script.ensures

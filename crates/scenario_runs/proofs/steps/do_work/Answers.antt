@@ -4,5 +4,5 @@ use Rattle.scenario_runs.proofs.steps.do_work.Goals as goal
 
 pub returns-in-Script-clause-work : goal.returns-in-Script-clause-work
 returns-in-Script-clause-work c =
-    script_works (plan_of c.args.job.now) c.args.step c.args.course c.in-Script.old c.in-Script.script c.call_step.result c.work.result
+    script_works (plan_of c.args.job.now) c.args.step c.args.course c.in-Script.side c.in-Script.script c.call_step.result c.work.result
     c.work.ensures c.in-Script.is c.call_step.ensures.call
