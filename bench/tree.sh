@@ -89,16 +89,16 @@ l /l f
 l /m /etc/passwd
 l /n nowhere
 l /o a
-o /p
+p /p
 END
 begin
 if command -v python3 >/dev/null; then
     python3 -c 'import socket; socket.socket(socket.AF_UNIX).bind("real/s")'
-    echo 'o /s' | of 'a socket'
+    echo 's /s' | of 'a socket'
 fi
 begin
 if [ "$(id -u)" -eq 0 ] && mknod real/c c 1 3 2>/dev/null && mknod real/b b 7 0 2>/dev/null; then
-    printf 'o /b\no /c\n' | of 'devices'
+    printf 'b /b\nc /c\n' | of 'devices'
 fi
 begin
 mkdir -p real/a/b/c real/a/d
@@ -383,7 +383,7 @@ report() {
     BEGIN {
         clause = quoted(ENVIRON["clause"])
         shown = quoted(ENVIRON["shown"])
-        printf "{\"colis\":1,\"scenarios\":[{\"name\":\"install\",\"outcomes\":[{\"after\":%s,", list(shown)
+        printf "{\"colis\":2,\"scenarios\":[{\"name\":\"install\",\"outcomes\":[{\"after\":%s,", list(shown)
         printf "\"calls\":[],\"clause\":{\"literals\":%s,\"now\":9,\"start\":0},\"confirmed\":true,\"number\":1,", list(clause)
         printf "\"result\":\"done Installed\",\"shown\":%s,\"trace\":\"\"}]}],\"verdict\":0}\n", list(shown)
     }' </dev/null >report
@@ -493,6 +493,8 @@ echo '{}' >report
 refused 'another text' 'report: no report of colis check --json' real --for report
 : >report
 refused 'an empty file' 'report: no report of colis check --json' real --for report
+echo '{"colis":1,"scenarios":[],"verdict":0}' >report
+whole 'a report of the first version' real --for report </dev/null
 echo '{"colis":3,"scenarios":[]}' >report
 refused 'another version' 'report: a version that is not known' real --for report
 report 'entry v0 etc v1;other v1' ''

@@ -140,7 +140,7 @@ fault() {
     conffiles:4) echo 'flags are not supported' ;;
     base:1) echo 'a line is dir, file, absent or nodir and a path, fits, own, or call NAME ok or fails' ;;
     base:2) echo 'an earlier line states how this command ends' ;;
-    tree:1) echo 'a line is d PATH, f PATH, o PATH or l PATH TARGET' ;;
+    tree:1) echo 'a line is d, f, p, s, b or c PATH, or l PATH TARGET' ;;
     tree:3) echo 'no earlier line says that its parent is a directory' ;;
     *) echo 'the line is not of the form' ;;
     esac

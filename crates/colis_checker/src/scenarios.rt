@@ -2,6 +2,7 @@
 
 ghost use Rattle.std.specs.Prelude.{◌≡◌, ◌≤◌, IfOk};
 ghost use Rattle.std.specs.List.{AllZip};
+ghost use Rattle.package_jobs.specs.Made.{AreProgramsOf};
 ghost use Rattle.colis_checker.specs.Accounts.{AccountGives, AccountsGive};
 ghost use Rattle.colis_checker.specs.Reports.{chosen};
 ghost use Rattle.colis_checker.specs.Settled.{settled};
@@ -11,7 +12,7 @@ use crate::faults::{TaskFault, task_fault};
 use case_pool::{Gate, map_jobs};
 use checker_input::Packages;
 use dpkg_scenarios::{Scenario, all_scenarios};
-use package_jobs::{is_plain, job_of, needs_of};
+use package_jobs::{Programs, is_plain, job_with, needs_of, programs_of};
 use script_names::{List, Memory};
 use std::alloc::Global;
 use std::thread::Threads;
@@ -49,13 +50,15 @@ fn light_scenarios(packages: &Packages) -> usize
 fn scenario_account<A: Account>(
     alloc: Global,
     packages: &Packages,
+    programs: &Programs,
     turns: u32,
     limit: u32,
     scenario: Scenario,
 ) -> Result<A, TaskFault>
+    requires { AreProgramsOf packages.now programs.now }
     ensures { AccountGives A.tells packages.now turns limit scenario result }
 {
-    let job = job_of(alloc, scenario, packages, turns)?;
+    let job = job_with(alloc, scenario, packages, programs, turns)?;
     let needs = needs_of(alloc, scenario, packages)?;
     match A::of_job(alloc, &job, &needs, limit) {
         Ok(account) => Ok(account),
@@ -70,17 +73,20 @@ fn scenario_accounts<R: Threads + Sync, G: Gate, A: Account + Send>(
     alloc: Global,
     gate: &G,
     packages: &Packages,
+    programs: &Programs,
     turns: u32,
     limit: u32,
     scenarios: &List<Scenario>,
 ) -> Result<List<Result<A, TaskFault>>, Memory>
+    requires { AreProgramsOf packages.now programs.now }
     ensures { IfOk result (AllZip (AccountGives A.tells packages.now turns limit) scenarios.now) }
 {
     let answer = move |scenario: &Scenario| -> Result<Result<A, TaskFault>, Memory>
+        requires { AreProgramsOf packages.now programs.now }
         ensures { IfOk result (AccountGives A.tells packages.entry.now turns limit scenario.now) }
     {
         gate.enter();
-        let account = scenario_account(alloc, packages, turns, limit, *scenario);
+        let account = scenario_account(alloc, packages, programs, turns, limit, *scenario);
         Ok(account)
     };
     let answers = map_jobs(rt, alloc, scenarios, light_scenarios(packages), &answer)?;
@@ -117,7 +123,10 @@ pub fn chosen_accounts<R: Threads + Sync, G: Gate, A: Account + Send>(
     ensures { AccountsGive A.tells packages.now turns limit (chosen scenario) result }
 {
     let scenarios = chosen_scenarios(alloc, scenario)?;
-    let answers = scenario_accounts(rt, alloc, gate, packages, turns, limit, &scenarios)?;
+    let programs = programs_of(alloc, packages)?;
+    let answers = scenario_accounts(
+        rt, alloc, gate, packages, &programs, turns, limit, &scenarios,
+    )?;
     let all = settle(alloc, answers)?;
     all
 }

@@ -4,4 +4,5 @@ pub mod Floats
 pub mod NewlineRead
 pub mod ValueDepth
 pub mod ValueRead
+pub mod Versions
 pub mod Told

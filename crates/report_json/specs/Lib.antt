@@ -1,2 +1,3 @@
 pub mod ReportJson
+pub mod FirstVersion
 pub mod Laws

@@ -5,6 +5,7 @@ ghost use Rattle.shown_texts.specs.Lines.{line};
 ghost use Rattle.report_json.specs.ReportJson.{json_text};
 
 use crate::values::report_value;
+use feature_trees::Version;
 use outcome_report::Report;
 use script_names::{Bytes, Memory};
 use serde_json::Value;
@@ -25,7 +26,7 @@ fn value_text(alloc: Global, value: &Value) -> Result<Bytes, Memory>
 pub fn render_json(alloc: Global, report: &Report) -> Result<Bytes, Memory>
     ensures { IfOk result (λ text. text ≡ json_text report.now) }
 {
-    let value = report_value(alloc, report)?;
+    let value = report_value(alloc, Version::Second, report)?;
     let text = value_text(alloc, &value)?;
     Ok(text)
 }

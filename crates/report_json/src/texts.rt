@@ -9,6 +9,7 @@ ghost use Rattle.report_text.specs.ReportText.{result_text, trace_mark, call_con
 ghost use Rattle.report_json.specs.ReportJson.{trace_json};
 
 use dpkg_scenarios::Ending;
+use feature_trees::Version;
 use report_text::{
     are_representable_marks, is_representable_call, is_representable_ending,
     is_representable_literal, print_call, put_result,
@@ -89,11 +90,15 @@ pub(crate) fn call_value(alloc: Global, call: &ScriptCall) -> Result<Value, Memo
 }
 
 // A literal of a clause.
-pub(crate) fn literal_value(alloc: Global, literal: &Literal) -> Result<Value, Memory>
-    ensures { IfOk result (λ value. view value ≡ string (literal_content literal.now)) }
+pub(crate) fn literal_value(
+    alloc: Global,
+    version: Version,
+    literal: &Literal,
+) -> Result<Value, Memory>
+    ensures { IfOk result (λ value. view value ≡ string (literal_content version literal.now)) }
 {
     is_representable_literal(literal);
-    let text = print_literal(alloc, literal)?;
+    let text = print_literal(alloc, version, literal)?;
     let value = text_value(alloc, text.as_slice())?;
     Ok(value)
 }

@@ -3,16 +3,16 @@ use Rattle.std.proofs.Common.{◌≡◌, ℕ, suc, ◌+◌, ◌^◌, ◌<◌, �
 use Rattle.std.specs.Prelude.{Option, ◌&&◌, nat_le, nat_lt, codes}
 use Rattle.std.specs.List.{list_all}
 use Rattle.std.specs.Option.{option_map, option_and_then}
-use Rattle.std.specs.Str.{bytes_eq}
 use Rattle.std.proofs.lemmas.Bool.{and_parts, leb-true, ltb-true}
 use Rattle.serde_json.specs.Data.{Data, Items, no_items, item}
 use Rattle.serde_json.specs.Find.{get}
 use Rattle.script_names.specs.declared.mark.Mark.{Mark}
 use Rattle.shown_texts.specs.Marks.{is_mark}
 use Rattle.feature_trees.specs.declared.value.Value.{Value}
+use Rattle.feature_trees.specs.declared.version.Version.TheVariants.{Second}
 use Rattle.feature_trees.specs.TreeLines.{tree_of}
 use Rattle.tree_clauses.specs.declared.clause.Clause.{Clause}
-use Rattle.tree_clauses.specs.ClauseRead.{clause_of, is_clause}
+use Rattle.tree_clauses.specs.ClauseRead.{clause_of, is_clause, tells}
 use Rattle.tree_clauses.specs.ClauseText.{clause_text}
 use Rattle.dpkg_scenarios.specs.declared.scenario.Ending.{Ending}
 use Rattle.dpkg_scenarios.specs.declared.scenario.Scenario.{Scenario}
@@ -26,7 +26,7 @@ use Rattle.report_text.specs.Numbered.{AreNumbered, AllNumbered}
 use Rattle.dpkg_scenarios.specs.Names.{scenario_named}
 use Rattle.report_text.specs.PieceRead.{result_of, trace_of, is_ending, is_call}
 use Rattle.report_text.specs.Whole.{IsRepresentableEntry, AllRepresentable, AllPartsRepresentable, IsWholeEntry, AllWhole, AllPartsWhole, AreInOrder, scenario_place}
-use Rattle.report_reader.specs.ReportRead.{text_at, list_at, short, number_at, lines_at, tree_found, tree_at, calls_onto, calls_at, ending_at, trace_at, if_text, clause_from, clause_in}
+use Rattle.report_reader.specs.ReportRead.{text_at, list_at, short, number_at, lines_at, tree_found, tree_at, calls_onto, calls_at, ending_at, trace_at, if_told, clause_from, clause_in}
 use Rattle.report_reader.specs.ReportRead.{outcome_in, replay_in, entry_in, entries_onto, part_in, from_place, parts_onto, report_in}
 use Rattle.report_reader.specs.JsonAnswers.{HasShortPaths, AllShort, AllPartsShort, IsReadable}
 use Rattle.report_reader.proofs.TextFacts.{got, made, kept}
@@ -50,15 +50,15 @@ trace_is key d trace e = got trace_of (text_at key d) trace e (λ text m f. trac
 calls_are : (key : List ℕ) (d : Data) (calls : List ScriptCall) → calls_at key d ≡ Some calls → list_all is_call calls ≡ true
 calls_are key d calls e = got (calls_onto []) (list_at key d) calls e (λ ds m f. calls_fit [] ds calls refl f)
 
-text_clause : (text : List ℕ) (clause : Clause) → option_and_then (if_text text) (clause_of text) ≡ Some clause → is_clause clause ≡ true
+text_clause : (text : List ℕ) (clause : Clause) → option_and_then (if_told text) (clause_of text) ≡ Some clause → is_clause clause ≡ true
 text_clause text clause e =
-    got (if_text text) (clause_of text) clause e
-    (λ x m f. kept (is_clause x && bytes_eq (clause_text x) text) x clause f (λ t same. ap is_clause (sym same) ∙ (and_parts (is_clause x) (bytes_eq (clause_text x) text) t).0))
+    got (if_told text) (clause_of text) clause e
+    (λ x m f. kept (is_clause x && tells x text) x clause f (λ t same. ap is_clause (sym same) ∙ (and_parts (is_clause x) (tells x text) t).0))
 
 from_clause : (start now : ℕ) (lines : List ℕ) (clause : Clause) → clause_from start now lines ≡ Some clause → is_clause clause ≡ true
 from_clause start now lines clause e =
     let head : Clause = record { literals = []; start = record { 0 = start }; now = record { 0 = now } } in
-    text_clause (clause_text head ++ lines) clause e
+    text_clause (clause_text Second head ++ lines) clause e
 
 clause_is : (d : Data) (clause : Clause) → clause_in d ≡ Some clause → is_clause clause ≡ true
 clause_is d clause e =

@@ -17,6 +17,7 @@ use Rattle.shown_texts.specs.Show.{are_bytes, shown_of}
 use Rattle.shown_texts.proofs.Lists.{all_both}
 use Rattle.dpkg_scenarios.specs.declared.scenario.Ending.{Ending}
 use Rattle.dpkg_scenarios.specs.declared.scenario.Ending.TheVariants.{Done, Failed, Incomplete, Bound}
+use Rattle.dpkg_scenarios.specs.declared.scenario.Side.{Side}
 use Rattle.dpkg_scenarios.specs.declared.scenario.ScriptKind.{ScriptKind}
 use Rattle.dpkg_scenarios.specs.declared.scenario.State.{State}
 use Rattle.scenario_runs.specs.declared.call.CallEnd.{CallEnd}
@@ -68,21 +69,21 @@ trace_fits text trace e = step (is_filled text) e
 
 -- ---- calls
 
-with_fits : (old : Bool) (script : ScriptKind) (words texts : List (List ℕ)) (call : ScriptCall) → list_all are_bytes words ≡ true
-    → call_with old script words texts ≡ Some call → is_call call ≡ true
-with_fits old script words [] call h e = cc
-with_fits old script words (last ∷ []) call h e =
-    made (λ (how : CallEnd). let it : ScriptCall = record { old = old; script = script; words = words; how = how } in it) (call_end_of last) call e
+with_fits : (side : Side) (script : ScriptKind) (words texts : List (List ℕ)) (call : ScriptCall) → list_all are_bytes words ≡ true
+    → call_with side script words texts ≡ Some call → is_call call ≡ true
+with_fits side script words [] call h e = cc
+with_fits side script words (last ∷ []) call h e =
+    made (λ (how : CallEnd). let it : ScriptCall = record { side = side; script = script; words = words; how = how } in it) (call_end_of last) call e
     (λ how m same. ap is_call (sym same) ∙ h)
-with_fits old script words (text ∷ next ∷ texts) call h e =
-    got (λ (word : List ℕ). call_with old script (words ++ word ∷ []) (next ∷ texts)) (shown_of text) call e
-    (λ word m f. with_fits old script (words ++ word ∷ []) (next ∷ texts) call
+with_fits side script words (text ∷ next ∷ texts) call h e =
+    got (λ (word : List ℕ). call_with side script (words ++ word ∷ []) (next ∷ texts)) (shown_of text) call e
+    (λ word m f. with_fits side script (words ++ word ∷ []) (next ∷ texts) call
     (all_both are_bytes words (word ∷ []) h (and_from (are_bytes word) true (shown_bytes text word m) refl)) f)
 
 from_fits : (side script : List ℕ) (texts : List (List ℕ)) (call : ScriptCall) → call_from side script texts ≡ Some call → is_call call ≡ true
 from_fits side script texts call e =
-    got (λ (old : Bool). option_and_then (λ (kind : ScriptKind). call_with old kind [] texts) (script_of script)) (side_of side) call e
-    (λ old m f. got (λ (kind : ScriptKind). call_with old kind [] texts) (script_of script) call f (λ kind n g. with_fits old kind [] texts call refl g))
+    got (λ (whose : Side). option_and_then (λ (kind : ScriptKind). call_with whose kind [] texts) (script_of script)) (side_of side) call e
+    (λ whose m f. got (λ (kind : ScriptKind). call_with whose kind [] texts) (script_of script) call f (λ kind n g. with_fits whose kind [] texts call refl g))
 
 call_words_fit : (ws : List (List ℕ)) (call : ScriptCall) → call_of_words ws ≡ Some call → is_call call ≡ true
 call_words_fit [] call e = cc

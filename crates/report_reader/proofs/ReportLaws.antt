@@ -1,10 +1,14 @@
--- The value of a readable report is read as the report.
-use Rattle.std.proofs.Common.{◌≡◌, ℕ, suc, ◌+◌, ◌≤◌, true, List, [], ◌∷◌, ◌++◌, map, Some, sym, ap, subst, ◌∙◌, arith, append_assoc, append-nil}
+-- The value of a readable report is read as the report, in each version of which it has a text.
+use Rattle.std.proofs.Common.{inl, inr, refl, ◌≡◌, ℕ, suc, ◌+◌, ◌≤◌, true, List, [], ◌∷◌, ◌++◌, map, Some, sym, ap, subst, ◌∙◌, arith, append_assoc, append-nil}
 use Rattle.std.specs.Prelude.{None, if◌then◌else◌}
 use Rattle.std.specs.Option.{option_map, option_and_then}
-use Rattle.std.proofs.lemmas.Bool.{le-leb}
+use Rattle.std.proofs.lemmas.Bool.{and_parts, le-leb}
+use Rattle.serde_json.specs.Data.{Data}
 use Rattle.serde_json.specs.View.{items_of}
 use Rattle.dpkg_scenarios.proofs.Named.{scenario_read}
+use Rattle.tree_clauses.specs.ClauseRead.{has_text as has_clause_text}
+use Rattle.feature_trees.specs.declared.version.Version.{Version}
+use Rattle.feature_trees.specs.declared.version.Version.TheVariants.{First, Second}
 use Rattle.scenario_outcomes.specs.declared.outcome.Outcome.{Outcome}
 use Rattle.outcome_report.specs.declared.outcome_report.Report.{Report}
 use Rattle.outcome_report.specs.declared.outcome_report.ReportEntry.{ReportEntry}
@@ -13,72 +17,96 @@ use Rattle.outcome_report.specs.declared.replay.Replay.{Replay}
 use Rattle.report_text.specs.Numbered.{AreNumbered, AllNumbered}
 use Rattle.report_text.specs.Whole.{IsRepresentableEntry, AllRepresentable, AllPartsRepresentable, IsWholeEntry, AllWhole, AllPartsWhole, AreInOrder, scenario_place}
 use Rattle.report_text.proofs.PieceReading.{result_read, trace_read}
+use Rattle.report_json.specs.FirstVersion.{has_text}
 use Rattle.report_json.specs.ReportJson.{entry_json, part_json, json_of}
-use Rattle.report_reader.specs.ReportRead.{outcome_in, replay_in, entry_in, entries_onto, part_in, from_place, parts_onto, report_in}
-use Rattle.report_reader.specs.JsonAnswers.{HasShortPaths, AllShort, AllPartsShort, IsReadable}
+use Rattle.report_json.proofs.Told.{have_clause_texts, have_texts, clauses_told}
+use Rattle.report_reader.specs.ReportRead.{outcome_in, replay_in, entry_in, entries_onto, part_in, from_place, parts_onto, version_of, version_in, report_in}
+use Rattle.report_reader.specs.JsonAnswers.{HasShortPaths, AllShort, AllPartsShort, IsReadable, HasValue}
 use Rattle.report_reader.proofs.ClauseFacts.{short_is}
 use Rattle.report_reader.proofs.MemberLaws.{tree_back, calls_back, clause_back}
 
 -- ---- entries
 
-outcome_back : (e : ReportEntry) → IsRepresentableEntry e → IsWholeEntry e → HasShortPaths e → outcome_in e.outcome.number (entry_json e) ≡ Some e.outcome
+outcome_back : (version : Version) (e : ReportEntry) → IsRepresentableEntry e → IsWholeEntry e → HasShortPaths e → has_clause_text version e.outcome.clause ≡ true
+    → outcome_in e.outcome.number (entry_json version e) ≡ Some e.outcome
 unfolding entry_json
-outcome_back e h w s =
+outcome_back version e h w s t =
     λ i. option_and_then (λ ending. option_and_then (λ trace. option_and_then (λ clause. option_map
     (λ shown. let made : Outcome = record { number = e.outcome.number; ending = ending; trace = trace; clause = clause; shown = shown } in made)
-    (tree_back e.outcome.shown w.shown h.shown s.shown i)) (clause_back e.outcome.clause h.clause i))
+    (tree_back version e.outcome.shown w.shown h.shown s.shown i)) (clause_back version e.outcome.clause h.clause t i))
     (trace_read e.outcome.trace h.trace i)) (result_read e.outcome.ending h.ending i)
 
-replay_back : (e : ReportEntry) → IsRepresentableEntry e → IsWholeEntry e → HasShortPaths e → replay_in (entry_json e) ≡ Some e.replayed
+replay_back : (version : Version) (e : ReportEntry) → IsRepresentableEntry e → IsWholeEntry e → HasShortPaths e → replay_in (entry_json version e) ≡ Some e.replayed
 unfolding entry_json
-replay_back e h w s =
+replay_back version e h w s =
     (λ i. option_and_then (λ ending. option_and_then (λ trace. option_and_then (λ after. option_map
     (λ calls. let made : Replay = record { ending = ending; trace = trace; after = after; calls = calls } in made)
-    (calls_back e.replayed.calls h.calls i)) (tree_back e.replayed.after w.after h.after s.after i))
+    (calls_back e.replayed.calls h.calls i)) (tree_back version e.replayed.after w.after h.after s.after i))
     (trace_read e.outcome.trace h.trace i)) (result_read e.outcome.ending h.ending i))
     ∙ λ i. let made : Replay = record { ending = sym w.agrees.ending i; trace = sym w.agrees.trace i; after = e.replayed.after; calls = e.replayed.calls } in Some made
 
-entry_back : (n : ℕ) (e : ReportEntry) → e.outcome.number ≡ n → IsRepresentableEntry e → IsWholeEntry e → HasShortPaths e → entry_in n (entry_json e) ≡ Some e
-entry_back n e number h w s =
-    ap (λ m. entry_in m (entry_json e)) (sym number)
+entry_back : (version : Version) (n : ℕ) (e : ReportEntry) → e.outcome.number ≡ n → IsRepresentableEntry e → IsWholeEntry e → HasShortPaths e → has_clause_text version e.outcome.clause ≡ true
+    → entry_in n (entry_json version e) ≡ Some e
+entry_back version n e number h w s t =
+    ap (λ m. entry_in m (entry_json version e)) (sym number)
     ∙ (λ i. option_and_then (λ outcome. option_map (λ replayed. let made : ReportEntry = record { outcome = outcome; replayed = replayed; confirmed = true } in made)
-    (replay_back e h w s i)) (outcome_back e h w s i))
+    (replay_back version e h w s i)) (outcome_back version e h w s t i))
     ∙ λ i. let made : ReportEntry = record { outcome = e.outcome; replayed = e.replayed; confirmed = sym w.confirmed i } in Some made
 
-entries_back : (n : ℕ) (done es : List ReportEntry) → AllRepresentable es → AllWhole es → AllShort es → AreNumbered n es
-    → entries_onto n done (items_of (map entry_json es)) ≡ Some (done ++ es)
-entries_back n done [] h w s m = ap Some (sym (append-nil done))
-entries_back n done (e ∷ es) h w s m =
+entries_back : (version : Version) (n : ℕ) (done es : List ReportEntry) → AllRepresentable es → AllWhole es → AllShort es → AreNumbered n es → have_clause_texts version es ≡ true
+    → entries_onto n done (items_of (map (entry_json version) es)) ≡ Some (done ++ es)
+entries_back version n done [] h w s m t = ap Some (sym (append-nil done))
+entries_back version n done (e ∷ es) h w s m t =
+    let k = and_parts (has_clause_text version e.outcome.clause) (have_clause_texts version es) t in
     let small = short_is n (omega (arith, m.0, h.0.number)) in
     let next : suc n ≡ n + 1 = omega arith in
-    ap (option_and_then (λ number. option_and_then (λ entry. entries_onto (number + 1) (done ++ entry ∷ []) (items_of (map entry_json es))) (entry_in number (entry_json e)))) small
-    ∙ ap (option_and_then (λ (entry : ReportEntry). entries_onto (n + 1) (done ++ entry ∷ []) (items_of (map entry_json es)))) (entry_back n e m.0 h.0 w.0 s.0)
-    ∙ entries_back (n + 1) (done ++ e ∷ []) es h.1 w.1 s.1 (subst (λ k. AreNumbered k es) next m.1) ∙ ap Some (append_assoc done (e ∷ []) es)
+    ap (option_and_then (λ number. option_and_then (λ entry. entries_onto (number + 1) (done ++ entry ∷ []) (items_of (map (entry_json version) es))) (entry_in number (entry_json version e)))) small
+    ∙ ap (option_and_then (λ (entry : ReportEntry). entries_onto (n + 1) (done ++ entry ∷ []) (items_of (map (entry_json version) es)))) (entry_back version n e m.0 h.0 w.0 s.0 k.0)
+    ∙ entries_back version (n + 1) (done ++ e ∷ []) es h.1 w.1 s.1 (subst (λ k. AreNumbered k es) next m.1) k.1 ∙ ap Some (append_assoc done (e ∷ []) es)
 
 -- ---- parts
 
-part_back : (p : ReportPart) → AllRepresentable p.entries → AllWhole p.entries → AllShort p.entries → AreNumbered 1 p.entries → part_in (part_json p) ≡ Some p
+part_back : (version : Version) (p : ReportPart) → AllRepresentable p.entries → AllWhole p.entries → AllShort p.entries → AreNumbered 1 p.entries → have_clause_texts version p.entries ≡ true
+    → part_in (part_json version p) ≡ Some p
 unfolding part_json
-part_back p h w s m =
+part_back version p h w s m t =
     λ i. option_and_then (λ scenario. option_map (λ entries. let made : ReportPart = record { scenario = scenario; entries = entries } in made)
-    (entries_back 1 [] p.entries h w s m i)) (scenario_read p.scenario i)
+    (entries_back version 1 [] p.entries h w s m t i)) (scenario_read p.scenario i)
 
 in_place : (least : ℕ) (p : ReportPart) → least ≤ scenario_place p.scenario → from_place least p ≡ Some p
 in_place least p le = ap (λ t. if t then Some p else None) (le-leb least (scenario_place p.scenario) le)
 
-parts_back : (least : ℕ) (done ps : List ReportPart) → AllPartsRepresentable ps → AllPartsWhole ps → AllPartsShort ps → AllNumbered ps → AreInOrder least ps
-    → parts_onto least done (items_of (map part_json ps)) ≡ Some (done ++ ps)
-parts_back least done [] h w s m o = ap Some (sym (append-nil done))
-parts_back least done (p ∷ ps) h w s m o =
+parts_back : (version : Version) (least : ℕ) (done ps : List ReportPart) → AllPartsRepresentable ps → AllPartsWhole ps → AllPartsShort ps → AllNumbered ps → AreInOrder least ps
+    → have_texts version ps ≡ true → parts_onto least done (items_of (map (part_json version) ps)) ≡ Some (done ++ ps)
+parts_back version least done [] h w s m o t = ap Some (sym (append-nil done))
+parts_back version least done (p ∷ ps) h w s m o t =
+    let k = and_parts (have_clause_texts version p.entries) (have_texts version ps) t in
     let next : suc (scenario_place p.scenario) ≡ scenario_place p.scenario + 1 = omega arith in
-    ap (λ found. option_and_then (λ (part : ReportPart). parts_onto (scenario_place part.scenario + 1) (done ++ part ∷ []) (items_of (map part_json ps)))
-    (option_and_then (from_place least) found)) (part_back p h.0 w.0 s.0 m.0)
-    ∙ ap (option_and_then (λ (part : ReportPart). parts_onto (scenario_place part.scenario + 1) (done ++ part ∷ []) (items_of (map part_json ps)))) (in_place least p o.0)
-    ∙ parts_back (scenario_place p.scenario + 1) (done ++ p ∷ []) ps h.1 w.1 s.1 m.1 (subst (λ k. AreInOrder k ps) next o.1) ∙ ap Some (append_assoc done (p ∷ []) ps)
+    ap (λ found. option_and_then (λ (part : ReportPart). parts_onto (scenario_place part.scenario + 1) (done ++ part ∷ []) (items_of (map (part_json version) ps)))
+    (option_and_then (from_place least) found)) (part_back version p h.0 w.0 s.0 m.0 k.0)
+    ∙ ap (option_and_then (λ (part : ReportPart). parts_onto (scenario_place part.scenario + 1) (done ++ part ∷ []) (items_of (map (part_json version) ps)))) (in_place least p o.0)
+    ∙ parts_back version (scenario_place p.scenario + 1) (done ++ p ∷ []) ps h.1 w.1 s.1 m.1 (subst (λ k. AreInOrder k ps) next o.1) k.1 ∙ ap Some (append_assoc done (p ∷ []) ps)
 
 -- the value of a readable report is read as the report
-pub report_back : (report : Report) → IsReadable report → report_in (json_of report) ≡ Some report
+pub report_back : (version : Version) (report : Report) → IsReadable report → has_text version report ≡ true → report_in (json_of version report) ≡ Some report
 unfolding json_of
-report_back report r =
+report_back version report r t =
     ap (option_map (λ parts. let made : Report = record { parts = parts } in made))
-    (parts_back 0 [] report.parts r.representable r.whole.entries r.short r.whole.numbered r.whole.order)
+    (parts_back version 0 [] report.parts r.representable r.whole.entries r.short r.whole.numbered r.whole.order (clauses_told version report t))
+
+-- and the version is that which it names
+pub version_back : (version : Version) (report : Report) → version_in (json_of version report) ≡ Some version
+unfolding json_of
+version_back First report = ap (option_and_then version_of) (short_is 1 (omega arith))
+version_back Second report = ap (option_and_then version_of) (short_is 2 (omega arith))
+
+-- a value of a report is its value in a version of which it has a text
+pub by_version : {A : Type 0} (report : Report) (d : Data) → HasValue report d
+    → ((version : Version) → has_text version report ≡ true → json_of version report ≡ d → A) → A
+by_version report d (inl e) more = more Second refl e
+by_version report d (inr h) more = more First h.0 h.1
+
+-- and so the other way round
+pub has_value : (version : Version) (report : Report) (d : Data) → has_text version report ≡ true → json_of version report ≡ d → HasValue report d
+has_value First report d t e = inr (t, e)
+has_value Second report d t e = inl e

@@ -14,6 +14,7 @@ use Rattle.shown_texts.specs.Paths.{if_name, name_of, names_onto, names_of, path
 use Rattle.shown_texts.specs.Show.{are_bytes, shown_of}
 use Rattle.shown_texts.proofs.Lists.{all_both}
 use Rattle.feature_trees.specs.declared.kind.Kind.TheVariants as kind
+use Rattle.feature_trees.specs.declared.kind.Special as special
 use Rattle.feature_trees.specs.declared.read.TheConstants.{MOST_NAMES}
 use Rattle.feature_trees.specs.declared.read.TreeFault.{TreeFault}
 use Rattle.feature_trees.specs.declared.read.TreeFault.TheVariants.{Line}
@@ -23,11 +24,11 @@ use Rattle.feature_trees.specs.declared.shape.Node.TheFolds.{fold-roll-Node, fol
 use Rattle.feature_trees.specs.declared.shape.Node.TheOpen as Open
 use Rattle.feature_trees.specs.declared.shape.Node.TheViews.{out-Node, roll-Node, roll-out-Node}
 use Rattle.feature_trees.specs.declared.value.Value.{Value}
-use Rattle.feature_trees.specs.declared.value.Value.TheVariants.{Absent, Reg, Link, Other, Dir}
+use Rattle.feature_trees.specs.declared.value.Value.TheVariants.{Absent, Reg, Link, Special, Dir}
 use Rattle.feature_trees.specs.Readable.{node_bytes, entries_bytes, of_bytes, greatest, depth_layer, entry_depth_layer, node_depth, entries_depth, depth}
 use Rattle.feature_trees.specs.Sound.{sound}
 use Rattle.feature_trees.specs.Tree.{kind_of, by_order, name_cmp, find, entry, at, entries_of, entry_if_present, update, has_parents, put}
-use Rattle.feature_trees.specs.TreeLines.{letter_value, link_value, line_of_names, line_at, line_of_words, line_says, is_there, with_line, and_then, with_lines, text_lines, tree_of}
+use Rattle.feature_trees.specs.TreeLines.{special_of, letter_value, link_value, line_of_names, line_at, line_of_words, line_says, is_there, with_line, and_then, with_lines, text_lines, tree_of}
 use Rattle.feature_trees.specs.View.{value_layer, value_of, node_of, IsThere, value_of-node_of}
 use Rattle.feature_trees.proofs.LinesStand.{lines_stand}
 use Rattle.report_reader.specs.ReportRead.{tree_found}
@@ -51,7 +52,7 @@ depth_of n = ap node_depth (sym (roll-out-Node n)) ∙ layer (out-Node n)
     layer : (x : Open.Node-F Node Entry) → node_depth (roll-Node x) ≡ depth (value_layer x)
     layer Open.Reg = fold-roll-Node ℕ ℕ depth_layer entry_depth_layer Open.Reg
     layer (Open.Link b) = fold-roll-Node ℕ ℕ depth_layer entry_depth_layer (Open.Link b)
-    layer Open.Other = fold-roll-Node ℕ ℕ depth_layer entry_depth_layer Open.Other
+    layer (Open.Special s) = fold-roll-Node ℕ ℕ depth_layer entry_depth_layer (Open.Special s)
     layer (Open.Dir es) = fold-roll-Node ℕ ℕ depth_layer entry_depth_layer (Open.Dir es) ∙ entry_depth_all es
 
 -- ---- entries that fit
@@ -98,7 +99,7 @@ present_fits : (k : ℕ) (f : List ℕ) (w : Value) → depth w + 1 ≤ k → of
 present_fits k f Absent d b n = record { deep = omega arith; bytes = refl }
 present_fits k f Reg d b n = there_fits k f Reg tt d b n
 present_fits k f (Link t) d b n = there_fits k f (Link t) tt d b n
-present_fits k f Other d b n = there_fits k f Other tt d b n
+present_fits k f (Special s) d b n = there_fits k f (Special s) tt d b n
 present_fits k f (Dir es) d b n = there_fits k f (Dir es) tt d b n
 
 update_fits : (k : ℕ) (es : List Entry) (f : List ℕ) (w : Value) → AllFit k es → depth w + 1 ≤ k → of_bytes w ≡ true → are_bytes f ≡ true → AllFit k (update es f w)
@@ -126,14 +127,14 @@ entries_fit : (k : ℕ) (v : Value) → Fits k v → AllFit k (entries_of v)
 entries_fit k Absent h = record { deep = omega arith; bytes = refl }
 entries_fit k Reg h = record { deep = omega arith; bytes = refl }
 entries_fit k (Link t) h = record { deep = omega arith; bytes = refl }
-entries_fit k Other h = record { deep = omega arith; bytes = refl }
+entries_fit k (Special s) h = record { deep = omega arith; bytes = refl }
 entries_fit k (Dir es) h = record { deep = h.deep; bytes = h.bytes }
 
 entry_fits : (k : ℕ) (v : Value) (f : List ℕ) → Fits k v → Fits (k - 1) (entry v f)
 entry_fits k Absent f h = record { deep = omega arith; bytes = refl }
 entry_fits k Reg f h = record { deep = omega arith; bytes = refl }
 entry_fits k (Link t) f h = record { deep = omega arith; bytes = refl }
-entry_fits k Other f h = record { deep = omega arith; bytes = refl }
+entry_fits k (Special s) f h = record { deep = omega arith; bytes = refl }
 entry_fits k (Dir es) f h = find_fits k es f (record { deep = h.deep; bytes = h.bytes })
 
 put_fits : (k : ℕ) (v : Value) (p : List (List ℕ)) (w : Value) → Fits k v → length p + depth w ≤ k → list_all are_bytes p ≡ true → of_bytes w ≡ true → Fits k (put v p w)
@@ -203,14 +204,15 @@ module _ (n : ℕ) (v m : Value) (h : Fits MOST_NAMES v) where
       step (Some names) d e = named_fits names w low b (path_bytes path names d) e
 
   letter_fits : (letter path : List ℕ) → with_line n v (option_and_then (line_at path) (letter_value letter)) ≡ Ok m → Fits MOST_NAMES m
-  letter_fits letter path e = step (bytes_eq letter (codes "d")) (bytes_eq letter (codes "f")) (bytes_eq letter (codes "o")) e
+  letter_fits letter path e = step (bytes_eq letter (codes "d")) (bytes_eq letter (codes "f")) (special_of letter) e
     where
-      step : (d f o : Bool) → with_line n v (option_and_then (line_at path) (if d then Some (Dir []) else (if f then Some Reg else (if o then Some Other else None)))) ≡ Ok m
+      step : (d f : Bool) (o : Option special.Special)
+          → with_line n v (option_and_then (line_at path) (if d then Some (Dir []) else (if f then Some Reg else option_map (λ s. Special s) o))) ≡ Ok m
           → Fits MOST_NAMES m
       step true f o e = at_fits path (Dir []) refl refl e
       step false true o e = at_fits path Reg refl refl e
-      step false false true e = at_fits path Other refl refl e
-      step false false false e = cc
+      step false false (Some s) e = at_fits path (Special s) refl refl e
+      step false false None e = cc
 
   link_fits : (letter path target : List ℕ) → with_line n v (option_and_then (line_at path) (link_value letter target)) ≡ Ok m → Fits MOST_NAMES m
   link_fits letter path target e = step (bytes_eq letter (codes "l")) (shown_of target) refl e

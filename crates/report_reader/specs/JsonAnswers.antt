@@ -1,13 +1,15 @@
 -- Which texts tell a report, and what reading one answers.
-use Rattle.std.specs.Prelude.{◌≡◌, ◌≤◌, ℕ, List, [], ◌∷◌, Option, Some, None, Result, Ok, Err, IsUtf8}
+use Rattle.std.specs.Prelude.{◌≡◌, ◌≤◌, ◌⊎◌, ℕ, List, [], ◌∷◌, Option, Some, None, Result, Ok, Err, IsTrue, IsUtf8}
 use Rattle.serde_json.specs.Data.{Data}
 use Rattle.serde_json.specs.Read.{read}
 use Rattle.feature_trees.specs.declared.read.TheConstants.{MOST_NAMES}
+use Rattle.feature_trees.specs.declared.version.Version.TheVariants.{First, Second}
 use Rattle.feature_trees.specs.Readable.{depth}
 use Rattle.outcome_report.specs.declared.outcome_report.Report.{Report}
 use Rattle.outcome_report.specs.declared.outcome_report.ReportEntry.{ReportEntry}
 use Rattle.outcome_report.specs.declared.outcome_report.ReportPart.{ReportPart}
 use Rattle.report_text.specs.Whole.{IsRepresentable, IsWhole}
+use Rattle.report_json.specs.FirstVersion.{is_first}
 use Rattle.report_json.specs.ReportJson.{json_of}
 use Rattle.report_reader.specs.declared.read.JsonFault.{JsonFault}
 use Rattle.report_reader.specs.declared.read.JsonFault.TheVariants as fault
@@ -37,19 +39,23 @@ pub record IsReadable (report : Report) : Type 0 where
   pub whole : IsWhole report
   pub short : AllPartsShort report.parts
 
+-- the value is the report's in the second version, or in the first, where the report has a text of that
+abbrev pub HasValue : Report → Data → Type 0
+HasValue report value = (json_of Second report ≡ value) ⊎ (IsTrue (is_first report) × (json_of First report ≡ value))
+
 -- the value is that of no such report
 abbrev pub IsNoReport : Data → Type 0
-IsNoReport value = (report : Report) → IsReadable report → ¬ (json_of report ≡ value)
+IsNoReport value = (report : Report) → IsReadable report → ¬ (HasValue report value)
 
 -- the report that has the value, where there is one
 abbrev pub Finds : Data → Option Report → Type 0
-Finds value (Some report) = IsReadable report × (json_of report ≡ value)
+Finds value (Some report) = IsReadable report × HasValue report value
 Finds value None = IsNoReport value
 
 -- What reading a text answers: the report whose value the text has; that it is no JSON text; that it is one, and its
 -- value is no report's; or want of memory.
 abbrev pub ReadsReport : List ℕ → Result Report JsonFault → Type 0
-ReadsReport text (Ok report) = IsReadable report × Reads text (json_of report)
+ReadsReport text (Ok report) = (value : Data) × Reads text value × Finds value (Some report)
 ReadsReport text (Err fault.Json) = (value : Data) → ¬ (Reads text value)
-ReadsReport text (Err fault.Shape) = (value : Data) × Reads text value × IsNoReport value
+ReadsReport text (Err fault.Shape) = (value : Data) × Reads text value × Finds value None
 ReadsReport text (Err fault.Memory) = Unit {0}

@@ -1,18 +1,19 @@
--- Reading a report from its JSON value. The reader is loose: it does not look at every member, and what it reads is
--- printed again and compared.
-use Rattle.std.specs.Prelude.{ℕ, ◌+◌, ◌^◌, true, ◌&&◌, nat_le, nat_lt, List, [], ◌∷◌, ◌++◌, codes, Option, Some, None}
-use Rattle.std.specs.Prelude.{Result, Ok, Err, if◌then◌else◌}
+-- Reading a report from its JSON value, of either version. The reader is loose: it does not look at every member, and
+-- what it reads is printed again in the value's version and compared.
+use Rattle.std.specs.Prelude.{ℕ, ◌+◌, ◌^◌, ◌==◌, true, ◌&&◌, nat_le, nat_lt, List, [], ◌∷◌, ◌++◌, codes}
+use Rattle.std.specs.Prelude.{Option, Some, None, Result, Ok, Err, if◌then◌else◌}
 use Rattle.std.specs.Option.{option_map, option_and_then}
-use Rattle.std.specs.Str.{bytes_eq}
 use Rattle.serde_json.specs.Data.{Data, Items, no_items, item}
 use Rattle.serde_json.specs.Find.{get, as_number, as_u64, as_str, as_array}
 use Rattle.script_names.specs.declared.mark.Mark.{Mark}
 use Rattle.shown_texts.specs.Lines.{line}
 use Rattle.feature_trees.specs.declared.read.TreeFault.{TreeFault}
 use Rattle.feature_trees.specs.declared.value.Value.{Value}
+use Rattle.feature_trees.specs.declared.version.Version.{Version}
+use Rattle.feature_trees.specs.declared.version.Version.TheVariants.{First, Second}
 use Rattle.feature_trees.specs.TreeLines.{tree_of}
 use Rattle.tree_clauses.specs.declared.clause.Clause.{Clause}
-use Rattle.tree_clauses.specs.ClauseRead.{clause_of, is_clause}
+use Rattle.tree_clauses.specs.ClauseRead.{clause_of, is_clause, tells}
 use Rattle.tree_clauses.specs.ClauseText.{clause_text}
 use Rattle.dpkg_scenarios.specs.declared.scenario.Ending.{Ending}
 use Rattle.scenario_runs.specs.declared.call.ScriptCall.{ScriptCall}
@@ -83,19 +84,19 @@ trace_at key d = option_and_then trace_of (text_at key d)
 
 -- ---- clauses
 
--- the clause, where it has this text
-abbrev pub if_text : List ℕ → Clause → Option Clause
-if_text text clause = if is_clause clause && bytes_eq (clause_text clause) text then Some clause else None
+-- the clause, where this text tells it
+abbrev pub if_told : List ℕ → Clause → Option Clause
+if_told text clause = if is_clause clause && tells clause text then Some clause else None
 
--- the clause that has this text
+-- the clause that this text tells
 abbrev pub clause_with : List ℕ → Option Clause
-clause_with text = option_and_then (if_text text) (clause_of text)
+clause_with text = option_and_then (if_told text) (clause_of text)
 
 -- the clause of two variables and the lines of its literals
 abbrev pub clause_from : ℕ → ℕ → List ℕ → Option Clause
 clause_from start now lines =
     let head : Clause = record { literals = []; start = record { 0 = start }; now = record { 0 = now } } in
-    clause_with (clause_text head ++ lines)
+    clause_with (clause_text Second head ++ lines)
 
 -- the clause of a value
 abbrev pub clause_in : Data → Option Clause
@@ -136,6 +137,14 @@ entries_onto number entries (item d ds) =
     (entry_in number d)) (short number)
 
 -- ---- the report
+
+-- the version of a number
+abbrev pub version_of : ℕ → Option Version
+version_of n = if n == 1 then Some First else (if n == 2 then Some Second else None)
+
+-- the version that a value names
+abbrev pub version_in : Data → Option Version
+version_in d = option_and_then version_of (number_at (codes "colis") d)
 
 -- the part of a value
 abbrev pub part_in : Data → Option ReportPart

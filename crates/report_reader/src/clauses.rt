@@ -12,7 +12,7 @@ use serde_json::Value;
 use std::alloc::Global;
 use tree_clauses::{Clause, ClauseFault, Var, print_clause, read_clause};
 
-// The clause with this text.
+// The clause that this text tells.
 fn clause_with(alloc: Global, text: &[u8]) -> Result<Option<Clause>, Memory>
     ensures { IfOk result (λ found. found ≡ clause_with text.now) }
 {

@@ -1,4 +1,4 @@
-//! The report that a JSON text tells: what report_json prints is read back.
+//! The report that a JSON text tells: what report_json prints is read back, and so is a text of the first version.
 //! It stands on report_json, whose definition says which value a report has, and on serde_json, whose definition says
 //! which value a text has. Begin with `read_json` and specs/JsonAnswers.antt: what is read loosely from a value
 //! (specs/ReportRead.antt) is made a value again and compared.

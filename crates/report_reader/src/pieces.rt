@@ -8,7 +8,7 @@ ghost use Rattle.report_text.specs.PieceRead.{marks_onto, trace_of, call_with, c
 ghost use Rattle.report_reader.specs.ReportRead.{tree_found, tree_at, calls_onto, calls_at, ending_at, trace_at};
 
 use crate::members::{lines_at, list_at, text_at, text_of};
-use dpkg_scenarios::{Ending, ScriptKind, State};
+use dpkg_scenarios::{Ending, ScriptKind, Side, State};
 use feature_trees::{TreeFault, Value as Tree, read_tree};
 use scenario_runs::{CallEnd, ScriptCall};
 use script_names::{List, Mark, Memory};
@@ -60,15 +60,15 @@ fn script_of(text: &[u8]) -> Option<ScriptKind>
     None
 }
 
-// Whether it is the old package's script, of a word for that.
-fn side_of(text: &[u8]) -> Option<bool>
+// Whose script it is, of a word for that.
+fn side_of(text: &[u8]) -> Option<Side>
     ensures { result ≡ side_of text.now }
 {
     if text == b"old".as_slice() {
-        return Some(true);
+        return Some(Side::Old);
     }
     if text == b"new".as_slice() {
-        return Some(false);
+        return Some(Side::New);
     }
     None
 }
@@ -192,12 +192,12 @@ pub(crate) fn trace_at(
 // The call with these words, of which the last says how it ended.
 fn call_with(
     alloc: Global,
-    old: bool,
+    side: Side,
     script: ScriptKind,
     texts: &[&[u8]],
 ) -> Result<Option<ScriptCall>, Memory>
     ensures { IfOk result
-        (λ found. found ≡ call_with old script [] (map (λ text. text.now) texts.now)) }
+        (λ found. found ≡ call_with side script [] (map (λ text. text.now) texts.now)) }
 {
     let mut words = List::new(alloc);
     let mut left = texts;
@@ -205,7 +205,7 @@ fn call_with(
         if left.len() < 2 {
             return match call_end_of(text) {
                 Some(how) => Ok(Some(ScriptCall {
-                    old,
+                    side,
                     script,
                     words,
                     how,
@@ -232,12 +232,12 @@ fn call_from(
     ensures { IfOk result
         (λ found. found ≡ call_from side.now script.now (map (λ text. text.now) texts.now)) }
 {
-    let old = match side_of(side) {
-        Some(old) => old,
+    let side = match side_of(side) {
+        Some(side) => side,
         None => return Ok(None),
     };
     match script_of(script) {
-        Some(script) => call_with(alloc, old, script, texts),
+        Some(script) => call_with(alloc, side, script, texts),
         None => Ok(None),
     }
 }

@@ -7,46 +7,46 @@ use script_names::{Bytes, Memory};
 use std::alloc::Global;
 use std::test::Fail;
 
-// What a text tells.
+/// What a text tells.
 #[derive(Clone, Copy, Debug, PartialEq, Eq)]
-enum Told {
-    // A report, which is printed as the text.
+pub(crate) enum Told {
+    /// A report, which is printed as the text.
     Same,
-    // A report, which is printed otherwise.
+    /// A report, which is printed otherwise.
     Other,
-    // A JSON text, and no report's.
+    /// A JSON text, and no report's.
     Shape,
-    // No JSON text.
+    /// No JSON text.
     Json,
-    // Nothing, for want of memory.
+    /// Nothing, for want of memory.
     Nothing,
 }
 
-// Two scenarios: of the first an outcome that is done, with a clause of no literals, and one that is failed, with a
-// call and two literals; of the second one that is incomplete.
-const WHOLE: &str =
-    "{\"colis\":1,\"scenarios\":[{\"name\":\"install\",\"outcomes\":[{\"after\":[\"d /srv\",\"f /srv/a\"],\"calls\":[],\"clause\":{\"literals\":[],\"now\":4,\"start\":4},\"confirmed\":true,\"number\":1,\"result\":\"done Installed\",\"shown\":[\"d /srv\"],\"trace\":\"3:17:67\"},{\"after\":[\"d /srv\"],\"calls\":[\"call new postinst configure \\\\e failed\"],\"clause\":{\"literals\":[\"kind v1 dir\",\"notempty v0\"],\"now\":1,\"start\":0},\"confirmed\":true,\"number\":2,\"result\":\"failed Half-Configured\",\"shown\":[\"l /srv a\\\\x20b\"],\"trace\":\"3:17:67 3:34:66\"}]},{\"name\":\"purge-later\",\"outcomes\":[{\"after\":[\"o /srv\"],\"calls\":[],\"clause\":{\"literals\":[],\"now\":0,\"start\":0},\"confirmed\":true,\"number\":1,\"result\":\"incomplete link 3:17\",\"shown\":[],\"trace\":\"\"}]}],\"verdict\":1}\n";
+/// Two scenarios: of the first an outcome that is done, with a clause of no literals, and one that is failed, with a
+/// call and two literals; of the second one that is incomplete.
+pub(crate) const WHOLE: &str =
+    "{\"colis\":2,\"scenarios\":[{\"name\":\"install\",\"outcomes\":[{\"after\":[\"d /srv\",\"f /srv/a\"],\"calls\":[],\"clause\":{\"literals\":[],\"now\":4,\"start\":4},\"confirmed\":true,\"number\":1,\"result\":\"done Installed\",\"shown\":[\"d /srv\"],\"trace\":\"3:17:67\"},{\"after\":[\"d /srv\"],\"calls\":[\"call new postinst configure \\\\e failed\"],\"clause\":{\"literals\":[\"kind v1 dir\",\"notempty v0\"],\"now\":1,\"start\":0},\"confirmed\":true,\"number\":2,\"result\":\"failed Half-Configured\",\"shown\":[\"l /srv a\\\\x20b\"],\"trace\":\"3:17:67 3:34:66\"}]},{\"name\":\"purge-later\",\"outcomes\":[{\"after\":[\"p /srv\"],\"calls\":[],\"clause\":{\"literals\":[],\"now\":0,\"start\":0},\"confirmed\":true,\"number\":1,\"result\":\"incomplete link 3:17\",\"shown\":[],\"trace\":\"\"}]}],\"verdict\":1}\n";
 
-// A purge that finds a foreign entry beside the configuration file, that one alone, or neither.
-const PURGE: &str =
-    "{\"colis\":1,\"scenarios\":[{\"name\":\"purge\",\"outcomes\":[{\"after\":[\"d /etc\",\"d /etc/foo\",\"f /etc/foo/a\"],\"calls\":[],\"clause\":{\"literals\":[\"kind v0 dir\",\"entry v0 etc v1\",\"kind v1 dir\",\"entry v1 foo v2\",\"kind v2 dir\",\"entry v2 a.conf v3\",\"kind v3 reg,link,other\",\"kind v4 absent\",\"similar v5 {a.conf} v2\",\"entry v5 a.conf v4\",\"notempty v5\",\"similar v6 {foo} v1\",\"entry v6 foo v5\",\"similar v7 {etc} v0\",\"entry v7 etc v6\"],\"now\":7,\"start\":0},\"confirmed\":true,\"number\":1,\"result\":\"done Not-Installed\",\"shown\":[\"d /etc\",\"d /etc/foo\",\"f /etc/foo/a\",\"f /etc/foo/a.conf\"],\"trace\":\"2:0:67 4:0:68 4:1:67\"},{\"after\":[\"d /etc\"],\"calls\":[],\"clause\":{\"literals\":[\"kind v0 dir\",\"entry v0 etc v1\",\"kind v1 dir\",\"entry v1 foo v2\",\"kind v2 dir\",\"fence v2 {a.conf}\",\"entry v2 a.conf v3\",\"kind v3 reg,link,other\",\"kind v4 absent\",\"similar v5 {foo} v1\",\"entry v5 foo v4\",\"similar v6 {etc} v0\",\"entry v6 etc v5\"],\"now\":6,\"start\":0},\"confirmed\":true,\"number\":2,\"result\":\"done Not-Installed\",\"shown\":[\"d /etc\",\"d /etc/foo\",\"f /etc/foo/a.conf\"],\"trace\":\"2:0:67 4:0:68 4:1:68\"},{\"after\":[\"d /etc\"],\"calls\":[],\"clause\":{\"literals\":[\"kind v0 dir\",\"entry v0 etc v1\",\"kind v1 dir\",\"entry v1 foo v2\",\"kind v2 dir\",\"fence v2 {}\",\"kind v3 absent\",\"similar v4 {foo} v1\",\"entry v4 foo v3\",\"similar v5 {etc} v0\",\"entry v5 etc v4\"],\"now\":5,\"start\":0},\"confirmed\":true,\"number\":3,\"result\":\"done Not-Installed\",\"shown\":[\"d /etc\",\"d /etc/foo\"],\"trace\":\"2:0:68 4:0:66 4:1:66\"}]}],\"verdict\":0}\n";
+/// A purge that finds a foreign entry beside the configuration file, that one alone, or neither.
+pub(crate) const PURGE: &str =
+    "{\"colis\":2,\"scenarios\":[{\"name\":\"purge\",\"outcomes\":[{\"after\":[\"d /etc\",\"d /etc/foo\",\"f /etc/foo/a\"],\"calls\":[],\"clause\":{\"literals\":[\"kind v0 dir\",\"entry v0 etc v1\",\"kind v1 dir\",\"entry v1 foo v2\",\"kind v2 dir\",\"entry v2 a.conf v3\",\"kind v3 reg,link,fifo,socket,block,char\",\"kind v4 absent\",\"similar v5 {a.conf} v2\",\"entry v5 a.conf v4\",\"notempty v5\",\"similar v6 {foo} v1\",\"entry v6 foo v5\",\"similar v7 {etc} v0\",\"entry v7 etc v6\"],\"now\":7,\"start\":0},\"confirmed\":true,\"number\":1,\"result\":\"done Not-Installed\",\"shown\":[\"d /etc\",\"d /etc/foo\",\"f /etc/foo/a\",\"f /etc/foo/a.conf\"],\"trace\":\"2:0:67 4:0:68 4:1:67\"},{\"after\":[\"d /etc\"],\"calls\":[],\"clause\":{\"literals\":[\"kind v0 dir\",\"entry v0 etc v1\",\"kind v1 dir\",\"entry v1 foo v2\",\"kind v2 dir\",\"fence v2 {a.conf}\",\"entry v2 a.conf v3\",\"kind v3 reg,link,fifo,socket,block,char\",\"kind v4 absent\",\"similar v5 {foo} v1\",\"entry v5 foo v4\",\"similar v6 {etc} v0\",\"entry v6 etc v5\"],\"now\":6,\"start\":0},\"confirmed\":true,\"number\":2,\"result\":\"done Not-Installed\",\"shown\":[\"d /etc\",\"d /etc/foo\",\"f /etc/foo/a.conf\"],\"trace\":\"2:0:67 4:0:68 4:1:68\"},{\"after\":[\"d /etc\"],\"calls\":[],\"clause\":{\"literals\":[\"kind v0 dir\",\"entry v0 etc v1\",\"kind v1 dir\",\"entry v1 foo v2\",\"kind v2 dir\",\"fence v2 {}\",\"kind v3 absent\",\"similar v4 {foo} v1\",\"entry v4 foo v3\",\"similar v5 {etc} v0\",\"entry v5 etc v4\"],\"now\":5,\"start\":0},\"confirmed\":true,\"number\":3,\"result\":\"done Not-Installed\",\"shown\":[\"d /etc\",\"d /etc/foo\"],\"trace\":\"2:0:68 4:0:66 4:1:66\"}]}],\"verdict\":0}\n";
 
 // Texts that stand alone.
 const TEXTS: &[(&str, Told)] = &[
     (WHOLE, Told::Same),
     (PURGE, Told::Same),
-    ("{\"colis\":1,\"scenarios\":[],\"verdict\":0}\n", Told::Same),
-    ("{\"colis\":1,\"scenarios\":[],\"verdict\":0}", Told::Other),
+    ("{\"colis\":2,\"scenarios\":[],\"verdict\":0}\n", Told::Same),
+    ("{\"colis\":2,\"scenarios\":[],\"verdict\":0}", Told::Other),
     (
-        "{\"colis\":1,\"scenarios\":[{\"name\":\"purge\",\"outcomes\":[]}],\"verdict\":0}\n",
+        "{\"colis\":2,\"scenarios\":[{\"name\":\"purge\",\"outcomes\":[]}],\"verdict\":0}\n",
         Told::Same,
     ),
     (
-        "{ \"verdict\" : 0,\n\t\"scenarios\" : [ ], \"colis\" : 1 }\r\n",
+        "{ \"verdict\" : 0,\n\t\"scenarios\" : [ ], \"colis\" : 2 }\r\n",
         Told::Other,
     ),
     (
-        "{\"colis\":1,\"scenarios\":[],\"verdict\":1}\n",
+        "{\"colis\":2,\"scenarios\":[],\"verdict\":1}\n",
         Told::Shape,
     ),
     ("{}", Told::Shape),
@@ -58,12 +58,12 @@ const TEXTS: &[(&str, Told)] = &[
     ("", Told::Json),
     ("\n", Told::Json),
     ("nul", Told::Json),
-    ("colis report 1\nverdict 0\n", Told::Json),
-    ("{\"colis\":1,\"scenarios\":[],\"verdict\":0}{}", Told::Json),
-    ("{\"colis\":01,\"scenarios\":[],\"verdict\":0}", Told::Json),
-    ("{\"colis\":1,\"scenarios\":[],\"verdict\":0", Told::Json),
+    ("colis report 2\nverdict 0\n", Told::Json),
+    ("{\"colis\":2,\"scenarios\":[],\"verdict\":0}{}", Told::Json),
+    ("{\"colis\":02,\"scenarios\":[],\"verdict\":0}", Told::Json),
+    ("{\"colis\":2,\"scenarios\":[],\"verdict\":0", Told::Json),
     (
-        "{\"colis\":1,\"scenarios\":[],\"verdict\":1e400}",
+        "{\"colis\":2,\"scenarios\":[],\"verdict\":1e400}",
         Told::Json,
     ),
     ("\"\\ud800\"", Told::Json),
@@ -137,8 +137,11 @@ const CHANGES: &[(&str, &str, Told)] = &[
     ("\"shown\":[\"d /srv\"]", "\"shown\":[1]", Told::Shape),
     // Members.
     ("\"shown\":[\"d /srv\"],", "", Told::Shape),
-    ("\"colis\":1,", "", Told::Shape),
-    ("\"colis\":1", "\"colis\":2", Told::Shape),
+    ("\"colis\":2,", "", Told::Shape),
+    ("\"colis\":2", "\"colis\":1", Told::Shape),
+    ("\"colis\":2", "\"colis\":3", Told::Shape),
+    ("\"colis\":2", "\"colis\":\"2\"", Told::Shape),
+    ("\"colis\":2", "\"colis\":2.0", Told::Shape),
     ("\"calls\":[]", "\"calls\":[],\"more\":[]", Told::Shape),
     ("\"calls\":[]", "\"calls\":null", Told::Shape),
     ("\"verdict\":1", "\"verdict\":2", Told::Shape),
@@ -182,8 +185,8 @@ fn printed(alloc: Global, report: &Report, text: &[u8]) -> Told {
     }
 }
 
-// What the text tells.
-fn read_again(alloc: Global, text: &[u8]) -> Told {
+/// What the text tells.
+pub(crate) fn read_again(alloc: Global, text: &[u8]) -> Told {
     match read_json(alloc, text) {
         Ok(report) => printed(alloc, &report, text),
         Err(JsonFault::Json) => Told::Json,
@@ -192,10 +195,10 @@ fn read_again(alloc: Global, text: &[u8]) -> Told {
     }
 }
 
-// The whole text with something else in the first place where this stands.
-fn changed(alloc: Global, from: &str, to: &str) -> Result<Bytes, Memory> {
+/// A text with something else in the first place where this stands.
+pub(crate) fn changed(alloc: Global, whole: &str, from: &str, to: &str) -> Result<Bytes, Memory> {
     let mut text = Bytes::new(alloc);
-    match WHOLE.split_once(from) {
+    match whole.split_once(from) {
         Some((before, after)) => {
             text.extend(before.as_bytes())?;
             text.extend(to.as_bytes())?;
@@ -222,7 +225,7 @@ fn texts_are_read_or_refused(rt: HostRuntime) {
 #[test]
 fn changes_are_read_or_refused(rt: HostRuntime) -> Result<(), Fail> {
     for row in CHANGES {
-        let text = changed(rt.alloc(), row.0, row.1)?;
+        let text = changed(rt.alloc(), WHOLE, row.0, row.1)?;
         assert!(rt;
             read_again(rt.alloc(), text.as_slice()) == row.2,
             "{} {}",

@@ -1,7 +1,7 @@
 //! A report by hand, and its JSON text.
 
 use crate::made::{PartRow, report};
-use dpkg_scenarios::{Ending, Scenario, ScriptKind, State};
+use dpkg_scenarios::{Ending, Scenario, ScriptKind, Side, State};
 use report_json::render_json;
 use scenario_runs::CallEnd;
 use script_names::{Reason, Site};
@@ -38,7 +38,7 @@ const BOTH: &[PartRow<'static>] = &[
                     BROKEN,
                     &[(3, 17, 67), (3, 34, 66)],
                     &[(
-                        false,
+                        Side::New,
                         ScriptKind::Postinst,
                         &["configure", ""],
                         CallEnd::Failed,
@@ -56,23 +56,23 @@ const BOTH: &[PartRow<'static>] = &[
             &[],
             "clause start v0 now v0\n",
             "",
-            (BROKEN, &[], &[], "o /srv\n"),
+            (BROKEN, &[], &[], "p /srv\n"),
         )],
     ),
 ];
 
-const TEXT: &str = "{\"colis\":1,\"scenarios\":[\
+const TEXT: &str = "{\"colis\":2,\"scenarios\":[\
      {\"name\":\"install\",\"outcomes\":[\
      {\"after\":[\"d /srv\",\"f /srv/a\"],\"calls\":[],\"clause\":{\"literals\":[],\"now\":4,\"start\":4},\
      \"confirmed\":true,\"number\":1,\"result\":\"done Installed\",\"shown\":[\"d /srv\"],\"trace\":\"3:17:67\"},\
      {\"after\":[\"d /srv\"],\"calls\":[\"call new postinst configure \\\\e failed\"],\"clause\":{\"literals\":[\"kind v1 dir\",\"notempty v0\"],\"now\":1,\"start\":0},\
      \"confirmed\":true,\"number\":2,\"result\":\"failed Half-Configured\",\"shown\":[\"l /srv a\\\\x20b\"],\"trace\":\"3:17:67 3:34:66\"}]},\
      {\"name\":\"purge-later\",\"outcomes\":[\
-     {\"after\":[\"o /srv\"],\"calls\":[],\"clause\":{\"literals\":[],\"now\":0,\"start\":0},\
+     {\"after\":[\"p /srv\"],\"calls\":[],\"clause\":{\"literals\":[],\"now\":0,\"start\":0},\
      \"confirmed\":false,\"number\":1,\"result\":\"incomplete link 3:17\",\"shown\":[],\"trace\":\"\"}]}],\
      \"verdict\":1}\n";
 
-const NOTHING: &str = "{\"colis\":1,\"scenarios\":[],\"verdict\":0}\n";
+const NOTHING: &str = "{\"colis\":2,\"scenarios\":[],\"verdict\":0}\n";
 
 // Reports, and their texts.
 const REPORTS: &[(&[PartRow<'static>], &str)] = &[(BOTH, TEXT), (&[], NOTHING)];

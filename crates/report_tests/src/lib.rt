@@ -7,6 +7,8 @@ mod json_readings;
 #[cfg(test)]
 mod json_texts;
 #[cfg(test)]
+mod json_versions;
+#[cfg(test)]
 mod made;
 #[cfg(test)]
 mod reports;

@@ -1,6 +1,6 @@
 //! Values of reports, made from rows and texts.
 
-use dpkg_scenarios::{Ending, Scenario, ScriptKind};
+use dpkg_scenarios::{Ending, Scenario, ScriptKind, Side};
 use feature_trees::{Value, read_tree};
 use outcome_report::{Report, ReportEntry, ReportPart, keep_replay, make_entry};
 use scenario_outcomes::Outcome;
@@ -12,8 +12,8 @@ use tree_clauses::{Clause, read_clause};
 /// Acts: of each the step, the place in the step and the row.
 pub type Acts<'a> = &'a [(u16, u32, u8)];
 
-/// Calls of scripts: of each whether it is the old package's, which script it is, its words, and how it ended.
-pub type Calls<'a> = &'a [(bool, ScriptKind, &'a [&'a str], CallEnd)];
+/// Calls of scripts: of each whose it is, which script it is, its words, and how it ended.
+pub type Calls<'a> = &'a [(Side, ScriptKind, &'a [&'a str], CallEnd)];
 
 /// A run: its ending, its acts, the calls of scripts, and the text of the tree that it left.
 pub type RunRow<'a> = (Ending, Acts<'a>, Calls<'a>, &'a str);
@@ -68,7 +68,7 @@ fn calls(alloc: Global, rows: Calls<'_>) -> Result<List<ScriptCall>, Memory> {
     for row in rows {
         let words = words(alloc, row.2)?;
         calls.add(ScriptCall {
-            old: row.0,
+            side: row.0,
             script: row.1,
             words,
             how: row.3,

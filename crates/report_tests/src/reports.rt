@@ -1,7 +1,7 @@
 //! Reports by hand, and their texts.
 
 use crate::made::{PartRow, ShortRow, report, short_part};
-use dpkg_scenarios::{Ending, Scenario, ScriptKind, State};
+use dpkg_scenarios::{Ending, Scenario, ScriptKind, Side, State};
 use outcome_report::{Report, verdict};
 use report_text::{render_brief, render_text};
 use scenario_runs::CallEnd;
@@ -161,7 +161,7 @@ fn report_of(alloc: Global, scenario: Scenario, rows: &[ShortRow<'_>]) -> Result
 // Whether the report's brief text is this one behind its first line.
 fn has_brief(alloc: Global, report: &Report, rest: &str) -> Result<bool, Memory> {
     let text = render_brief(alloc, report)?;
-    match text.as_slice().strip_prefix(b"colis brief 1\n") {
+    match text.as_slice().strip_prefix(b"colis brief 2\n") {
         Some(lines) => Ok(lines == rest.as_bytes()),
         None => Ok(false),
     }
@@ -248,12 +248,12 @@ const BOTH: &[PartRow<'static>] = &[(
                 LINK,
                 &[(3, 17, 65)],
                 &[(
-                    false,
+                    Side::New,
                     ScriptKind::Postinst,
                     &["configure", ""],
                     CallEnd::Ended,
                 )],
-                "o /srv\n",
+                "c /srv\n",
             ),
         ),
         (
@@ -267,7 +267,7 @@ const BOTH: &[PartRow<'static>] = &[(
     ],
 )];
 
-const TEXT: &str = r"colis report 1
+const TEXT: &str = r"colis report 2
 scenario purge-later outcomes 2
 outcome 1 incomplete link 3:17
 trace 3:17:65
@@ -278,7 +278,7 @@ notempty v0
 shown
 l /srv a\x20b
 after
-o /srv
+c /srv
 outcome 2 failed Half-Configured
 trace 3:17:67 3:34:66
 confirmed no

@@ -1,7 +1,7 @@
 //! Runs by hand, and their texts.
 
 use crate::made::{RunRow, replayed};
-use dpkg_scenarios::{Ending, ScriptKind, State};
+use dpkg_scenarios::{Ending, ScriptKind, Side, State};
 use outcome_report::run_status;
 use report_text::render_run;
 use scenario_runs::CallEnd;
@@ -22,7 +22,12 @@ const RUNS: &[(RunRow<'static>, &str, u8)] = &[
         (
             INSTALLED,
             &[(3, 54, 67), (3, 54, 67), (3, 54, 67)],
-            &[(false, ScriptKind::Postinst, &["configure", ""], CallEnd::Ok)],
+            &[(
+                Side::New,
+                ScriptKind::Postinst,
+                &["configure", ""],
+                CallEnd::Ok,
+            )],
             "d /srv\nf /srv/a\nf /srv/a\\x20b\nf /srv/b\n",
         ),
         "\
@@ -42,9 +47,14 @@ f /srv/b
             INSTALLED,
             &[],
             &[
-                (true, ScriptKind::Prerm, &["upgrade", "2"], CallEnd::Failed),
                 (
-                    false,
+                    Side::Old,
+                    ScriptKind::Prerm,
+                    &["upgrade", "2"],
+                    CallEnd::Failed,
+                ),
+                (
+                    Side::New,
                     ScriptKind::Prerm,
                     &["failed-upgrade", "1", "2"],
                     CallEnd::Ok,
@@ -66,15 +76,20 @@ after
             BROKEN,
             &[],
             &[
-                (true, ScriptKind::Prerm, &["upgrade", "2"], CallEnd::Failed),
                 (
-                    false,
+                    Side::Old,
+                    ScriptKind::Prerm,
+                    &["upgrade", "2"],
+                    CallEnd::Failed,
+                ),
+                (
+                    Side::New,
                     ScriptKind::Prerm,
                     &["failed-upgrade", "1", "2"],
                     CallEnd::Failed,
                 ),
                 (
-                    true,
+                    Side::Old,
                     ScriptKind::Postinst,
                     &["abort-upgrade", "2"],
                     CallEnd::Failed,
@@ -97,7 +112,7 @@ after
             CALL,
             &[],
             &[(
-                false,
+                Side::New,
                 ScriptKind::Postinst,
                 &["configure", ""],
                 CallEnd::Ended,

@@ -111,13 +111,13 @@ verdict_line_is report = ap (λ n. line (codes "verdict " ++ decimal n)) (verdic
 -- ---- reports
 
 abbrev report_told : Scenarios → List ℕ
-report_told ss = line (codes "colis brief 1") ++ flat_map part_told ss ++ line (codes "verdict " ++ decimal (verdict_told ss))
+report_told ss = line (codes "colis brief 2") ++ flat_map part_told ss ++ line (codes "verdict " ++ decimal (verdict_told ss))
 
 report_is : (report : Report) → AllNumbered report.parts → brief_text report ≡ report_told (map scenario_and_endings report.parts)
 unfolding brief_text
 report_is report numbered =
-    ap (λ t. line (codes "colis brief 1") ++ t ++ verdict_line report) (parts_are report.parts numbered)
-    ∙ ap (λ t. line (codes "colis brief 1") ++ flat_map part_told (map scenario_and_endings report.parts) ++ t) (verdict_line_is report)
+    ap (λ t. line (codes "colis brief 2") ++ t ++ verdict_line report) (parts_are report.parts numbered)
+    ∙ ap (λ t. line (codes "colis brief 2") ++ flat_map part_told (map scenario_and_endings report.parts) ++ t) (verdict_line_is report)
 
 pub endings_tell : EndingsTellBriefTexts
 endings_tell a b first second same = report_is a first ∙ ap report_told same ∙ sym (report_is b second)

@@ -10,6 +10,7 @@ use Rattle.shown_texts.specs.Marks.{mark_text, site_text, reason_name, is_mark}
 use Rattle.shown_texts.specs.Show.{show, are_bytes}
 use Rattle.shown_texts.proofs.Lists.{all_weaker}
 use Rattle.feature_trees.specs.declared.kind.Kinds.{Kinds}
+use Rattle.feature_trees.specs.declared.version.Version.{Version}
 use Rattle.tree_clauses.specs.declared.clause.Literal.{Literal}
 use Rattle.tree_clauses.specs.declared.clause.Literal.TheVariants.{Entry as EntryIs, Kind, Fence, NotEmpty, Similar, Target}
 use Rattle.tree_clauses.specs.declared.clause.Var.{Var}
@@ -55,12 +56,12 @@ words_low (w ∷ words) h =
 
 pub call_low : (call : ScriptCall) → is_call call ≡ true → low (call_content call) ≡ true
 call_low call h =
-    let a = plus (codes "call ") (side_name call.old) refl (shown_low (side_name call.old) (side_shown call.old)) in
-    let b = plus (codes "call " ++ side_name call.old) (codes " ") a refl in
-    let c = plus ((codes "call " ++ side_name call.old) ++ codes " ") (script_name call.script) b (shown_low (script_name call.script) (script_shown call.script)) in
-    let d = plus (((codes "call " ++ side_name call.old) ++ codes " ") ++ script_name call.script) (flat_map call_word call.words) c (words_low call.words h) in
-    let e = plus ((((codes "call " ++ side_name call.old) ++ codes " ") ++ script_name call.script) ++ flat_map call_word call.words) (codes " ") d refl in
-    plus (((((codes "call " ++ side_name call.old) ++ codes " ") ++ script_name call.script) ++ flat_map call_word call.words) ++ codes " ")
+    let a = plus (codes "call ") (side_name call.side) refl (shown_low (side_name call.side) (side_shown call.side)) in
+    let b = plus (codes "call " ++ side_name call.side) (codes " ") a refl in
+    let c = plus ((codes "call " ++ side_name call.side) ++ codes " ") (script_name call.script) b (shown_low (script_name call.script) (script_shown call.script)) in
+    let d = plus (((codes "call " ++ side_name call.side) ++ codes " ") ++ script_name call.script) (flat_map call_word call.words) c (words_low call.words h) in
+    let e = plus ((((codes "call " ++ side_name call.side) ++ codes " ") ++ script_name call.script) ++ flat_map call_word call.words) (codes " ") d refl in
+    plus (((((codes "call " ++ side_name call.side) ++ codes " ") ++ script_name call.script) ++ flat_map call_word call.words) ++ codes " ")
     (call_end_name call.how) e (shown_low (call_end_name call.how) (call_end_shown call.how))
 
 pub calls_low : (calls : List ScriptCall) → list_all is_call calls ≡ true → list_all low (map call_content calls) ≡ true
@@ -95,10 +96,10 @@ names_low names h = plus (codes "{" ++ joined (map show names)) (codes "}") (plu
 graphic_low : (b : ℕ) → is_graphic b ≡ true → is_low b ≡ true
 graphic_low b h = grind arith
 
-kinds_low : (kinds : Kinds) → low (kinds_text kinds) ≡ true
-kinds_low kinds =
-    let k = and_parts (is_filled (kinds_text kinds)) (list_all is_graphic (kinds_text kinds)) (kinds_word kinds) in
-    all_weaker is_graphic is_low graphic_low (kinds_text kinds) k.1
+kinds_low : (version : Version) (kinds : Kinds) → low (kinds_text version kinds) ≡ true
+kinds_low version kinds =
+    let k = and_parts (is_filled (kinds_text version kinds)) (list_all is_graphic (kinds_text version kinds)) (kinds_word version kinds) in
+    all_weaker is_graphic is_low graphic_low (kinds_text version kinds) k.1
 
 three : (word a b : List ℕ) → low word ≡ true → low a ≡ true → low b ≡ true → low (((word ++ a) ++ codes " ") ++ b) ≡ true
 three word a b h g f = plus ((word ++ a) ++ codes " ") b (plus (word ++ a) (codes " ") (plus word a h g) refl) f
@@ -106,26 +107,26 @@ three word a b h g f = plus ((word ++ a) ++ codes " ") b (plus (word ++ a) (code
 four : (word a b c : List ℕ) → low word ≡ true → low a ≡ true → low b ≡ true → low c ≡ true → low (((((word ++ a) ++ codes " ") ++ b) ++ codes " ") ++ c) ≡ true
 four word a b c h g f e = plus ((((word ++ a) ++ codes " ") ++ b) ++ codes " ") c (plus (((word ++ a) ++ codes " ") ++ b) (codes " ") (three word a b h g f) refl) e
 
-pub literal_low : (l : Literal) → is_literal l ≡ true → low (literal_content l) ≡ true
-literal_low (EntryIs x f y) h =
+pub literal_low : (version : Version) (l : Literal) → is_literal l ≡ true → low (literal_content version l) ≡ true
+literal_low version (EntryIs x f y) h =
     let k = and_parts (is_var x) (is_representable_name f && is_var y) h in
     let r = and_parts (is_representable_name f) (is_var y) k.1 in
     four (codes "entry ") (var_text x) (show f) (var_text y) refl (var_low x k.0) (name_low f r.0) (var_low y r.1)
-literal_low (Kind x kinds) h = three (codes "kind ") (var_text x) (kinds_text kinds) refl (var_low x h) (kinds_low kinds)
-literal_low (Fence x names) h =
+literal_low version (Kind x kinds) h = three (codes "kind ") (var_text x) (kinds_text version kinds) refl (var_low x h) (kinds_low version kinds)
+literal_low version (Fence x names) h =
     let k = and_parts (is_var x) (list_all is_representable_name names) h in
     three (codes "fence ") (var_text x) (names_text names) refl (var_low x k.0) (names_low names k.1)
-literal_low (NotEmpty x) h = plus (codes "notempty ") (var_text x) refl (var_low x h)
-literal_low (Similar y names x) h =
+literal_low version (NotEmpty x) h = plus (codes "notempty ") (var_text x) refl (var_low x h)
+literal_low version (Similar y names x) h =
     let k = and_parts (is_var y) (list_all is_representable_name names && is_var x) h in
     let r = and_parts (list_all is_representable_name names) (is_var x) k.1 in
     four (codes "similar ") (var_text y) (names_text names) (var_text x) refl (var_low y k.0) (names_low names r.0) (var_low x r.1)
-literal_low (Target x target) h =
+literal_low version (Target x target) h =
     let k = and_parts (is_var x) (are_bytes target) h in
     three (codes "target ") (var_text x) (show target) refl (var_low x k.0) (show_low target k.1)
 
-pub literals_low : (ls : List Literal) → list_all is_literal ls ≡ true → list_all low (map literal_content ls) ≡ true
-literals_low [] h = refl
-literals_low (l ∷ ls) h =
+pub literals_low : (version : Version) (ls : List Literal) → list_all is_literal ls ≡ true → list_all low (map (literal_content version) ls) ≡ true
+literals_low version [] h = refl
+literals_low version (l ∷ ls) h =
     let k = and_parts (is_literal l) (list_all is_literal ls) h in
-    and_from (low (literal_content l)) (list_all low (map literal_content ls)) (literal_low l k.0) (literals_low ls k.1)
+    and_from (low (literal_content version l)) (list_all low (map (literal_content version) ls)) (literal_low version l k.0) (literals_low version ls k.1)

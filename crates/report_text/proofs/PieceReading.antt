@@ -21,6 +21,8 @@ use Rattle.dpkg_scenarios.specs.declared.scenario.Scenario.{Scenario}
 use Rattle.dpkg_scenarios.specs.declared.scenario.Scenario.TheVariants.{Install, InstallAgain, Upgrade, Remove, Purge, PurgeLater}
 use Rattle.dpkg_scenarios.specs.declared.scenario.State.{State}
 use Rattle.dpkg_scenarios.specs.declared.scenario.State.TheVariants.{Installed, Unpacked, HalfConfigured, HalfInstalled, ConfigFiles, NotInstalled}
+use Rattle.dpkg_scenarios.specs.declared.scenario.Side.{Side}
+use Rattle.dpkg_scenarios.specs.declared.scenario.Side.TheVariants.{New, Old}
 use Rattle.dpkg_scenarios.specs.declared.scenario.ScriptKind.{ScriptKind}
 use Rattle.dpkg_scenarios.specs.declared.scenario.ScriptKind.TheVariants.{Preinst, Postinst, Prerm, Postrm}
 use Rattle.scenario_runs.specs.declared.call.CallEnd.{CallEnd}
@@ -48,9 +50,9 @@ script_read Postinst = refl
 script_read Prerm = refl
 script_read Postrm = refl
 
-side_read : (b : Bool) → side_of (side_name b) ≡ Some b
-side_read true = refl
-side_read false = refl
+side_read : (s : Side) → side_of (side_name s) ≡ Some s
+side_read New = refl
+side_read Old = refl
 
 call_end_read : (h : CallEnd) → call_end_of (call_end_name h) ≡ Some h
 call_end_read how.Ok = refl
@@ -79,9 +81,9 @@ script_shown Postinst = refl
 script_shown Prerm = refl
 script_shown Postrm = refl
 
-pub side_shown : (b : Bool) → list_all is_shown (side_name b) ≡ true
-side_shown true = refl
-side_shown false = refl
+pub side_shown : (s : Side) → list_all is_shown (side_name s) ≡ true
+side_shown New = refl
+side_shown Old = refl
 
 pub call_end_shown : (h : CallEnd) → list_all is_shown (call_end_name h) ≡ true
 call_end_shown how.Ok = refl
@@ -176,10 +178,10 @@ regrouped : (c a s k w e : List ℕ) → ((((((c ++ a) ++ s) ++ k) ++ w) ++ s) +
 regrouped c a s k w e = simp append_assoc
 
 call_joined : (call : ScriptCall)
-    → call_content call ≡ join_with_byte 32 (codes "call" ∷ side_name call.old ∷ script_name call.script ∷ last_words call)
+    → call_content call ≡ join_with_byte 32 (codes "call" ∷ side_name call.side ∷ script_name call.script ∷ last_words call)
 call_joined call =
-    regrouped (codes "call ") (side_name call.old) (32 ∷ []) (script_name call.script) (flat_map call_word call.words) (call_end_name call.how)
-    ∙ ap (λ t. codes "call " ++ (side_name call.old ++ 32 ∷ t)) (words_joined (script_name call.script) call.words (call_end_name call.how))
+    regrouped (codes "call ") (side_name call.side) (32 ∷ []) (script_name call.script) (flat_map call_word call.words) (call_end_name call.how)
+    ∙ ap (λ t. codes "call " ++ (side_name call.side ++ 32 ∷ t)) (words_joined (script_name call.script) call.words (call_end_name call.how))
 
 each_shown : (words : List (List ℕ)) → list_all are_bytes words ≡ true → are_shown (map show words) ≡ true
 each_shown [] h = refl
@@ -187,36 +189,36 @@ each_shown (w ∷ words) h =
     let k = and_parts (are_bytes w) (list_all are_bytes words) h in
     and_from (list_all is_shown (show w)) (are_shown (map show words)) (show_shown w k.0) (each_shown words k.1)
 
-call_shown : (call : ScriptCall) → is_call call ≡ true → are_shown (codes "call" ∷ side_name call.old ∷ script_name call.script ∷ last_words call) ≡ true
+call_shown : (call : ScriptCall) → is_call call ≡ true → are_shown (codes "call" ∷ side_name call.side ∷ script_name call.script ∷ last_words call) ≡ true
 call_shown call h =
     let words = all_both (λ w. list_all is_shown w) (map show call.words) (call_end_name call.how ∷ []) (each_shown call.words h)
     (and_from (list_all is_shown (call_end_name call.how)) true (call_end_shown call.how) refl) in
-    and_from (list_all is_shown (side_name call.old)) (are_shown (script_name call.script ∷ last_words call)) (side_shown call.old)
+    and_from (list_all is_shown (side_name call.side)) (are_shown (script_name call.script ∷ last_words call)) (side_shown call.side)
     (and_from (list_all is_shown (script_name call.script)) (are_shown (last_words call)) (script_shown call.script) words)
 
-with_more : (old : Bool) (script : ScriptKind) (words : List (List ℕ)) (text : List ℕ) (texts : List (List ℕ)) (last : List ℕ)
-    → call_with old script words (text ∷ (texts ++ last ∷ []))
-    ≡ option_and_then (λ word. call_with old script (words ++ word ∷ []) (texts ++ last ∷ [])) (shown_of text)
-with_more old script words text [] last = refl
-with_more old script words text (next ∷ texts) last = refl
+with_more : (side : Side) (script : ScriptKind) (words : List (List ℕ)) (text : List ℕ) (texts : List (List ℕ)) (last : List ℕ)
+    → call_with side script words (text ∷ (texts ++ last ∷ []))
+    ≡ option_and_then (λ word. call_with side script (words ++ word ∷ []) (texts ++ last ∷ [])) (shown_of text)
+with_more side script words text [] last = refl
+with_more side script words text (next ∷ texts) last = refl
 
-words_read : (old : Bool) (script : ScriptKind) (how : CallEnd) (done words : List (List ℕ)) → list_all are_bytes words ≡ true
-    → call_with old script done (map show words ++ call_end_name how ∷ [])
-    ≡ (let made : ScriptCall = record { old = old; script = script; words = done ++ words; how = how } in Some made)
-words_read old script how done [] h =
-    ap (option_map (λ (e : CallEnd). let made : ScriptCall = record { old = old; script = script; words = done; how = e } in made)) (call_end_read how)
-    ∙ ap (λ ws. let made : ScriptCall = record { old = old; script = script; words = ws; how = how } in Some made) (sym (append-nil done))
-words_read old script how done (w ∷ words) h =
+words_read : (side : Side) (script : ScriptKind) (how : CallEnd) (done words : List (List ℕ)) → list_all are_bytes words ≡ true
+    → call_with side script done (map show words ++ call_end_name how ∷ [])
+    ≡ (let made : ScriptCall = record { side = side; script = script; words = done ++ words; how = how } in Some made)
+words_read side script how done [] h =
+    ap (option_map (λ (e : CallEnd). let made : ScriptCall = record { side = side; script = script; words = done; how = e } in made)) (call_end_read how)
+    ∙ ap (λ ws. let made : ScriptCall = record { side = side; script = script; words = ws; how = how } in Some made) (sym (append-nil done))
+words_read side script how done (w ∷ words) h =
     let k = and_parts (are_bytes w) (list_all are_bytes words) h in
-    with_more old script done (show w) (map show words) (call_end_name how)
-    ∙ ap (option_and_then (λ word. call_with old script (done ++ word ∷ []) (map show words ++ call_end_name how ∷ []))) (show_read w k.0)
-    ∙ words_read old script how (done ++ w ∷ []) words k.1
-    ∙ ap (λ ws. let made : ScriptCall = record { old = old; script = script; words = ws; how = how } in Some made) (append_assoc done (w ∷ []) words)
+    with_more side script done (show w) (map show words) (call_end_name how)
+    ∙ ap (option_and_then (λ word. call_with side script (done ++ word ∷ []) (map show words ++ call_end_name how ∷ []))) (show_read w k.0)
+    ∙ words_read side script how (done ++ w ∷ []) words k.1
+    ∙ ap (λ ws. let made : ScriptCall = record { side = side; script = script; words = ws; how = how } in Some made) (append_assoc done (w ∷ []) words)
 
 pub call_read : (call : ScriptCall) → is_call call ≡ true → call_of (call_content call) ≡ Some call
 call_read call h =
     ap call_of (call_joined call)
-    ∙ ap call_of_words (words_cut (codes "call") (side_name call.old ∷ script_name call.script ∷ last_words call) (call_shown call h))
-    ∙ ap (option_and_then (λ old. option_and_then (λ script. call_with old script [] (last_words call)) (script_of (script_name call.script)))) (side_read call.old)
-    ∙ ap (option_and_then (λ script. call_with call.old script [] (last_words call))) (script_read call.script)
-    ∙ words_read call.old call.script call.how [] call.words h
+    ∙ ap call_of_words (words_cut (codes "call") (side_name call.side ∷ script_name call.script ∷ last_words call) (call_shown call h))
+    ∙ ap (option_and_then (λ side. option_and_then (λ script. call_with side script [] (last_words call)) (script_of (script_name call.script)))) (side_read call.side)
+    ∙ ap (option_and_then (λ script. call_with call.side script [] (last_words call))) (script_read call.script)
+    ∙ words_read call.side call.script call.how [] call.words h

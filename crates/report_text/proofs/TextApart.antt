@@ -11,7 +11,9 @@ use Rattle.shown_texts.proofs.Lists.{all_both}
 use Rattle.feature_trees.specs.declared.kind.Kind.TheVariants as kind
 use Rattle.feature_trees.specs.declared.shape.Entry.{Entry}
 use Rattle.feature_trees.specs.declared.value.Value.{Value}
-use Rattle.feature_trees.specs.declared.value.Value.TheVariants.{Absent, Reg, Link, Other, Dir}
+use Rattle.feature_trees.specs.declared.value.Value.TheVariants.{Absent, Reg, Link, Special, Dir}
+use Rattle.feature_trees.specs.declared.version.Version.{Version}
+use Rattle.feature_trees.specs.declared.version.Version.TheVariants.{Second}
 use Rattle.feature_trees.specs.Shape.{count_all}
 use Rattle.feature_trees.specs.Tree.{kind_of}
 use Rattle.feature_trees.specs.TreeText.{tree_lines, tree_text}
@@ -56,7 +58,7 @@ pub tree_block : (v : Value) → kind_of v ≡ kind.Dir → IsRepresentableTree 
 tree_block Absent d h = cc
 tree_block Reg d h = cc
 tree_block (Link b) d h = cc
-tree_block Other d h = cc
+tree_block (Special k) d h = cc
 tree_block (Dir es) d h = record {
   lines = listed (count_all es) [] es;
   are = lines_listed (count_all es) [] es (omega arith);
@@ -69,7 +71,7 @@ pub tree_low : (v : Value) → IsRepresentableTree v → list_all low (tree_line
 tree_low Absent h = refl
 tree_low Reg h = refl
 tree_low (Link b) h = refl
-tree_low Other h = refl
+tree_low (Special k) h = refl
 tree_low (Dir es) h = let block = tree_block (Dir es) refl h in ap (list_all low) (sym block.are) ∙ block.low
 
 entries_apart_by_lines : (es fs : List Entry) (s t : List ℕ) → IsRepresentableTree (Dir es) → IsRepresentableTree (Dir fs) → second is_blank s ≡ false → second is_blank t ≡ false
@@ -86,7 +88,7 @@ directory_apart : (es : List Entry) (w : Value) (s t : List ℕ) → kind_of w �
 directory_apart es Absent s t d h g a b e = cc
 directory_apart es Reg s t d h g a b e = cc
 directory_apart es (Link x) s t d h g a b e = cc
-directory_apart es Other s t d h g a b e = cc
+directory_apart es (Special k) s t d h g a b e = cc
 directory_apart es (Dir fs) s t d h g a b e = entries_apart_by_lines es fs s t h g a b e
 
 pub tree_apart : (v w : Value) (s t : List ℕ) → kind_of v ≡ kind.Dir → kind_of w ≡ kind.Dir → IsRepresentableTree v → IsRepresentableTree w
@@ -94,28 +96,28 @@ pub tree_apart : (v w : Value) (s t : List ℕ) → kind_of v ≡ kind.Dir → k
 tree_apart Absent w s t c d h g a b e = cc
 tree_apart Reg w s t c d h g a b e = cc
 tree_apart (Link x) w s t c d h g a b e = cc
-tree_apart Other w s t c d h g a b e = cc
+tree_apart (Special k) w s t c d h g a b e = cc
 tree_apart (Dir es) w s t c d h g a b e = directory_apart es w s t d h g a b e
 
-pub literals_spelled : (ls : List Literal) → flat_map literal_text ls ≡ lines_text (map literal_content ls)
-literals_spelled [] = refl
-literals_spelled (l ∷ ls) = ap (λ t. literal_text l ++ t) (literals_spelled ls)
+pub literals_spelled : (version : Version) (ls : List Literal) → flat_map (literal_text version) ls ≡ lines_text (map (literal_content version) ls)
+literals_spelled version [] = refl
+literals_spelled version (l ∷ ls) = ap (λ t. literal_text version l ++ t) (literals_spelled version ls)
 
 clause_apart : (c d : Clause) (s t : List ℕ) → is_clause c ≡ true → is_clause d ≡ true → second is_no_h s ≡ false → second is_no_h t ≡ false
-    → clause_text c ++ s ≡ clause_text d ++ t → (c ≡ d) × (s ≡ t)
+    → clause_text Second c ++ s ≡ clause_text Second d ++ t → (c ≡ d) × (s ≡ t)
 clause_apart c d s t h g a b e =
     let k = and_parts (is_var c.start) (is_var c.now && list_all is_literal c.literals) h in
     let l = and_parts (is_var c.now) (list_all is_literal c.literals) k.1 in
     let m = and_parts (is_var d.start) (is_var d.now && list_all is_literal d.literals) g in
     let n = and_parts (is_var d.now) (list_all is_literal d.literals) m.1 in
-    let heads = line_apart (head_content c) (head_content d) (flat_map literal_text c.literals ++ s) (flat_map literal_text d.literals ++ t)
+    let heads = line_apart (head_content c) (head_content d) (flat_map (literal_text Second) c.literals ++ s) (flat_map (literal_text Second) d.literals ++ t)
     (head_lacks c k.0 l.0) (head_lacks d m.0 n.0)
-    (sym (append_assoc (line (head_content c)) (flat_map literal_text c.literals) s) ∙ e ∙ append_assoc (line (head_content d)) (flat_map literal_text d.literals) t) in
-    let both = lines_apart is_no_h (map literal_content c.literals) (map literal_content d.literals) s t (literals_marked c.literals l.1) (literals_marked d.literals n.1) a b
-    (ap (λ x. x ++ s) (sym (literals_spelled c.literals)) ∙ heads.1 ∙ ap (λ x. x ++ t) (literals_spelled d.literals)) in
-    let lines = literals_spelled c.literals ∙ ap lines_text both.0 ∙ sym (literals_spelled d.literals) in
-    let same : clause_text c ≡ clause_text d = λ i. line (heads.0 i) ++ lines i in
-    (read_apart clause_text clause_of c d (clause_read c h) (clause_read d g) same, both.1)
+    (sym (append_assoc (line (head_content c)) (flat_map (literal_text Second) c.literals) s) ∙ e ∙ append_assoc (line (head_content d)) (flat_map (literal_text Second) d.literals) t) in
+    let both = lines_apart is_no_h (map (literal_content Second) c.literals) (map (literal_content Second) d.literals) s t (literals_marked Second c.literals l.1) (literals_marked Second d.literals n.1) a b
+    (ap (λ x. x ++ s) (sym (literals_spelled Second c.literals)) ∙ heads.1 ∙ ap (λ x. x ++ t) (literals_spelled Second d.literals)) in
+    let lines = literals_spelled Second c.literals ∙ ap lines_text both.0 ∙ sym (literals_spelled Second d.literals) in
+    let same : clause_text Second c ≡ clause_text Second d = λ i. line (heads.0 i) ++ lines i in
+    (read_apart (clause_text Second) clause_of c d (clause_read Second c h refl) (clause_read Second d g refl) same, both.1)
 
 pub calls_spelled : (calls : List ScriptCall) → flat_map call_line calls ≡ lines_text (map call_content calls)
 unfolding call_line
@@ -161,7 +163,7 @@ regrouped o t c k l h x f y s = simp append_assoc
 -- what stands behind the line of calls
 abbrev behind_calls : ReportEntry → List ℕ → List ℕ
 behind_calls e s =
-    clause_text e.outcome.clause ++ (line (codes "shown") ++ (tree_text e.outcome.shown ++ (line (codes "after") ++ (tree_text e.replayed.after ++ s))))
+    clause_text Second e.outcome.clause ++ (line (codes "shown") ++ (tree_text e.outcome.shown ++ (line (codes "after") ++ (tree_text e.replayed.after ++ s))))
 
 entry_grouped : (e : ReportEntry) (s : List ℕ)
     → entry_text e ++ s
@@ -170,7 +172,7 @@ entry_grouped : (e : ReportEntry) (s : List ℕ)
 unfolding entry_text trees_text outcome_line trace_line confirmed_line
 entry_grouped e s =
     regrouped (line (outcome_content e.outcome.number e.outcome.ending)) (line (trace_content e.outcome.trace)) (line (confirmed_content e.confirmed))
-    (flat_map call_line e.replayed.calls) (clause_text e.outcome.clause) (line (codes "shown")) (tree_text e.outcome.shown) (line (codes "after"))
+    (flat_map call_line e.replayed.calls) (clause_text Second e.outcome.clause) (line (codes "shown")) (tree_text e.outcome.shown) (line (codes "after"))
     (tree_text e.replayed.after) s
 
 module _ (n : ℕ) (x y : ReportEntry) (s t : List ℕ) (p : x.outcome.number ≡ n) (q : y.outcome.number ≡ n) (h : IsRepresentableEntry x) (g : IsRepresentableEntry y)
@@ -321,13 +323,13 @@ verdict_second : (p : ℕ → Bool) (report : Report) → second p (verdict_line
 unfolding verdict_line
 verdict_second p report = refl
 
-report_grouped : (report : Report) → report_text report ≡ line (codes "colis report 1") ++ (flat_map part_text report.parts ++ verdict_line report)
+report_grouped : (report : Report) → report_text report ≡ line (codes "colis report 2") ++ (flat_map part_text report.parts ++ verdict_line report)
 unfolding report_text
-report_grouped report = append_assoc (line (codes "colis report 1")) (flat_map part_text report.parts) (verdict_line report)
+report_grouped report = append_assoc (line (codes "colis report 2")) (flat_map part_text report.parts) (verdict_line report)
 
 pub texts_tell : TextsTellReports
 texts_tell x y h g v w e =
-    let behind = same_behind (line (codes "colis report 1")) _ _ (sym (report_grouped x) ∙ e ∙ report_grouped y) in
+    let behind = same_behind (line (codes "colis report 2")) _ _ (sym (report_grouped x) ∙ e ∙ report_grouped y) in
     let parts = parts_apart x.parts y.parts (verdict_line x) (verdict_line y) v.numbered w.numbered h g v.entries w.entries
     (λ p. verdict_second p x) (λ p. verdict_second p y) behind in
     λ i. record { parts = parts i }

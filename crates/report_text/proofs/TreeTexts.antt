@@ -15,8 +15,9 @@ use Rattle.shown_texts.proofs.Lists.{all_both}
 use Rattle.shown_texts.proofs.PathTexts.{slashes_joined, path_read}
 use Rattle.shown_texts.proofs.Spelled.{show_read, show_shown}
 use Rattle.feature_trees.specs.declared.shape.Entry.{Entry}
+use Rattle.feature_trees.specs.declared.kind.Special.TheVariants.{Fifo, Socket, Block, Char}
 use Rattle.feature_trees.specs.declared.value.Value.{Value}
-use Rattle.feature_trees.specs.declared.value.Value.TheVariants.{Absent, Reg, Link, Other, Dir}
+use Rattle.feature_trees.specs.declared.value.Value.TheVariants.{Absent, Reg, Link, Special, Dir}
 use Rattle.feature_trees.specs.Readable.{node_bytes, entries_bytes, of_bytes}
 use Rattle.feature_trees.specs.Shape.{count_all, entry_weight_of}
 use Rattle.feature_trees.specs.Sound.{before, sound_all, sound_node}
@@ -85,7 +86,10 @@ line_back (Link b) p t h g f =
     ∙ ap said_words (three_words (codes "l") (spelled p) (show b) refl (no_space (spelled p) (spelled_shown p g)) (no_space (show b) (show_shown b h)))
     ∙ ap (λ o. option_and_then (said_at (spelled p)) (option_map (λ bytes. Link bytes) o)) (show_read b h)
     ∙ path_back p (Link b) g f
-line_back Other p t h g f = ap said_words (two_words (codes "o") (spelled p) refl (no_space (spelled p) (spelled_shown p g))) ∙ path_back p Other g f
+line_back (Special Fifo) p t h g f = ap said_words (two_words (codes "p") (spelled p) refl (no_space (spelled p) (spelled_shown p g))) ∙ path_back p (Special Fifo) g f
+line_back (Special Socket) p t h g f = ap said_words (two_words (codes "s") (spelled p) refl (no_space (spelled p) (spelled_shown p g))) ∙ path_back p (Special Socket) g f
+line_back (Special Block) p t h g f = ap said_words (two_words (codes "b") (spelled p) refl (no_space (spelled p) (spelled_shown p g))) ∙ path_back p (Special Block) g f
+line_back (Special Char) p t h g f = ap said_words (two_words (codes "c") (spelled p) refl (no_space (spelled p) (spelled_shown p g))) ∙ path_back p (Special Char) g f
 line_back (Dir es) p t h g f = ap said_words (two_words (codes "d") (spelled p) refl (no_space (spelled p) (spelled_shown p g))) ∙ path_back p (Dir []) g f
 
 line_whole : (w : Value) (path : List ℕ) → IsThere w → of_bytes w ≡ true → lacks 10 path ≡ true → is_line (own_line w path) ≡ true
@@ -93,7 +97,10 @@ line_whole Absent path t h g = absurd t
 line_whole Reg path t h g = g
 line_whole (Link b) path t h g =
     all_both (λ x. not (x == 10)) (path ++ 32 ∷ []) (show b) (all_both (λ x. not (x == 10)) path (32 ∷ []) g refl) (no_newline (show b) (show_shown b h))
-line_whole Other path t h g = g
+line_whole (Special Fifo) path t h g = g
+line_whole (Special Socket) path t h g = g
+line_whole (Special Block) path t h g = g
+line_whole (Special Char) path t h g = g
 line_whole (Dir es) path t h g = g
 
 -- ---- the lines of entries
@@ -187,7 +194,10 @@ line_low : (w : Value) (path : List ℕ) → IsThere w → of_bytes w ≡ true �
 line_low Absent path t h g = absurd t
 line_low Reg path t h g = g
 line_low (Link b) path t h g = plus (path ++ 32 ∷ []) (show b) (plus path (32 ∷ []) g refl) (show_low b h)
-line_low Other path t h g = g
+line_low (Special Fifo) path t h g = g
+line_low (Special Socket) path t h g = g
+line_low (Special Block) path t h g = g
+line_low (Special Char) path t h g = g
 line_low (Dir es) path t h g = g
 
 pub lines_low : (k : ℕ) (p : List (List ℕ)) (es : List Entry) → AreRepresentable p es → list_all low (listed k p es) ≡ true
@@ -243,21 +253,21 @@ abbrev filled : Value → List Entry → Value
 filled Absent es = Absent
 filled Reg es = Reg
 filled (Link b) es = Link b
-filled Other es = Other
+filled (Special k) es = Special k
 filled (Dir ds) es = Dir es
 
 filled_is : (w : Value) → filled (leaf w) (entries_of w) ≡ w
 filled_is Absent = refl
 filled_is Reg = refl
 filled_is (Link b) = refl
-filled_is Other = refl
+filled_is (Special k) = refl
 filled_is (Dir es) = refl
 
 inner_count : (k : ℕ) (e : Entry) (es : List Entry) (w : Value) → value_of e.node ≡ w → count_all (e ∷ es) ≤ suc k → count_all (entries_of w) ≤ k
 inner_count k e es Absent is h = omega arith
 inner_count k e es Reg is h = omega arith
 inner_count k e es (Link b) is h = omega arith
-inner_count k e es Other is h = omega arith
+inner_count k e es (Special s) is h = omega arith
 inner_count k e es (Dir ds) is h = omega (arith, h, entry_weight_of e, weight_of e ds is)
 
 pub adds_apart : (k m : ℕ) (es fs : List Entry) → count_all es ≤ k → count_all fs ≤ m → adds k es ≡ adds m fs → es ≡ fs

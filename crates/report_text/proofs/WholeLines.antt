@@ -16,9 +16,12 @@ use Rattle.shown_texts.specs.Show.{show, are_bytes, shown_of}
 use Rattle.shown_texts.proofs.Lists.{all_weaker, all_both}
 use Rattle.shown_texts.proofs.Spelled.{show_shown}
 use Rattle.feature_trees.specs.declared.kind.Kinds.{Kinds}
+use Rattle.feature_trees.specs.declared.kind.Special as special
+use Rattle.feature_trees.specs.declared.kind.Special.TheVariants.{Fifo, Socket, Block, Char}
 use Rattle.feature_trees.specs.declared.value.Value.{Value}
-use Rattle.feature_trees.specs.declared.value.Value.TheVariants.{Reg, Link, Other, Dir}
-use Rattle.feature_trees.specs.TreeLines.{letter_value, link_value}
+use Rattle.feature_trees.specs.declared.value.Value.TheVariants.{Reg, Link, Special, Dir}
+use Rattle.feature_trees.specs.declared.version.Version.{Version}
+use Rattle.feature_trees.specs.TreeLines.{special_of, letter_value, link_value}
 use Rattle.tree_clauses.specs.declared.clause.Clause.{Clause}
 use Rattle.tree_clauses.specs.declared.clause.Var.{Var}
 use Rattle.tree_clauses.specs.declared.clause.Literal.{Literal}
@@ -90,12 +93,12 @@ is_a b = b == 97
 
 call_marked : (call : ScriptCall) → is_call call ≡ true → is_marked is_a (call_content call) ≡ true
 call_marked call h =
-    let a = plus (codes "call ") (side_name call.old) refl (no_newline (side_name call.old) (side_shown call.old)) in
-    let b = plus (codes "call " ++ side_name call.old) (codes " ") a refl in
-    let c = plus ((codes "call " ++ side_name call.old) ++ codes " ") (script_name call.script) b (no_newline (script_name call.script) (script_shown call.script)) in
-    let d = plus (((codes "call " ++ side_name call.old) ++ codes " ") ++ script_name call.script) (flat_map call_word call.words) c (words_lack call.words h) in
-    let e = plus ((((codes "call " ++ side_name call.old) ++ codes " ") ++ script_name call.script) ++ flat_map call_word call.words) (codes " ") d refl in
-    let f = plus (((((codes "call " ++ side_name call.old) ++ codes " ") ++ script_name call.script) ++ flat_map call_word call.words) ++ codes " ")
+    let a = plus (codes "call ") (side_name call.side) refl (no_newline (side_name call.side) (side_shown call.side)) in
+    let b = plus (codes "call " ++ side_name call.side) (codes " ") a refl in
+    let c = plus ((codes "call " ++ side_name call.side) ++ codes " ") (script_name call.script) b (no_newline (script_name call.script) (script_shown call.script)) in
+    let d = plus (((codes "call " ++ side_name call.side) ++ codes " ") ++ script_name call.script) (flat_map call_word call.words) c (words_lack call.words h) in
+    let e = plus ((((codes "call " ++ side_name call.side) ++ codes " ") ++ script_name call.script) ++ flat_map call_word call.words) (codes " ") d refl in
+    let f = plus (((((codes "call " ++ side_name call.side) ++ codes " ") ++ script_name call.script) ++ flat_map call_word call.words) ++ codes " ")
     (call_end_name call.how) e (no_newline (call_end_name call.how) (call_end_shown call.how)) in
     and_from (lacks 10 (call_content call)) (second is_a (call_content call)) f refl
 
@@ -140,10 +143,10 @@ names_lack names h = plus (codes "{" ++ joined (map show names)) (codes "}") (pl
 graphic_no_newline : (b : ℕ) → is_graphic b ≡ true → not (b == 10) ≡ true
 graphic_no_newline b h = grind arith
 
-kinds_lack : (kinds : Kinds) → lacks 10 (kinds_text kinds) ≡ true
-kinds_lack kinds =
-    let k = and_parts (is_filled (kinds_text kinds)) (list_all is_graphic (kinds_text kinds)) (kinds_word kinds) in
-    all_weaker is_graphic (λ b. not (b == 10)) graphic_no_newline (kinds_text kinds) k.1
+kinds_lack : (version : Version) (kinds : Kinds) → lacks 10 (kinds_text version kinds) ≡ true
+kinds_lack version kinds =
+    let k = and_parts (is_filled (kinds_text version kinds)) (list_all is_graphic (kinds_text version kinds)) (kinds_word version kinds) in
+    all_weaker is_graphic (λ b. not (b == 10)) graphic_no_newline (kinds_text version kinds) k.1
 
 words_two : (word a b : List ℕ) → lacks 10 word ≡ true → lacks 10 a ≡ true → lacks 10 b ≡ true → lacks 10 (((word ++ a) ++ codes " ") ++ b) ≡ true
 words_two word a b h g f = plus ((word ++ a) ++ codes " ") b (plus (word ++ a) (codes " ") (plus word a h g) refl) f
@@ -151,43 +154,43 @@ words_two word a b h g f = plus ((word ++ a) ++ codes " ") b (plus (word ++ a) (
 abbrev pub is_no_h : ℕ → Bool
 is_no_h b = not (b == 104)
 
-literal_lacks : (l : Literal) → is_literal l ≡ true → lacks 10 (literal_content l) ≡ true
-literal_lacks (Entry x f y) h =
+literal_lacks : (version : Version) (l : Literal) → is_literal l ≡ true → lacks 10 (literal_content version l) ≡ true
+literal_lacks version (Entry x f y) h =
     let k = and_parts (is_var x) (is_representable_name f && is_var y) h in
     let r = and_parts (is_representable_name f) (is_var y) k.1 in
     plus ((((codes "entry " ++ var_text x) ++ codes " ") ++ show f) ++ codes " ") (var_text y)
     (plus (((codes "entry " ++ var_text x) ++ codes " ") ++ show f) (codes " ") (words_two (codes "entry ") (var_text x) (show f) refl (var_lacks x k.0) (name_lacks f r.0)) refl)
     (var_lacks y r.1)
-literal_lacks (Kind x kinds) h = words_two (codes "kind ") (var_text x) (kinds_text kinds) refl (var_lacks x h) (kinds_lack kinds)
-literal_lacks (Fence x names) h =
+literal_lacks version (Kind x kinds) h = words_two (codes "kind ") (var_text x) (kinds_text version kinds) refl (var_lacks x h) (kinds_lack version kinds)
+literal_lacks version (Fence x names) h =
     let k = and_parts (is_var x) (list_all is_representable_name names) h in
     words_two (codes "fence ") (var_text x) (names_text names) refl (var_lacks x k.0) (names_lack names k.1)
-literal_lacks (NotEmpty x) h = plus (codes "notempty ") (var_text x) refl (var_lacks x h)
-literal_lacks (Similar y names x) h =
+literal_lacks version (NotEmpty x) h = plus (codes "notempty ") (var_text x) refl (var_lacks x h)
+literal_lacks version (Similar y names x) h =
     let k = and_parts (is_var y) (list_all is_representable_name names && is_var x) h in
     let r = and_parts (list_all is_representable_name names) (is_var x) k.1 in
     plus ((((codes "similar " ++ var_text y) ++ codes " ") ++ names_text names) ++ codes " ") (var_text x)
     (plus (((codes "similar " ++ var_text y) ++ codes " ") ++ names_text names) (codes " ")
     (words_two (codes "similar ") (var_text y) (names_text names) refl (var_lacks y k.0) (names_lack names r.0)) refl)
     (var_lacks x r.1)
-literal_lacks (Target x target) h =
+literal_lacks version (Target x target) h =
     let k = and_parts (is_var x) (are_bytes target) h in
     words_two (codes "target ") (var_text x) (show target) refl (var_lacks x k.0) (no_newline (show target) (show_shown target k.1))
 
-literal_second : (l : Literal) → second is_no_h (literal_content l) ≡ true
-literal_second (Entry x f y) = refl
-literal_second (Kind x kinds) = refl
-literal_second (Fence x names) = refl
-literal_second (NotEmpty x) = refl
-literal_second (Similar y names x) = refl
-literal_second (Target x target) = refl
+literal_second : (version : Version) (l : Literal) → second is_no_h (literal_content version l) ≡ true
+literal_second version (Entry x f y) = refl
+literal_second version (Kind x kinds) = refl
+literal_second version (Fence x names) = refl
+literal_second version (NotEmpty x) = refl
+literal_second version (Similar y names x) = refl
+literal_second version (Target x target) = refl
 
-pub literals_marked : (ls : List Literal) → list_all is_literal ls ≡ true → list_all (is_marked is_no_h) (map literal_content ls) ≡ true
-literals_marked [] h = refl
-literals_marked (l ∷ ls) h =
+pub literals_marked : (version : Version) (ls : List Literal) → list_all is_literal ls ≡ true → list_all (is_marked is_no_h) (map (literal_content version) ls) ≡ true
+literals_marked version [] h = refl
+literals_marked version (l ∷ ls) h =
     let k = and_parts (is_literal l) (list_all is_literal ls) h in
-    and_from (is_marked is_no_h (literal_content l)) (list_all (is_marked is_no_h) (map literal_content ls))
-    (and_from (lacks 10 (literal_content l)) (second is_no_h (literal_content l)) (literal_lacks l k.0) (literal_second l)) (literals_marked ls k.1)
+    and_from (is_marked is_no_h (literal_content version l)) (list_all (is_marked is_no_h) (map (literal_content version) ls))
+    (and_from (lacks 10 (literal_content version l)) (second is_no_h (literal_content version l)) (literal_lacks version l k.0) (literal_second version l)) (literals_marked version ls k.1)
 
 -- ---- trees
 
@@ -197,15 +200,29 @@ is_blank b = b == 32
 letter_is : (a w rest : List ℕ) → bytes_eq a w ≡ true → second is_blank (w ++ 32 ∷ rest) ≡ true → second is_blank (a ++ 32 ∷ rest) ≡ true
 letter_is a w rest p h = ap (λ t. second is_blank (t ++ 32 ∷ rest)) ((bytes_eq-Decides a w).0 p) ∙ h
 
-pub letter_second : (a : List ℕ) (v : Value) (rest : List ℕ) → letter_value a ≡ Some v → second is_blank (a ++ 32 ∷ rest) ≡ true
-letter_second a v rest e = step (bytes_eq a (codes "d")) (bytes_eq a (codes "f")) (bytes_eq a (codes "o")) refl refl refl e
+special_second : (a : List ℕ) (s : special.Special) (rest : List ℕ) → special_of a ≡ Some s → second is_blank (a ++ 32 ∷ rest) ≡ true
+special_second a s rest e =
+    step (bytes_eq a (codes "p")) (bytes_eq a (codes "s")) (bytes_eq a (codes "b")) (bytes_eq a (codes "c")) (bytes_eq a (codes "o")) refl refl refl refl refl e
   where
-    step : (x y z : Bool) → bytes_eq a (codes "d") ≡ x → bytes_eq a (codes "f") ≡ y → bytes_eq a (codes "o") ≡ z
-        → (if x then Some (Dir []) else (if y then Some Reg else (if z then Some Other else None))) ≡ Some v → second is_blank (a ++ 32 ∷ rest) ≡ true
-    step true y z p q r e = letter_is a (codes "d") rest p refl
-    step false true z p q r e = letter_is a (codes "f") rest q refl
-    step false false true p q r e = letter_is a (codes "o") rest r refl
-    step false false false p q r e = cc
+    step : (v w x y z : Bool) → bytes_eq a (codes "p") ≡ v → bytes_eq a (codes "s") ≡ w → bytes_eq a (codes "b") ≡ x → bytes_eq a (codes "c") ≡ y → bytes_eq a (codes "o") ≡ z
+        → (if v then Some Fifo else (if w then Some Socket else (if x then Some Block else (if y then Some Char else (if z then Some Fifo else None))))) ≡ Some s
+        → second is_blank (a ++ 32 ∷ rest) ≡ true
+    step true w x y z a1 a2 a3 a4 a5 e = letter_is a (codes "p") rest a1 refl
+    step false true x y z a1 a2 a3 a4 a5 e = letter_is a (codes "s") rest a2 refl
+    step false false true y z a1 a2 a3 a4 a5 e = letter_is a (codes "b") rest a3 refl
+    step false false false true z a1 a2 a3 a4 a5 e = letter_is a (codes "c") rest a4 refl
+    step false false false false true a1 a2 a3 a4 a5 e = letter_is a (codes "o") rest a5 refl
+    step false false false false false a1 a2 a3 a4 a5 e = cc
+
+pub letter_second : (a : List ℕ) (v : Value) (rest : List ℕ) → letter_value a ≡ Some v → second is_blank (a ++ 32 ∷ rest) ≡ true
+letter_second a v rest e = step (bytes_eq a (codes "d")) (bytes_eq a (codes "f")) (special_of a) refl refl refl e
+  where
+    step : (x y : Bool) (o : Option special.Special) → bytes_eq a (codes "d") ≡ x → bytes_eq a (codes "f") ≡ y → special_of a ≡ o
+        → (if x then Some (Dir []) else (if y then Some Reg else option_map (λ s. Special s) o)) ≡ Some v → second is_blank (a ++ 32 ∷ rest) ≡ true
+    step true y o p q r e = letter_is a (codes "d") rest p refl
+    step false true o p q r e = letter_is a (codes "f") rest q refl
+    step false false (Some s) p q r e = special_second a s rest r
+    step false false None p q r e = cc
 
 pub link_second : (a target : List ℕ) (v : Value) (rest : List ℕ) → link_value a target ≡ Some v → second is_blank (a ++ 32 ∷ rest) ≡ true
 link_second a target v rest e = step (bytes_eq a (codes "l")) refl e

@@ -17,4 +17,4 @@ brief_part part = scenario_line part ++ flat_map brief_entry part.entries
 
 -- the brief text of a report
 unfoldable pub brief_text : Report → List ℕ
-brief_text report = line (codes "colis brief 1") ++ flat_map brief_part report.parts ++ verdict_line report
+brief_text report = line (codes "colis brief 2") ++ flat_map brief_part report.parts ++ verdict_line report

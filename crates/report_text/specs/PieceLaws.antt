@@ -1,6 +1,7 @@
 -- Scenarios, endings, traces and calls are read back from their texts.
 use Rattle.std.specs.Prelude.{◌≡◌, ℕ, Bool, true, IsTrue, List, map, Option, Some}
 use Rattle.std.specs.List.{list_all, join_with_byte}
+use Rattle.script_names.specs.Ascii.{space}
 use Rattle.shown_texts.specs.Marks.{mark_text, is_mark}
 use Rattle.dpkg_scenarios.specs.Names.{scenario_name, scenario_named}
 use Rattle.report_text.specs.PieceRead.{result_of, trace_of, call_of, is_ending, is_call}
@@ -14,5 +15,6 @@ IsReadBack {X} is_value text_of value_of = (x : X) → IsTrue (is_value x) → v
 pub record PiecesReadBack : Type 0 where
   pub scenarios : IsReadBack (λ scenario. true) scenario_name scenario_named
   pub endings : IsReadBack is_ending result_text result_of
-  pub traces : IsReadBack (λ trace. list_all is_mark trace) (λ trace. join_with_byte 32 (map mark_text trace)) trace_of
+  pub traces :
+      IsReadBack (λ trace. list_all is_mark trace) (λ trace. join_with_byte space (map mark_text trace)) trace_of
   pub calls : IsReadBack is_call call_content call_of

@@ -4,6 +4,7 @@ use Rattle.std.specs.Prelude.{ℕ, Bool, true, false, List, [], ◌∷◌, ◌++
 use Rattle.std.specs.List.{list_all}
 use Rattle.std.specs.Option.{option_map, option_and_then}
 use Rattle.std.specs.Str.{bytes_eq}
+use Rattle.script_names.specs.Ascii.{space}
 use Rattle.script_names.specs.Paths.{is_filled}
 use Rattle.script_names.specs.declared.mark.Mark.{Mark}
 use Rattle.shown_texts.specs.Marks.{site_of, mark_of, reason_of, is_site}
@@ -14,6 +15,8 @@ use Rattle.dpkg_scenarios.specs.declared.scenario.Ending.TheVariants.{Done, Fail
 use Rattle.dpkg_scenarios.specs.declared.scenario.State.{State}
 use Rattle.dpkg_scenarios.specs.declared.scenario.State.TheVariants.{Installed, Unpacked, HalfConfigured}
 use Rattle.dpkg_scenarios.specs.declared.scenario.State.TheVariants.{HalfInstalled, ConfigFiles, NotInstalled}
+use Rattle.dpkg_scenarios.specs.declared.scenario.Side.{Side}
+use Rattle.dpkg_scenarios.specs.declared.scenario.Side.TheVariants.{New, Old}
 use Rattle.dpkg_scenarios.specs.declared.scenario.ScriptKind.{ScriptKind}
 use Rattle.dpkg_scenarios.specs.declared.scenario.ScriptKind.TheVariants.{Preinst, Postinst, Prerm, Postrm}
 use Rattle.scenario_runs.specs.declared.call.CallEnd.{CallEnd}
@@ -40,11 +43,11 @@ script_of text =
     else (if bytes_eq text (codes "prerm") then Some Prerm
     else (if bytes_eq text (codes "postrm") then Some Postrm else None)))
 
--- whether it is the old package's script, of a word for that
-abbrev pub side_of : List ℕ → Option Bool
+-- whose script it is, of a word for that
+abbrev pub side_of : List ℕ → Option Side
 side_of text =
-    if bytes_eq text (codes "old") then Some true
-    else (if bytes_eq text (codes "new") then Some false else None)
+    if bytes_eq text (codes "old") then Some Old
+    else (if bytes_eq text (codes "new") then Some New else None)
 
 -- how a call ended, of a word for that
 abbrev pub call_end_of : List ℕ → Option CallEnd
@@ -77,7 +80,7 @@ result_of_words (word ∷ reason ∷ site ∷ other ∷ words) = None
 
 -- the ending that is written so
 abbrev pub result_of : List ℕ → Option Ending
-result_of text = result_of_words (parts 32 text)
+result_of text = result_of_words (parts space text)
 
 -- ---- traces
 
@@ -88,22 +91,23 @@ marks_onto marks (text ∷ texts) = option_and_then (λ mark. marks_onto (marks 
 
 -- the marks of a text that has them with a space between each two
 abbrev pub trace_of : List ℕ → Option (List Mark)
-trace_of text = if is_filled text then marks_onto [] (parts 32 text) else Some []
+trace_of text = if is_filled text then marks_onto [] (parts space text) else Some []
 
 -- ---- calls
 
 -- the call with these words and further ones, of which the last says how it ended
-abbrev pub call_with : Bool → ScriptKind → List (List ℕ) → List (List ℕ) → Option ScriptCall
-call_with old script words [] = None
-call_with old script words (last ∷ []) =
-    option_map (λ how. record { old = old; script = script; words = words; how = how }) (call_end_of last)
-call_with old script words (text ∷ next ∷ texts) =
-    option_and_then (λ word. call_with old script (words ++ word ∷ []) (next ∷ texts)) (shown_of text)
+abbrev pub call_with : Side → ScriptKind → List (List ℕ) → List (List ℕ) → Option ScriptCall
+call_with side script words [] = None
+call_with side script words (last ∷ []) =
+    option_map (λ how. record { side = side; script = script; words = words; how = how }) (call_end_of last)
+call_with side script words (text ∷ next ∷ texts) =
+    option_and_then (λ word. call_with side script (words ++ word ∷ []) (next ∷ texts)) (shown_of text)
 
 -- the call of words for its side and its script, and of further ones
 abbrev pub call_from : List ℕ → List ℕ → List (List ℕ) → Option ScriptCall
 call_from side script texts =
-    option_and_then (λ old. option_and_then (λ script. call_with old script [] texts) (script_of script)) (side_of side)
+    option_and_then (λ side. option_and_then (λ script. call_with side script [] texts) (script_of script))
+    (side_of side)
 
 -- the call of these words
 abbrev pub call_of_words : List (List ℕ) → Option ScriptCall
@@ -114,7 +118,7 @@ call_of_words (call ∷ side ∷ script ∷ texts) = call_from side script texts
 
 -- the call of a line
 abbrev pub call_of : List ℕ → Option ScriptCall
-call_of text = call_of_words (parts 32 text)
+call_of text = call_of_words (parts space text)
 
 -- ---- what the types represent
 

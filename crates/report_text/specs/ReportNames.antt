@@ -1,5 +1,7 @@
 -- The names of states and answers, as a report has them.
 use Rattle.std.specs.Prelude.{ℕ, List, Bool, true, false, codes}
+use Rattle.dpkg_scenarios.specs.declared.scenario.Side.{Side}
+use Rattle.dpkg_scenarios.specs.declared.scenario.Side.TheVariants.{New, Old}
 use Rattle.dpkg_scenarios.specs.declared.scenario.State.{State}
 use Rattle.dpkg_scenarios.specs.declared.scenario.State.TheVariants.{Installed, Unpacked, HalfConfigured}
 use Rattle.dpkg_scenarios.specs.declared.scenario.State.TheVariants.{HalfInstalled, ConfigFiles, NotInstalled}
@@ -21,9 +23,9 @@ confirmed_name true = codes "yes"
 confirmed_name false = codes "no"
 
 -- which package's script was called
-abbrev pub side_name : Bool → List ℕ
-side_name true = codes "old"
-side_name false = codes "new"
+abbrev pub side_name : Side → List ℕ
+side_name Old = codes "old"
+side_name New = codes "new"
 
 -- how a call ended
 abbrev pub call_end_name : CallEnd → List ℕ

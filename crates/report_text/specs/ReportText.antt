@@ -9,6 +9,7 @@ use Rattle.shown_texts.specs.Lines.{line}
 use Rattle.shown_texts.specs.Marks.{site_text, mark_text, reason_name}
 use Rattle.shown_texts.specs.Show.{show}
 use Rattle.feature_trees.specs.TreeText.{tree_text}
+use Rattle.feature_trees.specs.declared.version.Version.TheVariants.{Second}
 use Rattle.tree_clauses.specs.ClauseText.{clause_text}
 use Rattle.dpkg_scenarios.specs.declared.scenario.Ending.{Ending}
 use Rattle.dpkg_scenarios.specs.declared.scenario.Ending.TheVariants.{Done, Failed, Incomplete, Bound}
@@ -57,7 +58,7 @@ call_word word = codes " " ++ show word
 -- a call of a script, without the newline of its line: whose it is, its name, its words, and how it ended
 abbrev pub call_content : ScriptCall → List ℕ
 call_content call =
-    codes "call " ++ side_name call.old ++ codes " " ++ script_name call.script ++ flat_map call_word call.words
+    codes "call " ++ side_name call.side ++ codes " " ++ script_name call.script ++ flat_map call_word call.words
     ++ codes " " ++ call_end_name call.how
 
 -- the line of a call
@@ -77,7 +78,7 @@ entry_text entry =
     ++ trace_line entry.outcome.trace
     ++ confirmed_line entry.confirmed
     ++ flat_map call_line entry.replayed.calls
-    ++ clause_text entry.outcome.clause
+    ++ clause_text Second entry.outcome.clause
     ++ trees_text entry
 
 -- the name of a scenario, and how many outcomes it has
@@ -103,4 +104,4 @@ verdict_line report = line_of_verdict (verdict_of report)
 
 -- the text of a report
 unfoldable pub report_text : Report → List ℕ
-report_text report = line (codes "colis report 1") ++ flat_map part_text report.parts ++ verdict_line report
+report_text report = line (codes "colis report 2") ++ flat_map part_text report.parts ++ verdict_line report

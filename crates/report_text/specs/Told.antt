@@ -48,7 +48,7 @@ told_verdict told = verdict_on (λ (one : ToldPart). one.failed) (λ (one : Told
 
 -- the first line of a report
 abbrev pub first_line : List ℕ
-first_line = line (codes "colis report 1")
+first_line = line (codes "colis report 2")
 
 -- the lines of a part of which this is told
 abbrev pub lines_of : ToldPart → List ℕ

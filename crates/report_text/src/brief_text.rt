@@ -48,7 +48,7 @@ pub fn render_brief(alloc: Global, report: &Report) -> Result<Bytes, Memory>
     ensures { IfOk result (λ text. text ≡ brief_text report.now) }
 {
     let mut text = Bytes::new(alloc);
-    push_line(&mut text, b"colis brief 1")?;
+    push_line(&mut text, b"colis brief 2")?;
     put_parts(&mut text, report.parts.as_slice())?;
     put_verdict(&mut text, report)?;
     Ok(text)

@@ -2,7 +2,7 @@
 ghost use Rattle.std.specs.Prelude.{◌≡◌};
 ghost use Rattle.report_text.specs.ReportNames.{state_name, side_name, call_end_name, confirmed_name};
 
-use dpkg_scenarios::State;
+use dpkg_scenarios::{Side, State};
 use scenario_runs::CallEnd;
 
 // The name of a package's state, as dpkg spells it.
@@ -20,10 +20,13 @@ pub(crate) fn state_name(state: State) -> &'static [u8]
 }
 
 // Which package's script was called.
-pub(crate) fn side_name(old: bool) -> &'static [u8]
-    ensures { result.now ≡ side_name old }
+pub(crate) fn side_name(side: Side) -> &'static [u8]
+    ensures { result.now ≡ side_name side }
 {
-    if old { b"old" } else { b"new" }
+    match side {
+        Side::Old => b"old",
+        Side::New => b"new",
+    }
 }
 
 // How a call ended.

@@ -97,7 +97,7 @@ fn put_call(text: &mut Bytes, call: &ScriptCall) -> Result<(), Memory>
     ensures begins { OnErr result (take (length text.old) text.new ≡ text.old) }
 {
     text.extend(b"call ")?;
-    text.extend(side_name(call.old))?;
+    text.extend(side_name(call.side))?;
     text.extend(b" ")?;
     text.extend(script_name(call.script).as_bytes())?;
     put_words(text, call.words.as_slice())?;
@@ -267,7 +267,7 @@ pub fn render_text(alloc: Global, report: &Report) -> Result<Bytes, Memory>
     ensures { IfOk result (λ text. text ≡ report_text report.now) }
 {
     let mut text = Bytes::new(alloc);
-    push_line(&mut text, b"colis report 1")?;
+    push_line(&mut text, b"colis report 2")?;
     put_parts(alloc, &mut text, report.parts.as_slice())?;
     put_verdict(&mut text, report)?;
     Ok(text)

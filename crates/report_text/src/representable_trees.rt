@@ -13,7 +13,7 @@ fn is_of_bytes(tree: &Value)
     ensures { IsTrue (of_bytes tree.now) }
 {
     match tree {
-        Value::Absent | Value::Reg | Value::Other => {}
+        Value::Absent | Value::Reg | Value::Special(_) => {}
         Value::Link(target) => are_bytes(target.as_slice()),
         Value::Dir(entries) => are_of_bytes(entries),
     }

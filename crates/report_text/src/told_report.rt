@@ -41,7 +41,7 @@ fn join_lines(alloc: Global, told: List<ToldPart>) -> Result<Bytes, Memory>
     ensures { IfOk result (λ text. text ≡ first_line ++ flat_map lines_of told) }
 {
     let mut text = Bytes::new(alloc);
-    push_line(&mut text, b"colis report 1")?;
+    push_line(&mut text, b"colis report 2")?;
     for part in told.into_vec() {
         text.extend(part.text.as_slice())?;
     }

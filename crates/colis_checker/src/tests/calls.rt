@@ -12,7 +12,7 @@ const QUESTION: &[File] = &[
 ];
 
 // Its report: a link is not followed, nothing and a file are no directory, and a directory is one.
-const REPORT: &[u8] = b"colis report 1
+const REPORT: &[u8] = b"colis report 2
 scenario install outcomes 3
 outcome 1 incomplete link 3:17
 trace 3:17:65
@@ -33,7 +33,7 @@ call new postinst configure \\e failed
 clause start v0 now v0
 kind v0 dir
 entry v0 a v1
-kind v1 absent,reg,other
+kind v1 absent,reg,fifo,socket,block,char
 shown
 f /a
 after
@@ -56,19 +56,76 @@ verdict 1
 ";
 
 // The same as JSON.
-const REPORT_AS_JSON: &[u8] = b"{\"colis\":1,\"scenarios\":[{\"name\":\"install\",\"outcomes\":[\
+const REPORT_AS_JSON: &[u8] = b"{\"colis\":2,\"scenarios\":[{\"name\":\"install\",\"outcomes\":[\
     {\"after\":[\"l /a x\"],\"calls\":[\"call new postinst configure \\\\e ended\"],\
     \"clause\":{\"literals\":[\"kind v0 dir\",\"entry v0 a v1\",\"kind v1 link\"],\"now\":0,\"start\":0},\
     \"confirmed\":true,\"number\":1,\"result\":\"incomplete link 3:17\",\"shown\":[\"l /a x\"],\
     \"trace\":\"3:17:65\"},\
     {\"after\":[\"f /a\"],\"calls\":[\"call new postinst configure \\\\e failed\"],\
-    \"clause\":{\"literals\":[\"kind v0 dir\",\"entry v0 a v1\",\"kind v1 absent,reg,other\"],\"now\":0,\"start\":0},\
+    \"clause\":{\"literals\":[\"kind v0 dir\",\"entry v0 a v1\",\"kind v1 absent,reg,fifo,socket,block,char\"],\"now\":0,\"start\":0},\
     \"confirmed\":true,\"number\":2,\"result\":\"failed Half-Configured\",\"shown\":[\"f /a\"],\
     \"trace\":\"3:17:66\"},\
     {\"after\":[\"d /a\"],\"calls\":[\"call new postinst configure \\\\e ok\"],\
     \"clause\":{\"literals\":[\"kind v0 dir\",\"entry v0 a v1\",\"kind v1 dir\"],\"now\":0,\"start\":0},\
     \"confirmed\":true,\"number\":3,\"result\":\"done Installed\",\"shown\":[\"d /a\"],\
     \"trace\":\"3:17:67\"}]}],\"verdict\":1}\n";
+
+// The report on a script that asks for a pipe, where `/srv` is a directory: a link is not followed, another kind is no
+// pipe, and a pipe is one.
+const PIPE: &[u8] = b"colis report 2
+scenario install outcomes 3
+outcome 1 incomplete link 3:10
+trace 3:10:65
+confirmed yes
+call new postinst configure \\e ended
+clause start v0 now v0
+kind v0 dir
+entry v0 srv v1
+kind v1 dir
+entry v1 a v2
+kind v2 link
+shown
+d /srv
+l /srv/a x
+after
+d /srv
+l /srv/a x
+outcome 2 failed Half-Configured
+trace 3:10:66
+confirmed yes
+call new postinst configure \\e failed
+clause start v0 now v0
+kind v0 dir
+entry v0 srv v1
+kind v1 dir
+entry v1 a v2
+kind v2 absent,reg,socket,block,char,dir
+shown
+d /srv
+d /srv/a
+after
+d /srv
+d /srv/a
+outcome 3 done Installed
+trace 3:10:67
+confirmed yes
+call new postinst configure \\e ok
+clause start v0 now v0
+kind v0 dir
+entry v0 srv v1
+kind v1 dir
+entry v1 a v2
+kind v2 fifo
+shown
+d /srv
+p /srv/a
+after
+d /srv
+p /srv/a
+place incomplete 3:10 1
+place failed 3:10 1
+verdict 1
+";
 
 // The words, the files, and what has to come of the call.
 const CALLS: &[Called] = &[
@@ -78,7 +135,7 @@ const CALLS: &[Called] = &[
         &[("p/list", b"/.\n")],
         (
             0,
-            b"colis brief 1
+            b"colis brief 2
 scenario install outcomes 1
 outcome 1 done Installed
 trace
@@ -120,6 +177,55 @@ verdict 0
         ],
         QUESTION,
         (1, REPORT_AS_JSON, b""),
+    ),
+    // A question after one of the special kinds, and a tree with another.
+    Called(
+        &["check", "p", "--base", "b", "--scenario", "install"],
+        &[
+            ("p/list", b"/.\n"),
+            ("p/postinst", b"#!/bin/sh\ntest -p /srv/a\n"),
+            ("b", b"dir /srv\n"),
+        ],
+        (1, PIPE, b""),
+    ),
+    Called(
+        &["check", "p", "--scenario", "install", "--brief"],
+        &[
+            ("p/list", b"/.\n"),
+            ("p/postinst", b"#!/bin/sh\ntest -p /srv/a\n"),
+        ],
+        (
+            1,
+            b"colis brief 2
+scenario install outcomes 3
+outcome 1 incomplete link 3:10
+trace 3:10:65
+outcome 2 failed Half-Configured
+trace 3:10:66
+outcome 3 done Installed
+trace 3:10:67
+verdict 1
+",
+            b"",
+        ),
+    ),
+    Called(
+        &["run", "p", "--scenario", "install", "--tree", "t"],
+        &[
+            ("p/list", b"/.\n"),
+            ("t", b"d /srv\ns /srv/a\n"),
+            ("p/postinst", b"#!/bin/sh\n[ -S /srv/a ] && rm /srv/a\n"),
+        ],
+        (
+            0,
+            b"result done Installed
+trace 3:10:67 3:27:68
+call new postinst configure \\e ok
+after
+d /srv
+",
+            b"",
+        ),
     ),
     // A word that is split (POSIX.1-2017, XCU 2.6.5), and one that is quoted.
     Called(
@@ -166,7 +272,7 @@ f /srv/b
         ],
         (
             2,
-            b"colis brief 1
+            b"colis brief 2
 scenario install outcomes 3
 outcome 1 incomplete link 3:16
 trace 3:16:65
@@ -254,7 +360,7 @@ after
         ],
         (
             0,
-            b"colis brief 1
+            b"colis brief 2
 scenario purge outcomes 3
 outcome 1 done Not-Installed
 trace 2:0:67 4:0:68 4:1:67
@@ -276,7 +382,7 @@ verdict 0
         ],
         (
             0,
-            b"colis brief 1
+            b"colis brief 2
 scenario install outcomes 1
 outcome 1 done Installed
 trace 2:0:68 2:1:68 2:2:68
@@ -303,7 +409,7 @@ verdict 0
         ],
         (
             2,
-            b"colis brief 1
+            b"colis brief 2
 scenario install outcomes 5
 outcome 1 incomplete link 2:1
 trace 2:0:68 2:1:65
@@ -414,15 +520,15 @@ impl Row for Layout {
 const LAYOUTS: &[Layout] = &[
     Layout(
         &["check", "p"],
-        b"colis report 1\nscenario install outcomes 1\n",
+        b"colis report 2\nscenario install outcomes 1\n",
     ),
     Layout(
         &["check", "p", "--brief"],
-        b"colis brief 1\nscenario install outcomes 1\n",
+        b"colis brief 2\nscenario install outcomes 1\n",
     ),
     Layout(
         &["check", "--json", "p"],
-        b"{\"colis\":1,\"scenarios\":[{\"name\":\"install\",",
+        b"{\"colis\":2,\"scenarios\":[{\"name\":\"install\",",
     ),
 ];
 
@@ -460,7 +566,7 @@ const STATED: &[Stated] = &[
     Stated(
         &["check", "p", "--scenario", "purge"],
         0,
-        b"colis report 1
+        b"colis report 2
 scenario purge outcomes 3
 outcome 1 done Not-Installed
 trace 2:0:67 4:0:68 4:1:67
@@ -477,7 +583,7 @@ verdict 0
     Stated(
         &["check", "p", "--scenario", "install"],
         0,
-        b"colis report 1
+        b"colis report 2
 scenario install outcomes 1
 outcome 1 done Installed
 trace 2:0:68 2:1:68 2:2:68
@@ -488,7 +594,7 @@ verdict 0
     Stated(
         &["check", "p", "--scenario", "install", "--base", "b"],
         2,
-        b"colis report 1
+        b"colis report 2
 scenario install outcomes 5
 outcome 1 incomplete link 2:1
 trace 2:0:68 2:1:65

@@ -284,7 +284,7 @@ const FAILING: &[Fails] = &[
         1,
         0,
         10,
-        (5, b"{\"colis\":1", b"colis: write failed\n"),
+        (5, b"{\"colis\":2", b"colis: write failed\n"),
     ),
     Fails(
         RUN,

@@ -6,7 +6,7 @@ use super::{Called, Case, INSTALL, Row, Wanted, installation, see, see_all};
 use std::test::Fail;
 
 // Nothing is done, with success.
-const DONE: &[u8] = b"colis brief 1
+const DONE: &[u8] = b"colis brief 2
 scenario install outcomes 1
 outcome 1 done Installed
 trace
@@ -66,7 +66,7 @@ const SCRIPTS: &[Repeated] = &[
         &[b"x=a\n", b"x=\"$x$x\"\n", b"", b""],
         17,
         2,
-        b"colis brief 1
+        b"colis brief 2
 scenario install outcomes 1
 outcome 1 incomplete long 3:158
 trace
@@ -79,7 +79,7 @@ verdict 2
         &[b"test -e ", b"/a", b"", b""],
         65,
         2,
-        b"colis brief 1
+        b"colis brief 2
 scenario install outcomes 1
 outcome 1 incomplete long 3:10
 trace
@@ -133,7 +133,7 @@ const NAMES: &[Named] = &[
         ],
         (
             1,
-            b"colis brief 1
+            b"colis brief 2
 scenario install outcomes 66
 ",
             b"",
@@ -189,7 +189,7 @@ const TURNS: Called = Called(
     ],
     (
         2,
-        b"colis brief 1
+        b"colis brief 2
 scenario install outcomes 1
 outcome 1 bound 3:10
 trace

@@ -23,7 +23,7 @@ const ROWS: &[Most] = &[
     Most(
         b"",
         1,
-        b"colis brief 1\nscenario install outcomes 10000\n",
+        b"colis brief 2\nscenario install outcomes 10000\n",
         b"",
     ),
     // `mkdir` fails where something is there.

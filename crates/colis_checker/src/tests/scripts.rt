@@ -275,7 +275,7 @@ impl Row for Touching {
 const NAMES: &[Touching] = &[
     Touching(
         256,
-        b"colis brief 1
+        b"colis brief 2
 scenario install outcomes 1
 outcome 1 incomplete long 3:10
 trace
@@ -284,7 +284,7 @@ verdict 2
     ),
     Touching(
         255,
-        b"colis brief 1
+        b"colis brief 2
 scenario install outcomes 3
 outcome 1 incomplete link 3:10
 trace 3:10:65

@@ -93,7 +93,7 @@ fn are_seen(out: &[u8], err: &[u8], seen: &Seen) -> bool {
         Seen::Whole(text, line) => are_same(out, text) && are_same(err, line),
         Seen::Begun(text, line) => out.starts_with(text) && are_same(err, line),
         Seen::Report(text) => {
-            is_joined(out, b"colis brief 1\nscenario install outcomes ", text) && err.is_empty()
+            is_joined(out, b"colis brief 2\nscenario install outcomes ", text) && err.is_empty()
         }
         Seen::Stated(lines) => is_stated(out, lines) && err.is_empty(),
         Seen::Refusal(line) => out.is_empty() && is_joined(err, b"colis: p/postinst: ", line),

@@ -2,11 +2,11 @@ use denote.Param.Send.{sendable}
 use Rattle.std.proofs.Crossing as heap
 use Rattle.case_pool.proofs.Promise.{promised}
 use Rattle.colis_checker.specs.Accounts.{AccountGives}
-use Rattle.colis_checker.proofs.Shared.{packages_sync}
+use Rattle.colis_checker.proofs.Shared.{packages_sync, programs_sync}
 use Rattle.colis_checker.proofs.scenarios.scenario_accounts.Goals as goal
 
 pub map_jobs-requires-sync-F : goal.map_jobs-requires-sync-F
-map_jobs-requires-sync-F g c κs within = let p = packages_sync in let q = c.type_bounds.sync-G in search (sendable, heap.crosses) depth 30
+map_jobs-requires-sync-F g c κs within = let p = packages_sync in let r = programs_sync in let q = c.type_bounds.sync-G in search (sendable, heap.crosses) depth 30
 
 pub returns : goal.returns
 returns g c =

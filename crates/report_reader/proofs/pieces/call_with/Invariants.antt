@@ -4,7 +4,7 @@ use Rattle.report_reader.proofs.pieces.call_with.Given as goal
 
 abbrev pub invariant-loop-left : goal.invariant-loop-left
 invariant-loop-left l =
-    call_with l.old l.script l.words (map (λ text. text.now) l.left) ≡ call_with l.old l.script [] (map (λ text. text.now) l.texts)
+    call_with l.side l.script l.words (map (λ text. text.now) l.left) ≡ call_with l.side l.script [] (map (λ text. text.now) l.texts)
 
 abbrev pub decreases-loop-left : goal.decreases-loop-left
 decreases-loop-left l = length l.left

@@ -13,8 +13,8 @@ turned (Ok b) d v e is plain f g = (λ t. sym (f t ∙ is), λ k. g (ap has_floa
 turned (Err m) d v e is plain f g = tt
 
 pub same_value-requires-clause-second : goal.same_value-requires-clause-second
-same_value-requires-clause-second c = subst (λ d. depth d ≤ 127) (sym c.in_ok-again.ensures) (report_depth c.args.report.now)
+same_value-requires-clause-second c = subst (λ d. depth d ≤ 127) (sym c.in_ok-again.ensures) (report_depth c.args.version c.args.report.now)
 
 pub returns : goal.returns
 returns c =
-    turned c.same_value.result _ _ (json_of c.args.report.now) c.in_ok-again.ensures (report_plain c.args.report.now) c.same_value.ensures.same c.same_value.ensures.all
+    turned c.same_value.result _ _ (json_of c.args.version c.args.report.now) c.in_ok-again.ensures (report_plain c.args.version c.args.report.now) c.same_value.ensures.same c.same_value.ensures.all
