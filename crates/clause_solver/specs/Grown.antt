@@ -1,5 +1,6 @@
 -- The start tree in which each place has its greatest kind.
 use Rattle.std.specs.Prelude.{ℕ, suc, List, [], ◌∷◌, Bool, true, false, nat_eq, if◌then◌else◌}
+use Rattle.script_names.specs.Ascii.{lower_x}
 use Rattle.feature_trees.specs.declared.kind.Kind.{Kind}
 use Rattle.feature_trees.specs.declared.kind.Kind.TheVariants as kind
 use Rattle.feature_trees.specs.declared.value.Value.{Value}
@@ -15,7 +16,7 @@ use Rattle.clause_solver.specs.Greatest.{kind_at}
 
 -- the target of a link of which nothing is known: `x`
 abbrev pub some_target : List ℕ
-some_target = 120 ∷ []
+some_target = lower_x ∷ []
 
 -- a value of a kind, with these entries where it is a directory
 abbrev pub grown : Kind → List Entry → Value

@@ -5,6 +5,7 @@ use Rattle.clause_solver.specs.declared.variable.Definition.{Definition}
 use Rattle.clause_solver.specs.declared.variable.Definition.TheVariants.{Start, Child, Derived, Ensured, Made}
 use Rattle.clause_solver.specs.declared.variable.Variable.{Variable}
 use Rattle.clause_solver.specs.Variables.{var_at}
+use Rattle.script_names.specs.Ascii.{lower_a, lower_b}
 use Rattle.script_names.specs.Names.{is_name}
 
 -- the name in a definition
@@ -44,4 +45,4 @@ pub record IsNew (vars : List Variable) (z : List ℕ) : Type 0 where
 
 -- the two letters that new names are made of: `a` and `b`
 abbrev pub is_letter : ℕ → Bool
-is_letter x = nat_eq x 97 || nat_eq x 98
+is_letter x = nat_eq x lower_a || nat_eq x lower_b

@@ -2,6 +2,7 @@
 use Rattle.std.specs.Prelude.{ℕ, Bool, true, false, List, [], ◌∷◌, ◌++◌, map, codes}
 use Rattle.std.specs.List.{flat_map}
 use Rattle.std.specs.Fmt.{decimal}
+use Rattle.script_names.specs.Ascii.{space}
 use Rattle.script_names.specs.declared.reason.Reason.{Reason}
 use Rattle.shown_texts.specs.Show.{show}
 use Rattle.shown_texts.specs.Marks.{reason_name}
@@ -27,7 +28,7 @@ Text = List ℕ
 
 -- a text behind a space
 abbrev pub spaced : Text → Text
-spaced text = 32 ∷ text
+spaced text = space ∷ text
 
 -- texts, each behind a space
 abbrev pub each_spaced : List Text → Text

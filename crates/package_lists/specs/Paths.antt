@@ -30,7 +30,7 @@ path_of text = option_map plain_path (path_names text)
 
 -- how a path is written
 abbrev pub path_text : List (List ℕ) → List ℕ
-path_text names = flat_map (λ name. 47 ∷ name) names
+path_text names = flat_map (λ name. slash ∷ name) names
 
 -- the paths of the first name, of the first two, and so on, up to so many
 abbrev pub folders_to : List (List ℕ) → ℕ → List (List ℕ)

@@ -153,6 +153,10 @@ backquote = 96
 abbrev pub lower_a : ℕ
 lower_a = 97
 
+-- `b`
+abbrev pub lower_b : ℕ
+lower_b = 98
+
 -- `x`
 abbrev pub lower_x : ℕ
 lower_x = 120

@@ -8,7 +8,7 @@ use Rattle.shell_syntax.specs.declared.key.Key.{Key}
 use Rattle.shell_syntax.specs.declared.key.Key.TheVariants.{Named, Arg, Count}
 use Rattle.shell_lexer.specs.declared.token.RawPart.{RawPart}
 use Rattle.shell_lexer.specs.declared.token.RawPart.TheVariants as part
-use Rattle.script_names.specs.Ascii.{paren_open, single_quote}
+use Rattle.script_names.specs.Ascii.{digit_zero, paren_open, single_quote}
 use Rattle.script_names.specs.ShellNames.{is_name_byte, is_shell_name}
 use Rattle.shell_lexer.specs.Text.{Bytes, skip, is_default_byte}
 use Rattle.shell_lexer.specs.Spelling.{Stands, begins, IsNotNext}
@@ -23,7 +23,7 @@ is_default bytes = list_all is_default_byte bytes
 pub record IsDigitOf (number digit : ℕ) : Type 0 where
   pub least : 1 ≤ number
   pub most : number ≤ 9
-  pub digit_is : digit ≡ 48 + number
+  pub digit_is : digit ≡ digit_zero + number
 
 -- The spellings of a parameter with its key and its default: a line each. A name outside braces is the longest one
 -- there; a number has one digit.

@@ -8,7 +8,7 @@ use Rattle.shown_texts.specs.Parts.{parts, lacks}
 
 -- a line of a text: it ends in a newline
 abbrev pub line : List ℕ → List ℕ
-line text = text ++ 10 ∷ []
+line text = text ++ newline ∷ []
 
 -- the text of lines
 abbrev pub lines_text : List (List ℕ) → List ℕ

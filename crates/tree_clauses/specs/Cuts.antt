@@ -2,7 +2,7 @@
 -- without a byte may be left out.
 use Rattle.std.specs.Prelude.{ℕ, Bool, ◌||◌, ◌==◌, List, filter}
 use Rattle.std.specs.List.{slice_split}
-use Rattle.script_names.specs.Ascii.{newline, space}
+use Rattle.script_names.specs.Ascii.{newline, space, comma, brace_open, brace_close}
 use Rattle.script_names.specs.Paths.{is_filled}
 
 -- the pieces between bytes that pass the test, without those of no byte
@@ -19,4 +19,4 @@ ends_word b = b == space
 
 -- what ends a member of a list: a comma or a brace
 abbrev pub ends_member : ℕ → Bool
-ends_member b = (b == 44) || ((b == 123) || (b == 125))
+ends_member b = (b == comma) || ((b == brace_open) || (b == brace_close))

@@ -6,6 +6,7 @@ use Rattle.script_names.specs.declared.command_names.Utility.{Utility}
 use Rattle.script_names.specs.declared.command_names.Utility.TheVariants as utility
 use Rattle.script_names.specs.declared.reason.Reason.{Reason}
 use Rattle.script_names.specs.declared.reason.Reason.TheVariants as reason
+use Rattle.script_names.specs.Ascii.{newline, space, hyphen, backslash}
 use Rattle.script_names.specs.CommandNames.{utility_named}
 use Rattle.utility_calls.specs.declared.acts.Act.{Act}
 use Rattle.utility_calls.specs.declared.planned.Planned.{Planned}
@@ -24,23 +25,23 @@ unless None planned = planned
 
 -- the bytes of the words of `echo` from the second on, each behind a space, and a newline
 abbrev pub echo_rest : List (List ℕ) → List ℕ
-echo_rest [] = 10 ∷ []
-echo_rest (word ∷ words) = 32 ∷ (word ++ echo_rest words)
+echo_rest [] = newline ∷ []
+echo_rest (word ∷ words) = space ∷ (word ++ echo_rest words)
 
 -- what `echo` writes: the words joined by spaces, and a newline
 abbrev pub echo_text : List (List ℕ) → List ℕ
-echo_text [] = 10 ∷ []
+echo_text [] = newline ∷ []
 echo_text (word ∷ words) = word ++ echo_rest words
 
 -- whether the first word begins with `-`
 abbrev pub begins_with_dash : List (List ℕ) → Bool
 begins_with_dash [] = false
 begins_with_dash ([] ∷ words) = false
-begins_with_dash ((b ∷ bs) ∷ words) = b == 45
+begins_with_dash ((b ∷ bs) ∷ words) = b == hyphen
 
 -- whether a word has a `\`
 abbrev pub has_backslash : List ℕ → Bool
-has_backslash word = list_any (λ b. b == 92) word
+has_backslash word = list_any (λ b. b == backslash) word
 
 -- `echo`, which has no specified meaning where the first word looks like an option, or some word has a `\`
 abbrev pub echo_call : List (List ℕ) → Planned

@@ -4,6 +4,7 @@ use Rattle.std.specs.Prelude.{ℕ, ◌+◌, Bool, false, not, ◌&&◌, ◌||◌
 use Rattle.std.specs.Prelude.{if◌then◌else◌, codes}
 use Rattle.std.specs.Str.{bytes_eq}
 use Rattle.std.specs.List.{list_any, list_all}
+use Rattle.script_names.specs.Ascii.{hyphen}
 
 -- `--`
 abbrev pub is_end : List ℕ → Bool
@@ -13,7 +14,7 @@ is_end word = bytes_eq word (codes "--")
 abbrev pub is_option : List ℕ → Bool
 is_option [] = false
 is_option (a ∷ []) = false
-is_option (a ∷ b ∷ rest) = a == 45
+is_option (a ∷ b ∷ rest) = a == hyphen
 
 -- how many words from the first on are options, of which `--` is none
 abbrev pub option_count : List (List ℕ) → ℕ
