@@ -52,7 +52,7 @@ fn source(a: &Act, first: Kind) -> Kind
 }
 
 // What is seen where a walk ends, and at what stands there.
-fn sight_of(seen: &Seen, inner: &Value) -> Sight
+pub(crate) fn sight_of(seen: &Seen, inner: &Value) -> Sight
     ensures { result ≡ sight_of seen.now.in_dir seen.now.here.now inner.now }
 {
     Sight {
@@ -141,7 +141,7 @@ fn row_on(a: &Act, tree: &Value) -> Row
 }
 
 // Puts a value at a path that has a name and is in a directory.
-fn put_at(path: &Path, value: Value, tree: &mut Value) -> Result<(), Memory>
+pub(crate) fn put_at(path: &Path, value: Value, tree: &mut Value) -> Result<(), Memory>
     requires named { path.now.names ≢ [] }
     requires parents { IsTrue (has_parents tree.old path.now.names) }
     ensures ok { OnOk result (tree.new ≡ put tree.old path.now.names value) }
@@ -155,7 +155,7 @@ fn put_at(path: &Path, value: Value, tree: &mut Value) -> Result<(), Memory>
 }
 
 // What stands at a path, copied.
-fn copy_at(alloc: Global, tree: &Value, path: &Path) -> Result<Value, Memory>
+pub(crate) fn copy_at(alloc: Global, tree: &Value, path: &Path) -> Result<Value, Memory>
     ensures { IfOk result (λ value. value ≡ at tree.now path.now.names) }
 {
     match tree.at(path) {

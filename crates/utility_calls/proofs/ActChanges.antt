@@ -174,7 +174,7 @@ failed_row act tree ne =
 
 -- ---- a directory stays one
 
-put_dir : (v w : Value) (names : List (List ℕ)) → names ≢ [] → kind_of (put v names w) ≡ Dir
+pub put_dir : (v w : Value) (names : List (List ℕ)) → names ≢ [] → kind_of (put v names w) ≡ Dir
 put_dir v w [] ne = absurd (ne refl)
 put_dir v w (f ∷ names) ne = refl
 

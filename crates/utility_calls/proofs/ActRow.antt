@@ -127,10 +127,10 @@ each_sight f h s =
 abbrev pub possible : Sight → Bool
 possible s = s.in_dir || has (of Absent) s.kind
 
-abbrev one : List Rule → Kind → Sight → Bool
+abbrev pub one : List Rule → Kind → Sight → Bool
 one rs k s = nat_eq (count k s rs) 1
 
-abbrev one_if_possible : List Rule → Kind → Sight → Bool
+abbrev pub one_if_possible : List Rule → Kind → Sight → Bool
 one_if_possible rs k s = not (possible s) || one rs k s
 
 pub given_possible : (p b : Bool) → p ≡ true → (not p || b) ≡ true → b ≡ true
@@ -140,7 +140,7 @@ given_possible false b p e = absurd (cc)
 asks_one : (rs : List Rule) (k : Kind) → all_sights (one rs k) ≡ true → (s : Sight) → count k s rs ≡ 1
 asks_one rs k h s = eqb-true (count k s rs) 1 (each_sight (one rs k) h s)
 
-does_one : (rs : List Rule) (k : Kind) → all_sights (one_if_possible rs k) ≡ true → (s : Sight) → possible s ≡ true → count k s rs ≡ 1
+pub does_one : (rs : List Rule) (k : Kind) → all_sights (one_if_possible rs k) ≡ true → (s : Sight) → possible s ≡ true → count k s rs ≡ 1
 does_one rs k h s p = eqb-true (count k s rs) 1 (given_possible (possible s) (one rs k s) p (each_sight (one_if_possible rs k) h s))
 
 specials_one : (kind : SpecialKind) (s : Sight) → count Absent s (is_special_rules kind) ≡ 1

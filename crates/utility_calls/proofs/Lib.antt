@@ -6,4 +6,6 @@ pub mod Performed
 pub mod Above
 pub mod InDirectories
 pub mod Playing
+pub mod Walking
+pub mod BackRow
 pub mod Adding

@@ -34,12 +34,12 @@ leaves n place answer = record { number = n; source = None; place = place; answe
 abbrev pub does : ℕ → Where → Effect → Rule
 does n place effect = record { number = n; source = None; place = place; answer = Ok; effect = effect }
 
--- a row of a move that changes nothing, for the kinds of what it moves
+-- a row that changes nothing, for the kinds of what is moved or was kept
 abbrev pub leaves_from : ℕ → Kinds → Where → Done → Rule
 leaves_from n source place answer =
     record { number = n; source = Some source; place = place; answer = answer; effect = Nothing }
 
--- a row of a move that succeeds, for the kinds of what it moves
+-- a row that succeeds and changes the tree, for the kinds of what is moved or was kept
 abbrev pub does_from : ℕ → Kinds → Where → Effect → Rule
 does_from n source place effect =
     record { number = n; source = Some source; place = place; answer = Ok; effect = effect }
@@ -305,12 +305,12 @@ rules below (PlaceConf p) = place_conf_rules
 rules below (Discard p) = discard_rules
 rules below (DiscardDir p) = discard_dir_rules
 
--- whether what is moved is of one of these kinds, where they matter
+-- whether what is moved, or was kept, is of one of these kinds, where they matter
 abbrev pub is_source : Option Kinds → Kind → Bool
 is_source None k = true
 is_source (Some kinds) k = has kinds k
 
--- whether a row applies to what is moved and seen
+-- whether a row applies to what is moved, or was kept, and to what is seen
 abbrev pub rule_holds : Kind → Sight → Rule → Bool
 rule_holds source s r = is_source r.source source && holds r.place s
 

@@ -1,11 +1,14 @@
-//! Calls of utilities: the acts that they come to, what each act is on a tree, row by row, and what acts decided one
-//! after another come to from each tree.
-//! It stands on feature_trees and script_names. Begin with `calls` and specs/Calls.antt for what a call comes to, and
-//! with `acts`, specs/Table.antt and specs/Acts.antt for what each act does; specs/Decisions.antt has the decisions.
+//! Calls of utilities: the acts that they come to, what each act is on a tree, row by row, what is put back there from
+//! a kept tree, and what all this comes to from each tree, decided one after another.
+//! It stands on feature_trees and script_names. Begin with `calls` and specs/Calls.antt for what a call comes to, with
+//! `acts`, specs/Table.antt and specs/Acts.antt for what each act does, and with `backs` and specs/Backs.antt for what
+//! putting back does; specs/Decisions.antt has the decisions over acts, and specs/Walks.antt those that also put back.
 #![tactic(auto)]
 
 pub mod acts;
+pub mod backs;
 pub mod calls;
+pub mod deeds;
 mod fault;
 mod operands;
 mod options;

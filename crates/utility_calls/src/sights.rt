@@ -78,7 +78,8 @@ pub enum Effect {
     LinksInside,
     /// What stands at the path is taken away.
     TakesAway,
-    /// What stands at the path is moved to the other one.
+    /// What stands at the path is moved to the other one. For a back: what stood at the path in the kept tree is put
+    /// there.
     Moves,
     /// What stands at the path is moved below the other one, under its last name.
     MovesInside,
@@ -90,8 +91,8 @@ impl Copied for Effect {
     }
 }
 
-/// A row of the table of the acts: its number, its condition, and what it comes to. `source` are the kinds of what is
-/// moved, where they matter.
+/// A row of the table of the acts or of the backs: its number, its condition, and what it comes to. `source` are the
+/// kinds of what is moved, or of what stood at the path in the kept tree, where they matter.
 #[derive(Clone, Copy, Debug, PartialEq, Eq)]
 pub struct Rule {
     pub number: u8,
@@ -107,7 +108,7 @@ impl Copied for Rule {
     }
 }
 
-/// What a row of an act comes to.
+/// What a row of an act or of a back comes to.
 #[derive(Clone, Copy, Debug, PartialEq, Eq)]
 pub struct Row {
     pub number: u8,

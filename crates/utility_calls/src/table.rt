@@ -1,7 +1,9 @@
 ghost use Rattle.std.specs.Prelude.{◌≡◌};
+ghost use Rattle.utility_calls.specs.Backs.{back_rules};
 ghost use Rattle.utility_calls.specs.Table.{first_row, rules, is_special_rules, remove_by, symlink_by, move_by};
 
 use crate::acts::Act;
+use crate::backs::Back;
 use crate::sights::Effect::{
     KeepsDir, LinksInside, MakesDir, MakesFile, MakesLink, Moves, MovesInside, TakesAway,
 };
@@ -54,7 +56,7 @@ macro_rules! does {
     };
 }
 
-// A row of a move that changes nothing, for the kinds of what it moves.
+// A row that changes nothing, for the kinds of what is moved or was kept.
 macro_rules! leaves_from {
     ($number:expr, $source:expr, $place:expr, $answer:expr) => {
         Rule {
@@ -67,7 +69,7 @@ macro_rules! leaves_from {
     };
 }
 
-// A row of a move that succeeds, for the kinds of what it moves.
+// A row that succeeds and changes the tree, for the kinds of what is moved or was kept.
 macro_rules! does_from {
     ($number:expr, $source:expr, $place:expr, $effect:expr) => {
         Rule {
@@ -292,6 +294,22 @@ const MOVE: &[Rule] = &[
     leaves_from!(81, FILE, Into(LINK), Stopped(Reason::Same)),
 ];
 
+// The rows of a directory that is put back.
+const FOLDER: &[Rule] = &[
+    leaves_from!(66, SOME, Anything, Done::Ok),
+    leaves_from!(67, ABSENT, Is(but!(dir)), Done::Ok),
+    leaves_from!(68, ABSENT, Full, Done::Ok),
+    does_from!(69, ABSENT, Empty, TakesAway),
+];
+
+// The rows of what is put back in place of a file or a link.
+const REPLACED: &[Rule] = &[
+    leaves!(66, Outside, Done::Ok),
+    leaves!(67, Is(DIR), Done::Ok),
+    does_from!(68, but!(dir), Inside(but!(dir)), Moves),
+    leaves_from!(69, DIR, Inside(but!(dir)), Done::Ok),
+];
+
 // The rows of the question whether something is of a special kind.
 fn is_special(kind: Special) -> &'static [Rule]
     ensures { result.now ≡ is_special_rules kind }
@@ -330,7 +348,7 @@ fn move_by(below: bool) -> &'static [Rule]
     if below { MOVE_BELOW } else { MOVE }
 }
 
-// The first row that applies to what is moved and seen.
+// The first row that applies to what is moved, or was kept, and to what is seen.
 fn first_row(rules: &[Rule], source: Kind, seen: &Sight) -> Row
     ensures { result ≡ first_row rules.now source seen.now }
 {
@@ -384,5 +402,25 @@ impl Act {
         ensures { result ≡ first_row (rules below self.now) source seen.now }
     {
         first_row(self.rules(below), source, seen)
+    }
+}
+
+impl Back {
+    /// The rows of the back's table.
+    pub fn rules(&self) -> &'static [Rule]
+        ensures { result.now ≡ back_rules self.now }
+    {
+        match self {
+            Back::Folder(_) => FOLDER,
+            Back::File(_) => REPLACED,
+        }
+    }
+
+    /// The row of the back's table that applies to what is seen on a tree, by the kind of what stood at the path in the
+    /// kept tree.
+    pub fn own_row(&self, kept: Kind, seen: &Sight) -> Row
+        ensures { result ≡ first_row (back_rules self.now) kept seen.now }
+    {
+        first_row(self.rules(), kept, seen)
     }
 }
