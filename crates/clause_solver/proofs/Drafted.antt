@@ -1,69 +1,97 @@
 -- The way through a case, from its first literal to its end.
-use Rattle.std.proofs.Common.{◌≡◌, ◌≢◌, ℕ, ◌-◌, ◌<◌, ◌≤◌, ◌↔◌, inl, inr, IsTrue, Bool, true, false, Some, None, List, [], ◌∷◌, length, take, drop, get_or, refl, sym, ap, ◌∙◌, arith, subst, Contains}
+use Rattle.std.proofs.Common.{◌≡◌, ◌≢◌, ℕ, ◌+◌, ◌-◌, ◌<◌, ◌≤◌, ◌↔◌, nat_lt, inl, inr, IsTrue, Bool, true, false, Some, None, List, [], ◌∷◌, length, take, drop, get_or, refl, sym, ap, ◌∙◌, arith, subst, Contains}
 use Rattle.std.proofs.lemmas.List.{take_all}
+use Rattle.std.proofs.lemmas.Bool.{ltb-true, ltb-false}
 use Rattle.tree_clauses.specs.declared.case.Case.{Case}
 use Rattle.tree_clauses.specs.declared.clause.Literal.{Literal}
 use Rattle.tree_clauses.specs.declared.clause.Literal.TheVariants as L
 use Rattle.tree_clauses.specs.declared.clause.Var.{Var}
 use Rattle.tree_clauses.specs.Literals.{value_of_variable}
-use Rattle.tree_clauses.specs.Plain.{IsPlain}
+use Rattle.tree_clauses.specs.Plain.{IsPlainFrom, numbers_below}
+use Rattle.tree_clauses.proofs.Below.{contains_below, below_contained}
 use Rattle.tree_clauses.specs.Solved.{subject}
-use Rattle.tree_clauses.proofs.Orders.{contains_head, contains_nothing, contains_cases}
 use Rattle.clause_solver.specs.declared.drafts.Draft.{Draft}
+use Rattle.clause_solver.specs.declared.lists.Lists.{Lists}
 use Rattle.clause_solver.specs.declared.variable.Variable.{Variable}
-use Rattle.clause_solver.specs.Drafts.{place_in, IsPlaced, Agrees, IsSteady, Leaves, Goes, CanGo, GoesOn, IsDrafted}
+use Rattle.clause_solver.specs.Drafts.{place_in, IsPlaced, Agrees, AreGiven, IsPut, IsSteady, Leaves, Goes, CanGo, GoesOn, IsDrafted}
+use Rattle.clause_solver.specs.Adds.{given_at, AllInside}
 use Rattle.clause_solver.specs.Decided.{AreDecided}
-use Rattle.clause_solver.proofs.Names.{nat_cases}
+use Rattle.clause_solver.proofs.Names.{last_cases}
 use Rattle.clause_solver.proofs.PlainViews.{view, SimilarView, is_same, is_replaced}
 use Rattle.tree_clauses.proofs.Passing.{nothing_left}
 
+-- ---- the places of given variables
+
+-- the first so many of them have their places
+pub record AreGivenTo (whole : Lists) (given : List Var) (n : ℕ) (draft : Draft) : Type 0 where
+  pub same : draft.lists ≡ whole
+  pub placed : (i : ℕ) → i < n → place_in draft i ≡ Some (given_at given i)
+  pub others : (i : ℕ) → n ≤ i → place_in draft i ≡ None
+
+pub given_more : (whole : Lists) (given : List Var) (n y : ℕ) (old new : Draft) → AreGivenTo whole given n old → IsPut old new n y → y ≡ given_at given n → AreGivenTo whole given (n + 1) new
+given_more whole given n y old new before put is = record {
+  same = put.lists ∙ before.same;
+  placed = λ i w. elim (last_cases i n w) [
+    | inl low ↦ let ne : i ≢ n = λ e. omega (arith, low, e) in put.other i ne ∙ before.placed i low
+    | inr e ↦ rw (e, ← is) put.here
+  ];
+  others = λ i le. let ne : i ≢ n = λ e. omega (arith, le, e) in put.other i ne ∙ before.others i (omega (arith, le));
+}
+
+-- ---- the way
+
 -- on the way: what is left of a case to be passed
-abbrev pub Going : List Variable → ℕ → Case → List Literal → Draft → Type 0
-Going old now made rest draft =
-    (after : List ℕ) × ((i : ℕ) → Contains after i ↔ (i ≤ made.locals)) × Goes old now made.literals after rest draft
+abbrev pub Going : List Variable → List Var → Case → List Literal → Draft → Type 0
+Going old given made rest draft =
+    (after : List ℕ) × ((i : ℕ) → Contains after i ↔ (i < length given + made.locals)) × Goes old given made.literals after rest draft
 
-module _ (old : List Variable) (now : ℕ) (made : Case) (plain : IsPlain made) (draft : Draft) (vars : draft.lists.vars ≡ old) (start : place_in draft 0 ≡ Some now) (other : (x : ℕ) → x ≢ 0 → place_in draft x ≡ None) (inside : now < length old) where
-  at_start : (x n : ℕ) → place_in draft x ≡ Some n → (x ≡ 0) × (n ≡ now)
-  at_start x n e = elim (nat_cases x 0) [
-    | inl z ↦ let q : Some n ≡ Some now = sym e ∙ ap (place_in draft) z ∙ start in (z, cc)
-    | inr ne ↦ let bad : Some n ≡ None = sym e ∙ other x ne in absurd (cc)
-  ]
+module _ (old : List Variable) (given : List Var) (made : Case) (plain : IsPlainFrom (length given) made) (draft : Draft) (vars : draft.lists.vars ≡ old) (start : AreGiven given (place_in draft)) (inside : AllInside given (length old)) where
+  at_start : (x n : ℕ) → place_in draft x ≡ Some n → (x < length given) × (n ≡ given_at given x)
+  at_start x n e = by (nat_lt x (length given)) refl
+    where
+      by : (b : Bool) → nat_lt x (length given) ≡ b → (x < length given) × (n ≡ given_at given x)
+      by true t =
+          let low = ltb-true x (length given) t in
+          let q : Some n ≡ Some (given_at given x) = sym e ∙ start.placed x low in (low, cc)
+      by false t =
+          let bad : Some n ≡ None = sym e ∙ start.others x (ltb-false x (length given) t) in absurd (cc)
 
-  begin_leaves : Leaves old now [] (place_in draft) draft.lists.vars
+  begin_leaves : Leaves old given [] (place_in draft) draft.lists.vars
   begin_leaves = rw vars (record {
     more = omega arith;
     first = λ f. f;
-    start = start;
+    start = start.placed;
     down = λ g l s fits. let whole : take (length old) g ≡ g = take_all (length old) g (omega (arith, l)) in (rw whole fits, λ h hs a. tt);
     up = λ g h l s fits hs e m.
-        let a : Agrees (place_in draft) g h = λ x n p. let q = at_start x n p in ap (value_of_variable h) q.0 ∙ e ∙ ap (value_of_variable g) (sym q.1) in
+        let a : Agrees (place_in draft) g h = λ x n p. let q = at_start x n p in e x q.0 ∙ ap (value_of_variable g) (sym q.1) in
         (g, l, s, fits, take_all (length old) g (omega (arith, l)), a);
   })
 
-  begin_placed : (x : ℕ) → Contains (0 ∷ []) x ↔ IsPlaced (place_in draft x)
-  begin_placed x = elim (nat_cases x 0) [
-    | inl z ↦ (λ c. rw (z, start) tt, λ p. rw z (contains_head 0 []))
-    | inr ne ↦ (
-      λ c. elim (contains_cases 0 x [] c) [
-        | inl e ↦ absurd (ne (sym e))
-        | inr n ↦ absurd (contains_nothing x n)
-      ],
-      λ p. let bad : ⊥ = rw (other x ne) at p in absurd bad,
-    )
-  ]
+  placed_low : (x : ℕ) → IsPlaced (place_in draft x) → x < length given
+  placed_low x p = by (nat_lt x (length given)) refl
+    where
+      by : (b : Bool) → nat_lt x (length given) ≡ b → x < length given
+      by true t = ltb-true x (length given) t
+      by false t = let bad : ⊥ = rw (start.others x (ltb-false x (length given) t)) at p in absurd bad
 
-  pub begins : AreDecided draft.lists → Going old now made made.literals draft
+  begin_placed : (x : ℕ) → Contains (numbers_below (length given)) x ↔ IsPlaced (place_in draft x)
+  begin_placed x = (
+    λ c. rw (start.placed x (below_contained (length given) x c)) tt,
+    λ p. contains_below (length given) x (placed_low x p),
+  )
+
+  pub begins : AreDecided draft.lists → Going old given made made.literals draft
   begins decided = (
     plain.known,
     plain.variables,
     record {
       before = [];
-      known = 0 ∷ [];
+      known = numbers_below (length given);
       order = plain.order;
       split = λ h. (λ m. (tt, m), λ q. q.1);
       placed = begin_placed;
       leaves = begin_leaves;
-      steady = record { decided = decided; inside = λ x n e. let q = at_start x n e in rw (vars, q.1) inside };
+      steady = record { decided = decided; inside = λ x n e. let q = at_start x n e in let w = inside x q.0 in rw (vars, q.1) w };
     },
   )
 
@@ -78,18 +106,18 @@ first_and_rest (l ∷ ls) n literal same w is =
     let head : literal ≡ l = is in
     rw (e, head) refl
 
-pub goes_on : (old : List Variable) (now : ℕ) (made : Case) (left rest more : List Literal) (literal : Literal) (a b : Draft) → left ≡ literal ∷ rest → Going old now made left a → GoesOn a (literal ∷ rest) b more → Going old now made more b
-goes_on old now made left rest more literal a b e g on =
-    let here : Goes old now made.literals g.0 (literal ∷ rest) a = subst (λ l. Goes old now made.literals g.0 l a) e g.2 in
-    (g.0, g.1, on old now made.literals g.0 here)
+pub goes_on : (old : List Variable) (given : List Var) (made : Case) (left rest more : List Literal) (literal : Literal) (a b : Draft) → left ≡ literal ∷ rest → Going old given made left a → GoesOn a (literal ∷ rest) b more → Going old given made more b
+goes_on old given made left rest more literal a b e g on =
+    let here : Goes old given made.literals g.0 (literal ∷ rest) a = subst (λ l. Goes old given made.literals g.0 l a) e g.2 in
+    (g.0, g.1, on old given made.literals g.0 here)
 
-pub can_go : (old : List Variable) (now : ℕ) (made : Case) (left rest : List Literal) (literal : Literal) (a : Draft) → left ≡ literal ∷ rest → Going old now made left a → CanGo a (literal ∷ rest)
-can_go old now made left rest literal a e g =
-    (old, now, made.literals, g.0, subst (λ l. Goes old now made.literals g.0 l a) e g.2)
+pub can_go : (old : List Variable) (given : List Var) (made : Case) (left rest : List Literal) (literal : Literal) (a : Draft) → left ≡ literal ∷ rest → Going old given made left a → CanGo a (literal ∷ rest)
+can_go old given made left rest literal a e g =
+    (old, given, made.literals, g.0, subst (λ l. Goes old given made.literals g.0 l a) e g.2)
 
-pub ends : (old : List Variable) (now : ℕ) (made : Case) (left : List Literal) (draft : Draft) → length left < 1 → Going old now made left draft → IsDrafted old now made draft
-ends old now made left draft w g =
-    let goes : Goes old now made.literals g.0 [] draft = subst (λ l. Goes old now made.literals g.0 l draft) (nothing_left left w) g.2 in
+pub ends : (old : List Variable) (given : List Var) (made : Case) (left : List Literal) (draft : Draft) → length left < 1 → Going old given made left draft → IsDrafted old given made draft
+ends old given made left draft w g =
+    let goes : Goes old given made.literals g.0 [] draft = subst (λ l. Goes old given made.literals g.0 l draft) (nothing_left left w) g.2 in
     let all : goes.known ≡ g.0 = view goes.order in
     let l = goes.leaves in
     record {

@@ -3,9 +3,11 @@ use Rattle.std.proofs.Common.{◌≡◌, ◌≢◌, ℕ, ◌<◌, ◌↔◌, inl
 use Rattle.std.proofs.lemmas.List.{get_or-take, length-take-le, take_all}
 use Rattle.feature_trees.specs.declared.value.Value.TheVariants as value
 use Rattle.tree_clauses.specs.declared.clause.Literal.{Literal}
+use Rattle.tree_clauses.specs.declared.clause.Var.{Var}
 use Rattle.tree_clauses.specs.Literals.{Valuation, value_of_variable, Meets, MeetsAll, IsSound}
 use Rattle.clause_solver.specs.declared.variable.Definition.{Definition}
 use Rattle.clause_solver.specs.declared.variable.Variable.{Variable}
+use Rattle.clause_solver.specs.Adds.{given_at}
 use Rattle.clause_solver.specs.Variables.{AllFit, defined}
 use Rattle.clause_solver.specs.Drafts.{Places, Agrees, Narrows, Leaves}
 use Rattle.clause_solver.proofs.Entered.{take_less}
@@ -21,7 +23,7 @@ narrows_nothing vars = record {
   up = λ g long sound fits p. (g, long, sound, fits, take_all (length vars) g (omega (arith, long)));
 }
 
-module _ (old mid new : List Variable) (now : ℕ) (before : List Literal) (places : Places) (l : Leaves old now before places mid) (inside : (x n : ℕ) → places x ≡ Some n → n < length mid) where
+module _ (old mid new : List Variable) (given : List Var) (before : List Literal) (places : Places) (l : Leaves old given before places mid) (inside : (x n : ℕ) → places x ≡ Some n → n < length mid) where
   agrees_short : (g h : Valuation) → Agrees places g h → Agrees places (take (length mid) g) h
   agrees_short g h a x n e = a x n e ∙ sym (get_or-take (length mid) g n value.Absent (inside x n e))
 
@@ -29,7 +31,7 @@ module _ (old mid new : List Variable) (now : ℕ) (before : List Literal) (plac
   agrees_long k j h e a x n p = a x n p ∙ sym (ap (λ u. value_of_variable u n) e) ∙ get_or-take (length mid) j n value.Absent (inside x n p)
 
   -- a literal on variables that have a place
-  pub narrowed : (literal here : Literal) → Narrows mid new (λ g. Meets g here) → ((g h : Valuation) → Agrees places g h → Meets g here ↔ Meets h literal) → Leaves old now (literal ∷ before) places new
+  pub narrowed : (literal here : Literal) → Narrows mid new (λ g. Meets g here) → ((g h : Valuation) → Agrees places g h → Meets g here ↔ Meets h literal) → Leaves old given (literal ∷ before) places new
   narrowed literal here s is =
       let less = l.more in
       let more = s.more in
@@ -69,14 +71,14 @@ module _ (old mid new : List Variable) (now : ℕ) (before : List Literal) (plac
 
     pub grown : (literals : List Literal) → Narrows mid new (λ g. Unit {0})
         → ((g h : Valuation) → length g ≡ length new → IsSound g → AllFit new g → Agrees places g h → value_of_variable g place ≡ defined h d)
-        → ((h : Valuation) → IsSound h → MeetsAll h literals ↔ ((value_of_variable h v ≡ defined h d) × MeetsAll h before)) → Leaves old now literals places' new
+        → ((h : Valuation) → IsSound h → MeetsAll h literals ↔ ((value_of_variable h v ≡ defined h d) × MeetsAll h before)) → Leaves old given literals places' new
     grown literals s is says =
         let less = l.more in
         let more = s.more in
         record {
           more = omega (arith, less, more);
           first = λ f. s.first (l.first f);
-          start = other 0 (not_it 0 now l.start) ∙ l.start;
+          start = λ i w. other i (not_it i (given_at given i) (l.start i w)) ∙ l.start i w;
           down = λ g long sound fits.
               let short = take (length mid) g in
               let parts = s.down g long sound fits in

@@ -48,7 +48,7 @@ module _ (a b : Draft) where
   pub said : (literal : Literal) (rest : List Literal) → Says a b literal
       → ((before : List Literal) (known after : List ℕ) → PlainOrder before known (literal ∷ rest) after → ArePlaced known (place_in a) → PlainOrder (literal ∷ before) known rest after)
       → GoesOn a (literal ∷ rest) b rest
-  said literal rest s order old now literals after g = record {
+  said literal rest s order old given literals after g = record {
     before = literal ∷ g.before;
     known = g.known;
     order = order g.before g.known after g.order g.placed;
@@ -57,7 +57,7 @@ module _ (a b : Draft) where
       λ q. (g.split h).1 (q.0.1, (q.0.0, q.1)),
     );
     placed = λ x. rw s.same (g.placed x);
-    leaves = rw s.same (narrowed old a.lists.vars b.lists.vars now g.before (place_in a) g.leaves g.steady.inside literal s.here s.narrows s.is);
+    leaves = rw s.same (narrowed old a.lists.vars b.lists.vars given g.before (place_in a) g.leaves g.steady.inside literal s.here s.narrows s.is);
     steady = s.steady;
   }
 
@@ -65,7 +65,7 @@ module _ (a b : Draft) where
   pub made : (v : ℕ) (d : Definition) (rest more : List Literal) → Makes a b v d
       → ((before : List Literal) (known after : List ℕ) → PlainOrder before known rest after → ArePlaced known (place_in a) → Turn v d before known rest more after)
       → GoesOn a rest b more
-  made v d rest more m turns old now literals after g =
+  made v d rest more m turns old given literals after g =
       let turn = turns g.before g.known after g.order g.placed in
       let none : place_in a v ≡ None = unplaced (place_in a) v (λ p. turn.none ((g.placed v).1 p)) in
       record {
@@ -77,6 +77,6 @@ module _ (a b : Draft) where
           λ q. (g.split h).1 ((turn.split h).1 q),
         );
         placed = more_placed g.known (place_in a) (place_in b) v m.place g.placed m.here m.other;
-        leaves = grown old a.lists.vars b.lists.vars now g.before (place_in a) g.leaves g.steady.inside (place_in b) v m.place d none m.here m.other turn.added m.keeps m.is turn.says;
+        leaves = grown old a.lists.vars b.lists.vars given g.before (place_in a) g.leaves g.steady.inside (place_in b) v m.place d none m.here m.other turn.added m.keeps m.is turn.says;
         steady = m.steady;
       }

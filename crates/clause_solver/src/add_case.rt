@@ -1,8 +1,9 @@
 //! What a case adds to a store: its literals in their order, each by a step of a draft.
 
-ghost use Rattle.std.specs.Prelude.{◌≡◌, ◌≤◌, ◌<◌, ◌∷◌, length, drop, IfOk};
+ghost use Rattle.std.specs.Prelude.{◌≡◌, ◌≤◌, ◌∷◌, length, drop, IfOk};
 ghost use Rattle.tree_clauses.specs.declared.clause.Literal.TheVariants as literal;
-ghost use Rattle.tree_clauses.specs.Plain.{IsPlain};
+ghost use Rattle.tree_clauses.specs.Plain.{IsPlainFrom};
+ghost use Rattle.clause_solver.specs.Adds.{AllInside};
 ghost use Rattle.clause_solver.specs.Drafts.{CanGo, GoesOn, IsDrafted};
 ghost use Rattle.clause_solver.specs.Decided.{AreDecided};
 
@@ -14,14 +15,20 @@ use script_names::{Copied, Memory, Name};
 use std::alloc::Global;
 use tree_clauses::{Case, Literal, Var, subject};
 
-/// The lists of a store with what the literals of a case leave, whose variable 0 stands for the tree now.
-pub(crate) fn drafted(alloc: Global, lists: Lists, now: u32, case: &Case) -> Result<Draft, Memory>
-    requires plain { IsPlain case.now }
+/// The lists of a store with what the literals of a case leave, whose given variables stand for these of the store.
+pub(crate) fn drafted(
+    alloc: Global,
+    lists: Lists,
+    given: &[Var],
+    case: &Case,
+) -> Result<Draft, Memory>
+    requires plain { IsPlainFrom (length given.now) case.now }
+    requires few { length given.now ≤ u32.MAX }
     requires decided { AreDecided lists }
-    requires inside { now < length lists.vars }
-    ensures { IfOk result (IsDrafted lists.vars now case.now) }
+    requires inside { AllInside given.now (length lists.vars) }
+    ensures { IfOk result (IsDrafted lists.vars given.now case.now) }
 {
-    let mut draft = Draft::of(alloc, lists, now)?;
+    let mut draft = Draft::of(alloc, lists, given)?;
     let mut left = case.literals.as_slice();
     while let [literal, rest @ ..] = left {
         left = pass(alloc, &mut draft, literal, rest)?;

@@ -1,11 +1,11 @@
 //! A store in the making: the variables of a store, which literals of a case narrow and add to. Whether a pair is left
 //! is known after each of them.
 
-ghost use Rattle.std.specs.Prelude.{◌≡◌, ◌≢◌, ◌↔◌, ℕ, IsTrue, IfOk, OnOk, Some, None, [], length};
+ghost use Rattle.std.specs.Prelude.{◌≡◌, ◌≢◌, ◌≤◌, ◌↔◌, ℕ, IsTrue, IfOk, OnOk, Some, None, [], length};
 ghost use Rattle.tree_clauses.specs.declared.clause.Literal.TheVariants as literal;
 ghost use Rattle.clause_solver.specs.declared.variable.Definition.TheVariants as definition;
 ghost use Rattle.clause_solver.specs.Variables.{Earlier};
-ghost use Rattle.clause_solver.specs.Drafts.{place_in, IsPlaced, IsSteady, Says, IsPut, Adds, Makes};
+ghost use Rattle.clause_solver.specs.Drafts.{place_in, IsPlaced, AreGiven, IsSteady, Says, IsPut, Adds, Makes};
 ghost use Rattle.clause_solver.specs.Appends.{IsSingle};
 
 use crate::appended::Found;
@@ -25,14 +25,19 @@ pub(crate) struct Draft {
 }
 
 impl Draft {
-    /// The lists of a store, with a place for variable 0 of a case.
-    pub(crate) fn of(alloc: Global, lists: Lists, now: u32) -> Result<Draft, Memory>
-        ensures { IfOk result (λ draft. (draft.lists ≡ lists) × (place_in draft 0 ≡ Some now)
-            × ((x : ℕ) → x ≢ 0 → place_in draft x ≡ None)) }
+    /// The lists of a store, with these variables of it as the places of the given variables of a case.
+    pub(crate) fn of(alloc: Global, lists: Lists, given: &[Var]) -> Result<Draft, Memory>
+        requires few { length given.now ≤ u32.MAX }
+        ensures { IfOk result (λ draft. (draft.lists ≡ lists) × AreGiven given.now (place_in draft)) }
     {
-        let mut places = BTreeMap::new(alloc);
-        places.insert(0, now)?;
-        Ok(Draft { lists, places })
+        let mut draft = Draft {
+            lists,
+            places: BTreeMap::new(alloc),
+        };
+        for i in 0..given.len() {
+            draft.put(Var(i as u32), given[i].0)?;
+        }
+        Ok(draft)
     }
 
     /// Whether a variable of the case has a place.

@@ -5,9 +5,10 @@ ghost use Rattle.feature_trees.specs.Kinds.{has, none, both};
 ghost use Rattle.feature_trees.specs.Tree.{entry, kind_of};
 ghost use Rattle.feature_trees.specs.Sound.{IsTree};
 ghost use Rattle.tree_clauses.specs.Literals.{Valuation, value_of_variable, Covers};
-ghost use Rattle.tree_clauses.specs.Plain.{IsPlain};
+ghost use Rattle.tree_clauses.specs.Plain.{IsPlain, IsPlainBack, IsPlainFrom};
 ghost use Rattle.tree_clauses.specs.Solved.{IsSolved};
-ghost use Rattle.clause_solver.specs.Adds.{AddsCase, LeadsNowhere};
+ghost use Rattle.clause_solver.specs.Adds.{AllInside, AddsFrom, LeadsNowhereFrom};
+ghost use Rattle.clause_solver.specs.Adds.{AddsCase, LeadsNowhere, AddsBack, LeadsBackNowhere};
 ghost use Rattle.clause_solver.specs.Bare.{IsBare};
 ghost use Rattle.clause_solver.specs.Pairs.{HasPair};
 ghost use Rattle.clause_solver.specs.Stands.{Seen, Stands, Alive, Extends, HasEntry, IsDirectory, HasPut, HasValue};
@@ -303,11 +304,8 @@ impl Store {
         ensures { let old = self.now in let made = case.now in
             IfOk result (λ found. MatchOption found (LeadsNowhere old made) (AddsCase old made)) }
     {
-        if is_excluded(self, case) {
-            return Ok(None);
-        }
-        let fork = self.fork()?;
-        let found = fork.follow(case)?;
+        let given = [self.now()];
+        let found = self.add_from(&given, case)?;
         Ok(found)
     }
 
@@ -317,7 +315,51 @@ impl Store {
         ensures { let old = self in let made = case.now in
             IfOk result (λ found. MatchOption found (LeadsNowhere old made) (AddsCase old made)) }
     {
-        let draft = drafted(self.alloc, self.lists, self.current, case)?;
+        let given = [self.now()];
+        let found = self.follow_from(&given, case)?;
+        Ok(found)
+    }
+
+    /// The pairs from whose tree now, and from the value of the kept variable, the back case leads on, with the tree
+    /// that it leads to as the tree now. None exactly where no pair is left. This store stays as it is.
+    pub fn add_back(&self, kept: Var, case: &Case) -> Result<Option<Store>, Memory>
+        requires plain { IsPlainBack case.now }
+        requires known { kept.0 < self.now.count }
+        ensures { let old = self.now in let made = case.now in
+            IfOk result (λ found. MatchOption found (LeadsBackNowhere old kept.0 made) (AddsBack old kept.0 made)) }
+    {
+        let given = [self.now(), kept];
+        let found = self.add_from(&given, case)?;
+        Ok(found)
+    }
+
+    /// The pairs from the values of whose given variables a case leads on, with the tree that it leads to as the tree
+    /// now. These variables of the store stand for the first ones of the case, in their order, and may be one variable.
+    /// None exactly where no pair is left. This store stays as it is.
+    pub fn add_from(&self, given: &[Var], case: &Case) -> Result<Option<Store>, Memory>
+        requires plain { IsPlainFrom (length given.now) case.now }
+        requires few { length given.now ≤ u32.MAX }
+        requires known { AllInside given.now self.now.count }
+        ensures { let old = self.now in let made = case.now in let from = given.now in
+            IfOk result (λ found. MatchOption found (LeadsNowhereFrom old from made) (AddsFrom old from made)) }
+    {
+        if is_excluded(self, given, case) {
+            return Ok(None);
+        }
+        let fork = self.fork()?;
+        let found = fork.follow_from(given, case)?;
+        Ok(found)
+    }
+
+    /// What `add_from` gives, where this store is not needed any more: what it alone owns is changed in place.
+    pub fn follow_from(self, given: &[Var], case: &Case) -> Result<Option<Store>, Memory>
+        requires plain { IsPlainFrom (length given.now) case.now }
+        requires few { length given.now ≤ u32.MAX }
+        requires known { AllInside given.now self.count }
+        ensures { let old = self in let made = case.now in let from = given.now in
+            IfOk result (λ found. MatchOption found (LeadsNowhereFrom old from made) (AddsFrom old from made)) }
+    {
+        let draft = drafted(self.alloc, self.lists, given, case)?;
         let current = draft.place(case.root);
         let left = draft.lists.alive;
         if !left {

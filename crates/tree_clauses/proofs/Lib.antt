@@ -15,3 +15,4 @@ pub mod PlainCases
 pub mod KindSets
 pub mod KindWords
 pub mod ToldLines
+pub mod Below

@@ -12,3 +12,13 @@ pub record Leads (made : Case) (t u : Value) : Type 0 where
   pub starts : value_of_variable valuation 0 ≡ t
   pub ends : value_of_variable valuation made.root.0 ≡ u
   pub met : MeetsAll valuation made.literals
+
+-- the back case leads from a tree and a kept tree to a value: some valuation with the one for variable 0, the other for
+-- variable 1 and the value for the root meets its literals
+pub record LeadsBack (made : Case) (t k u : Value) : Type 0 where
+  pub valuation : Valuation
+  pub values : IsSound valuation
+  pub starts : value_of_variable valuation 0 ≡ t
+  pub kept : value_of_variable valuation 1 ≡ k
+  pub ends : value_of_variable valuation made.root.0 ≡ u
+  pub met : MeetsAll valuation made.literals

@@ -1,5 +1,5 @@
 -- Plain cases: those whose literals can be added to a store one by one, each from known variables.
-use Rattle.std.specs.Prelude.{◌≡◌, ℕ, ◌≤◌, ◌⊎◌, ◌↔◌, List, [], ◌∷◌, IsTrue, Contains}
+use Rattle.std.specs.Prelude.{◌≡◌, ℕ, zero, suc, ◌+◌, ◌<◌, ◌⊎◌, ◌↔◌, List, [], ◌∷◌, IsTrue, Contains}
 use Rattle.feature_trees.specs.declared.kind.Kind.{Kind as AnyKind}
 use Rattle.feature_trees.specs.declared.kind.Kind.TheVariants as kind
 use Rattle.feature_trees.specs.declared.kind.Kinds.{Kinds}
@@ -66,15 +66,28 @@ pub data PlainOrder : List Literal → List ℕ → List Literal → List ℕ �
   filled : {before : List Literal} {known after : List ℕ} {literals : List Literal} (x : Var) → Contains known x.0
       → PlainOrder (NotEmpty x ∷ before) known literals after → PlainOrder before known (NotEmpty x ∷ literals) after
 
--- The case is plain: its variables are variable 0 and the `locals` many behind it, all known in the end, and the root
--- is a directory wherever all literals are met.
-pub record IsPlain (made : Case) : Type 0 where
+-- the first so many numbers, from the last on
+abbrev pub numbers_below : ℕ → List ℕ
+numbers_below zero = []
+numbers_below (suc n) = n ∷ numbers_below n
+
+-- The case is plain from its first so many variables, which are given: its variables are these and the `locals` many
+-- behind them, all known in the end, and the root is a directory wherever all literals are met.
+pub record IsPlainFrom (given : ℕ) (made : Case) : Type 0 where
   pub known : List ℕ
-  pub order : PlainOrder [] (0 ∷ []) made.literals known
-  pub variables : (i : ℕ) → Contains known i ↔ (i ≤ made.locals)
-  pub root : made.root.0 ≤ made.locals
+  pub order : PlainOrder [] (numbers_below given) made.literals known
+  pub variables : (i : ℕ) → Contains known i ↔ (i < given + made.locals)
+  pub root : made.root.0 < given + made.locals
   pub dir : (g : Valuation) → IsSound g → MeetsAll g made.literals
       → kind_of (value_of_variable g made.root.0) ≡ kind.Dir
+
+-- the case of an act is plain: variable 0, the tree before, is given
+abbrev pub IsPlain : Case → Type 0
+IsPlain made = IsPlainFrom 1 made
+
+-- a back case is plain: variable 0, the tree before, and variable 1, the kept tree, are given
+abbrev pub IsPlainBack : Case → Type 0
+IsPlainBack made = IsPlainFrom 2 made
 
 -- a case as a clause, from the tree before to the tree after
 abbrev pub case_clause : Case → Clause

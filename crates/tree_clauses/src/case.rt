@@ -4,13 +4,14 @@ use crate::clause::{Literal, Var};
 use script_names::{Copied, Done, List, Memory};
 use std::alloc::Global;
 
-/// One row of an act, for all trees that take it. Variable 0 is the tree before, `root` the tree after; the variables
-/// are variable 0 and the `locals` many behind it.
+/// One row of an act, for all trees that take it, or of putting back, for all trees and kept trees that take it.
+/// Variable 0 is the tree before, and `root` the tree after; in a back case variable 1 is the kept tree. These first
+/// variables are given, and the others are the `locals` many behind them.
 #[derive(Debug, Drop)]
 pub struct Case {
     /// The number of the row.
     pub row: u8,
-    /// How many variables there are beside variable 0.
+    /// How many variables there are beside the given ones.
     pub locals: u32,
     /// What holds of the variables.
     pub literals: List<Literal>,

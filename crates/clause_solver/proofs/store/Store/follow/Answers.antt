@@ -1,21 +1,10 @@
-use Rattle.std.proofs.Common.{◌≡◌, refl, sym, ◌∙◌, true, false}
-use Rattle.clause_solver.specs.declared.store.Store.TheInside.{Inside}
-use Rattle.clause_solver.proofs.Added.{nowhere, added, added_settled}
+use Rattle.clause_solver.proofs.Added.{in_words, nowhere, added}
 use Rattle.clause_solver.proofs.store.Store.follow.Goals as goal
-
-pub returns-then-not-left : goal.returns-then-not-left
-returns-then-not-left c =
-    rw (← c.self.view_is)
-    (nowhere c.self.inside c.self.invariant c.args.case.now c.requires.plain c.in_ok-draft.draft c.in_ok-draft.ensures c.place-current.result c.place-current.ensures
-    (λ t. let bad : true ≡ false = sym t ∙ c.if-not-left.true in cc))
-
-pub invariant_of-result : goal.invariant_of-result
-invariant_of-result c =
-    let after : Inside = record { lists = c.in_ok-draft.draft.lists; current = c.place-current.result; alloc = c.self.inside.alloc } in
-    added_settled c.self.inside c.self.invariant c.args.case.now c.requires.plain c.in_ok-draft.draft c.in_ok-draft.ensures c.place-current.result c.place-current.ensures after refl refl
 
 pub returns : goal.returns
 returns c =
-    let after : Inside = record { lists = c.in_ok-draft.draft.lists; current = c.place-current.result; alloc = c.self.inside.alloc } in
-    rw (← c.self.view_is)
-    (added c.self.inside c.self.invariant c.args.case.now c.requires.plain c.in_ok-draft.draft c.in_ok-draft.ensures c.place-current.result c.place-current.ensures after refl refl c.if-not-left.false)
+    let s = c.args.self in
+    let made = c.args.case.now in
+    let now = c.now.result in
+    let is = c.now.ensures.now in
+    in_words c.in_ok-found.found (nowhere s made now is) (added s made now is c.now.ensures.known) c.in_ok-found.ensures
