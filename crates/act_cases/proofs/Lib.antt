@@ -18,3 +18,8 @@ pub mod MoveCases
 pub mod PlainMoves
 pub mod AllMoves
 pub mod RisingRows
+pub mod BackTaken
+pub mod BackLeading
+pub mod BackPlain
+pub mod EachBack
+pub mod AllBacks

@@ -24,12 +24,12 @@ use Rattle.act_cases.proofs.Valued.{line, rings, line_length, rings_length, valu
 use Rattle.act_cases.proofs.Seeing.{has_all, through_to}
 use Rattle.utility_calls.proofs.ActChanges.{at_sound}
 
-look_from : (w : Ways) (g : Valuation) (x y : ℕ) (v : Value) (names : List (List ℕ)) → value_of_variable g x ≡ v → MeetsAll g (look_literals w x y names)
+pub look_from : (w : Ways) (g : Valuation) (x y : ℕ) (v : Value) (names : List (List ℕ)) → value_of_variable g x ≡ v → MeetsAll g (look_literals w x y names)
     → Sees w v names × Along g y v names
 look_from w g x y v names e m =
     way_from w g x y v names e (subst (λ (u : Value). IsTrue (has (kinds_from w names) (kind_of u))) e m.0) m.1
 
-look_to : (w : Ways) (g : Valuation) (x y : ℕ) (v : Value) (names : List (List ℕ)) → value_of_variable g x ≡ v → Sees w v names → Along g y v names
+pub look_to : (w : Ways) (g : Valuation) (x y : ℕ) (v : Value) (names : List (List ℕ)) → value_of_variable g x ≡ v → Sees w v names → Along g y v names
     → MeetsAll g (look_literals w x y names)
 look_to w g x y v names e s a =
     (subst (λ (u : Value). IsTrue (has (kinds_from w names) (kind_of u))) (sym e) (first_seen w v names s), way_to w g x y v names e s a)

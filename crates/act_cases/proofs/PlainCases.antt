@@ -72,6 +72,16 @@ pub last_kinds : (b : List Literal) (w : Ways) (x y : ℕ) (names : List (List �
 last_kinds b w x y [] h = h
 last_kinds b w x y (f ∷ rest) h = last_kinds b w y (y + 1) rest h.1
 
+-- the kinds stay among more literals
+pub kinds_within : (b b' : List Literal) (w : Ways) (x y : ℕ) (ns : List (List ℕ)) → Within b b' → AllKinds b w x y ns → AllKinds b' w x y ns
+kinds_within b b' w x y [] h all = h _ all
+kinds_within b b' w x y (f ∷ rest) h all = (h _ all.0, kinds_within b b' w y (y + 1) rest h all.1)
+
+-- what something is put in is a directory
+pub put_dir : (g : Valuation) (x y z r : ℕ) (ns : List (List ℕ)) → ns ≢ [] → MeetsAll g (put_literals x y ns z r) → kind_of (value_of_variable g (root_of ns z r)) ≡ kind.Dir
+put_dir g x y z r [] ne m = absurd (ne refl)
+put_dir g x y z r (f ∷ rest) ne m = (meets_split g (put_literals y (y + 1) rest z r) _ m).1.0.0
+
 -- what makes a plan's case plain: what is put is put in directories, and a directory that keeps its entries was one or
 -- nothing
 pub record PutsInDirs (plan : Plan) (names : List (List ℕ)) : Type 0 where
@@ -103,10 +113,6 @@ module _ (plan : Plan) (names : List (List ℕ)) (target : List ℕ) where
       (limited_within b b' 0 1 names within (through_limited b p.last 0 1 names all'))
       (λ k b'' ek more. known_end b'' k (n + 1 + n + 1) (omega (arith, ek))))))
 
-  all_limited_within : (b b' : List Literal) (w : Ways) (x y : ℕ) (ns : List (List ℕ)) → Within b b' → AllKinds b w x y ns → AllKinds b' w x y ns
-  all_limited_within b b' w x y [] h all = h _ all
-  all_limited_within b b' w x y (f ∷ rest) h all = (h _ all.0, all_limited_within b b' w y (y + 1) rest h all.1)
-
   case_order : (is_put plan.effect ≡ true → PutsInDirs plan names)
       → PlainOrder [] (0 ∷ []) (case_of plan names target).literals (firsts (locals_by (is_put plan.effect) names + 1))
   case_order puts =
@@ -118,22 +124,18 @@ module _ (plan : Plan) (names : List (List ℕ)) (target : List ℕ) where
       (way_order plan.ways 0 1 1 names (first ∷ root ∷ []) (end_literals plan.end n ++ changes c plan.effect names target) (firsts (locals_by c names + 1)) refl (omega arith) (inl refl)
       (λ m b em within all.
       end_order plan.end n m b (changes c plan.effect names target) (firsts (locals_by c names + 1)) (omega (arith, em))
-      (λ b' more. changes_order c refl puts m em b' (all_limited_within b b' plan.ways 0 1 names more all)))))
+      (λ b' more. changes_order c refl puts m em b' (kinds_within b b' plan.ways 0 1 names more all)))))
 
-  known_all : (l i : ℕ) → Contains (firsts (l + 1)) i ↔ (i ≤ l)
+  known_all : (l i : ℕ) → Contains (firsts (l + 1)) i ↔ (i < 1 + l)
   known_all l i = (λ h. let lt = contains_below (l + 1) i h in omega (arith, lt), λ le. below_contains (l + 1) i (omega arith))
 
-  root_within : (c : Bool) → root_by c names ≤ locals_by c names
+  root_within : (c : Bool) → root_by c names < 1 + locals_by c names
   root_within false = omega arith
   root_within true = by names
     where
-      by : (ns : List (List ℕ)) → root_of ns (length ns + 1) (length ns + 2) ≤ length ns + 1 + length ns
+      by : (ns : List (List ℕ)) → root_of ns (length ns + 1) (length ns + 2) < 1 + (length ns + 1 + length ns)
       by [] = omega arith
       by (f ∷ rest) = omega arith
-
-  put_dir : (g : Valuation) (x y z r : ℕ) (ns : List (List ℕ)) → ns ≢ [] → MeetsAll g (put_literals x y ns z r) → kind_of (value_of_variable g (root_of ns z r)) ≡ kind.Dir
-  put_dir g x y z r [] ne m = absurd (ne refl)
-  put_dir g x y z r (f ∷ rest) ne m = (meets_split g (put_literals y (y + 1) rest z r) _ m).1.0.0
 
   root_dir : (g : Valuation) (c : Bool) → (c ≡ true → names ≢ []) → kind_of (value_of_variable g 0) ≡ kind.Dir → MeetsAll g (changes c plan.effect names target)
       → kind_of (value_of_variable g (root_by c names)) ≡ kind.Dir

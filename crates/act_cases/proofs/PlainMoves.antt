@@ -25,11 +25,11 @@ use Rattle.tree_clauses.specs.Plain.{PlainOrder, done, absent, kinds, IsPlain}
 use Rattle.tree_clauses.proofs.KindSets.{of_dir}
 use Rattle.act_cases.proofs.Meets.{meets_split}
 use Rattle.act_cases.proofs.Ordered.{firsts, below_contains, contains_below, not_yet, Within, AllLimited, limited_within, AllKinds, through_limited, way_order, all_below, put_order}
-use Rattle.act_cases.proofs.PlainCases.{through_ways, end_order}
+use Rattle.act_cases.proofs.PlainCases.{through_ways, end_order, kinds_within, put_dir}
 use Rattle.act_cases.proofs.MoveTabled.{there_only, move_well}
 
 -- a look from a known variable
-look_order : (w : Ways) (x y n : ℕ) (names : List (List ℕ)) (b rest : List Literal) (after : List ℕ) → n ≡ y → x < n
+pub look_order : (w : Ways) (x y n : ℕ) (names : List (List ℕ)) (b rest : List Literal) (after : List ℕ) → n ≡ y → x < n
     → ((m : ℕ) (b' : List Literal) → m ≡ y + length names → Within b b' → AllKinds b' w x y names → PlainOrder b' (firsts m) rest after)
     → PlainOrder b (firsts n) (look_literals w x y names ++ rest) after
 look_order w x y n names b rest after e lt next =
@@ -37,9 +37,13 @@ look_order w x y n names b rest after e lt next =
     (way_order w x y n names (Kind (var x) (kinds_from w names) ∷ b) rest after e lt (inl refl)
     (λ m b' em within all'. next m b' em (λ l h. within l (inr h)) all'))
 
-root_low : (names : List (List ℕ)) (z r m : ℕ) → z < m → r + length names ≤ m → root_of names z r < m
+pub root_low : (names : List (List ℕ)) (z r m : ℕ) → z < m → r + length names ≤ m → root_of names z r < m
 root_low [] z r m lt le = lt
 root_low (f ∷ rest) z r m lt le = omega arith
+
+pub end_low : (x y : ℕ) (names : List (List ℕ)) (m : ℕ) → x < m → y + length names ≤ m → end_of x y names < m
+end_low x y [] m lt le = lt
+end_low x y (f ∷ rest) m lt le = end_low y (y + 1) rest m (omega arith) (omega arith)
 
 -- a plan that moves looks through directories at both paths, and at some name
 pub record MovesInDirs (plan : MovePlan) (p q : List (List ℕ)) : Type 0 where
@@ -58,14 +62,7 @@ module _ (plan : MovePlan) (p q : List (List ℕ)) where
   known_end b m j e = subst (λ j. PlainOrder b (firsts m) [] (firsts j)) e done
 
   end_in : end_of 0 (n + 1) q < n + k + 1
-  end_in = by q
-    where
-      later : (x y : ℕ) (ns : List (List ℕ)) (m : ℕ) → x < m → y + length ns ≤ m → end_of x y ns < m
-      later x y [] m lt le = lt
-      later x y (f ∷ rest) m lt le = later y (y + 1) rest m (omega arith) (omega arith)
-
-      by : (ns : List (List ℕ)) → end_of 0 (n + 1) ns < n + length ns + 1
-      by ns = later 0 (n + 1) ns (n + length ns + 1) (omega arith) (omega arith)
+  end_in = end_low 0 (n + 1) q (n + k + 1) (omega arith) (omega arith)
 
   moved_order : (c : Bool) → (c ≡ true → MovesInDirs plan p q) → (m : ℕ) → m ≡ n + k + 1 → (b : List Literal) → AllKinds b plan.source 0 1 p
       → PlainOrder b (firsts m) (moves_by c p q) (firsts (move_locals c p q + 1))
@@ -89,10 +86,6 @@ module _ (plan : MovePlan) (p q : List (List ℕ)) where
       (through_limited b3 all (freed p q) (onward p q) q kinds3)
       (λ m4 b4 em4 in4. known_end b4 m4 (move_locals true p q + 1) (omega (arith, em4))))))))
 
-  kinds_within : (b b' : List Literal) (w : Ways) (x y : ℕ) (ns : List (List ℕ)) → Within b b' → AllKinds b w x y ns → AllKinds b' w x y ns
-  kinds_within b b' w x y [] h a = h _ a
-  kinds_within b b' w x y (f ∷ rest) h a = (h _ a.0, kinds_within b b' w y (y + 1) rest h a.1)
-
   move_order : (plan.moves ≡ true → MovesInDirs plan p q) → PlainOrder [] (0 ∷ []) (move_case plan p q).literals (firsts (move_locals plan.moves p q + 1))
   move_order moves =
       let last = firsts (move_locals plan.moves p q + 1) in
@@ -107,16 +100,12 @@ module _ (plan : MovePlan) (p q : List (List ℕ)) where
       (λ b3 in3.
       moved_order plan.moves moves m2 (omega (arith, em2)) b3 (kinds_within b b3 plan.source 0 1 p (λ l h. in3 l (in2 l h)) first)))))
 
-  known_all : (l i : ℕ) → Contains (firsts (l + 1)) i ↔ (i ≤ l)
+  known_all : (l i : ℕ) → Contains (firsts (l + 1)) i ↔ (i < 1 + l)
   known_all l i = (λ h. let lt = contains_below (l + 1) i h in omega (arith, lt), λ le. below_contains (l + 1) i (omega arith))
 
-  root_within : (c : Bool) → move_root c p q ≤ move_locals c p q
+  root_within : (c : Bool) → move_root c p q < 1 + move_locals c p q
   root_within false = omega arith
   root_within true = let lt = root_low q n (outward p q) (spare p q + n + k + k + 1) (omega arith) (omega arith) in omega (arith, lt)
-
-  put_dir : (g : Valuation) (x y z r : ℕ) (ns : List (List ℕ)) → ns ≢ [] → MeetsAll g (put_literals x y ns z r) → kind_of (value_of_variable g (root_of ns z r)) ≡ kind.Dir
-  put_dir g x y z r [] ne m = absurd (ne refl)
-  put_dir g x y z r (f ∷ rest) ne m = (meets_split g (put_literals y (y + 1) rest z r) _ m).1.0.0
 
   root_dir : (g : Valuation) (c : Bool) → (c ≡ true → q ≢ []) → kind_of (value_of_variable g 0) ≡ kind.Dir → MeetsAll g (moves_by c p q)
       → kind_of (value_of_variable g (move_root c p q)) ≡ kind.Dir

@@ -12,12 +12,12 @@ use Rattle.act_cases.specs.Cases.{Rising, case_row, link_cases, slash_cases, rul
 use Rattle.act_cases.proofs.Tabled.{above, apart, above_one}
 
 -- the numbers rise from this one on
-abbrev From : ℕ → List Case → Type 0
+abbrev pub From : ℕ → List Case → Type 0
 From low [] = Unit {0}
 From low (x ∷ xs) = (low ≤ x.row) × From (x.row + 1) xs
 
 -- they are below this one
-abbrev Under : ℕ → List Case → Type 0
+abbrev pub Under : ℕ → List Case → Type 0
 Under high [] = Unit {0}
 Under high (x ∷ xs) = (x.row < high) × Under high xs
 
@@ -25,11 +25,11 @@ lower : (low more : ℕ) (xs : List Case) → low ≤ more → From more xs → 
 lower low more [] le h = tt
 lower low more (x ∷ xs) le h = let a = h.0 in (omega (arith, a), h.1)
 
-then : (low high : ℕ) (xs ys : List Case) → low ≤ high → From low xs → Under high xs → From high ys → From low (xs ++ ys)
+pub then : (low high : ℕ) (xs ys : List Case) → low ≤ high → From low xs → Under high xs → From high ys → From low (xs ++ ys)
 then low high [] ys le h u w = lower low high ys le w
 then low high (x ∷ xs) ys le h u w = let b = u.0 in (h.0, then (x.row + 1) high xs ys (omega (arith, b)) h.1 u.1 w)
 
-rising_of : (low : ℕ) (xs : List Case) → From low xs → Rising (map case_row xs)
+pub rising_of : (low : ℕ) (xs : List Case) → From low xs → Rising (map case_row xs)
 rising_of low [] h = tt
 rising_of low (x ∷ []) h = tt
 rising_of low (x ∷ y ∷ rest) h = let a = h.1.0 in (omega (arith, a), rising_of (x.row + 1) (y ∷ rest) h.1)
@@ -51,7 +51,7 @@ slash_under false names = tt
 slash_under true names = (omega arith, tt)
 
 module _ (f : Rule → Case) (row_is : (r : Rule) → (f r).row ≡ r.number) where
-  rules_from : (low : ℕ) (rs : List Rule) → ((r : Rule) → IsAmong r rs → low ≤ r.number) → apart rs ≡ true → From low (map f rs)
+  pub rules_from : (low : ℕ) (rs : List Rule) → ((r : Rule) → IsAmong r rs → low ≤ r.number) → apart rs ≡ true → From low (map f rs)
   rules_from low [] each h = tt
   rules_from low (r ∷ rs) each h =
       let parts = and_parts (above r.number rs) (apart rs) h in

@@ -4,3 +4,4 @@ pub mod Plans
 pub mod Tables
 pub mod Cases
 pub mod Moves
+pub mod BackCases

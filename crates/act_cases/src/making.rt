@@ -51,8 +51,8 @@ fn free(kinds: Kinds) -> Ways
     }
 }
 
-// Directories all the way.
-fn through(kinds: Kinds) -> Ways
+/// Directories all the way.
+pub(crate) fn through(kinds: Kinds) -> Ways
     ensures { result ≡ through kinds }
 {
     Ways {
@@ -74,8 +74,8 @@ fn beside(kinds: Kinds) -> Ways
     }
 }
 
-// What a row looks at, by whether its path ends in a slash.
-fn ways_of(slash: bool, place: Where) -> Ways
+/// What a row looks at, by whether its path ends in a slash.
+pub(crate) fn ways_of(slash: bool, place: Where) -> Ways
     ensures { result ≡ ways_of slash place }
 {
     match place {
@@ -98,8 +98,8 @@ fn ways_of(slash: bool, place: Where) -> Ways
     }
 }
 
-// What a row asks of the entries.
-fn end_of(place: Where) -> End
+/// What a row asks of the entries.
+pub(crate) fn end_of_place(place: Where) -> End
     ensures { result ≡ end_of_place place }
 {
     match place {
@@ -142,7 +142,7 @@ fn plan_of(slash: bool, rule: &Rule) -> Plan
         number: rule.number,
         answer: rule.answer,
         ways: ways_of(slash, rule.place),
-        end: end_of(rule.place),
+        end: end_of_place(rule.place),
         effect: rule.effect,
     }
 }
@@ -176,8 +176,8 @@ fn slash_plan() -> Plan
     plan_of_row(Row::of_slash(), through(seen))
 }
 
-// How many strict prefixes with a name there are.
-fn prefixes(names: &[Name]) -> usize
+/// How many strict prefixes with a name there are.
+pub(crate) fn prefixes(names: &[Name]) -> usize
     ensures { result ≡ length names.now - 1 }
 {
     if names.len() == 0 { 0 } else { names.len() - 1 }
@@ -230,8 +230,8 @@ fn inside_names(alloc: Global, act: &Act, names: &[Name]) -> Result<List<Name>, 
     }
 }
 
-// Each of the names is a name.
-fn are_names(names: &[Name])
+/// Each of the names is a name.
+pub(crate) fn are_names(names: &[Name])
     ensures { All (λ f. IsTrue (is_name f)) names.now }
 {
     for f in names {
@@ -346,7 +346,7 @@ fn move_plan(slash: bool, rule: &Rule) -> MovePlan
         answer: rule.answer,
         source: source_ways(slash, rule.source),
         place: ways_of(false, rule.place),
-        end: end_of(rule.place),
+        end: end_of_place(rule.place),
         moves: is_move(rule.effect),
     }
 }

@@ -25,8 +25,8 @@ pub struct MovePlan {
     pub moves: bool,
 }
 
-// The variable of what names lead to, where x is that of the value that they go from, and y that of the first entry.
-fn end_of(x: u32, y: u32, names: &[Name]) -> u32
+/// The variable of what names lead to, where x is that of the value that they go from, and y that of the first entry.
+pub(crate) fn end_of(x: u32, y: u32, names: &[Name]) -> u32
     requires { y + length names.now ≤ u32.MAX }
     ensures { result ≡ end_of x y names.now }
 {
@@ -34,8 +34,8 @@ fn end_of(x: u32, y: u32, names: &[Name]) -> u32
     if n == 0 { x } else { y + (n - 1) }
 }
 
-// The variable of a value with another one put at names: z is that of the other, and r the first that is made.
-fn root_of(names: &[Name], z: u32, r: u32) -> u32
+/// The variable of a value with another one put at names: z is that of the other, and r the first that is made.
+pub(crate) fn root_of(names: &[Name], z: u32, r: u32) -> u32
     requires { r + length names.now ≤ u32.MAX }
     ensures { result ≡ root_of names.now z r }
 {

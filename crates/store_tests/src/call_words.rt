@@ -1,13 +1,15 @@
 //! The words of a call, and the cases of what it comes to.
 
-ghost use Rattle.std.specs.Prelude.{All, IfOk};
+ghost use Rattle.std.specs.Prelude.{◌≡◌, All, IfOk};
 ghost use Rattle.tree_clauses.specs.Plain.{IsPlain};
+ghost use Rattle.utility_calls.specs.Backs.{names_of};
 
-use act_cases::cases;
+use act_cases::{back_cases, cases};
 use script_names::{Bytes, List, Memory, Path, PathFault};
 use std::alloc::Global;
 use tree_clauses::Case;
 use utility_calls::acts::Act;
+use utility_calls::backs::Back;
 use utility_calls::calls::{Planned, plan};
 
 // The parts of a text between its blanks.
@@ -91,4 +93,25 @@ pub(crate) fn placed_cases(alloc: Global, text: &str) -> Result<List<Case>, Path
         Some(act) => Ok(act_cases(alloc, &act)?),
         None => Ok(List::new(alloc)),
     }
+}
+
+// The back of a path that a word names.
+fn returned(name: &[u8], p: Path) -> Back
+    ensures { names_of result ≡ p.names }
+{
+    match name {
+        b"Folder" => Back::Folder(p),
+        _ => Back::File(p),
+    }
+}
+
+/// The cases of the back that a text names by a word and a path; none where the path has no name.
+pub(crate) fn returned_cases(alloc: Global, text: &str) -> Result<List<Case>, PathFault> {
+    let (name, path) = text.split_once(' ').unwrap_or(("", "/"));
+    let p = Path::read(alloc, path.as_bytes())?;
+    if p.names().len() == 0 {
+        return Ok(List::new(alloc));
+    }
+    let back = returned(name.as_bytes(), p);
+    Ok(back_cases(alloc, &back)?)
 }

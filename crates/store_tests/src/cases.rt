@@ -1,7 +1,7 @@
-//! Cases of the last act of a call, and of acts of a package manager: the row, its answer, and the clause of the trees
-//! that take it.
+//! Cases of the last act of a call, of acts of a package manager, and of backs: the row, its answer, and the clause of
+//! the trees that take it.
 
-use crate::call_words::{call_cases, placed_cases};
+use crate::call_words::{call_cases, placed_cases, returned_cases};
 use crate::clause_texts::has_text;
 use script_names::{Copied, Done, Reason};
 use std::alloc::Global;
@@ -530,6 +530,65 @@ entry v3 a v2
     ),
 ];
 
+// Backs; variable 1 is the kept tree.
+const BACKS: &[Printed] = &[
+    (
+        "File /a",
+        66,
+        "ok",
+        1,
+        "clause start v0 now v0
+kind v0 dir
+kind v1 absent,reg,link,fifo,socket,block,char,dir
+kind v0 absent,reg,fifo,socket,block,char
+entry v0 a v2
+kind v2 absent,reg,link,fifo,socket,block,char,dir
+",
+    ),
+    (
+        "File /a/b",
+        68,
+        "ok",
+        6,
+        "clause start v0 now v7
+kind v0 dir
+kind v1 absent,reg,link,fifo,socket,block,char,dir
+entry v1 a v2
+kind v2 absent,reg,link,fifo,socket,block,char,dir
+entry v2 b v3
+kind v3 absent,reg,link,fifo,socket,block,char
+kind v0 dir
+entry v0 a v4
+kind v4 dir
+entry v4 b v5
+kind v5 absent,reg,link,fifo,socket,block,char
+similar v6 {b} v4
+entry v6 b v3
+similar v7 {a} v0
+entry v7 a v6
+",
+    ),
+    (
+        "Folder /a",
+        69,
+        "ok",
+        4,
+        "clause start v0 now v5
+kind v0 dir
+kind v1 absent,reg,link,fifo,socket,block,char,dir
+entry v1 a v2
+kind v2 absent
+kind v0 dir
+entry v0 a v3
+kind v3 dir
+fence v3 {}
+kind v4 absent
+similar v5 {a} v0
+entry v5 a v4
+",
+    ),
+];
+
 fn answer_text(answer: Done) -> &'static str {
     match answer {
         Done::Ok => "ok",
@@ -582,6 +641,12 @@ fn placed_has(alloc: Global, row: &Printed) -> Result<bool, Fail> {
     Ok(one_is(alloc, list.as_slice(), row)?)
 }
 
+// Whether one of the cases of a back is the row's.
+fn back_has(alloc: Global, row: &Printed) -> Result<bool, Fail> {
+    let list = returned_cases(alloc, row.0)?;
+    Ok(one_is(alloc, list.as_slice(), row)?)
+}
+
 // Each call of a table has its case.
 fn expect_calls<R: Abort + AllocGlobal>(rt: &R, rows: &[Printed]) -> Result<(), Fail> {
     for row in rows {
@@ -609,6 +674,14 @@ fn cases_of_moves(rt: HostRuntime) -> Result<(), Fail> {
 fn cases_of_a_package_manager(rt: HostRuntime) -> Result<(), Fail> {
     for row in PLACED {
         assert!(rt; placed_has(rt.alloc(), row)?, "{}", row.0);
+    }
+    Ok(())
+}
+
+#[test]
+fn cases_of_backs(rt: HostRuntime) -> Result<(), Fail> {
+    for row in BACKS {
+        assert!(rt; back_has(rt.alloc(), row)?, "{}", row.0);
     }
     Ok(())
 }

@@ -1,4 +1,4 @@
-//! Tests of act_cases, clause_solver and start_trees: cases of calls, stores, and cases that are added to stores. They
+//! Tests of act_cases, clause_solver and start_trees: cases of calls and of backs, stores, and cases that are added to stores. They
 //! stand apart from these crates, so that no crate is proved twice.
 #![tactic(auto)]
 
@@ -12,6 +12,8 @@ mod cases;
 mod clause_texts;
 #[cfg(test)]
 mod emptied;
+#[cfg(test)]
+mod returned;
 #[cfg(test)]
 mod starts;
 #[cfg(test)]
