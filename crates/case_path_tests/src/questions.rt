@@ -9,6 +9,7 @@ use feature_trees::Value;
 use script_names::{Copied, Done, List, Mark, Memory, Site};
 use std::alloc::Global;
 use utility_calls::acts::Act;
+use utility_calls::deeds::Deed;
 
 impl Machine for AskedPaths {
     type End = Done;
@@ -18,7 +19,7 @@ impl Machine for AskedPaths {
     fn run(&self, alloc: Global, start: &Value) -> Result<Ran<Done>, Memory> {
         let mut tree = start.copy(alloc)?;
         let mut marks = List::new(alloc);
-        let mut acts = List::new(alloc);
+        let mut deeds = List::new(alloc);
         let paths = self.paths.as_slice();
         for path in paths {
             let asked = path.copy(alloc)?;
@@ -28,12 +29,12 @@ impl Machine for AskedPaths {
                 site: Site { step: 0, at: 0 },
                 row: taken.0,
             })?;
-            acts.add(ask)?;
+            deeds.add(Deed::Does(ask))?;
         }
         Ok(Ran {
             value: Done::Ok,
             trace: marks,
-            acts,
+            deeds,
         })
     }
 

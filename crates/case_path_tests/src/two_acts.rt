@@ -1,5 +1,6 @@
 ghost use Rattle.std.specs.Prelude.{◌≡◌, ◌≤◌, [], ◌∷◌, ◌++◌, length, IfOk, OnOk};
 ghost use Rattle.utility_calls.specs.Acts.{row, tree_after, IsPerformed};
+ghost use Rattle.utility_calls.specs.declared.deeds.Deed.TheVariants.{Does};
 ghost use Rattle.utility_calls.specs.Decisions.{mark_at};
 ghost use Rattle.case_path_tests.specs.TwoActs.{site_of, asked_and_made};
 
@@ -11,28 +12,29 @@ use feature_trees::Value;
 use script_names::{Copied, Done, List, Mark, Memory, Site};
 use std::alloc::Global;
 use utility_calls::acts::Act;
+use utility_calls::deeds::Deed;
 
-// Does an act, and adds its mark and the act itself to those that were done before.
+// Does an act, and adds its mark and its deed to those that were done before.
 fn perform(
     alloc: Global,
     at: u32,
     own: Act,
     tree: &mut Value,
     marks: &mut List<Mark>,
-    acts: &mut List<Act>,
+    deeds: &mut List<Deed>,
 ) -> Result<Done, Memory>
     requires { IsPerformed own }
     ensures answer { IfOk result (λ done. done ≡ (row own tree.old).answer) }
     ensures tree { OnOk result (tree.new ≡ tree_after own tree.old) }
     ensures marks { OnOk result (marks.new ≡ marks.old ++ mark_at (site_of at) own tree.old ∷ []) }
-    ensures acts { OnOk result (acts.new ≡ acts.old ++ own ∷ []) }
+    ensures deeds { OnOk result (deeds.new ≡ deeds.old ++ Does own ∷ []) }
 {
     let taken = act(alloc, &own, tree)?;
     marks.add(Mark {
         site: Site { step: 0, at },
         row: taken.0,
     })?;
-    acts.add(own)?;
+    deeds.add(Deed::Does(own))?;
     Ok(taken.1)
 }
 
@@ -44,7 +46,7 @@ impl Machine for AskedPath {
     fn run(&self, alloc: Global, start: &Value) -> Result<Ran<Done>, Memory> {
         let mut tree = start.copy(alloc)?;
         let mut marks = List::new(alloc);
-        let mut acts = List::new(alloc);
+        let mut deeds = List::new(alloc);
         let asked = self.path.copy(alloc)?;
         perform(
             alloc,
@@ -52,7 +54,7 @@ impl Machine for AskedPath {
             Act::Exists(asked),
             &mut tree,
             &mut marks,
-            &mut acts,
+            &mut deeds,
         )?;
         let made = self.path.copy(alloc)?;
         let value = perform(
@@ -61,12 +63,12 @@ impl Machine for AskedPath {
             Act::MakeDir(made),
             &mut tree,
             &mut marks,
-            &mut acts,
+            &mut deeds,
         )?;
         Ok(Ran {
             value,
             trace: marks,
-            acts,
+            deeds,
         })
     }
 

@@ -1,6 +1,6 @@
 -- Items behind items: their states, and how many of them have ended.
 use Rattle.std.proofs.Common.{◌≡◌, suc, ◌≤◌, ◌+◌, List, [], ◌∷◌, ◌++◌, length, refl, ap, ◌∙◌, arith}
-use Rattle.utility_calls.specs.Decisions.{Decision}
+use Rattle.utility_calls.specs.Walks.{Walk}
 use Rattle.case_paths.specs.declared.state.PathState.{PathState}
 use Rattle.case_paths.specs.declared.state.Found.{Found}
 use Rattle.case_paths.specs.declared.pursuit.Pursued.{Pursued}
@@ -32,7 +32,7 @@ ended_behind [] ys = omega arith
 ended_behind (Waiting x ∷ xs) ys = ended_behind xs ys
 ended_behind (Ended path ∷ xs) ys = let h = ended_behind xs ys in omega (arith, h)
 
-module _ {A : Type 0} (d : Decision A) where
+module _ {A : Type 0} (d : Walk A) where
   pub all_behind : (xs ys : List (Item A)) → AllItems d xs → AllItems d ys → AllItems d (xs ++ ys)
   all_behind [] ys h k = k
   all_behind (Waiting x ∷ xs) ys h k = (h.0, all_behind xs ys h.1 k)

@@ -1,6 +1,7 @@
 pub mod Orders
-pub mod Plays
+pub mod Walks
 pub mod Parting
+pub mod StepCases
 pub mod Forking
 pub mod ItemStates
 pub mod Rounds

@@ -3,14 +3,14 @@ use Rattle.std.proofs.Common.{inl, inr, ◌≡◌, suc, List, [], ◌∷◌, ◌
 use Rattle.std.specs.Prelude.{◌⊎◌}
 use Rattle.feature_trees.specs.declared.value.Value.{Value}
 use Rattle.clause_solver.specs.Pairs.{HasPair}
-use Rattle.clause_solver.specs.Stands.{Alive}
-use Rattle.utility_calls.specs.Decisions.{Decision}
+use Rattle.clause_solver.specs.Stands.{Seen, Alive}
+use Rattle.utility_calls.specs.Walks.{Walk}
 use Rattle.case_paths.specs.declared.state.PathState.{PathState}
 use Rattle.case_paths.specs.declared.state.Found.{Found}
 use Rattle.case_paths.specs.Traces.{AllBegin, Rising}
 use Rattle.case_paths.specs.Paths.{traces, states, AllAlive}
 use Rattle.case_paths.specs.Stages.{Holds, Parts, IsStage, AllStages, AllEnded, HasEnded}
-use Rattle.case_paths.proofs.Orders.{begins_refl, rising_replace, under_replace}
+use Rattle.case_paths.proofs.Orders.{nil_right, rising_replace, under_replace}
 
 pub traces_append : (xs ys : List PathState) → traces (xs ++ ys) ≡ traces xs ++ traces ys
 traces_append [] ys = refl
@@ -58,19 +58,23 @@ alive_replace (x ∷ ds) fs bs y h k = (h.0, alive_replace ds fs bs y h.1 k)
 
 -- ---- parting
 
--- a state with a pair parts into itself
-pub parts_alone : (x : PathState) → Alive x.store → Parts x (x ∷ [])
-parts_alone x a = record {
-  all = λ t v p. inl (v, p);
+-- a state with a pair parts into another with the same store and trace
+pub parts_same : (x y : PathState) → y.store ≡ x.store → y.trace ≡ x.trace → Alive x.store → Parts x (y ∷ [])
+parts_same x y store trace a = record {
+  all = λ t v p. inl (v, subst (λ (s : Seen). HasPair s t v) (sym store) p);
   none_else = λ t h. only t h;
-  alive = (a, tt);
+  alive = (subst Alive (sym store) a, tt);
   rising = (tt, tt);
-  under = (begins_refl x.trace, tt);
+  under = (record { more = []; is = trace ∙ sym (nil_right x.trace) }, tt);
 }
   where
-    only : (t : Value) → Holds (x ∷ []) t → (v : Value) × HasPair x.store t v
-    only t (inl p) = p
+    only : (t : Value) → Holds (y ∷ []) t → (v : Value) × HasPair x.store t v
+    only t (inl p) = (p.0, subst (λ (s : Seen). HasPair s t p.0) store p.1)
     only t (inr h) = absurd h
+
+-- and so into itself
+pub parts_alone : (x : PathState) → Alive x.store → Parts x (x ∷ [])
+parts_alone x a = parts_same x x refl refl a
 
 -- one of the states parts further
 pub parts_replace : (x y : PathState) (ds zs bs : List PathState) → Parts x (ds ++ y ∷ bs) → Parts y zs → Parts x (ds ++ (zs ++ bs))
@@ -103,14 +107,14 @@ parts_replace x y ds zs bs h k = record {
 
 -- ---- stages, and paths that have ended
 
-pub stages_append : {A : Type 0} (d : Decision A) (xs ys : List PathState) → AllStages d xs → AllStages d ys → AllStages d (xs ++ ys)
+pub stages_append : {A : Type 0} (d : Walk A) (xs ys : List PathState) → AllStages d xs → AllStages d ys → AllStages d (xs ++ ys)
 stages_append d [] ys h k = k
 stages_append d (x ∷ xs) ys h k = (h.0, stages_append d xs ys h.1 k)
 
-pub stages_between : {A : Type 0} (d : Decision A) (xs : List PathState) (y : PathState) (zs : List PathState) → AllStages d (xs ++ y ∷ zs) → AllStages d xs × IsStage d y × AllStages d zs
+pub stages_between : {A : Type 0} (d : Walk A) (xs : List PathState) (y : PathState) (zs : List PathState) → AllStages d (xs ++ y ∷ zs) → AllStages d xs × IsStage d y × AllStages d zs
 stages_between d [] y zs h = (tt, h.0, h.1)
 stages_between d (x ∷ xs) y zs h = let k = stages_between d xs y zs h.1 in ((h.0, k.0), k.1, k.2)
 
-pub ended_push : {A : Type 0} (d : Decision A) (xs : List (Found A)) (x : Found A) → AllEnded d xs → HasEnded d x → AllEnded d (xs ++ x ∷ [])
+pub ended_push : {A : Type 0} (d : Walk A) (xs : List (Found A)) (x : Found A) → AllEnded d xs → HasEnded d x → AllEnded d (xs ++ x ∷ [])
 ended_push d [] x h k = (k, tt)
 ended_push d (y ∷ xs) x h k = (h.0, ended_push d xs x h.1 k)

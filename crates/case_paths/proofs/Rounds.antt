@@ -1,7 +1,7 @@
 -- A round over items: those that were looked at, with what came of them, and those that are left.
 use Rattle.std.proofs.Common.{◌≡◌, ℕ, ◌≤◌, ◌+◌, List, [], ◌∷◌, ◌++◌, length, length-append, Ok, Err, refl, sym, ap, ◌∙◌, subst, append_assoc, arith}
 use Rattle.clause_solver.specs.Stands.{Alive}
-use Rattle.utility_calls.specs.Decisions.{Decision}
+use Rattle.utility_calls.specs.Walks.{Walk}
 use Rattle.case_paths.specs.declared.state.PathState.{PathState}
 use Rattle.case_paths.specs.declared.state.Found.{Found}
 use Rattle.case_paths.specs.declared.state.PathsFault.TheVariants as fault
@@ -17,19 +17,19 @@ use Rattle.case_paths.proofs.Parting.{parts_replace, alive_replace}
 use Rattle.case_paths.proofs.ItemStates.{items_length, states_behind, ended_behind, all_behind, all_apart, stages_all, stages_states, found_all, found_states, found_ended}
 
 -- those that were looked at and those that are left refine the items, and each that was looked at gave one path
-pub record Going {A : Type 0} (d : Decision A) (xs : List (Item A)) (room : ℕ) (seen items : List (Item A)) : Type 0 where
+pub record Going {A : Type 0} (d : Walk A) (xs : List (Item A)) (room : ℕ) (seen items : List (Item A)) : Type 0 where
   pub refine : Refine d xs (seen ++ items)
   pub count : ended_count seen + length items ≡ length xs
   pub within : length seen + length items ≤ room
 
-pub going_begin : {A : Type 0} (d : Decision A) (xs : List (Item A)) (room : ℕ) (seen : List (Item A)) → AllItems d xs → AllAlive (item_states xs) → length xs ≤ room → seen ≡ [] → Going d xs room seen xs
+pub going_begin : {A : Type 0} (d : Walk A) (xs : List (Item A)) (room : ℕ) (seen : List (Item A)) → AllItems d xs → AllAlive (item_states xs) → length xs ≤ room → seen ≡ [] → Going d xs room seen xs
 going_begin d xs room seen h a le none = subst (λ l. Going d xs room l xs) (sym none) (record {
   refine = record { items = h; alive = a; parts = λ x p. p };
   count = omega arith;
   within = omega (arith, le);
 })
 
-module _ {A : Type 0} (d : Decision A) (xs : List (Item A)) (room : ℕ) (seen items : List (Item A)) (g : Going d xs room seen items) where
+module _ {A : Type 0} (d : Walk A) (xs : List (Item A)) (room : ℕ) (seen items : List (Item A)) (g : Going d xs room seen items) where
   pub going_end : items ≡ [] → Advanced d xs room (Ok seen)
   going_end none =
       let all = subst (λ l. Refine d xs l) (ap (λ l. seen ++ l) none ∙ nil_right seen) g.refine in

@@ -5,16 +5,17 @@ use Rattle.script_names.specs.declared.mark.Mark.{Mark}
 use Rattle.feature_trees.specs.declared.value.Value.{Value}
 use Rattle.clause_solver.specs.Stands.{Alive}
 use Rattle.clause_solver.specs.Pairs.{HasPair}
-use Rattle.utility_calls.specs.Decisions.{Decision, Played, play}
+use Rattle.utility_calls.specs.Walks.{Walk, Walked, fresh, walk}
 use Rattle.case_paths.specs.declared.state.PathState.{PathState}
 use Rattle.case_paths.specs.declared.state.Found.{Found}
 use Rattle.case_paths.specs.Traces.{Begins, Before, AllAfter, Rising}
 use Rattle.case_paths.specs.Paths.{EndsAs, IsAt, Once, traces, states, AllAlive, AreThePaths, AllPlayed, AreTooMany, AreFew}
 use Rattle.case_paths.specs.declared.items.Item.{Item}
 use Rattle.case_paths.specs.declared.items.Item.TheVariants.{Waiting, Ended}
+use Rattle.case_paths.specs.Steps.{world_of}
 use Rattle.case_paths.specs.Stages.{Holds, Parts, IsStage, HasEnded, AllEnded}
 use Rattle.case_paths.proofs.Orders.{nil_right, before_left, before_right, before_other}
-use Rattle.case_paths.proofs.Plays.{some_pair, extends}
+use Rattle.case_paths.proofs.Walks.{some_pair, extends}
 use Rattle.case_paths.proofs.Parting.{traces_length, states_length}
 use Rattle.case_paths.specs.Items.{item_states, AllItems}
 use Rattle.case_paths.proofs.ItemStates.{items_length}
@@ -52,7 +53,7 @@ holds_at [] k x t v a h = absurd a
 holds_at {A} (z ∷ zs) zero x t v a h = inl (v, subst (λ (y : Found A). HasPair y.state.store t v) (sym a) h)
 holds_at (z ∷ zs) (suc k) x t v a h = inr (holds_at zs k x t v a h)
 
-ended_at : {A : Type 0} (d : Decision A) (xs : List (Found A)) (k : ℕ) (x : Found A) → AllEnded d xs → IsAt xs k x → HasEnded d x
+ended_at : {A : Type 0} (d : Walk A) (xs : List (Found A)) (k : ℕ) (x : Found A) → AllEnded d xs → IsAt xs k x → HasEnded d x
 ended_at d [] k x h a = absurd a
 ended_at d (z ∷ zs) zero x h a = subst (HasEnded d) a h.0
 ended_at d (z ∷ zs) (suc k) x h a = ended_at d zs k x h.1 a
@@ -103,10 +104,10 @@ trace_in (z ∷ zs) (suc k) x a = inr (trace_in zs k x a)
 
 -- ---- paths that part a state, and have ended
 
-module _ {A : Type 0} (d : Decision A) (root : PathState) (known : (t u : Value) → HasPair root.store t u → u ≡ t) where
-  -- what is played for the start tree is played from the tree now
-  abbrev from : Value → Played A
-  from u = play d u [] []
+module _ {A : Type 0} (d : Walk A) (root : PathState) (known : (t u : Value) → HasPair root.store t u → u ≡ t) where
+  -- what is walked for the start tree is walked from the tree now
+  abbrev from : Value → Walked A
+  from u = walk d (fresh u) [] []
 
   pub the_paths : (xs : List (Found A)) → AllEnded d xs → Parts root (states xs) → AreThePaths d root.store xs
   the_paths xs ended parts = record {
@@ -152,7 +153,7 @@ module _ {A : Type 0} (d : Decision A) (root : PathState) (known : (t u : Value)
 
   -- ---- too many
 
-  -- what is played from some pair begins with this trace
+  -- what is walked from some pair begins with this trace
   abbrev Met : List Mark → Type 0
   Met f = (t : Value) × (u : Value) × HasPair root.store t u × Begins f (from u).trace
 
@@ -164,8 +165,8 @@ module _ {A : Type 0} (d : Decision A) (root : PathState) (known : (t u : Value)
   stage_met x s a back =
       let p = some_pair x.store a in
       let q = back p.0 (p.1, p.2) in
-      let h = extends s.0 p.1 x.trace s.1 in
-      (p.0, q.0, q.1, record { more = h.marks; is = ap (λ u. (from u).trace) (known p.0 q.0 q.1) ∙ ap (λ (r : Played A). r.trace) (sym (s.2.plays p.0 p.1 p.2)) ∙ h.trace_is })
+      let h = extends s.0 (world_of x p.2.0) x.trace s.1 in
+      (p.0, q.0, q.1, record { more = h.marks; is = ap (λ u. (from u).trace) (known p.0 q.0 q.1) ∙ ap (λ (r : Walked A). r.trace) (sym (s.2.walks p.0 p.2.0 p.2.1)) ∙ h.trace_is })
 
   ended_met : (x : Found A) → HasEnded d x → Alive x.state.store → ((t : Value) → (v : Value) × HasPair x.state.store t v → (u : Value) × HasPair root.store t u) → Met x.state.trace
   ended_met x ended a back =

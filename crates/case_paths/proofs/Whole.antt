@@ -12,7 +12,7 @@ use Rattle.feature_trees.specs.Tree.{kind_of}
 use Rattle.tree_clauses.specs.Literals.{Valuation, value_of_variable}
 use Rattle.clause_solver.specs.Stands.{Seen, Stands, Alive}
 use Rattle.clause_solver.specs.Pairs.{HasPair}
-use Rattle.utility_calls.specs.Decisions.{Decision, play, AllPerformed}
+use Rattle.utility_calls.specs.Walks.{world, Walk, fresh, walk, AllDone}
 use Rattle.case_paths.specs.declared.state.PathState.{PathState}
 use Rattle.case_paths.specs.declared.state.Found.{Found}
 use Rattle.case_paths.specs.declared.state.PathsFault.{PathsFault}
@@ -20,36 +20,39 @@ use Rattle.case_paths.specs.declared.state.PathsFault.TheVariants as fault
 use Rattle.case_paths.specs.declared.items.Item.{Item}
 use Rattle.case_paths.specs.declared.items.Item.TheVariants.{Waiting}
 use Rattle.case_paths.specs.Paths.{AllPlayed, Explored}
+use Rattle.case_paths.specs.Steps.{world_of}
 use Rattle.case_paths.specs.Stages.{Parts}
 use Rattle.case_paths.specs.Items.{path_items, item_states, AllItems, ended_count, Refine, Advanced}
-use Rattle.case_paths.proofs.Plays.{some_pair, some_alive}
+use Rattle.case_paths.proofs.Walks.{some_pair, some_alive}
 use Rattle.case_paths.proofs.Parting.{parts_alone}
 use Rattle.case_paths.proofs.ItemStates.{ended_within, paths_ended, paths_states, paths_length}
 use Rattle.case_paths.proofs.Single.{the_paths, are_few, too_many}
 
 -- the items part the state
-pub record Whole {A : Type 0} (d : Decision A) (root : PathState) (items : List (Item A)) : Type 0 where
+pub record Whole {A : Type 0} (d : Walk A) (root : PathState) (items : List (Item A)) : Type 0 where
   pub all : AllItems d items
   pub parts : Parts root (item_states items)
 
-pub whole_begin : {A : Type 0} (d : Decision A) (root : PathState) → AllPerformed d → ((t u : Value) → HasPair root.store t u → u ≡ t) → root.trace ≡ [] → Alive root.store → Whole d root (Waiting root ∷ [])
-whole_begin d root performed known e a = record {
-  all = (
-    (
-      d,
-      [],
-      record {
-        count = (let k = ap length e in omega (arith, k));
-        performed = performed;
-        plays = λ t v p. (λ i. play d (known t v p i) (e i) []);
-      },
-    ),
-    tt,
-  );
+-- a state at which nothing was done, whose kept tree is the tree now
+pub record IsFirst (x : PathState) : Type 0 where
+  pub kept : x.kept.0 ≡ x.store.current
+  pub inside : x.kept.0 < x.store.count
+  pub trace : x.trace ≡ []
+  pub done : x.done ≡ 0
+
+pub whole_begin : {A : Type 0} (d : Walk A) (root : PathState) → AllDone d → ((t u : Value) → HasPair root.store t u → u ≡ t) → IsFirst root → Alive root.store → Whole d root (Waiting root ∷ [])
+whole_begin d root all known first a = record {
+  all = ((d, [], record { known = first.inside; count = first.done; all = all; walks = λ t g h. walks t g h }), tt);
   parts = parts_alone root a;
 }
+  where
+    walks : (t : Value) (g : Valuation) → Stands root.store t g → walk d (world_of root g) root.trace [] ≡ walk d (fresh t) [] []
+    walks t g h =
+        let now : (world_of root g).tree ≡ t = known t (world_of root g).tree (g, h, refl) in
+        let kept : (world_of root g).kept ≡ t = ap (λ n. value_of_variable g n) first.kept ∙ now in
+        (λ i. walk d (world (now i) (kept i)) (first.trace i) [])
 
-module _ {A : Type 0} (d : Decision A) (root : PathState) where
+module _ {A : Type 0} (d : Walk A) (root : PathState) where
   pub all_found : (paths : List (Found A)) (room : ℕ) → ((t u : Value) → HasPair root.store t u → u ≡ t) → Whole d root (path_items paths) → length paths ≤ room → Explored d root.store room (Ok paths)
   all_found paths room known w le =
       let ended = paths_ended d paths w.all in
@@ -83,14 +86,14 @@ same_pairs old new x k f e h = record {
   back = λ t u p. (p.0, ((h t p.0).0 p.1).0, ap (λ y. value_of_variable p.0 y) (sym e) ∙ p.2);
 }
 
-played_on : {A : Type 0} (d : Decision A) (old new : Seen) (ts : List (List Mark)) → SamePairs old new → AllPlayed d old ts → AllPlayed d new ts
+played_on : {A : Type 0} (d : Walk A) (old new : Seen) (ts : List (List Mark)) → SamePairs old new → AllPlayed d old ts → AllPlayed d new ts
 played_on d old new [] s h = tt
 played_on d old new (t ∷ ts) s h = ((h.0.0, h.0.1, s.on h.0.0 h.0.1 h.0.2, h.0.3), played_on d old new ts s h.1)
 
 flipped : (old new : Seen) → SamePairs old new → SamePairs new old
 flipped old new s = record { on = s.back; back = s.on }
 
-pub explored_same : {A : Type 0} (d : Decision A) (old new : Seen) (room : ℕ) (res : Result (List (Found A)) PathsFault) → SamePairs old new → Explored d new room res → Explored d old room res
+pub explored_same : {A : Type 0} (d : Walk A) (old new : Seen) (room : ℕ) (res : Result (List (Found A)) PathsFault) → SamePairs old new → Explored d new room res → Explored d old room res
 explored_same d old new room (Ok xs) s h = (
   record {
     once = λ t u p. h.0.once t u (s.on t u p);
@@ -110,7 +113,7 @@ explored_same d old new room (Err fault.Over) s h = record {
 explored_same d old new room (Err fault.Memory) s h = tt
 
 -- no pair: no path
-pub none_found : {A : Type 0} (d : Decision A) (s : Seen) (room : ℕ) (xs : List (Found A)) → (Alive s → ⊥) → xs ≡ [] → Explored d s room (Ok xs)
+pub none_found : {A : Type 0} (d : Walk A) (s : Seen) (room : ℕ) (xs : List (Found A)) → (Alive s → ⊥) → xs ≡ [] → Explored d s room (Ok xs)
 none_found d s room xs n e = subst (λ l. Explored d s room (Ok l)) (sym e) (
   record {
     once = λ t u p. absurd (n (some_alive s t u p));
@@ -127,9 +130,9 @@ none_found d s room xs n e = subst (λ l. Explored d s room (Ok l)) (sym e) (
     none (t ∷ ts) p = absurd (n (some_alive s p.0.0 p.0.1 p.0.2))
 
 -- a pair, and no room for its path
-pub no_room : {A : Type 0} (d : Decision A) (s : Seen) → Alive s → Explored d s 0 (Err fault.Over)
+pub no_room : {A : Type 0} (d : Walk A) (s : Seen) → Alive s → Explored d s 0 (Err fault.Over)
 no_room d s a = (let p = some_pair s a in record {
-  traces = (play d p.1 [] []).trace ∷ [];
+  traces = (walk d (fresh p.1) [] []).trace ∷ [];
   rising = (tt, tt);
   played = ((p.0, p.1, p.2, refl), tt);
   count = omega arith;
@@ -145,34 +148,33 @@ limited_none old new left s f no_left a =
 limited_some : (old new : Seen) (left : Bool) → SamePairs old new → (IsTrue left ↔ Alive new) → left ≡ true → Alive old
 limited_some old new left s f is_left = let p = some_pair new (f.0 is_left) in some_alive old p.0 p.1 (s.back p.0 p.1 p.2)
 
-pub no_path : {A : Type 0} (d : Decision A) (old new : Seen) (left : Bool) (room : ℕ) (xs : List (Found A)) → SamePairs old new → (IsTrue left ↔ Alive new) → left ≡ false → xs ≡ [] → Explored d old room (Ok xs)
+pub no_path : {A : Type 0} (d : Walk A) (old new : Seen) (left : Bool) (room : ℕ) (xs : List (Found A)) → SamePairs old new → (IsTrue left ↔ Alive new) → left ≡ false → xs ≡ [] → Explored d old room (Ok xs)
 no_path d old new left room xs s f e is = none_found d old room xs (limited_none old new left s f e) is
 
-pub no_room_left : {A : Type 0} (d : Decision A) (old new : Seen) (left : Bool) (room : ℕ) → SamePairs old new → (IsTrue left ↔ Alive new) → left ≡ true → room ≡ 0 → Explored d old room (Err fault.Over)
+pub no_room_left : {A : Type 0} (d : Walk A) (old new : Seen) (left : Bool) (room : ℕ) → SamePairs old new → (IsTrue left ↔ Alive new) → left ≡ true → room ≡ 0 → Explored d old room (Err fault.Over)
 no_room_left d old new left room s f e z = subst (λ n. Explored d old n (Err fault.Over)) (sym z) (no_room d old (limited_some old new left s f e))
 
 -- the items are those of the store's pairs, and there is room for them
-pub record Exploring {A : Type 0} (d : Decision A) (s : Seen) (room : ℕ) (items : List (Item A)) : Type 0 where
+pub record Exploring {A : Type 0} (d : Walk A) (s : Seen) (room : ℕ) (items : List (Item A)) : Type 0 where
   pub root : PathState
   pub known : (t u : Value) → HasPair root.store t u → u ≡ t
   pub same : SamePairs s root.store
   pub within : length items ≤ room
   pub whole : Whole d root items
 
-pub exploring_begin : {A : Type 0} (d : Decision A) (s new : Seen) (room : ℕ) (own : List Mark) (empty items : List (Item A)) → AllPerformed d → ((t u : Value) → HasPair s t u → u ≡ t) → SamePairs s new → Alive new → own ≡ [] → room ≢ 0 → empty ≡ [] → items ≡ empty ++ Waiting (record { store = new; trace = own }) ∷ [] → Exploring d s room items
-exploring_begin {A} d s new room own empty items performed known same alive e nz no_item waits =
-    let root : PathState = record { store = new; trace = own } in
-    let known_new : (t u : Value) → HasPair new t u → u ≡ t = λ t u p. known t u (same.back t u p) in
+pub exploring_begin : {A : Type 0} (d : Walk A) (s : Seen) (root : PathState) (room : ℕ) (empty items : List (Item A)) → AllDone d → ((t u : Value) → HasPair s t u → u ≡ t) → SamePairs s root.store → Alive root.store → IsFirst root → room ≢ 0 → empty ≡ [] → items ≡ empty ++ Waiting root ∷ [] → Exploring d s room items
+exploring_begin d s root room empty items all known same alive first nz no_item waits =
+    let known_new : (t u : Value) → HasPair root.store t u → u ≡ t = λ t u p. known t u (same.back t u p) in
     let one : items ≡ Waiting root ∷ [] = waits ∙ ap (λ l. l ++ Waiting root ∷ []) no_item in
     record {
       root = root;
       known = known_new;
       same = same;
       within = (let a = ap length one in omega (arith, a, nz));
-      whole = subst (Whole d root) (sym one) (whole_begin d root performed known_new e alive);
+      whole = subst (Whole d root) (sym one) (whole_begin d root all known_new first alive);
     }
 
-module _ {A : Type 0} (d : Decision A) (s : Seen) (room : ℕ) (items : List (Item A)) (e : Exploring d s room items) where
+module _ {A : Type 0} (d : Walk A) (s : Seen) (room : ℕ) (items : List (Item A)) (e : Exploring d s room items) where
   refined : (ys : List (Item A)) → Refine d items ys → Whole d e.root ys
   refined ys r = record { all = r.items; parts = r.parts e.root e.whole.parts }
 

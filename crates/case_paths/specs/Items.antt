@@ -1,6 +1,6 @@
 -- What is left of an exploration: stages that wait, and paths that have ended.
 use Rattle.std.specs.Prelude.{◌≡◌, ℕ, zero, suc, ◌<◌, ◌≤◌, List, [], ◌∷◌, ◌++◌, length, Result, Ok, Err}
-use Rattle.utility_calls.specs.Decisions.{Decision}
+use Rattle.utility_calls.specs.Walks.{Walk}
 use Rattle.case_paths.specs.declared.state.PathState.{PathState}
 use Rattle.case_paths.specs.declared.state.Found.{Found}
 use Rattle.case_paths.specs.declared.state.PathsFault.{PathsFault}
@@ -32,7 +32,7 @@ item_states (Waiting x ∷ items) = x ∷ item_states items
 item_states (Ended path ∷ items) = path.state ∷ item_states items
 
 -- the items that wait are stages, and the others are paths that have ended
-abbrev pub AllItems : {A : Type 0} → Decision A → List (Item A) → Type 0
+abbrev pub AllItems : {A : Type 0} → Walk A → List (Item A) → Type 0
 AllItems d [] = Unit {0}
 AllItems d (Waiting x ∷ items) = IsStage d x × AllItems d items
 AllItems d (Ended path ∷ items) = HasEnded d path × AllItems d items
@@ -44,14 +44,14 @@ ended_count (Waiting x ∷ items) = ended_count items
 ended_count (Ended path ∷ items) = suc (ended_count items)
 
 -- items that come of others by runs of stages among these: they part whatever the others part
-pub record Refine {A : Type 0} (d : Decision A) (xs ys : List (Item A))
+pub record Refine {A : Type 0} (d : Walk A) (xs ys : List (Item A))
     : Type 0 where
   pub items : AllItems d ys
   pub alive : AllAlive (item_states ys)
   pub parts : (x : PathState) → Parts x (item_states xs) → Parts x (item_states ys)
 
 -- a round over items: what comes of them, with one path that has ended for each of them; or more items than room
-abbrev pub Advanced : {A : Type 0} → Decision A → List (Item A) → ℕ
+abbrev pub Advanced : {A : Type 0} → Walk A → List (Item A) → ℕ
     → Result (List (Item A)) PathsFault → Type 0
 Advanced d xs room (Ok ys) =
     Refine d xs ys × (length ys ≤ room) × (ended_count ys ≡ length xs)

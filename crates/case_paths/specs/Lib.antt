@@ -1,4 +1,5 @@
 pub mod Traces
 pub mod Paths
+pub mod Steps
 pub mod Stages
 pub mod Items

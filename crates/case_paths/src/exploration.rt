@@ -66,7 +66,13 @@ pub fn explore<V: Drop, M: Machine<End = V>>(
     }
     let none = List::new(alloc);
     let mut items = Queue::new(alloc);
-    items.push(Item::Waiting(PathState { store, trace: none }))?;
+    let first = PathState {
+        store,
+        kept: now,
+        trace: none,
+        done: 0,
+    };
+    items.push(Item::Waiting(first))?;
     'rounds: loop {
         let before = items.len();
         let next = match round(alloc, machine, items, room) {

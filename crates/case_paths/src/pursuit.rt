@@ -4,11 +4,10 @@ ghost use Rattle.std.specs.Prelude.{◌+◌, ◌<◌, ◌≤◌, ◌↔◌, IsTr
 ghost use Rattle.clause_solver.specs.Stands.{Alive};
 ghost use Rattle.case_paths.specs.Stages.{IsStage, IsPursued};
 
-use crate::fork::{Forks, fork};
+use crate::deeds::forks_by;
 use crate::machine::Machine;
 use crate::queue::Queue;
 use crate::state::{Found, PathState, PathsFault, Ran};
-use act_cases::cases;
 use std::alloc::Global;
 
 /// What comes of a stage: the path of one of its runs, and the stages that part from it, those with lower traces and
@@ -27,8 +26,9 @@ fn are_over(lower: usize, higher: usize, room: usize) -> bool
     lower >= room || higher >= room - lower
 }
 
-/// What comes of a stage: the machine runs from a start tree of it, and its acts are taken one after the other for all
-/// pairs at once. At each act the pairs with the run's row go on; those with another row are a stage of their own.
+/// What comes of a stage: the machine runs from a start tree of it, and its deeds are taken one after the other for all
+/// pairs at once. At each act, and where something is put back, the pairs with the run's row go on; those with another
+/// row are a stage of their own.
 /// `Over` as soon as the stage has parted into more than `room`.
 pub fn pursue<V: Drop, M: Machine<End = V>>(
     alloc: Global,
@@ -45,18 +45,15 @@ pub fn pursue<V: Drop, M: Machine<End = V>>(
     let Ran {
         value,
         trace: all_marks,
-        acts: all_acts,
+        deeds: all_deeds,
     } = machine.run(alloc, &start)?;
     let marks = all_marks.as_slice();
-    let acts = all_acts.as_slice();
+    let deeds = all_deeds.as_slice();
     let mut lower = Queue::new(alloc);
     let mut state = stage;
     let mut higher = Queue::new(alloc);
-    for at in state.trace.len()..marks.len() {
-        let act = &acts[at];
-        let mark = marks[at];
-        let rows = cases(alloc, act)?;
-        let forks = fork(alloc, mark, state, rows.as_slice())?;
+    for at in state.done..deeds.len() {
+        let forks = forks_by(alloc, marks, state, &deeds[at])?;
         lower.put_last(forks.lower)?;
         higher.put_first(forks.higher)?;
         state = forks.followed;

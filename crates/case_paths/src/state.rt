@@ -5,13 +5,17 @@ ghost use Rattle.std.specs.Prelude.{◌≡◌};
 use clause_solver::Store;
 use script_names::{Copied, List, Mark, Memory};
 use std::alloc::Global;
-use utility_calls::acts::Act;
+use tree_clauses::Var;
+use utility_calls::deeds::Deed;
 
-/// Where a path stands: the pairs of trees that are on it, and the marks of its acts, in order.
+/// Where a path stands: the pairs of trees that are on it, the variable of the tree that was kept last, the marks that
+/// its deeds left, in order, and how many deeds are done.
 #[derive(Debug, Drop)]
 pub struct PathState {
     pub store: Store,
+    pub kept: Var,
     pub trace: List<Mark>,
+    pub done: usize,
 }
 
 /// A path: what it ends with, and its state then.
@@ -21,12 +25,13 @@ pub struct Found<V> {
     pub state: PathState,
 }
 
-/// A run from one tree: what it ends with, the marks of its acts behind those that were given, and its acts.
+/// A run from one tree, which is the kept tree at first: what it ends with, the marks that its deeds left, and the
+/// deeds.
 #[derive(Debug, Drop)]
 pub struct Ran<V> {
     pub value: V,
     pub trace: List<Mark>,
-    pub acts: List<Act>,
+    pub deeds: List<Deed>,
 }
 
 /// Why there is no list of paths: more different traces than there is room for, or want of memory.

@@ -1,4 +1,5 @@
-use Rattle.std.proofs.Common.{sym, ◌∙◌}
+use Rattle.std.proofs.Common.{refl, sym, ◌∙◌, arith}
+use Rattle.case_paths.specs.declared.state.PathState.{PathState}
 use Rattle.case_paths.proofs.Whole.{same_pairs, no_path, no_room_left, exploring_begin, exploring_more, all_ended, fewer_left, exploring_end, exploring_fault}
 use Rattle.case_paths.proofs.exploration.explore.Goals as goal
 
@@ -16,10 +17,19 @@ returns-then-room-eq0 g c =
 
 pub rounds-init : goal.rounds-init
 rounds-init g c =
-    exploring_begin (g.M.Machine.decision c.args.machine.now) c.args.store c.limit.new.self c.args.room
-    c.new-none.result c.new-items.result c.push.new.self (g.met.M.Machine.performed c.args.machine.now) c.requires.same
-    (same_pairs c.args.store c.limit.new.self c.now-now.result.0 c.all.result c.all.ensures c.in_ok-left.ensures.kept.1 c.in_ok-left.ensures.exact)
-    (c.in_ok-left.ensures.alive.0 c.if-not-left.false) c.new-none.ensures c.if-room-eq0.false c.new-items.ensures c.in_ok-push.ensures
+    let first : PathState = record { store = c.limit.new.self; kept = c.now-now.result; trace = c.new-none.result; done = 0 } in
+    let counts = c.in_ok-left.ensures.kept in
+    exploring_begin (g.M.Machine.decision c.args.machine.now) c.args.store first c.args.room
+    c.new-items.result c.push.new.self (g.met.M.Machine.performed c.args.machine.now) c.requires.same
+    (same_pairs c.args.store c.limit.new.self c.now-now.result.0 c.all.result c.all.ensures counts.1 c.in_ok-left.ensures.exact)
+    (c.in_ok-left.ensures.alive.0 c.if-not-left.false)
+    (record {
+      kept = c.now-now.ensures.now ∙ sym counts.1;
+      inside = (let k = c.now-now.ensures.known in let n = counts.0 in omega (arith, k, n));
+      trace = c.new-none.ensures;
+      done = refl;
+    })
+    c.if-room-eq0.false c.new-items.ensures c.in_ok-push.ensures
 
 pub returns-in-Err : goal.returns-in-Err
 returns-in-Err g c = exploring_fault (g.M.Machine.decision c.args.machine.now) c.args.store c.args.room c.rounds.items c.rounds.invariant c.in-Err.fault c.in-Err.ensures
