@@ -1,5 +1,5 @@
 -- What holds of the tables as a whole.
-use Rattle.std.specs.Prelude.{◌≡◌, ℕ, ◌<◌, Bool, true, false, List, [], ◌∷◌, replicate, length, Option, Some, None}
+use Rattle.std.specs.Prelude.{◌≡◌, ℕ, ◌<◌, ◌≤◌, Bool, true, false, List, [], ◌∷◌, replicate, length, Option, Some, None}
 use Rattle.std.specs.Prelude.{if◌then◌else◌}
 use Rattle.dpkg_scenarios.specs.declared.scenario.Scenario.{Scenario}
 use Rattle.dpkg_scenarios.specs.declared.scenario.State.{State}
@@ -8,12 +8,16 @@ use Rattle.dpkg_scenarios.specs.declared.scenario.Ending.TheVariants.{Done}
 use Rattle.dpkg_scenarios.specs.declared.scenario.StepNext.{StepNext}
 use Rattle.dpkg_scenarios.specs.declared.scenario.StepNext.TheVariants.{Go, Stop}
 use Rattle.dpkg_scenarios.specs.Scenarios.{table, columns_of}
-use Rattle.dpkg_scenarios.specs.Steps.{IsStep, next_of}
+use Rattle.dpkg_scenarios.specs.Steps.{IsStep, next_of, turn_of}
 
--- what follows a step is a later step of the scenario, or its end: so every walk ends
+-- what follows a step is a step of a later turn, or the scenario's end: so every walk ends
 abbrev pub GoesForward : Type 0
-GoesForward = (scenario : Scenario) (n m at : ℕ) (ok plain : Bool)
-    → next_of scenario n ok at plain ≡ Some (Go m) → (n < m) × IsStep scenario m
+GoesForward = (scenario : Scenario) (n m : ℕ) (ok plain : Bool)
+    → next_of scenario n ok plain ≡ Some (Go m) → (turn_of scenario n < turn_of scenario m) × IsStep scenario m
+
+-- there are no more turns than steps
+abbrev pub TurnsAreFew : Type 0
+TurnsAreFew = (scenario : Scenario) (n : ℕ) → turn_of scenario n ≤ length (table scenario)
 
 -- what follows, where there is such a step
 abbrev pub or_stays : Option StepNext → StepNext → StepNext
@@ -24,7 +28,7 @@ or_stays (Some next) here = next
 abbrev pub walk : Scenario → Bool → StepNext → List Bool → StepNext
 walk scenario plain (Stop ending) oks = Stop ending
 walk scenario plain (Go n) [] = Go n
-walk scenario plain (Go n) (ok ∷ oks) = walk scenario plain (or_stays (next_of scenario n ok 0 plain) (Go n)) oks
+walk scenario plain (Go n) (ok ∷ oks) = walk scenario plain (or_stays (next_of scenario n ok plain) (Go n)) oks
 
 -- the state of a package that is brought to one, by whether it has neither a configuration file nor a postrm: such a
 -- one is not left in Config-Files, but Not-Installed

@@ -1,6 +1,5 @@
 -- What a line of the code's tables says.
 use Rattle.std.specs.Prelude.{◌≡◌, ℕ, Bool, true, false, List, [], ◌∷◌, codes, Some, if◌then◌else◌}
-use Rattle.script_names.specs.declared.reason.Reason.TheVariants.{Restore}
 use Rattle.dpkg_scenarios.specs.declared.scenario.Scenario.{Scenario}
 use Rattle.dpkg_scenarios.specs.declared.scenario.State.TheVariants.{ConfigFiles, NotInstalled}
 use Rattle.dpkg_scenarios.specs.declared.scenario.Ending.TheVariants as ending
@@ -43,18 +42,15 @@ spoken_text spoken.NoCall old new = []
 spoken_text (spoken.Call verb versions) old new = verb_text verb ∷ versions_text versions old new
 
 -- what follows a step
-abbrev pub then_of : Then → ℕ → ℕ → Bool → StepNext
-then_of (then.Go n) step at plain = next.Go n
-then_of (then.Done state) step at plain = next.Stop (ending.Done state)
-then_of (then.Failed state) step at plain = next.Stop (ending.Failed state)
-then_of then.Removed step at plain = next.Stop (ending.Done (if plain then NotInstalled else ConfigFiles))
-then_of then.RestoreAct step at plain = next.Stop (ending.Incomplete Restore (record { step = step; at = at }))
-then_of then.RestoreCall step at plain = next.Stop (ending.Incomplete Restore (record { step = step; at = 0 }))
+abbrev pub then_of : Then → Bool → StepNext
+then_of (then.Go n) plain = next.Go n
+then_of (then.Done state) plain = next.Stop (ending.Done state)
+then_of (then.Failed state) plain = next.Stop (ending.Failed state)
+then_of then.Removed plain = next.Stop (ending.Done (if plain then NotInstalled else ConfigFiles))
 
 -- a line that says what the scenario's table says of the step
 pub record IsLine (scenario : Scenario) (step : ℕ) (line : Line) : Type 0 where
   pub work : work_of scenario step ≡ Some line.work
   pub words : (old new : List ℕ) → words_of scenario step old new ≡ Some (spoken_text line.spoken old new)
-  pub ok : (at : ℕ) (plain : Bool) → next_of scenario step true at plain ≡ Some (then_of line.ok step at plain)
-  pub failed : (at : ℕ) (plain : Bool)
-      → next_of scenario step false at plain ≡ Some (then_of line.failed step at plain)
+  pub ok : (plain : Bool) → next_of scenario step true plain ≡ Some (then_of line.ok plain)
+  pub failed : (plain : Bool) → next_of scenario step false plain ≡ Some (then_of line.failed plain)

@@ -3,7 +3,6 @@
 -- (the calls), 6.6 (unpacking, and its unwinding), 6.7 (configuring) and 6.8 (removing and purging), which has the
 -- order of the scripts and their first words; the further words, and the states at the end, are this project's own.
 use Rattle.std.specs.Prelude.{ℕ, Bool, List, [], ◌∷◌, codes, if◌then◌else◌}
-use Rattle.script_names.specs.declared.reason.Reason.TheVariants.{Restore}
 use Rattle.dpkg_scenarios.specs.declared.columns.Before.{Before}
 use Rattle.dpkg_scenarios.specs.declared.columns.Before.TheVariants as before
 use Rattle.dpkg_scenarios.specs.declared.columns.NewEntries.{NewEntries}
@@ -22,7 +21,7 @@ use Rattle.dpkg_scenarios.specs.declared.scenario.Side.TheVariants.{New, Old}
 use Rattle.dpkg_scenarios.specs.declared.scenario.Ending.TheVariants as ending
 use Rattle.dpkg_scenarios.specs.declared.scenario.StepWork.{StepWork}
 use Rattle.dpkg_scenarios.specs.declared.scenario.StepWork.TheVariants.{Script, Unpack, RemoveFiles}
-use Rattle.dpkg_scenarios.specs.declared.scenario.StepWork.TheVariants.{RemoveOld, RemoveConf}
+use Rattle.dpkg_scenarios.specs.declared.scenario.StepWork.TheVariants.{RemoveOld, RemoveConf, Restore}
 use Rattle.dpkg_scenarios.specs.declared.scenario.StepNext.{StepNext}
 use Rattle.dpkg_scenarios.specs.declared.scenario.StepNext.TheVariants.{Go, Stop}
 
@@ -30,10 +29,9 @@ use Rattle.dpkg_scenarios.specs.declared.scenario.StepNext.TheVariants.{Go, Stop
 abbrev pub Words : Type 0
 Words = List ℕ → List ℕ → List (List ℕ)
 
--- what follows, by whether the package has neither a configuration file nor a postrm, and by the number of the file act
--- that failed
+-- what follows, by whether the package has neither a configuration file nor a postrm
 abbrev pub Follows : Type 0
-Follows = Bool → ℕ → StepNext
+Follows = Bool → StepNext
 
 -- a line of a table
 pub record Step : Type 0 where
@@ -61,6 +59,10 @@ places n work ok failed = record { number = n; work = work; words = λ o n. []; 
 abbrev pub removes : ℕ → StepWork → Follows → Step
 removes n work ok = places n work ok ok
 
+-- what was placed is put back, which cannot fail
+abbrev pub restores : ℕ → Follows → Step
+restores n ok = places n Restore ok ok
+
 -- a word alone
 abbrev pub alone : List ℕ → Words
 alone word o n = word ∷ []
@@ -83,45 +85,38 @@ from_to word o n = word ∷ o ∷ n ∷ []
 
 -- a further step
 abbrev pub go : ℕ → Follows
-go n plain at = Go n
+go n plain = Go n
 
 -- the end with success
 abbrev pub done : State → Follows
-done state plain at = Stop (ending.Done state)
+done state plain = Stop (ending.Done state)
 
 -- the end with failure
 abbrev pub failed : State → Follows
-failed state plain at = Stop (ending.Failed state)
+failed state plain = Stop (ending.Failed state)
 
 -- the end of a removal: configuration files are left, and the postrm that a purge calls, unless there are none
 abbrev pub removed : Follows
-removed plain at = Stop (ending.Done (if plain then NotInstalled else ConfigFiles))
-
--- the files of the package before would be put back, which has no specification here, at the act of this step that
--- failed
-abbrev pub restore : ℕ → Follows
-restore n plain at = Stop (ending.Incomplete Restore (record { step = n; at = at }))
-
--- the files of the package before would be put back, where a call of this step failed
-abbrev pub restore_call : ℕ → Follows
-restore_call n plain at = Stop (ending.Incomplete Restore (record { step = n; at = 0 }))
+removed plain = Stop (ending.Done (if plain then NotInstalled else ConfigFiles))
 
 -- Policy 6.6, where no version is there, and 6.7
 abbrev pub install : List Step
 install =
     new 1 Preinst (alone (codes "install")) (go 2) (go 4)
-    ∷ places 2 Unpack (go 3) (restore 2)
+    ∷ places 2 Unpack (go 3) (go 5)
     ∷ new 3 Postinst (empty (codes "configure")) (done Installed) (failed HalfConfigured)
     ∷ new 4 Postrm (alone (codes "abort-install")) (failed NotInstalled) (failed HalfInstalled)
+    ∷ restores 5 (go 4)
     ∷ []
 
 -- Policy 6.6, where the configuration files of a version are there, and 6.7
 abbrev pub install_again : List Step
 install_again =
     new 1 Preinst (from_to (codes "install")) (go 2) (go 4)
-    ∷ places 2 Unpack (go 3) (restore 2)
+    ∷ places 2 Unpack (go 3) (go 5)
     ∷ new 3 Postinst (from_old (codes "configure")) (done Installed) (failed HalfConfigured)
     ∷ new 4 Postrm (from_to (codes "abort-install")) (failed ConfigFiles) (failed HalfInstalled)
+    ∷ restores 5 (go 4)
     ∷ []
 
 -- Policy 6.6, where a version is installed, and 6.7
@@ -130,14 +125,17 @@ upgrade =
     old 1 Prerm (to_new (codes "upgrade")) (go 3) (go 2)
     ∷ new 2 Prerm (from_to (codes "failed-upgrade")) (go 3) (go 9)
     ∷ new 3 Preinst (from_to (codes "upgrade")) (go 4) (go 10)
-    ∷ places 4 Unpack (go 5) (restore 4)
+    ∷ places 4 Unpack (go 5) (go 12)
     ∷ old 5 Postrm (to_new (codes "upgrade")) (go 7) (go 6)
-    ∷ new 6 Postrm (from_to (codes "failed-upgrade")) (go 7) (restore_call 6)
+    ∷ new 6 Postrm (from_to (codes "failed-upgrade")) (go 7) (go 13)
     ∷ removes 7 RemoveOld (go 8)
     ∷ new 8 Postinst (from_old (codes "configure")) (done Installed) (failed HalfConfigured)
     ∷ old 9 Postinst (to_new (codes "abort-upgrade")) (failed Installed) (failed HalfConfigured)
     ∷ new 10 Postrm (from_to (codes "abort-upgrade")) (go 11) (failed HalfInstalled)
     ∷ old 11 Postinst (to_new (codes "abort-upgrade")) (failed Installed) (failed Unpacked)
+    ∷ restores 12 (go 10)
+    ∷ old 13 Preinst (to_new (codes "abort-upgrade")) (go 14) (failed HalfInstalled)
+    ∷ restores 14 (go 10)
     ∷ []
 
 -- Policy 6.8

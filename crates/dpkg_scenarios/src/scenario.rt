@@ -62,7 +62,7 @@ pub enum Ending {
 pub enum StepWork {
     /// A script of one of the packages is called.
     Script { side: Side, script: ScriptKind },
-    /// The files of the checked package are put in place.
+    /// The files of the checked package are put in place; the tree is kept as it was before.
     Unpack,
     /// The files of the checked package are taken away, without its configuration files.
     RemoveFiles,
@@ -70,6 +70,8 @@ pub enum StepWork {
     RemoveOld,
     /// The configuration files of the checked package are taken away.
     RemoveConf,
+    /// What was put in place is put back, from the tree that was kept.
+    Restore,
 }
 
 /// What follows a step: a further one, by its number, or the scenario's end.

@@ -4,7 +4,6 @@ ghost use Rattle.dpkg_scenarios.specs.Steps.{IsStep, work_of, next_of};
 
 use crate::scenario::{Ending, Scenario, State, StepNext, StepWork};
 use crate::tables::{Then, line_of};
-use script_names::{Reason, Site};
 
 /// What is done in a step of a scenario. Steps are numbered from 1.
 pub fn work(scenario: Scenario, step: u16) -> StepWork
@@ -15,34 +14,29 @@ pub fn work(scenario: Scenario, step: u16) -> StepWork
 }
 
 /// What follows a step of a scenario, by whether the step succeeded (Debian Policy, 6.6 to 6.8, with the unwinding of
-/// errors). `at` is the number of the file act that failed, or 0; `plain` says that the package has neither a
-/// configuration file nor a postrm. After a step that takes files away the same follows in both cases.
-pub fn next(scenario: Scenario, step: u16, ok: bool, at: u32, plain: bool) -> StepNext
+/// errors). `plain` says that the package has neither a configuration file nor a postrm. After a step that takes files
+/// away or puts them back the same follows in both cases.
+pub fn next(scenario: Scenario, step: u16, ok: bool, plain: bool) -> StepNext
     requires { IsStep scenario step }
-    ensures { next_of scenario step ok at plain ≡ Some result }
+    ensures { next_of scenario step ok plain ≡ Some result }
 {
     let line = line_of(scenario, step);
     if ok {
-        then(line.ok, step, at, plain)
+        then(line.ok, plain)
     } else {
-        then(line.failed, step, at, plain)
+        then(line.failed, plain)
     }
 }
 
 // What follows a step.
-fn then(what: Then, step: u16, at: u32, plain: bool) -> StepNext
-    ensures { result ≡ then_of what step at plain }
+fn then(what: Then, plain: bool) -> StepNext
+    ensures { result ≡ then_of what plain }
 {
     match what {
         Then::Go(next) => StepNext::Go(next),
         Then::Done(state) => StepNext::Stop(Ending::Done(state)),
         Then::Failed(state) => StepNext::Stop(Ending::Failed(state)),
         Then::Removed => StepNext::Stop(Ending::Done(removed(plain))),
-        Then::RestoreAct => StepNext::Stop(Ending::Incomplete(Reason::Restore, Site { step, at })),
-        Then::RestoreCall => StepNext::Stop(Ending::Incomplete(
-            Reason::Restore,
-            Site { step, at: 0 },
-        )),
     }
 }
 

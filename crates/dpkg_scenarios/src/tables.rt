@@ -8,7 +8,7 @@ use crate::scenario::State::{
     ConfigFiles, HalfConfigured, HalfInstalled, Installed, NotInstalled, Unpacked,
 };
 use crate::scenario::{Scenario, ScriptKind, Side, State, StepWork};
-use crate::tables::Then::{Done, Failed, Go, Removed, RestoreAct, RestoreCall};
+use crate::tables::Then::{Done, Failed, Go, Removed};
 use crate::tables::Verb::{
     AbortInstall, AbortRemove, AbortUpgrade, Configure, FailedUpgrade, Install, Purge, Remove,
     Upgrade,
@@ -46,16 +46,13 @@ pub enum Spoken {
     Call(Verb, Versions),
 }
 
-// What follows: a step; the end, with success or with failure; after a removal the end by what is left; where files
-// would be put back an end without a state.
+// What follows: a step; the end, with success or with failure; after a removal the end by what is left.
 #[derive(Clone, Copy)]
 pub enum Then {
     Go(u16),
     Done(State),
     Failed(State),
     Removed,
-    RestoreAct,
-    RestoreCall,
 }
 
 // A line of a table.
@@ -99,7 +96,7 @@ fn old(script: ScriptKind, verb: Verb, versions: Versions, ok: Then, failed: The
     }
 }
 
-// Files are placed or taken away.
+// Files are placed, taken away or put back.
 fn files(work: StepWork, ok: Then, failed: Then) -> Line
     ensures { result ≡ record { work = work; spoken = Spoken.NoCall; ok = ok; failed = failed } }
 {
@@ -117,7 +114,7 @@ fn install(step: u16) -> Line
 {
     match step {
         1 => new(Preinst, Install, NoWord, Go(2), Go(4)),
-        2 => files(StepWork::Unpack, Go(3), RestoreAct),
+        2 => files(StepWork::Unpack, Go(3), Go(5)),
         3 => new(
             Postinst,
             Configure,
@@ -125,13 +122,14 @@ fn install(step: u16) -> Line
             Done(Installed),
             Failed(HalfConfigured),
         ),
-        _ => new(
+        4 => new(
             Postrm,
             AbortInstall,
             NoWord,
             Failed(NotInstalled),
             Failed(HalfInstalled),
         ),
+        _ => files(StepWork::Restore, Go(4), Go(4)),
     }
 }
 
@@ -141,7 +139,7 @@ fn install_again(step: u16) -> Line
 {
     match step {
         1 => new(Preinst, Install, FromTo, Go(2), Go(4)),
-        2 => files(StepWork::Unpack, Go(3), RestoreAct),
+        2 => files(StepWork::Unpack, Go(3), Go(5)),
         3 => new(
             Postinst,
             Configure,
@@ -149,13 +147,14 @@ fn install_again(step: u16) -> Line
             Done(Installed),
             Failed(HalfConfigured),
         ),
-        _ => new(
+        4 => new(
             Postrm,
             AbortInstall,
             FromTo,
             Failed(ConfigFiles),
             Failed(HalfInstalled),
         ),
+        _ => files(StepWork::Restore, Go(4), Go(4)),
     }
 }
 
@@ -167,9 +166,9 @@ fn upgrade(step: u16) -> Line
         1 => old(Prerm, Upgrade, ToNew, Go(3), Go(2)),
         2 => new(Prerm, FailedUpgrade, FromTo, Go(3), Go(9)),
         3 => new(Preinst, Upgrade, FromTo, Go(4), Go(10)),
-        4 => files(StepWork::Unpack, Go(5), RestoreAct),
+        4 => files(StepWork::Unpack, Go(5), Go(12)),
         5 => old(Postrm, Upgrade, ToNew, Go(7), Go(6)),
-        6 => new(Postrm, FailedUpgrade, FromTo, Go(7), RestoreCall),
+        6 => new(Postrm, FailedUpgrade, FromTo, Go(7), Go(13)),
         7 => files(StepWork::RemoveOld, Go(8), Go(8)),
         8 => new(
             Postinst,
@@ -196,13 +195,16 @@ fn upgrade_undone(step: u16) -> Line
             Failed(HalfConfigured),
         ),
         10 => new(Postrm, AbortUpgrade, FromTo, Go(11), Failed(HalfInstalled)),
-        _ => old(
+        11 => old(
             Postinst,
             AbortUpgrade,
             ToNew,
             Failed(Installed),
             Failed(Unpacked),
         ),
+        12 => files(StepWork::Restore, Go(10), Go(10)),
+        13 => old(Preinst, AbortUpgrade, ToNew, Go(14), Failed(HalfInstalled)),
+        _ => files(StepWork::Restore, Go(10), Go(10)),
     }
 }
 

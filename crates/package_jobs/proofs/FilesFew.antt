@@ -1,13 +1,13 @@
 -- A step that places or takes away files has at most two acts for each entry, so that each act has a number.
-use Rattle.std.proofs.Common.{◌≡◌, ℕ, ◌+◌, ◌*◌, ◌≤◌, Bool, true, false, List, [], ◌∷◌, ◌++◌, length, arith, length-append}
-use Rattle.std.specs.Prelude.{Option, Some, None, nat_le, reverse, if◌then◌else◌}
+use Rattle.std.proofs.Common.{◌≡◌, ℕ, ◌+◌, ◌*◌, ◌≤◌, Bool, true, false, List, [], ◌∷◌, length, arith, length-append}
+use Rattle.std.specs.Prelude.{Some, None, nat_le, reverse, if◌then◌else◌}
 use Rattle.std.specs.List.{flat_map}
 use Rattle.std.proofs.lemmas.Bool.{le-leb}
 use Rattle.std.proofs.lemmas.List.{length-reverse}
 use Rattle.utility_calls.specs.declared.acts.Act.{Act}
 use Rattle.dpkg_scenarios.specs.declared.scenario.Scenario.{Scenario}
 use Rattle.dpkg_scenarios.specs.declared.scenario.StepWork.{StepWork}
-use Rattle.dpkg_scenarios.specs.declared.scenario.StepWork.TheVariants.{Script, Unpack, RemoveFiles, RemoveOld, RemoveConf}
+use Rattle.dpkg_scenarios.specs.declared.scenario.StepWork.TheVariants.{Script, Unpack, RemoveFiles, RemoveOld, RemoveConf, Restore}
 use Rattle.dpkg_scenarios.specs.Scenarios.{columns_of}
 use Rattle.system_base.specs.declared.base.Base.{Base}
 use Rattle.package_lists.specs.declared.kind.EntryKind.{EntryKind}
@@ -60,6 +60,7 @@ flat_few f one (entry ∷ entries) =
 pub acts_few : (s : Scenario) (work : StepWork) (new old : List EntryParts) (base : Base)
     → length (acts_of s work new old base) ≤ 2 * (length new + length old)
 acts_few s (Script side script) new old base = omega (arith)
+acts_few s Restore new old base = omega (arith)
 acts_few s Unpack new old base =
     let placed = (columns_of s).conffiles in
     omega (

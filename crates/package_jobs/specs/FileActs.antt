@@ -5,7 +5,7 @@ use Rattle.dpkg_scenarios.specs.declared.columns.NewEntries.{NewEntries}
 use Rattle.dpkg_scenarios.specs.declared.scenario.Scenario.{Scenario}
 use Rattle.dpkg_scenarios.specs.declared.scenario.StepWork.{StepWork}
 use Rattle.dpkg_scenarios.specs.declared.scenario.StepWork.TheVariants.{Script, Unpack, RemoveFiles}
-use Rattle.dpkg_scenarios.specs.declared.scenario.StepWork.TheVariants.{RemoveOld, RemoveConf}
+use Rattle.dpkg_scenarios.specs.declared.scenario.StepWork.TheVariants.{RemoveOld, RemoveConf, Restore}
 use Rattle.dpkg_scenarios.specs.Scenarios.{columns_of}
 use Rattle.utility_calls.specs.declared.acts.Act.{Act}
 use Rattle.utility_calls.specs.declared.acts.Act.TheVariants.{EnsureDir, PlaceFile, PlaceLink, PlaceConf, Discard}
@@ -60,7 +60,7 @@ dir_gone base entry =
 
 -- the acts of a step, from the entries of the new and of the old package and the base: placing goes in the order of the
 -- list, with the configuration files of the scenario's record, taking away from its last entry to its first; a script
--- has no acts of its own
+-- has no acts of its own, nor has what puts back what was placed
 abbrev pub acts_of : Scenario → StepWork → List EntryParts → List EntryParts → Base → List Act
 acts_of scenario (Script side script) new before base = []
 acts_of scenario Unpack new before base =
@@ -70,3 +70,4 @@ acts_of scenario RemoveOld new before base =
     flat_map (removed_old (has_at is_any new) (is_base base)) (reverse before)
 acts_of scenario RemoveConf new before base =
     flat_map conf_gone (reverse new) ++ flat_map (dir_gone (is_base base)) (reverse new)
+acts_of scenario Restore new before base = []

@@ -8,7 +8,7 @@ use Rattle.scenario_runs.specs.Laws.{is_bound}
 use Rattle.package_jobs.specs.Written.{written_run}
 
 -- The run of a scenario from a tree that did not end for want of a turn of a loop is, with more turns, the same run, in
--- ending, trace, tree, calls and acts.
+-- ending, trace, tree, calls and deeds.
 abbrev pub MoreTurnsSameRun : Type 0
 MoreTurnsSameRun =
     (scenario : Scenario) (packages : Packages) (turns more : ℕ) (tree : Value) (run : Replayed)

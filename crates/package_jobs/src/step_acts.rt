@@ -2,6 +2,7 @@ ghost use Rattle.std.specs.Prelude.{◌≡◌, ◌≤◌, ◌+◌, ◌*◌, ◌+
 ghost use Rattle.std.specs.Prelude.{OnOk};
 ghost use Rattle.std.specs.List.{flat_map};
 ghost use Rattle.utility_calls.specs.Acts.{IsPerformed};
+ghost use Rattle.scenario_runs.specs.Acts.{HasName};
 ghost use Rattle.system_base.specs.Bases.{is_base};
 ghost use Rattle.package_jobs.specs.FileActs.{unpacked, folder_gone, removed};
 ghost use Rattle.package_jobs.specs.FileActs.{removed_old, conf_gone, dir_gone, acts_of};
@@ -20,7 +21,8 @@ use utility_calls::acts::Act;
 /// The acts of a step of a scenario that places or takes away files, in order, from the entries of the new and of the
 /// old package and from the base, of which `kept` has the directories (Debian Policy, 6.6 and 6.8). Entries are placed
 /// in the order of the list, and taken away from the last one to the first; a directory of the base is not taken away.
-/// A step that calls a script has no acts. Each act can be done on every tree; there are at most two for each entry.
+/// A step that calls a script has no acts, nor has one that puts back what was placed. Each act can be done on every
+/// tree, and its path has a name; there are at most two for each entry.
 pub fn file_acts(
     alloc: Global,
     scenario: Scenario,
@@ -33,6 +35,7 @@ pub fn file_acts(
     requires { (path : ListOf ℕ) → has kept.now path ≡ is_base base.now path }
     ensures acts { IfOk result (λ acts. acts ≡ acts_of scenario work new.now old.now base.now) }
     ensures performed { IfOk result (λ acts. All IsPerformed acts) }
+    ensures named { IfOk result (λ acts. All HasName acts) }
     ensures few { IfOk result (λ acts. length acts ≤ 2 * (length new.now + length old.now)) }
 {
     entries_are_named(new.as_slice());
@@ -56,6 +59,7 @@ fn acts_of_step(
 {
     match work {
         StepWork::Script { .. } => Ok(List::new(alloc)),
+        StepWork::Restore => Ok(List::new(alloc)),
         StepWork::Unpack => {
             let conffiles = paths_of(alloc, Which::Conffiles, old.as_slice())?;
             let placed = columns_of(scenario).conffiles;

@@ -26,8 +26,13 @@ const WALKS: &[(Scenario, &[u8], &[u8])] = &[
     ),
     (
         Scenario::Install,
-        b"of",
-        b"n preinst install;unpack;restore",
+        b"ofoo",
+        b"n preinst install;unpack;restore;n postrm abort-install;failed Not-Installed",
+    ),
+    (
+        Scenario::Install,
+        b"ofof",
+        b"n preinst install;unpack;restore;n postrm abort-install;failed Half-Installed",
     ),
     (
         Scenario::Install,
@@ -51,8 +56,13 @@ const WALKS: &[(Scenario, &[u8], &[u8])] = &[
     ),
     (
         Scenario::InstallAgain,
-        b"of",
-        b"n preinst install 1 2;unpack;restore",
+        b"ofoo",
+        b"n preinst install 1 2;unpack;restore;n postrm abort-install 1 2;failed Config-Files",
+    ),
+    (
+        Scenario::InstallAgain,
+        b"offf",
+        b"n preinst install 1 2;unpack;restore;n postrm abort-install 1 2;failed Half-Installed",
     ),
     (
         Scenario::InstallAgain,
@@ -140,13 +150,38 @@ const UPGRADES: &[(Scenario, &[u8], &[u8])] = &[
     ),
     (
         Scenario::Upgrade,
-        b"oooff",
-        b"o prerm upgrade 2;n preinst upgrade 1 2;unpack;o postrm upgrade 2;n postrm failed-upgrade 1 2;restore call",
+        b"oooffoooo",
+        b"o prerm upgrade 2;n preinst upgrade 1 2;unpack;o postrm upgrade 2;n postrm failed-upgrade 1 2;o preinst abort-upgrade 2;restore;n postrm abort-upgrade 1 2;o postinst abort-upgrade 2;failed Installed",
     ),
     (
         Scenario::Upgrade,
-        b"oof",
-        b"o prerm upgrade 2;n preinst upgrade 1 2;unpack;restore",
+        b"oooffofof",
+        b"o prerm upgrade 2;n preinst upgrade 1 2;unpack;o postrm upgrade 2;n postrm failed-upgrade 1 2;o preinst abort-upgrade 2;restore;n postrm abort-upgrade 1 2;o postinst abort-upgrade 2;failed Unpacked",
+    ),
+    (
+        Scenario::Upgrade,
+        b"oooffoof",
+        b"o prerm upgrade 2;n preinst upgrade 1 2;unpack;o postrm upgrade 2;n postrm failed-upgrade 1 2;o preinst abort-upgrade 2;restore;n postrm abort-upgrade 1 2;failed Half-Installed",
+    ),
+    (
+        Scenario::Upgrade,
+        b"ooofff",
+        b"o prerm upgrade 2;n preinst upgrade 1 2;unpack;o postrm upgrade 2;n postrm failed-upgrade 1 2;o preinst abort-upgrade 2;failed Half-Installed",
+    ),
+    (
+        Scenario::Upgrade,
+        b"oofooo",
+        b"o prerm upgrade 2;n preinst upgrade 1 2;unpack;restore;n postrm abort-upgrade 1 2;o postinst abort-upgrade 2;failed Installed",
+    ),
+    (
+        Scenario::Upgrade,
+        b"oofoof",
+        b"o prerm upgrade 2;n preinst upgrade 1 2;unpack;restore;n postrm abort-upgrade 1 2;o postinst abort-upgrade 2;failed Unpacked",
+    ),
+    (
+        Scenario::Upgrade,
+        b"oofff",
+        b"o prerm upgrade 2;n preinst upgrade 1 2;unpack;restore;n postrm abort-upgrade 1 2;failed Half-Installed",
     ),
     (
         Scenario::Upgrade,
@@ -216,6 +251,7 @@ fn work_name(work: StepWork) -> &'static [u8] {
         StepWork::RemoveFiles => b"remove files",
         StepWork::RemoveOld => b"remove old",
         StepWork::RemoveConf => b"remove conffiles",
+        StepWork::Restore => b"restore",
     }
 }
 
@@ -226,8 +262,11 @@ fn package_name(work: StepWork) -> &'static [u8] {
             Side::Old => b"o ",
             Side::New => b"n ",
         },
-        StepWork::Unpack | StepWork::RemoveFiles | StepWork::RemoveOld | StepWork::RemoveConf =>
-            b"",
+        StepWork::Unpack => b"",
+        StepWork::RemoveFiles => b"",
+        StepWork::RemoveOld => b"",
+        StepWork::RemoveConf => b"",
+        StepWork::Restore => b"",
     }
 }
 
@@ -252,7 +291,7 @@ fn put_step(alloc: Global, text: &mut Bytes, scenario: Scenario, step: u16) -> R
     text.extend(b";")
 }
 
-// How a walk ends: 7 is the number of the act that failed.
+// How a walk ends.
 fn put_ending(text: &mut Bytes, ending: Ending) -> Result<(), Memory> {
     match ending {
         Ending::Done(state) => {
@@ -263,11 +302,7 @@ fn put_ending(text: &mut Bytes, ending: Ending) -> Result<(), Memory> {
             text.extend(b"failed ")?;
             text.extend(state_name(state))
         }
-        Ending::Incomplete(_, site) => text.extend(if site.at == 7 {
-            b"restore"
-        } else {
-            b"restore call"
-        }),
+        Ending::Incomplete(_, _) => text.extend(b"incomplete"),
         Ending::Bound(_) => text.extend(b"bound"),
     }
 }
@@ -279,7 +314,7 @@ fn walked(alloc: Global, scenario: Scenario, plain: bool, ends: &[u8]) -> Result
     let mut step = 1u16;
     for end in ends {
         put_step(alloc, &mut text, scenario, step)?;
-        match next(scenario, step, *end == b'o', 7, plain) {
+        match next(scenario, step, *end == b'o', plain) {
             StepNext::Go(more) => step = more,
             StepNext::Stop(ending) => {
                 put_ending(&mut text, ending)?;

@@ -1,10 +1,9 @@
--- The runs of a scenario are decisions.
+-- The runs of a scenario are walks.
 use Rattle.std.proofs.Common.{◌≡◌, ℕ, List, [], length, Some, refl, sym, ap, subst, ◌∙◌, arith}
 use Rattle.script_names.specs.declared.mark.Mark.{Mark}
-use Rattle.feature_trees.specs.declared.value.Value.{Value}
-use Rattle.utility_calls.specs.declared.acts.Act.{Act}
-use Rattle.utility_calls.specs.Decisions.{Decided, Played, play}
-use Rattle.colis_meaning.proofs.Playing.{bind_plays}
+use Rattle.utility_calls.specs.declared.deeds.Deed.{Deed}
+use Rattle.utility_calls.specs.Walks.{World, fresh, Ends, Walked, walk}
+use Rattle.utility_calls.proofs.Walking.{walks_follow}
 use Rattle.dpkg_scenarios.specs.declared.scenario.StepNext.{StepNext}
 use Rattle.dpkg_scenarios.specs.declared.scenario.StepNext.TheVariants.{Go, Stop}
 use Rattle.dpkg_scenarios.specs.Scenarios.{table}
@@ -15,24 +14,25 @@ use Rattle.scenario_runs.specs.Runs.{plan_of, begun, replayed, replayed_at}
 use Rattle.scenario_runs.specs.Playing.{Came, course_at}
 use Rattle.scenario_runs.specs.Deciding.{decision_of, decision_performed, whole_plays, ending_of, ended, reached}
 use Rattle.scenario_runs.specs.Laws.{RunsAreDecided, DecisionsArePlayed, replayed_of}
-use Rattle.dpkg_scenarios.proofs.Walks.{first_step}
-use Rattle.scenario_runs.proofs.Walking.{IsEnd, come_to_end}
+use Rattle.dpkg_scenarios.proofs.Walks.{first_step, first_turn}
+use Rattle.scenario_runs.proofs.Walking.{IsEnd, Enough, come_to_end}
 
-at_end : (next : StepNext) (calls : List ScriptCall) (turns : ℕ) (tree : Value) (trace : List Mark) (acts : List Act) → IsEnd next
-    → replayed_at next (course_at calls turns tree trace acts)
-    ≡ Some (replayed_of (record { value = (ending_of next, calls); tree = tree; trace = trace; acts = acts }))
-at_end (Go n) calls turns tree trace acts e = absurd e
-at_end (Stop ending) calls turns tree trace acts e = refl
+at_end : (next : StepNext) (calls : List ScriptCall) (turns unpacked : ℕ) (w : World) (trace : List Mark) (deeds : List Deed) → IsEnd next
+    → replayed_at next (course_at calls turns unpacked w trace deeds)
+    ≡ Some (replayed_of (record { value = (ending_of next, calls); world = w; trace = trace; deeds = deeds }))
+at_end (Go n) calls turns unpacked w trace deeds e = absurd e
+at_end (Stop ending) calls turns unpacked w trace deeds e = refl
 
 pub decisions_played : GoesForward → DecisionsArePlayed
 unfolding decision_of
 decisions_played forward job files tree =
-    let q : Played (Came StepNext) = play (whole_plays job files).decision tree [] [] in
-    let is = (whole_plays job files).plays tree [] [] in
-    let stops = come_to_end forward (plan_of job) (length (table job.scenario)) (reached (Go 1) (begun job.turns tree)) (first_step job.scenario, omega arith) in
+    let q : Walked (Came StepNext) = walk (whole_plays job files).decision (fresh tree) [] [] in
+    let is = (whole_plays job files).plays (fresh tree) [] [] in
+    let enough : Enough (plan_of job) (length (table job.scenario)) (Go 1) = (first_step job.scenario, omega (arith, first_turn job.scenario)) in
+    let stops = come_to_end forward (plan_of job) (length (table job.scenario)) (reached (Go 1) (begun job.turns tree)) enough in
     ap replayed is
-    ∙ at_end q.value.value q.value.calls q.value.turns q.tree q.trace q.acts (subst (λ (x : Reached). IsEnd x.next) is stops)
-    ∙ ap (λ x. Some (replayed_of x)) (sym (bind_plays (whole_plays job files).decision (λ v. Decided (ended v)) tree [] []))
+    ∙ at_end q.value.value q.value.calls q.value.turns q.value.unpacked q.world q.trace q.deeds (subst (λ (x : Reached). IsEnd x.next) is stops)
+    ∙ ap (λ x. Some (replayed_of x)) (sym (walks_follow (whole_plays job files).decision (λ v. Ends (ended v)) (fresh tree) [] []))
 
 pub runs_decide : GoesForward → RunsAreDecided
 runs_decide forward job files = record {

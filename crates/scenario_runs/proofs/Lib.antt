@@ -1,5 +1,6 @@
 mod Lines
 mod Walking
 mod Taking
+mod Backwards
 mod Deciding
 pub mod Turning

@@ -1,5 +1,5 @@
 -- The lines of the scenarios' tables, and what follows their steps.
-use Rattle.std.proofs.Common.{◌≡◌, ℕ, ◌+◌, ◌<◌, ◌≤◌, Bool, true, false, ◌&&◌, List, [], ◌∷◌, length, Option, Some, None, refl, ap, ◌∙◌, arith}
+use Rattle.std.proofs.Common.{◌≡◌, ℕ, ◌+◌, ◌<◌, ◌≤◌, Bool, true, false, List, [], ◌∷◌, length, Option, Some, None, refl, ap, ◌∙◌, arith}
 use Rattle.std.specs.Prelude.{◌==◌, if◌then◌else◌}
 use Rattle.std.specs.List.{find}
 use Rattle.std.specs.Option.{option_map}
@@ -55,15 +55,15 @@ found_in (step ∷ steps) m n c low high =
 pub has_line : (s : Scenario) (n : ℕ) → IsStep s n → Finds n (table s)
 has_line s n step = found_in (table s) 1 n (tables_count s) step.0 (omega (arith, step.1))
 
--- ---- what follows is later
+-- ---- what follows is of a later turn
 
-later : GoesForward → (s : Scenario) (n at : ℕ) (ok plain : Bool) (step : Step) (next : StepNext)
-    → line s n ≡ Some step → follows step ok plain at ≡ next → IsLater s n next
-later g s n at ok plain step (Go m) is e = g s n m at ok plain (ap (option_map (λ step. follows step ok plain at)) is ∙ ap Some e)
-later g s n at ok plain step (Stop ending) is e = tt
+later : GoesForward → (s : Scenario) (n : ℕ) (ok plain : Bool) (step : Step) (next : StepNext)
+    → line s n ≡ Some step → follows step ok plain ≡ next → IsLater s n next
+later g s n ok plain step (Go m) is e = g s n m ok plain (ap (option_map (λ step. follows step ok plain)) is ∙ ap Some e)
+later g s n ok plain step (Stop ending) is e = tt
 
 pub behind_later : GoesForward → (s : Scenario) (n : ℕ) (plain : Bool) (step : Step) (end : WorkEnd)
     → line s n ≡ Some step → IsLater s n (next_behind plain step end)
-behind_later g s n plain step Succeeded is = later g s n 0 true plain step (follows step true plain 0) is refl
-behind_later g s n plain step (Failed at) is = later g s n at false plain step (follows step false plain at) is refl
+behind_later g s n plain step Succeeded is = later g s n true plain step (follows step true plain) is refl
+behind_later g s n plain step (Failed at) is = later g s n false plain step (follows step false plain) is refl
 behind_later g s n plain step (Over ending) is = tt

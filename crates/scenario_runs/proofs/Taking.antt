@@ -1,5 +1,5 @@
 -- What a step of the code says of the run.
-use Rattle.std.proofs.Common.{◌≡◌, ℕ, ◌<◌, Bool, List, Some, Result, IfOk, sym, ap, subst, ◌∙◌}
+use Rattle.std.proofs.Common.{◌≡◌, ℕ, ◌<◌, List, Some, Result, IfOk, sym, ap, subst, ◌∙◌}
 use Rattle.std.proofs.lemmas.Result.{IfOk-weaker}
 use Rattle.std.specs.Option.{option_map}
 use Rattle.script_names.specs.declared.memory.Memory.{Memory}
@@ -10,7 +10,7 @@ use Rattle.dpkg_scenarios.specs.declared.scenario.Side.{Side}
 use Rattle.dpkg_scenarios.specs.declared.scenario.StepWork.{StepWork}
 use Rattle.dpkg_scenarios.specs.declared.scenario.StepWork.TheVariants as work
 use Rattle.dpkg_scenarios.specs.declared.scenario.StepNext.TheVariants.{Go, Stop}
-use Rattle.dpkg_scenarios.specs.Steps.{IsStep, line, work_of, words_of}
+use Rattle.dpkg_scenarios.specs.Steps.{IsStep, line, work_of, words_of, turn_of}
 use Rattle.scenario_runs.specs.declared.course.Course.{Course}
 use Rattle.scenario_runs.specs.declared.course.Worked.{Worked}
 use Rattle.scenario_runs.specs.declared.course.Reached.{Reached}
@@ -40,20 +40,23 @@ script_works plan n c side script r what told is calls =
     (calls words spoken)
 
 -- what a step leads to that goes on
-pub record GoesOn (plan : Plan) (tree : Value) (m : ℕ) (c : Course) : Type 0 where
+pub record GoesOn (plan : Plan) (tree : Value) (n m : ℕ) (c : Course) : Type 0 where
   pub step : IsStep plan.scenario m
+  pub turn : turn_of plan.scenario n < turn_of plan.scenario m
   pub comes : Comes plan tree m c
 
-pub went_on : (plan : Plan) (tree : Value) (n m : ℕ) (c : Course) (r : Reached) → IsStep plan.scenario n → Comes plan tree n c
-    → r ≡ go_next plan (Go n) c → r.next ≡ Go m → IsLater plan.scenario n r.next → GoesOn plan tree m r.course
-went_on plan tree n m c r step comes taken is later =
-    let l : (n < m) × IsStep plan.scenario m = subst (IsLater plan.scenario n) is later in
+pub went_on : (plan : Plan) (tree : Value) (n m : ℕ) (c : Course) (r : Reached) → Comes plan tree n c
+    → r ≡ go_next plan (Go n) c → r.next ≡ Go m → IsLater plan.scenario n r.next → GoesOn plan tree n m r.course
+went_on plan tree n m c r comes taken is later =
+    let l : (turn_of plan.scenario n < turn_of plan.scenario m) × IsStep plan.scenario m =
+    subst (IsLater plan.scenario n) is later in
     record {
       step = l.1;
-      comes = goes_on plan tree n m c r.course step comes (ap (λ x. reached x r.course) (sym is) ∙ taken) l.0;
+      turn = l.0;
+      comes = goes_on plan tree n m c r.course comes (ap (λ x. reached x r.course) (sym is) ∙ taken) l.0;
     }
 
-pub ended : (plan : Plan) (tree : Value) (n : ℕ) (ending : Ending) (c : Course) (r : Reached) → IsStep plan.scenario n → Comes plan tree n c
+pub ended : (plan : Plan) (tree : Value) (n : ℕ) (ending : Ending) (c : Course) (r : Reached) → Comes plan tree n c
     → r ≡ go_next plan (Go n) c → r.next ≡ Stop ending → run_of plan tree ≡ replayed_at (Stop ending) r.course
-ended plan tree n ending c r step comes taken is =
-    ends plan tree n ending c r.course step comes (ap (λ x. reached x r.course) (sym is) ∙ taken)
+ended plan tree n ending c r comes taken is =
+    ends plan tree n ending c r.course comes (ap (λ x. reached x r.course) (sym is) ∙ taken)

@@ -3,7 +3,9 @@ use Rattle.std.proofs.Common.{◌≡◌, ◌⊎◌, inl, inr, ℕ, zero, suc, �
 use Rattle.std.specs.Prelude.{IsTrue}
 use Rattle.std.specs.Option.{option_map}
 use Rattle.utility_calls.specs.declared.acts.Act.{Act}
+use Rattle.utility_calls.specs.declared.backs.Back.{Back}
 use Rattle.utility_calls.specs.Acts.{row}
+use Rattle.utility_calls.specs.Backs.{back_row}
 use Rattle.shell_rules.specs.declared.state.Conc.{Conc}
 use Rattle.shell_rules.specs.declared.run.End.{End}
 use Rattle.shell_rules.specs.declared.run.End.TheVariants as end
@@ -26,7 +28,10 @@ use Rattle.scenario_runs.specs.declared.course.Worked.{Worked}
 use Rattle.scenario_runs.specs.declared.course.Reached.{Reached}
 use Rattle.scenario_runs.specs.declared.replayed.Replayed.{Replayed}
 use Rattle.dpkg_scenarios.specs.Scripts.{script_of}
-use Rattle.scenario_runs.specs.Runs.{Meaning, Plan, begun_shell, script_end, called, call_script, acted, site_at, ended_behind, or_more, do_files, do_work, words_in, next_behind, followed, do_step, go_next, go_steps, begun, replayed_at, replayed, package_of, program_meaning, plan_of}
+use Rattle.scenario_runs.specs.Runs.{Meaning, Plan, begun_shell, script_end, called, call_script, site_at, acted}
+use Rattle.scenario_runs.specs.Runs.{ended_behind, or_more, do_files, keeping_tree, counted, returned, do_backs, restored}
+use Rattle.scenario_runs.specs.Runs.{do_work, words_in, next_behind, followed, do_step, go_next, go_steps, begun}
+use Rattle.scenario_runs.specs.Runs.{replayed_at, replayed, package_of, program_meaning, plan_of}
 use Rattle.scenario_runs.specs.Laws.{is_bound, IsSameWithMore, AreSameWithMore, plan_with_more, MoreTurnsOfPlans, MoreTurns}
 
 -- ---- with more turns left
@@ -83,6 +88,13 @@ files_more n can_fail k at (act ∷ acts) c =
     or_more_more n (ended_behind can_fail (site_at k at) (row act c.tree).answer) (acted (site_at k at) act c)
     (do_files can_fail k (at + 1) acts) (files_more n can_fail k (at + 1) acts (acted (site_at k at) act c))
 
+backs_more : (n k at : ℕ) (backs : List Back) (c : Course)
+    → do_backs k at backs (course_more n c) ≡ worked_more n (do_backs k at backs c)
+backs_more n k at [] c = refl
+backs_more n k at (back ∷ backs) c =
+    or_more_more n (ended_behind false (site_at k at) (back_row back c.kept c.tree).answer) (returned (site_at k at) back c)
+    (do_backs k (at + 1) backs) (backs_more n k (at + 1) backs (returned (site_at k at) back c))
+
 -- ---- a step
 
 module _ (n : ℕ) where
@@ -112,10 +124,11 @@ module _ (n : ℕ) (plan : Plan) (same : AreSameWithMore plan) where
   work_more : (k : ℕ) (what : StepWork) (words : List (List ℕ)) (c : Course)
       → SameWork n (do_work plan k what words c) (do_work (plan_with_more n plan) k what words (course_more n c))
   work_more k (work.Script side script) words c = call_more n k side script words (plan.scripts side script) c (same side script)
-  work_more k work.Unpack words c = inr (files_more n true k 0 plan.files.unpack c)
+  work_more k work.Unpack words c = inr (ap (counted (length plan.files.unpack)) (files_more n true k 0 plan.files.unpack (keeping_tree c)))
   work_more k work.RemoveFiles words c = inr (files_more n false k 0 plan.files.remove_files c)
   work_more k work.RemoveOld words c = inr (files_more n false k 0 plan.files.remove_old c)
   work_more k work.RemoveConf words c = inr (files_more n false k 0 plan.files.remove_conf c)
+  work_more k work.Restore words c = inr (backs_more n k 0 (restored plan.files.unpack c.unpacked) c)
 
   step_told : (step : Step) (w more : Worked) → SameWork n w more
       → SameReached n (followed plan.plain step w) (followed plan.plain step more)
@@ -164,7 +177,7 @@ bound_ending : (next : StepNext) (c : Course) (run : Replayed) → replayed_at n
     → IsTrue (is_bound run.ending)
 bound_ending (Go k) c run e b = absurd (cc)
 bound_ending (Stop ending) c run e b =
-    let made : Replayed = record { ending = ending; trace = c.trace; after = c.tree; calls = c.calls; acts = c.acts } in
+    let made : Replayed = record { ending = ending; trace = c.trace; after = c.tree; calls = c.calls; deeds = c.deeds } in
     let P : Replayed → Type 0 = λ x. IsTrue (is_bound x.ending) in
     subst P (same_run made run e) b
 

@@ -5,8 +5,9 @@ use Rattle.dpkg_scenarios.specs.declared.scenario.Ending.{Ending}
 use Rattle.dpkg_scenarios.specs.declared.scenario.StepNext.{StepNext}
 use Rattle.dpkg_scenarios.specs.declared.scenario.StepNext.TheVariants.{Go, Stop}
 use Rattle.dpkg_scenarios.specs.Scenarios.{Step, table}
-use Rattle.dpkg_scenarios.specs.Steps.{IsStep, line}
+use Rattle.dpkg_scenarios.specs.Steps.{IsStep, line, turn_of}
 use Rattle.dpkg_scenarios.specs.Laws.{GoesForward}
+use Rattle.dpkg_scenarios.proofs.Walks.{turns_few, first_turn}
 use Rattle.scenario_runs.specs.declared.course.Course.{Course}
 use Rattle.scenario_runs.specs.declared.course.Worked.{Worked}
 use Rattle.scenario_runs.specs.declared.course.Reached.{Reached}
@@ -31,39 +32,42 @@ stepped plan n c o step w next is_line is_work is_next =
 -- enough steps are left for the rest of the run
 pub record Comes (plan : Plan) (tree : Value) (n : ℕ) (c : Course) : Type 0 where
   pub left : ℕ
-  pub enough : length (table plan.scenario) < left + n
+  pub enough : length (table plan.scenario) < left + turn_of plan.scenario n
   pub is : run_of plan tree ≡ replayed (go_steps left plan (reached (Go n) c))
 
 pub begins : (plan : Plan) (tree : Value) → Comes plan tree 1 (begun plan.turns tree)
-begins plan tree = record { left = length (table plan.scenario); enough = omega arith; is = refl }
+begins plan tree =
+    record { left = length (table plan.scenario); enough = omega (arith, first_turn plan.scenario); is = refl }
 
 stays : (left : ℕ) (plan : Plan) (ending : Ending) (c : Course) → go_steps left plan (reached (Stop ending) c) ≡ reached (Stop ending) c
 stays zero plan ending c = refl
 stays (suc left) plan ending c = stays left plan ending c
 
-on_at : (left : ℕ) (plan : Plan) (tree : Value) (n m : ℕ) (c d : Course) → IsStep plan.scenario n → length (table plan.scenario) < left + n
-    → run_of plan tree ≡ replayed (go_steps left plan (reached (Go n) c)) → reached (Go m) d ≡ go_next plan (Go n) c → n < m
-    → Comes plan tree m d
-on_at zero plan tree n m c d step enough is taken less = absurd (omega (arith, step.1))
-on_at (suc left) plan tree n m c d step enough is taken less =
+on_at : (left : ℕ) (plan : Plan) (tree : Value) (n m : ℕ) (c d : Course)
+    → length (table plan.scenario) < left + turn_of plan.scenario n
+    → run_of plan tree ≡ replayed (go_steps left plan (reached (Go n) c)) → reached (Go m) d ≡ go_next plan (Go n) c
+    → turn_of plan.scenario n < turn_of plan.scenario m → Comes plan tree m d
+on_at zero plan tree n m c d enough is taken less = absurd (omega (arith, turns_few plan.scenario n))
+on_at (suc left) plan tree n m c d enough is taken less =
     record { left = left; enough = omega arith; is = is ∙ ap (λ r. replayed (go_steps left plan r)) (sym taken) }
 
--- it goes on to a later step
-pub goes_on : (plan : Plan) (tree : Value) (n m : ℕ) (c d : Course) → IsStep plan.scenario n → Comes plan tree n c
-    → reached (Go m) d ≡ go_next plan (Go n) c → n < m → Comes plan tree m d
-goes_on plan tree n m c d step comes taken less = on_at comes.left plan tree n m c d step comes.enough comes.is taken less
+-- it goes on to a step of a later turn
+pub goes_on : (plan : Plan) (tree : Value) (n m : ℕ) (c d : Course) → Comes plan tree n c
+    → reached (Go m) d ≡ go_next plan (Go n) c → turn_of plan.scenario n < turn_of plan.scenario m → Comes plan tree m d
+goes_on plan tree n m c d comes taken less = on_at comes.left plan tree n m c d comes.enough comes.is taken less
 
-end_at : (left : ℕ) (plan : Plan) (tree : Value) (n : ℕ) (ending : Ending) (c d : Course) → IsStep plan.scenario n → length (table plan.scenario) < left + n
+end_at : (left : ℕ) (plan : Plan) (tree : Value) (n : ℕ) (ending : Ending) (c d : Course)
+    → length (table plan.scenario) < left + turn_of plan.scenario n
     → run_of plan tree ≡ replayed (go_steps left plan (reached (Go n) c)) → reached (Stop ending) d ≡ go_next plan (Go n) c
     → run_of plan tree ≡ replayed_at (Stop ending) d
-end_at zero plan tree n ending c d step enough is taken = absurd (omega (arith, step.1))
-end_at (suc left) plan tree n ending c d step enough is taken =
+end_at zero plan tree n ending c d enough is taken = absurd (omega (arith, turns_few plan.scenario n))
+end_at (suc left) plan tree n ending c d enough is taken =
     is ∙ ap (λ r. replayed (go_steps left plan r)) (sym taken) ∙ ap replayed (stays left plan ending d)
 
 -- it ends
-pub ends : (plan : Plan) (tree : Value) (n : ℕ) (ending : Ending) (c d : Course) → IsStep plan.scenario n → Comes plan tree n c
+pub ends : (plan : Plan) (tree : Value) (n : ℕ) (ending : Ending) (c d : Course) → Comes plan tree n c
     → reached (Stop ending) d ≡ go_next plan (Go n) c → run_of plan tree ≡ replayed_at (Stop ending) d
-ends plan tree n ending c d step comes taken = end_at comes.left plan tree n ending c d step comes.enough comes.is taken
+ends plan tree n ending c d comes taken = end_at comes.left plan tree n ending c d comes.enough comes.is taken
 
 -- ---- each run ends
 
@@ -73,16 +77,18 @@ IsEnd (Stop ending) = Unit {0}
 
 -- enough steps are left to come to an end
 abbrev pub Enough : Plan → ℕ → StepNext → Type 0
-Enough plan left (Go n) = IsStep plan.scenario n × (length (table plan.scenario) < left + n)
+Enough plan left (Go n) =
+    IsStep plan.scenario n × (length (table plan.scenario) < left + turn_of plan.scenario n)
 Enough plan left (Stop ending) = Unit {0}
 
-still_enough : (plan : Plan) (left n : ℕ) (next : StepNext) → length (table plan.scenario) < suc left + n
-    → IsLater plan.scenario n next → Enough plan left next
+still_enough : (plan : Plan) (left n : ℕ) (next : StepNext)
+    → length (table plan.scenario) < suc left + turn_of plan.scenario n → IsLater plan.scenario n next → Enough plan left next
 still_enough plan left n (Go m) enough later = (later.1, omega (arith, later.0))
 still_enough plan left n (Stop ending) enough later = tt
 
-enough_behind : GoesForward → (plan : Plan) (left n : ℕ) (c : Course) (o : Option Step) (step : Step) → line plan.scenario n ≡ o → o ≡ Some step
-    → length (table plan.scenario) < suc left + n → Enough plan left (do_step plan n o c).next
+enough_behind : GoesForward → (plan : Plan) (left n : ℕ) (c : Course) (o : Option Step) (step : Step)
+    → line plan.scenario n ≡ o → o ≡ Some step
+    → length (table plan.scenario) < suc left + turn_of plan.scenario n → Enough plan left (do_step plan n o c).next
 enough_behind g plan left n c None step is found enough = absurd (cc)
 enough_behind g plan left n c (Some other) step is found enough =
     still_enough plan left n (next_behind plan.plain other (do_work plan n other.work (words_in plan other) c).end) enough
@@ -95,7 +101,7 @@ enough_next g plan left (Go n) c e =
 enough_next g plan left (Stop ending) c e = tt
 
 nothing_left : (plan : Plan) (next : StepNext) → Enough plan 0 next → IsEnd next
-nothing_left plan (Go n) e = absurd (omega (arith, e.0.1, e.1))
+nothing_left plan (Go n) e = absurd (omega (arith, turns_few plan.scenario n, e.1))
 nothing_left plan (Stop ending) e = tt
 
 pub come_to_end : GoesForward → (plan : Plan) (left : ℕ) (r : Reached) → Enough plan left r.next → IsEnd (go_steps left plan r).next

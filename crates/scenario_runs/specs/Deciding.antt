@@ -1,4 +1,4 @@
--- The decision that the runs of a job play, whatever the job.
+-- The walk that the runs of a job walk, whatever the job.
 use Rattle.std.proofs.Common.{ℕ, zero, suc, ◌+◌, Bool, true, false, List, [], ◌∷◌, ◌++◌, length, Option, Some, None}
 use Rattle.std.proofs.Common.{sym, ap, ◌∙◌}
 use Rattle.std.specs.Prelude.{All}
@@ -7,8 +7,14 @@ use Rattle.std.proofs.Math.Nat.{suc-lt_of_lt-pred, zero-lt-suc}
 use Rattle.script_names.specs.declared.mark.Site.{Site}
 use Rattle.script_names.specs.declared.reason.Done.{Done}
 use Rattle.utility_calls.specs.declared.acts.Act.{Act}
-use Rattle.utility_calls.specs.Acts.{row, tree_after, IsPerformed}
-use Rattle.utility_calls.specs.Decisions.{Decision, Decided, Asks, Played, mark_at, AllPerformed}
+use Rattle.utility_calls.specs.declared.backs.Back.{Back}
+use Rattle.utility_calls.specs.declared.deeds.Deed.TheVariants.{Does, Returns, Keeps}
+use Rattle.utility_calls.specs.Acts.{row, IsPerformed}
+use Rattle.utility_calls.specs.Backs.{back_row, IsNamed}
+use Rattle.utility_calls.specs.Decisions.{mark_at}
+use Rattle.utility_calls.specs.Walks.{Walk, Ends, Acts, PutsBack, Keeping, Walked, AllDone, then_walk, walk_of}
+use Rattle.utility_calls.specs.Walks.{back_mark, after_act, after_back, after_keep}
+use Rattle.utility_calls.proofs.Walking.{then_done, walks_follow, decisions_done, decisions_walk}
 use Rattle.shell_rules.specs.declared.state.Conc.{Conc}
 use Rattle.shell_rules.specs.declared.run.End.{End}
 use Rattle.colis_syntax.specs.WellFormed.{ProgramParts}
@@ -31,11 +37,12 @@ use Rattle.scenario_runs.specs.declared.course.WorkEnd.{WorkEnd}
 use Rattle.scenario_runs.specs.declared.course.WorkEnd.TheVariants.{Succeeded}
 use Rattle.scenario_runs.specs.declared.course.Worked.{Worked}
 use Rattle.scenario_runs.specs.declared.course.Reached.{Reached}
+use Rattle.scenario_runs.specs.Acts.{HasName}
 use Rattle.scenario_runs.specs.Runs as r
 use Rattle.scenario_runs.specs.Performed.{ArePerformed}
-use Rattle.colis_meaning.proofs.Playing.{bind, bind_plays, bind_performed}
+use Rattle.scenario_runs.specs.Playing.{Came, course_at, came, made, Plays, knows, handle}
 use Rattle.colis_meaning.proofs.WholeDecisions.{runs_decided}
-use Rattle.scenario_runs.specs.Playing.{plays_behind, Came, course_at, came, made, Plays, knows, handle}
+use Rattle.scenario_runs.specs.Naming.{restored_named}
 
 -- what follows, and how far the run has come
 abbrev pub reached : StepNext → Course → Reached
@@ -47,102 +54,167 @@ worked end c = record { end = end; course = c }
 
 -- ---- files
 
--- what comes behind an act, by its answer
-or_plays : (o : Option WorkEnd) (calls : List ScriptCall) (turns : ℕ) (more : Course → Worked)
-    → Plays worked (λ tree trace acts. more (course_at calls turns tree trace acts))
-    → Plays worked (λ tree trace acts. r.or_more o (course_at calls turns tree trace acts) more)
-or_plays None calls turns more p = p
-or_plays (Some end) calls turns more p = knows worked (record { value = end; calls = calls; turns = turns })
+module _ (calls : List ScriptCall) (turns unpacked : ℕ) where
+  -- this end
+  abbrev ends_as : WorkEnd → Came WorkEnd
+  ends_as end = record { value = end; calls = calls; turns = turns; unpacked = unpacked }
 
-files_play : (can_fail : Bool) (n at : ℕ) (acts : List Act) (calls : List ScriptCall) (turns : ℕ) → All IsPerformed acts
-    → Plays worked (λ tree trace before. r.do_files can_fail n at acts (course_at calls turns tree trace before))
-files_play can_fail n at [] calls turns performed =
-    knows worked (record { value = Succeeded; calls = calls; turns = turns })
-files_play can_fail n at (act ∷ acts) calls turns performed =
-    let site : Site = r.site_at n at in
-    let more = files_play can_fail n (at + 1) acts calls turns
-    (λ k d lt. performed (suc k) d (suc-lt_of_lt-pred {m = length (act ∷ acts)} lt)) in
-    let behind : (answer : Done)
-    → Plays worked (λ tree trace before. r.or_more (r.ended_behind can_fail site answer)
-    (course_at calls turns tree trace before) (r.do_files can_fail n (at + 1) acts)) =
-    λ answer. or_plays (r.ended_behind can_fail site answer) calls turns (r.do_files can_fail n (at + 1) acts) more in
-    record {
-      decision = Asks site act (λ answer. (behind answer).decision);
-      performed = (performed 0 act (zero-lt-suc (length acts)), λ answer. (behind answer).performed);
-      plays = λ tree trace before.
-          (behind (row act tree).answer).plays (tree_after act tree) (trace ++ mark_at site act tree ∷ [])
-          (before ++ act ∷ []);
-    }
+  -- what comes behind an answer
+  or_plays : (o : Option WorkEnd) (more : Course → Worked)
+      → Plays worked (λ w trace deeds. more (course_at calls turns unpacked w trace deeds))
+      → Plays worked (λ w trace deeds. r.or_more o (course_at calls turns unpacked w trace deeds) more)
+  or_plays None more p = p
+  or_plays (Some end) more p = knows worked (ends_as end)
+
+  files_play : (can_fail : Bool) (n at : ℕ) (acts : List Act) → All IsPerformed acts
+      → Plays worked (λ w trace deeds. r.do_files can_fail n at acts (course_at calls turns unpacked w trace deeds))
+  files_play can_fail n at [] performed = knows worked (ends_as Succeeded)
+  files_play can_fail n at (act ∷ acts) performed =
+      let site : Site = r.site_at n at in
+      let rest = r.do_files can_fail n (at + 1) acts in
+      let more = files_play can_fail n (at + 1) acts
+      (λ k d lt. performed (suc k) d (suc-lt_of_lt-pred {m = length (act ∷ acts)} lt)) in
+      let behind : (answer : Done)
+      → Plays worked (λ w trace deeds. r.or_more (r.ended_behind can_fail site answer)
+      (course_at calls turns unpacked w trace deeds) rest) =
+      λ answer. or_plays (r.ended_behind can_fail site answer) rest more in
+      record {
+        decision = Acts site act (λ answer. (behind answer).decision);
+        performed = (performed 0 act (zero-lt-suc (length acts)), λ answer. (behind answer).performed);
+        plays = λ w trace deeds.
+            (behind (row act w.tree).answer).plays (after_act act w) (trace ++ mark_at site act w.tree ∷ [])
+            (deeds ++ Does act ∷ []);
+      }
+
+  backs_play : (n at : ℕ) (backs : List Back) → All IsNamed backs
+      → Plays worked (λ w trace deeds. r.do_backs n at backs (course_at calls turns unpacked w trace deeds))
+  backs_play n at [] named = knows worked (ends_as Succeeded)
+  backs_play n at (back ∷ backs) named =
+      let site : Site = r.site_at n at in
+      let rest = r.do_backs n (at + 1) backs in
+      let more = backs_play n (at + 1) backs
+      (λ k d lt. named (suc k) d (suc-lt_of_lt-pred {m = length (back ∷ backs)} lt)) in
+      let behind : (answer : Done)
+      → Plays worked (λ w trace deeds. r.or_more (r.ended_behind false site answer)
+      (course_at calls turns unpacked w trace deeds) rest) =
+      λ answer. or_plays (r.ended_behind false site answer) rest more in
+      record {
+        decision = PutsBack site back (λ answer. (behind answer).decision);
+        performed = (named 0 back (zero-lt-suc (length backs)), λ answer. (behind answer).performed);
+        plays = λ w trace deeds.
+            (behind (back_row back w.kept w.tree).answer).plays (after_back back w)
+            (trace ++ back_mark site back w ∷ []) (deeds ++ Returns back ∷ []);
+      }
+
+  -- the tree is kept, and acts are done
+  kept_play : (n : ℕ) (acts : List Act) → All IsPerformed acts
+      → Plays worked
+      (λ w trace deeds. r.do_files true n 0 acts (r.keeping_tree (course_at calls turns unpacked w trace deeds)))
+  kept_play n acts performed =
+      let files = files_play true n 0 acts performed in
+      record {
+        decision = Keeping files.decision;
+        performed = files.performed;
+        plays = λ w trace deeds. files.plays (after_keep w) trace (deeds ++ Keeps ∷ []);
+      }
+
+  unpack_plays : (n : ℕ) (acts : List Act) → All IsPerformed acts
+      → Plays worked (λ w trace deeds. r.unpack n acts (course_at calls turns unpacked w trace deeds))
+  unpack_plays n acts performed =
+      handle worked worked
+      (λ w trace deeds. r.do_files true n 0 acts (r.keeping_tree (course_at calls turns unpacked w trace deeds)))
+      (r.counted (length acts)) (kept_play n acts performed)
+      (λ v. knows worked (record v { unpacked = r.done_by (length acts) v.value }))
+
+  restore_plays : (n : ℕ) (acts : List Act) → All HasName acts
+      → Plays worked (λ w trace deeds. r.restore n acts (course_at calls turns unpacked w trace deeds))
+  restore_plays n acts named = backs_play n 0 (r.restored acts unpacked) (restored_named acts unpacked named)
 
 -- ---- scripts
 
--- what a script leaves, but for the tree, the trace and the acts
-abbrev after : Side → ScriptKind → List (List ℕ) → List ScriptCall → End × Conc → Came WorkEnd
-after side script words calls v =
+-- what a script leaves, but for the trees, the trace and the deeds
+abbrev after : Side → ScriptKind → List (List ℕ) → List ScriptCall → ℕ → End × Conc → Came WorkEnd
+after side script words calls unpacked v =
     let call : ScriptCall = record { side = side; script = script; words = words; how = r.call_end v.0 } in
-    record { value = r.script_end v.0; calls = calls ++ call ∷ []; turns = v.1.turns }
+    record { value = r.script_end v.0; calls = calls ++ call ∷ []; turns = v.1.turns; unpacked = unpacked }
 
-module _ (n : ℕ) (side : Side) (script : ScriptKind) (words : List (List ℕ)) (calls : List ScriptCall) (turns : ℕ) where
+module _ (n : ℕ) (side : Side) (script : ScriptKind) (words : List (List ℕ)) (calls : List ScriptCall)
+    (turns unpacked : ℕ) where
   program_plays : (program : ProgramParts)
-      → Plays worked (λ tree trace acts. r.call_script n side script words (Some (r.program_meaning program))
-      (course_at calls turns tree trace acts))
+      → Plays worked (λ w trace deeds. r.call_script n side script words (Some (r.program_meaning program))
+      (course_at calls turns unpacked w trace deeds))
   program_plays program =
       let shell : Conc = r.begun_shell script words program.strict turns in
       let d : IsDecided program n shell = runs_decided program n shell in
-      let next : End × Conc → Decision (Came WorkEnd) = λ v. Decided (after side script words calls v) in
-      let over : Played (End × Conc) → Worked =
-      λ p. came worked (after side script words calls p.value) p.tree p.trace p.acts in
+      let next : End × Conc → Walk (Came WorkEnd) = λ v. Ends (after side script words calls unpacked v) in
+      let over : Walked (End × Conc) → Worked =
+      λ p. came worked (after side script words calls unpacked p.value) p.world p.trace p.deeds in
       record {
-        decision = bind d.decision next;
-        performed = bind_performed d.decision next d.performed (λ v. tt);
-        plays = λ tree trace acts.
-            ap (r.called side script words (course_at calls turns tree trace acts)) (d.played tree trace)
-            ∙ ap over (sym (plays_behind d.decision tree trace acts))
-            ∙ ap (made worked) (sym (bind_plays d.decision next tree trace acts));
+        decision = then_walk (walk_of d.decision) next;
+        performed = then_done (walk_of d.decision) next (decisions_done d.decision d.performed) (λ v. tt);
+        plays = λ w trace deeds.
+            ap (r.called side script words (course_at calls turns unpacked w trace deeds)) (d.played w.tree trace)
+            ∙ ap over (sym (decisions_walk d.decision w trace deeds))
+            ∙ ap (made worked) (sym (walks_follow (walk_of d.decision) next w trace deeds));
       }
 
   script_plays : (o : Option ProgramParts)
-      → Plays worked (λ tree trace acts. r.call_script n side script words (option_map r.program_meaning o)
-      (course_at calls turns tree trace acts))
-  script_plays None = knows worked (record { value = Succeeded; calls = calls; turns = turns })
+      → Plays worked (λ w trace deeds. r.call_script n side script words (option_map r.program_meaning o)
+      (course_at calls turns unpacked w trace deeds))
+  script_plays None =
+      knows worked (record { value = Succeeded; calls = calls; turns = turns; unpacked = unpacked })
   script_plays (Some program) = program_plays program
 
 -- ---- steps
 
 module _ (job : Job) (files : ArePerformed job.files) where
-  work_plays : (n : ℕ) (what : StepWork) (words : List (List ℕ)) (calls : List ScriptCall) (turns : ℕ)
-      → Plays worked (λ tree trace acts. r.do_work (r.plan_of job) n what words (course_at calls turns tree trace acts))
-  work_plays n (work.Script side script) words calls turns =
-      script_plays n side script words calls turns (script_of script (r.package_of job side).scripts)
-  work_plays n work.Unpack words calls turns = files_play true n 0 job.files.unpack calls turns files.unpack
-  work_plays n work.RemoveFiles words calls turns =
-      files_play false n 0 job.files.remove_files calls turns files.remove_files
-  work_plays n work.RemoveOld words calls turns = files_play false n 0 job.files.remove_old calls turns files.remove_old
-  work_plays n work.RemoveConf words calls turns =
-      files_play false n 0 job.files.remove_conf calls turns files.remove_conf
+  work_plays : (n : ℕ) (what : StepWork) (words : List (List ℕ)) (calls : List ScriptCall) (turns unpacked : ℕ)
+      → Plays worked
+      (λ w trace deeds. r.do_work (r.plan_of job) n what words (course_at calls turns unpacked w trace deeds))
+  work_plays n (work.Script side script) words calls turns unpacked =
+      script_plays n side script words calls turns unpacked (script_of script (r.package_of job side).scripts)
+  work_plays n work.Unpack words calls turns unpacked =
+      unpack_plays calls turns unpacked n job.files.unpack files.unpack
+  work_plays n work.RemoveFiles words calls turns unpacked =
+      files_play calls turns unpacked false n 0 job.files.remove_files files.remove_files
+  work_plays n work.RemoveOld words calls turns unpacked =
+      files_play calls turns unpacked false n 0 job.files.remove_old files.remove_old
+  work_plays n work.RemoveConf words calls turns unpacked =
+      files_play calls turns unpacked false n 0 job.files.remove_conf files.remove_conf
+  work_plays n work.Restore words calls turns unpacked =
+      restore_plays calls turns unpacked n job.files.unpack files.named
 
-  step_plays : (n : ℕ) (o : Option Step) (calls : List ScriptCall) (turns : ℕ)
-      → Plays reached (λ tree trace acts. r.do_step (r.plan_of job) n o (course_at calls turns tree trace acts))
-  step_plays n None calls turns = knows reached (record { value = Go n; calls = calls; turns = turns })
-  step_plays n (Some step) calls turns =
+  step_plays : (n : ℕ) (o : Option Step) (calls : List ScriptCall) (turns unpacked : ℕ)
+      → Plays reached
+      (λ w trace deeds. r.do_step (r.plan_of job) n o (course_at calls turns unpacked w trace deeds))
+  step_plays n None calls turns unpacked =
+      knows reached (record { value = Go n; calls = calls; turns = turns; unpacked = unpacked })
+  step_plays n (Some step) calls turns unpacked =
       let words : List (List ℕ) = r.words_in (r.plan_of job) step in
       handle worked reached
-      (λ tree trace acts. r.do_work (r.plan_of job) n step.work words (course_at calls turns tree trace acts))
-      (r.followed job.plain step) (work_plays n step.work words calls turns)
-      (λ v. knows reached (record { value = r.next_behind job.plain step v.value; calls = v.calls; turns = v.turns }))
+      (λ w trace deeds. r.do_work (r.plan_of job) n step.work words (course_at calls turns unpacked w trace deeds))
+      (r.followed job.plain step) (work_plays n step.work words calls turns unpacked)
+      (λ v. knows reached (record {
+        value = r.next_behind job.plain step v.value;
+        calls = v.calls;
+        turns = v.turns;
+        unpacked = v.unpacked;
+      }))
 
-  next_plays : (next : StepNext) (calls : List ScriptCall) (turns : ℕ)
-      → Plays reached (λ tree trace acts. r.go_next (r.plan_of job) next (course_at calls turns tree trace acts))
-  next_plays (Go n) calls turns = step_plays n (line job.scenario n) calls turns
-  next_plays (Stop ending) calls turns = knows reached (record { value = Stop ending; calls = calls; turns = turns })
+  next_plays : (next : StepNext) (calls : List ScriptCall) (turns unpacked : ℕ)
+      → Plays reached
+      (λ w trace deeds. r.go_next (r.plan_of job) next (course_at calls turns unpacked w trace deeds))
+  next_plays (Go n) calls turns unpacked = step_plays n (line job.scenario n) calls turns unpacked
+  next_plays (Stop ending) calls turns unpacked =
+      knows reached (record { value = Stop ending; calls = calls; turns = turns; unpacked = unpacked })
 
   steps_play : (left : ℕ) (v : Came StepNext)
-      → Plays reached (λ tree trace acts. r.go_steps left (r.plan_of job) (came reached v tree trace acts))
+      → Plays reached (λ w trace deeds. r.go_steps left (r.plan_of job) (came reached v w trace deeds))
   steps_play zero v = knows reached v
   steps_play (suc left) v =
       handle reached reached
-      (λ tree trace acts. r.go_next (r.plan_of job) v.value (course_at v.calls v.turns tree trace acts))
-      (r.go_steps left (r.plan_of job)) (next_plays v.value v.calls v.turns) (steps_play left)
+      (λ w trace deeds. r.go_next (r.plan_of job) v.value (course_at v.calls v.turns v.unpacked w trace deeds))
+      (r.go_steps left (r.plan_of job)) (next_plays v.value v.calls v.turns v.unpacked) (steps_play left)
 
 -- ---- runs
 
@@ -156,16 +228,16 @@ abbrev pub ended : Came StepNext → Ending × List ScriptCall
 ended v = (ending_of v.value, v.calls)
 
 module _ (job : Job) (files : ArePerformed job.files) where
-  pub whole_plays : Plays reached (λ tree trace acts. r.go_steps (length (table job.scenario)) (r.plan_of job)
-      (came reached (record { value = Go 1; calls = []; turns = job.turns }) tree trace acts))
+  pub whole_plays : Plays reached (λ w trace deeds. r.go_steps (length (table job.scenario)) (r.plan_of job)
+      (came reached (record { value = Go 1; calls = []; turns = job.turns; unpacked = 0 }) w trace deeds))
   whole_plays =
       steps_play job files (length (table job.scenario))
-      (record { value = Go 1; calls = []; turns = job.turns })
+      (record { value = Go 1; calls = []; turns = job.turns; unpacked = 0 })
 
-  -- the decision that the runs play
-  unfoldable pub decision_of : Decision (Ending × List ScriptCall)
-  decision_of = bind whole_plays.decision (λ v. Decided (ended v))
+  -- the walk that the runs walk
+  unfoldable pub decision_of : Walk (Ending × List ScriptCall)
+  decision_of = then_walk whole_plays.decision (λ v. Ends (ended v))
 
-  pub decision_performed : AllPerformed decision_of
+  pub decision_performed : AllDone decision_of
   unfolding decision_of
-  decision_performed = bind_performed whole_plays.decision (λ v. Decided (ended v)) whole_plays.performed (λ v. tt)
+  decision_performed = then_done whole_plays.decision (λ v. Ends (ended v)) whole_plays.performed (λ v. tt)

@@ -4,14 +4,14 @@ use Rattle.dpkg_scenarios.specs.declared.scenario.Scenario.{Scenario}
 use Rattle.dpkg_scenarios.specs.declared.scenario.StepNext.{StepNext}
 use Rattle.dpkg_scenarios.specs.declared.scenario.StepNext.TheVariants.{Go, Stop}
 use Rattle.dpkg_scenarios.specs.Scenarios.{Step}
-use Rattle.dpkg_scenarios.specs.Steps.{IsStep, line}
+use Rattle.dpkg_scenarios.specs.Steps.{IsStep, line, turn_of}
 use Rattle.scenario_runs.specs.declared.course.Course.{Course}
 use Rattle.scenario_runs.specs.declared.course.Worked.{Worked}
 use Rattle.scenario_runs.specs.Runs.{Plan, words_in, do_work}
 
--- a later step of the scenario, or the end
+-- a step of the scenario of a later turn, or the end
 abbrev pub IsLater : Scenario → ℕ → StepNext → Type 0
-IsLater scenario n (Go m) = (n < m) × IsStep scenario m
+IsLater scenario n (Go m) = (turn_of scenario n < turn_of scenario m) × IsStep scenario m
 IsLater scenario n (Stop ending) = Unit {0}
 
 -- what the work of a step comes to, by the step's line

@@ -1,9 +1,9 @@
--- What holds of the runs of scenarios. A run does what it does for all trees at once: the tree enters at its acts
+-- What holds of the runs of scenarios. A run does what it does for all trees at once: the tree enters at its deeds
 -- alone. And a run that had enough turns of loops is the same with more.
 use Rattle.std.specs.Prelude.{◌≡◌, ◌⊎◌, ℕ, ◌+◌, Bool, true, false, IsTrue, List, [], Some}
 use Rattle.script_names.specs.declared.mark.Mark.{Mark}
 use Rattle.feature_trees.specs.declared.value.Value.{Value}
-use Rattle.utility_calls.specs.Decisions.{Decision, Played, play, AllPerformed}
+use Rattle.utility_calls.specs.Walks.{fresh, Walk, Walked, walk, AllDone}
 use Rattle.shell_rules.specs.declared.state.Conc.{Conc}
 use Rattle.shell_rules.specs.Laws.{is_bound_end, conc_with_more, ended_with_more}
 use Rattle.dpkg_scenarios.specs.declared.scenario.ScriptKind.{ScriptKind}
@@ -19,18 +19,18 @@ use Rattle.scenario_runs.specs.Deciding.{decision_of}
 
 -- ---- decisions
 
--- what a run comes to whose decision gives an ending and the calls of scripts: the tree, the trace and the acts are
--- those of the play
-abbrev pub replayed_of : Played (Ending × List ScriptCall) → Replayed
+-- what a run comes to whose walk gives an ending and the calls of scripts: the tree, the trace and the deeds are those
+-- of the walk
+abbrev pub replayed_of : Walked (Ending × List ScriptCall) → Replayed
 replayed_of p =
-    record { ending = p.value.0; trace = p.trace; after = p.tree; calls = p.value.1; acts = p.acts }
+    record { ending = p.value.0; trace = p.trace; after = p.world.tree; calls = p.value.1; deeds = p.deeds }
 
--- The runs of a job: one decision is played by all of them, from each tree, and each of its acts can be done on every
--- tree. So each run has an end.
+-- The runs of a job: one walk is walked by all of them, from each tree, each of its acts can be done on every tree, and
+-- the path of what it puts back has a name. So each run has an end.
 pub record IsDecided (job : Job) : Type 0 where
-  pub decision : Decision (Ending × List ScriptCall)
-  pub performed : AllPerformed decision
-  pub played : (tree : Value) → scenario_run job tree ≡ Some (replayed_of (play decision tree [] []))
+  pub decision : Walk (Ending × List ScriptCall)
+  pub performed : AllDone decision
+  pub played : (tree : Value) → scenario_run job tree ≡ Some (replayed_of (walk decision (fresh tree) [] []))
 
 -- whatever the job
 abbrev pub RunsAreDecided : Type 0
@@ -40,7 +40,7 @@ RunsAreDecided = (job : Job) → ArePerformed job.files → IsDecided job
 abbrev pub DecisionsArePlayed : Type 0
 DecisionsArePlayed =
     (job : Job) (performed : ArePerformed job.files) (tree : Value)
-    → scenario_run job tree ≡ Some (replayed_of (play (decision_of job performed) tree [] []))
+    → scenario_run job tree ≡ Some (replayed_of (walk (decision_of job performed) (fresh tree) [] []))
 
 -- ---- turns of loops
 
@@ -73,7 +73,7 @@ plan_with_more n plan = record plan { turns = plan.turns + n }
 abbrev pub job_with_more : ℕ → Job → Job
 job_with_more n job = record job { turns = job.turns + n }
 
--- The run of a plan that is not bound is the same run with more turns, in ending, trace, tree, calls and acts, where
+-- The run of a plan that is not bound is the same run with more turns, in ending, trace, tree, calls and deeds, where
 -- this holds of each of its scripts.
 abbrev pub MoreTurnsOfPlans : Type 0
 MoreTurnsOfPlans =

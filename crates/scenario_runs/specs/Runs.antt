@@ -1,17 +1,21 @@
--- The run of a scenario from a tree: steps, one after another, each a script that is called, or files that are placed
--- or taken away (Debian Policy, chapter 6).
-use Rattle.std.specs.Prelude.{ℕ, zero, suc, ◌+◌, Bool, true, false, List, [], ◌∷◌, ◌++◌, length, codes}
-use Rattle.std.specs.Prelude.{Option, Some, None, if◌then◌else◌}
+-- The run of a scenario from a tree: steps, one after another, each a script that is called, or files that are placed,
+-- taken away or put back (Debian Policy, chapter 6).
+use Rattle.std.specs.Prelude.{ℕ, zero, suc, ◌+◌, Bool, true, false, List, [], ◌∷◌, ◌++◌, length, map, reverse, take}
+use Rattle.std.specs.Prelude.{codes, Option, Some, None, if◌then◌else◌}
 use Rattle.std.specs.Option.{option_map}
-use Rattle.std.specs.FinMap as map
+use Rattle.std.specs.FinMap as env
 use Rattle.script_names.specs.declared.mark.Mark.{Mark}
 use Rattle.script_names.specs.declared.mark.Site.{Site}
 use Rattle.script_names.specs.declared.reason.Done.{Done}
 use Rattle.script_names.specs.declared.reason.Done.TheVariants as done
 use Rattle.feature_trees.specs.declared.value.Value.{Value}
 use Rattle.utility_calls.specs.declared.acts.Act.{Act}
+use Rattle.utility_calls.specs.declared.backs.Back.{Back}
+use Rattle.utility_calls.specs.declared.deeds.Deed.TheVariants.{Does, Returns, Keeps}
 use Rattle.utility_calls.specs.Acts.{row, tree_after}
+use Rattle.utility_calls.specs.Backs.{back_of, back_row, back_after}
 use Rattle.utility_calls.specs.Decisions.{mark_at}
+use Rattle.utility_calls.specs.Walks.{world, back_mark}
 use Rattle.shell_rules.specs.declared.state.Conc.{Conc}
 use Rattle.shell_rules.specs.declared.run.End.{End}
 use Rattle.shell_rules.specs.declared.run.End.TheVariants as end
@@ -70,7 +74,7 @@ pub record Plan : Type 0 where
 -- are left as the run has left
 abbrev pub begun_shell : ScriptKind → List (List ℕ) → Bool → ℕ → Conc
 begun_shell script words strict turns = record {
-  vars = map.insert map.empty (codes "DPKG_MAINTSCRIPT_NAME") (script_name script);
+  vars = env.insert env.empty (codes "DPKG_MAINTSCRIPT_NAME") (script_name script);
   args = words;
   strict = strict;
   status = true;
@@ -96,10 +100,10 @@ script_end (end.Bound site) = Over (ending.Bound site)
 abbrev pub called : Side → ScriptKind → List (List ℕ) → Course → Ended → Worked
 called side script words c e =
     let call : ScriptCall = record { side = side; script = script; words = words; how = call_end e.end } in
-    let course : Course = record {
+    let course : Course = record c {
       tree = e.tree;
       trace = e.trace;
-      acts = c.acts ++ e.acts;
+      deeds = c.deeds ++ map Does e.acts;
       calls = c.calls ++ call ∷ [];
       turns = e.conc.turns;
     } in record { end = script_end e.end; course = course }
@@ -122,7 +126,7 @@ abbrev pub acted : Site → Act → Course → Course
 acted site act c = record c {
   tree = tree_after act c.tree;
   trace = c.trace ++ mark_at site act c.tree ∷ [];
-  acts = c.acts ++ act ∷ [];
+  deeds = c.deeds ++ Does act ∷ [];
 }
 
 -- The end of a step behind an act that answers so, if it ends there: an act that stops ends the run at its site, and a
@@ -144,15 +148,62 @@ do_files can_fail n at (act ∷ acts) c =
     or_more (ended_behind can_fail (site_at n at) (row act c.tree).answer) (acted (site_at n at) act c)
     (do_files can_fail n (at + 1) acts)
 
+-- ---- a step that unpacks
+
+-- the tree is kept as it is
+abbrev pub keeping_tree : Course → Course
+keeping_tree c = record c { kept = c.tree; deeds = c.deeds ++ Keeps ∷ [] }
+
+-- How many of so many acts were done with success by an unpacking that ended so: where one failed, those before it.
+-- Where one stopped, the run has ended, and none counts.
+abbrev pub done_by : ℕ → WorkEnd → ℕ
+done_by all Succeeded = all
+done_by all (Failed at) = at
+done_by all (Over ending) = 0
+
+-- with the count of the acts, of so many, that were done with success
+abbrev pub counted : ℕ → Worked → Worked
+counted all w = record { end = w.end; course = record w.course { unpacked = done_by all w.end } }
+
+-- step n unpacks by these acts; the tree is kept as it was before them
+abbrev pub unpack : ℕ → List Act → Course → Worked
+unpack n acts c = counted (length acts) (do_files true n 0 acts (keeping_tree c))
+
+-- ---- a step that puts back
+
+-- what a back leaves
+abbrev pub returned : Site → Back → Course → Course
+returned site back c = record c {
+  tree = back_after back c.kept c.tree;
+  trace = c.trace ++ back_mark site back (world c.tree c.kept) ∷ [];
+  deeds = c.deeds ++ Returns back ∷ [];
+}
+
+-- backs in order, numbered from this number on; none of them fails
+abbrev pub do_backs : ℕ → ℕ → List Back → Course → Worked
+do_backs n at [] c = record { end = Succeeded; course = c }
+do_backs n at (back ∷ backs) c =
+    or_more (ended_behind false (site_at n at) (back_row back c.kept c.tree).answer) (returned (site_at n at) back c)
+    (do_backs n (at + 1) backs)
+
+-- what is put back where the first so many of these acts were done: from the last of them to the first
+abbrev pub restored : List Act → ℕ → List Back
+restored acts n = reverse (map back_of (take n acts))
+
+-- step n puts back what was unpacked by these acts
+abbrev pub restore : ℕ → List Act → Course → Worked
+restore n acts c = do_backs n 0 (restored acts c.unpacked) c
+
 -- ---- steps
 
 -- the work of step n, whose call has these words; of the steps on files, the one that places them can fail
 abbrev pub do_work : Plan → ℕ → StepWork → List (List ℕ) → Course → Worked
 do_work plan n (work.Script side script) words c = call_script n side script words (plan.scripts side script) c
-do_work plan n work.Unpack words c = do_files true n 0 plan.files.unpack c
+do_work plan n work.Unpack words c = unpack n plan.files.unpack c
 do_work plan n work.RemoveFiles words c = do_files false n 0 plan.files.remove_files c
 do_work plan n work.RemoveOld words c = do_files false n 0 plan.files.remove_old c
 do_work plan n work.RemoveConf words c = do_files false n 0 plan.files.remove_conf c
+do_work plan n work.Restore words c = restore n plan.files.unpack c
 
 -- the words of a step's call
 abbrev pub words_in : Plan → Step → List (List ℕ)
@@ -160,8 +211,8 @@ words_in plan step = step.words plan.old_version plan.new_version
 
 -- what follows a step whose work ended so
 abbrev pub next_behind : Bool → Step → WorkEnd → StepNext
-next_behind plain step Succeeded = follows step true plain 0
-next_behind plain step (Failed at) = follows step false plain at
+next_behind plain step Succeeded = follows step true plain
+next_behind plain step (Failed at) = follows step false plain
 next_behind plain step (Over ending) = Stop ending
 
 -- what follows the step, with how far the run has come
@@ -187,20 +238,22 @@ go_steps (suc left) plan r = go_steps left plan (go_next plan r.next r.course)
 
 -- before the first step nothing was done, and all turns are left
 abbrev pub begun : ℕ → Value → Course
-begun turns tree = record { tree = tree; trace = []; acts = []; calls = []; turns = turns }
+begun turns tree =
+    record { tree = tree; kept = tree; trace = []; deeds = []; calls = []; turns = turns; unpacked = 0 }
 
 -- what a run comes to that has ended
 abbrev pub replayed_at : StepNext → Course → Option Replayed
 replayed_at (Go n) c = None
 replayed_at (Stop ending) c =
-    Some (record { ending = ending; trace = c.trace; after = c.tree; calls = c.calls; acts = c.acts })
+    Some (record { ending = ending; trace = c.trace; after = c.tree; calls = c.calls; deeds = c.deeds })
 
 -- what a run comes to that has ended, from where it is
 abbrev pub replayed : Reached → Option Replayed
 replayed r = replayed_at r.next r.course
 
--- The run of a plan's scenario from a tree. Each step is followed by a later one or by the end, so it has at most as
--- many steps as the scenario's table. None where none of these ended it, which is so of no job (RunsAreDecided).
+-- The run of a plan's scenario from a tree. Each step is followed by one of a later turn or by the end, so it has at
+-- most as many steps as the scenario's table. None where none of these ended it, which is so of no job
+-- (RunsAreDecided).
 abbrev pub run_of : Plan → Value → Option Replayed
 run_of plan tree =
     let first : Reached = record { next = Go 1; course = begun plan.turns tree } in

@@ -1,27 +1,32 @@
-ghost use Rattle.std.specs.Prelude.{◌≡◌, ◌++◌, ◌∷◌, []};
+ghost use Rattle.std.specs.Prelude.{◌≡◌, IfOk};
 ghost use Rattle.scenario_runs.specs.Runs.{begun};
 
 use crate::call::ScriptCall;
 use dpkg_scenarios::{Ending, StepNext};
 use feature_trees::Value;
-use script_names::List;
+use script_names::{Copied, List, Memory};
 use shell_rules::Trace;
 use std::alloc::Global;
-use utility_calls::acts::Act;
+use utility_calls::deeds::Deed;
 
 /// How far a run of a scenario has come.
 #[derive(Drop)]
 pub struct Course {
     /// The file tree, as it is now.
     pub tree: Value,
-    /// The marks of the acts that were done, in order.
+    /// The file tree as it was when it was kept, at the begin of the last unpacking; before the first one that of the
+    /// run's begin.
+    pub kept: Value,
+    /// The marks of the acts that were done and of what was put back, in order.
     pub trace: Trace,
-    /// These acts.
-    pub acts: List<Act>,
+    /// What was done to the trees, in order.
+    pub deeds: List<Deed>,
     /// The calls of scripts, in order.
     pub calls: List<ScriptCall>,
     /// How many more turns of loops may be taken.
     pub turns: u32,
+    /// How many acts of the last unpacking were done with success.
+    pub unpacked: u32,
 }
 
 /// How the work of a step ended.
@@ -50,14 +55,18 @@ pub struct Reached {
 }
 
 /// A run in which nothing was done.
-pub(crate) fn begun(alloc: Global, tree: Value, turns: u32) -> Course
-    ensures { result ≡ begun turns tree }
+pub(crate) fn begun(alloc: Global, tree: &Value, turns: u32) -> Result<Course, Memory>
+    ensures { IfOk result (λ course. course ≡ begun turns tree.now) }
 {
-    Course {
-        tree,
+    let start = tree.copy(alloc)?;
+    let kept = tree.copy(alloc)?;
+    Ok(Course {
+        tree: start,
+        kept,
         trace: List::new(alloc),
-        acts: List::new(alloc),
+        deeds: List::new(alloc),
         calls: List::new(alloc),
         turns,
-    }
+        unpacked: 0,
+    })
 }

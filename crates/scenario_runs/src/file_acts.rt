@@ -1,14 +1,14 @@
 ghost use Rattle.std.specs.Prelude.{◌≡◌, All};
 ghost use Rattle.utility_calls.specs.Acts.{IsPerformed};
-ghost use Rattle.scenario_runs.specs.Acts.{AreFileActs, numbered};
+ghost use Rattle.scenario_runs.specs.Acts.{AreFileActs, HasName, numbered};
 
 use script_names::{Copied, List, Memory};
 use std::alloc::Global;
 use std::marker::Model;
 use utility_calls::acts::Act;
 
-/// The acts of a step that places or takes away files, in order. Each can be done on every tree, and there are at most
-/// 4,294,967,295, so that each has a number.
+/// The acts of a step that places or takes away files, in order. Each can be done on every tree, the path of each has a
+/// name, and there are at most 4,294,967,295, so that each has a number.
 #[derive(Drop)]
 pub struct FileActs {
     acts: List<Act>,
@@ -36,7 +36,8 @@ impl Model for FileActs {
 impl FileActs {
     /// These acts; None where there are more than 4,294,967,295.
     pub fn new(acts: List<Act>) -> Option<FileActs>
-        requires { All IsPerformed acts }
+        requires performed { All IsPerformed acts }
+        requires named { All HasName acts }
         ensures { result ≡ numbered acts }
     {
         if acts.len() > 4_294_967_295 {

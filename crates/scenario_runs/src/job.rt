@@ -86,7 +86,7 @@ impl Job {
         }
     }
 
-    /// Says of the acts on files that each can be done on every tree.
+    /// Says of the acts on files that each can be done on every tree, and that what unpacks can be put back.
     pub fn acts_are_performed(&self)
         ensures { ArePerformed self.now.files }
     {

@@ -1,5 +1,5 @@
 //! The run of a scenario on one concrete tree: its scripts, called one after another as dpkg_scenarios says, and the
-//! files that are placed and taken away between them (Debian Policy, chapter 6). It stands on dpkg_scenarios,
+//! files that are placed, taken away and put back between them (Debian Policy, chapter 6). It stands on dpkg_scenarios,
 //! colis_interp, concrete_utils and the crates below these. Begin with specs/Runs.antt, which says what a run is, and
 //! with `job` and `runs`; `theorems` has what holds of runs.
 #![tactic(auto)]
@@ -10,6 +10,7 @@ mod file_acts;
 mod files;
 mod job;
 mod replayed;
+mod restoring;
 mod runs;
 mod scripts;
 mod steps;
@@ -20,4 +21,5 @@ pub use course::{Course, Reached, WorkEnd, Worked};
 pub use file_acts::FileActs;
 pub use job::{Files, Job, PackagePrograms};
 pub use replayed::Replayed;
+pub use restoring::restored;
 pub use runs::run;

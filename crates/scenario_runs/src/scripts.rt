@@ -1,6 +1,7 @@
-ghost use Rattle.std.specs.Prelude.{◌≡◌, ◌++◌, IfOk, OnOk, Some};
+ghost use Rattle.std.specs.Prelude.{◌≡◌, ◌++◌, map, IfOk, OnOk, Some};
 ghost use Rattle.feature_trees.specs.declared.kind.Kind.TheVariants.{Dir};
 ghost use Rattle.feature_trees.specs.Tree.{kind_of};
+ghost use Rattle.utility_calls.specs.declared.deeds.Deed.TheVariants.{Does};
 ghost use Rattle.scenario_runs.specs.Runs.{begun_shell, script_end, call_script, program_meaning};
 
 use crate::call::{ScriptCall, call_end};
@@ -13,6 +14,7 @@ use shell_rules::{Conc, End};
 use shell_words::Env;
 use std::alloc::Global;
 use utility_calls::acts::Act;
+use utility_calls::deeds::Deed;
 
 // The shell in which a script is called with these words.
 fn begun_shell(
@@ -50,12 +52,12 @@ fn script_end(end: End) -> WorkEnd
     }
 }
 
-// Adds acts to others.
-fn append(acts: &mut List<Act>, more: List<Act>) -> Result<(), Memory>
-    ensures { OnOk result (acts.new ≡ acts.old ++ more) }
+// Adds acts to what was done.
+fn append(deeds: &mut List<Deed>, acts: List<Act>) -> Result<(), Memory>
+    ensures { OnOk result (deeds.new ≡ deeds.old ++ map Does acts) }
 {
-    for a in more.into_vec() {
-        acts.add(a)?;
+    for a in acts.into_vec() {
+        deeds.add(Deed::Does(a))?;
     }
     Ok(())
 }
@@ -77,14 +79,16 @@ pub(crate) fn call_script(
 {
     let Course {
         mut tree,
+        kept,
         mut trace,
-        mut acts,
+        mut deeds,
         mut calls,
         turns,
+        unpacked,
     } = course;
     let mut shell = begun_shell(alloc, script, &words, program.strict(), turns)?;
-    let Ran { end, acts: done } = run(alloc, program, step, &mut shell, &mut tree, &mut trace)?;
-    append(&mut acts, done)?;
+    let Ran { end, acts } = run(alloc, program, step, &mut shell, &mut tree, &mut trace)?;
+    append(&mut deeds, acts)?;
     calls.add(ScriptCall {
         side,
         script,
@@ -95,10 +99,12 @@ pub(crate) fn call_script(
         end: script_end(end),
         course: Course {
             tree,
+            kept,
             trace,
-            acts,
+            deeds,
             calls,
             turns: shell.turns,
+            unpacked,
         },
     })
 }

@@ -10,6 +10,7 @@ ghost use Rattle.scenario_runs.specs.Later.{IsLater, Works};
 use crate::course::{Course, Reached, WorkEnd, Worked};
 use crate::files::do_files;
 use crate::job::Job;
+use crate::restoring::{restore, unpack};
 use crate::scripts::call_script;
 use dpkg_scenarios::theorems::scenarios_end;
 use dpkg_scenarios::{ScriptKind, Side, StepNext, StepWork, call_words, next, work};
@@ -58,10 +59,11 @@ fn do_work(alloc: Global, job: &Job, step: u16, course: Course) -> Result<Worked
 {
     match work(job.scenario, step) {
         StepWork::Script { side, script } => call_step(alloc, job, step, side, script, course),
-        StepWork::Unpack => do_files(alloc, true, step, &job.files.unpack, course),
+        StepWork::Unpack => unpack(alloc, step, &job.files.unpack, course),
         StepWork::RemoveFiles => do_files(alloc, false, step, &job.files.remove_files, course),
         StepWork::RemoveOld => do_files(alloc, false, step, &job.files.remove_old, course),
         StepWork::RemoveConf => do_files(alloc, false, step, &job.files.remove_conf, course),
+        StepWork::Restore => restore(alloc, step, &job.files.unpack, course),
     }
 }
 
@@ -71,8 +73,8 @@ fn next_behind(job: &Job, step: u16, end: WorkEnd) -> StepNext
     ensures { (s : Step) → line job.now.scenario step ≡ Some s → result ≡ next_behind job.now.plain s end }
 {
     match end {
-        WorkEnd::Succeeded => next(job.scenario, step, true, 0, job.plain),
-        WorkEnd::Failed(at) => next(job.scenario, step, false, at, job.plain),
+        WorkEnd::Succeeded => next(job.scenario, step, true, job.plain),
+        WorkEnd::Failed(_) => next(job.scenario, step, false, job.plain),
         WorkEnd::Over(ending) => StepNext::Stop(ending),
     }
 }
