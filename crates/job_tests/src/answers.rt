@@ -3,9 +3,9 @@
 use checker_input::{Packages, Task, read_task};
 use checker_io::MemShelf;
 use command_words::{Request, read_words};
-use dpkg_scenarios::Scenario;
+use dpkg_scenarios::{Ending, Scenario};
 use feature_trees::{Kind, Kinds, Special, Value};
-use outcome_report::{Report, make_part};
+use outcome_report::{Report, ReportEntry, make_part};
 use package_jobs::{job_of, needs_of};
 use report_text::{render_brief, render_run};
 use scenario_outcomes::OutcomesFault;
@@ -252,4 +252,66 @@ pub(crate) fn report(
 ) -> Result<Bytes, Memory> {
     let task = task(alloc, line, files, others)?;
     task_report(alloc, scenario, &task)
+}
+
+// Whether the outcome of an entry is failed.
+fn is_failed(entry: &ReportEntry) -> bool {
+    match entry.outcome.ending {
+        Ending::Failed(_) => true,
+        _ => false,
+    }
+}
+
+// Whether so many of these entries are of failed outcomes, each of which leaves the tree that it shows.
+fn fail_back(entries: &[ReportEntry], failed: usize) -> bool {
+    let mut left = failed;
+    for entry in entries {
+        if is_failed(entry) {
+            if left == 0 {
+                return false;
+            }
+            left -= 1;
+            if !entry.outcome.shown.equal(&entry.replayed.after) {
+                return false;
+            }
+        }
+    }
+    left == 0
+}
+
+// Whether a scenario has so many outcomes, and so many of them fail, each of which leaves the tree that it shows.
+fn task_fails_back(
+    alloc: Global,
+    scenario: Scenario,
+    task: &Task,
+    all: usize,
+    failed: usize,
+) -> Result<bool, Memory> {
+    match task {
+        Task::Check { packages, .. } => {
+            let job = job_of(alloc, scenario, packages, 100)?;
+            let needs = needs_of(alloc, scenario, packages)?;
+            match make_part(alloc, &job, &needs, 1000) {
+                Ok(part) => {
+                    Ok(part.entries.len() == all && fail_back(part.entries.as_slice(), failed))
+                }
+                Err(_) => Err(Memory),
+            }
+        }
+        _ => Err(Memory),
+    }
+}
+
+/// Whether a scenario has so many outcomes for the request of a line over these files, and so many of them fail, each of
+/// which leaves the tree that it shows.
+pub(crate) fn fails_back(
+    alloc: Global,
+    scenario: Scenario,
+    line: &str,
+    files: &[File],
+    all: usize,
+    failed: usize,
+) -> Result<bool, Memory> {
+    let task = task(alloc, line, files, &[])?;
+    task_fails_back(alloc, scenario, &task, all, failed)
 }

@@ -1,6 +1,6 @@
 //! Tests of package_jobs: what is needed of the trees that a scenario may begin from, the acts of steps, and the runs of
-//! jobs, with each step that succeeds and each that fails, with stated calls, and with folders that hold no foreign
-//! entry. They stand apart from package_jobs, so that it is not proved twice.
+//! jobs, with each step that succeeds and each that fails, with files that are put back, with stated calls, and with
+//! folders that hold no foreign entry. They stand apart from package_jobs, so that it is not proved twice.
 #![tactic(auto)]
 
 #[cfg(test)]
@@ -11,6 +11,8 @@ mod needs;
 mod owned;
 #[cfg(test)]
 mod placed;
+#[cfg(test)]
+mod put_back;
 #[cfg(test)]
 mod runs;
 #[cfg(test)]

@@ -66,6 +66,7 @@ const ACTS: &[(Scenario, StepWork, &[u8], &[u8], &[u8])] = &[
         b"",
         b"D/etc/foo/a.conf X/srv/e X/etc/foo ",
     ),
+    (Scenario::Install, StepWork::Restore, b"", b"", b""),
     (
         Scenario::Purge,
         StepWork::Script {

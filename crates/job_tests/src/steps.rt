@@ -14,6 +14,9 @@ const FAILS: &[u8] = b"#!/bin/sh\nexit 1\n";
 // Fails where it is called to purge.
 const KEEPS: &[u8] = b"#!/bin/sh\n[ \"$1\" != purge ]\n";
 
+// Fails where it is not called to undo an upgrade.
+const ABORTS: &[u8] = b"#!/bin/sh\n[ \"$1\" = abort-upgrade ]\n";
+
 const FILES: &[File] = &[
     ("p/control", b"Version: 2\n"),
     ("p/list", b"/srv/n\n"),
@@ -59,8 +62,18 @@ call new postinst configure \\e failed
     (
         Scenario::Install,
         &[("t", b"f /srv\n")],
-        "incomplete restore 2:0",
-        "call new preinst install ok\n",
+        "failed Not-Installed",
+        "call new preinst install ok
+call new postrm abort-install ok
+",
+    ),
+    (
+        Scenario::Install,
+        &[("t", b"f /srv\n"), ("p/postrm", FAILS)],
+        "failed Half-Installed",
+        "call new preinst install ok
+call new postrm abort-install failed
+",
     ),
     (
         Scenario::Install,
@@ -103,8 +116,18 @@ call new postinst configure 1 failed
     (
         Scenario::InstallAgain,
         &[("t", b"d /srv\nd /srv/n\n")],
-        "incomplete restore 2:0",
-        "call new preinst install 1 2 ok\n",
+        "failed Config-Files",
+        "call new preinst install 1 2 ok
+call new postrm abort-install 1 2 ok
+",
+    ),
+    (
+        Scenario::InstallAgain,
+        &[("t", b"d /srv\nd /srv/n\n"), ("p/postrm", FAILS)],
+        "failed Half-Installed",
+        "call new preinst install 1 2 ok
+call new postrm abort-install 1 2 failed
+",
     ),
     (
         Scenario::Upgrade,
@@ -171,9 +194,30 @@ call new postrm abort-upgrade 1 2 failed
     (
         Scenario::Upgrade,
         &[("t", b"")],
-        "incomplete restore 4:0",
+        "failed Installed",
         "call old prerm upgrade 2 ok
 call new preinst upgrade 1 2 ok
+call new postrm abort-upgrade 1 2 ok
+call old postinst abort-upgrade 2 ok
+",
+    ),
+    (
+        Scenario::Upgrade,
+        &[("t", b""), ("o/postinst", FAILS)],
+        "failed Unpacked",
+        "call old prerm upgrade 2 ok
+call new preinst upgrade 1 2 ok
+call new postrm abort-upgrade 1 2 ok
+call old postinst abort-upgrade 2 failed
+",
+    ),
+    (
+        Scenario::Upgrade,
+        &[("t", b""), ("p/postrm", FAILS)],
+        "failed Half-Installed",
+        "call old prerm upgrade 2 ok
+call new preinst upgrade 1 2 ok
+call new postrm abort-upgrade 1 2 failed
 ",
     ),
     (
@@ -190,11 +234,58 @@ call new postinst configure 1 ok
     (
         Scenario::Upgrade,
         &[("o/postrm", FAILS), ("p/postrm", FAILS)],
-        "incomplete restore 6:0",
+        "failed Half-Installed",
         "call old prerm upgrade 2 ok
 call new preinst upgrade 1 2 ok
 call old postrm upgrade 2 failed
 call new postrm failed-upgrade 1 2 failed
+call old preinst abort-upgrade 2 ok
+call new postrm abort-upgrade 1 2 failed
+",
+    ),
+    (
+        Scenario::Upgrade,
+        &[("o/postrm", FAILS), ("p/postrm", ABORTS)],
+        "failed Installed",
+        "call old prerm upgrade 2 ok
+call new preinst upgrade 1 2 ok
+call old postrm upgrade 2 failed
+call new postrm failed-upgrade 1 2 failed
+call old preinst abort-upgrade 2 ok
+call new postrm abort-upgrade 1 2 ok
+call old postinst abort-upgrade 2 ok
+",
+    ),
+    (
+        Scenario::Upgrade,
+        &[
+            ("o/postrm", FAILS),
+            ("p/postrm", ABORTS),
+            ("o/postinst", FAILS),
+        ],
+        "failed Unpacked",
+        "call old prerm upgrade 2 ok
+call new preinst upgrade 1 2 ok
+call old postrm upgrade 2 failed
+call new postrm failed-upgrade 1 2 failed
+call old preinst abort-upgrade 2 ok
+call new postrm abort-upgrade 1 2 ok
+call old postinst abort-upgrade 2 failed
+",
+    ),
+    (
+        Scenario::Upgrade,
+        &[
+            ("o/postrm", FAILS),
+            ("p/postrm", ABORTS),
+            ("o/preinst", FAILS),
+        ],
+        "failed Half-Installed",
+        "call old prerm upgrade 2 ok
+call new preinst upgrade 1 2 ok
+call old postrm upgrade 2 failed
+call new postrm failed-upgrade 1 2 failed
+call old preinst abort-upgrade 2 failed
 ",
     ),
     (

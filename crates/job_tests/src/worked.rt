@@ -230,15 +230,34 @@ f /old-postrm-upgrade
     (
         Scenario::Upgrade,
         b"f /new-postrm-failed-upgrade\nf /old-postrm-upgrade\n",
-        r"result incomplete restore 6:0
-trace 1:10:66 3:10:66 5:10:67 6:10:67
+        r"result failed Installed
+trace 1:10:66 3:10:66 5:10:67 6:10:67 13:10:66 10:10:66 11:10:66
 call old prerm upgrade 2 ok
 call new preinst upgrade 1 2 ok
 call old postrm upgrade 2 failed
 call new postrm failed-upgrade 1 2 failed
+call old preinst abort-upgrade 2 ok
+call new postrm abort-upgrade 1 2 ok
+call old postinst abort-upgrade 2 ok
 after
 f /new-postrm-failed-upgrade
 f /old-postrm-upgrade
+",
+    ),
+    (
+        Scenario::Upgrade,
+        b"f /new-postrm-failed-upgrade\nf /old-postrm-upgrade\nf /old-preinst-abort-upgrade\n",
+        r"result failed Half-Installed
+trace 1:10:66 3:10:66 5:10:67 6:10:67 13:10:67
+call old prerm upgrade 2 ok
+call new preinst upgrade 1 2 ok
+call old postrm upgrade 2 failed
+call new postrm failed-upgrade 1 2 failed
+call old preinst abort-upgrade 2 failed
+after
+f /new-postrm-failed-upgrade
+f /old-postrm-upgrade
+f /old-preinst-abort-upgrade
 ",
     ),
     (

@@ -1,4 +1,4 @@
--- What a report keeps of a run: all but its acts, of which it tells the marks.
+-- What a report keeps of a run: all but its deeds, of which it tells the marks.
 use Rattle.scenario_runs.specs.declared.replayed.Replayed.{Replayed}
 use Rattle.outcome_report.specs.declared.replay.Replay.{Replay}
 

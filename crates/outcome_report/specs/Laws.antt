@@ -23,7 +23,7 @@ PartsCarryOver run other start from =
 
 -- ---- parts end alike
 
--- how an outcome ends, and its acts
+-- how an outcome ends, and its trace
 abbrev pub ending_and_trace : ReportEntry → Ending × List Mark
 ending_and_trace entry = (entry.outcome.ending, entry.outcome.trace)
 

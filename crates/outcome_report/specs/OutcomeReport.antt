@@ -15,7 +15,7 @@ use Rattle.outcome_report.specs.Kept.{replay_of}
 
 -- ---- entries
 
--- the replay ends as the outcome says, with its acts
+-- the replay ends as the outcome says, with its trace
 pub record Agrees (entry : ReportEntry) : Type 0 where
   pub ending : entry.replayed.ending ≡ entry.outcome.ending
   pub trace : entry.replayed.trace ≡ entry.outcome.trace

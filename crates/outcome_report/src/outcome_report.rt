@@ -77,7 +77,7 @@ fn same_trace(a: &[Mark], b: &[Mark]) -> bool
 }
 
 /// The entry of any outcome and of what is kept of any run: it is confirmed where the two have the same ending and the
-/// same acts.
+/// same trace.
 pub fn make_entry(outcome: Outcome, replayed: Replay) -> ReportEntry
     ensures outcome { result.outcome ≡ outcome }
     ensures replayed { result.replayed ≡ replayed }

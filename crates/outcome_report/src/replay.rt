@@ -7,8 +7,8 @@ use scenario_runs::{Replayed, ScriptCall};
 use script_names::{Copied, List, Mark, Memory};
 use std::alloc::Global;
 
-/// What a report keeps of a run: its ending, the marks of the acts that were done, in order, the tree that it left, and
-/// the calls of scripts, in order.
+/// What a report keeps of a run: its ending, the marks of its deeds, in order, the tree that it left, and the calls of
+/// scripts, in order.
 #[derive(Drop)]
 pub struct Replay {
     pub ending: Ending,
@@ -40,7 +40,7 @@ pub fn keep_replay(run: Replayed) -> Replay
         trace,
         after,
         calls,
-        acts: _,
+        deeds: _,
     } = run;
     Replay {
         ending,

@@ -25,7 +25,7 @@ use Rattle.report_text.specs.ReportText.{result_text, call_content}
 abbrev pub texts_json : List (List ℕ) → Data
 texts_json texts = array (items_of (map string texts))
 
--- the marks of the acts that were done, with a space between each two
+-- the marks of a trace, with a space between each two
 abbrev pub trace_json : List Mark → Data
 trace_json trace = string (join_with_byte space (map mark_text trace))
 

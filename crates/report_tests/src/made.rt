@@ -87,7 +87,7 @@ pub(crate) fn replayed(alloc: Global, row: RunRow<'_>) -> Result<Replayed, Memor
         trace,
         after,
         calls,
-        acts: List::new(alloc),
+        deeds: List::new(alloc),
     })
 }
 

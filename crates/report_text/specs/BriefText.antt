@@ -1,4 +1,4 @@
--- The brief text of a report: of each outcome its number, its ending and its acts.
+-- The brief text of a report: of each outcome its number, its ending and its trace.
 use Rattle.std.specs.Prelude.{ℕ, List, ◌++◌, codes}
 use Rattle.std.specs.List.{flat_map}
 use Rattle.shown_texts.specs.Lines.{line}

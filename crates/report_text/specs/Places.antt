@@ -21,16 +21,16 @@ unsited kind = record { kind = kind; sited = false; step = 0; at = 0 }
 abbrev pub sited : EndKind → Site → EndPlace
 sited kind site = record { kind = kind; sited = true; step = site.step; at = site.at }
 
--- the place of a failure: the site of the last act, if any act was done
+-- the place of a failure: the site of the last mark, if there is any
 abbrev pub failed_behind : Option Mark → EndPlace
 failed_behind None = unsited Failed
 failed_behind (Some mark) = sited Failed mark.site
 
--- the place of a failure behind these acts
+-- the place of a failure behind these marks
 abbrev pub failed_at : List Mark → EndPlace
 failed_at trace = failed_behind (slice_get trace (length trace - 1))
 
--- where an outcome with this ending and these acts ends, unless it is done
+-- where an outcome with this ending and this trace ends, unless it is done
 abbrev pub end_place : Ending → List Mark → Option EndPlace
 end_place (ending.Done state) trace = None
 end_place (ending.Failed state) trace = Some (failed_at trace)

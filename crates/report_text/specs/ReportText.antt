@@ -43,7 +43,7 @@ outcome_line entry =
 abbrev pub trace_mark : Mark → List ℕ
 trace_mark mark = codes " " ++ mark_text mark
 
--- the acts that were done
+-- the marks of what was done
 unfoldable pub trace_line : List Mark → List ℕ
 trace_line trace = line (codes "trace" ++ flat_map trace_mark trace)
 

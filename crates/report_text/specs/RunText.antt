@@ -11,7 +11,7 @@ use Rattle.report_text.specs.ReportText.{result_text, trace_line, call_line}
 unfoldable pub result_line : Ending → List ℕ
 result_line ending = line (codes "result " ++ result_text ending)
 
--- the text of a run: how it ended, the acts, the calls of scripts, and the tree that it left
+-- the text of a run: how it ended, its trace, the calls of scripts, and the tree that it left
 unfoldable pub run_text : Replayed → List ℕ
 run_text replayed =
     result_line replayed.ending

@@ -18,7 +18,7 @@ fn put_result_line(text: &mut Bytes, ending: Ending) -> Result<(), Memory>
     text.extend(b"\n")
 }
 
-/// The text of one run: how it ended, the acts, the calls of scripts, and the tree that it left.
+/// The text of one run: how it ended, its trace, the calls of scripts, and the tree that it left.
 #[tactic(auto, unfolding(crate::specs::RunText::run_text))]
 pub fn render_run(alloc: Global, replayed: &Replayed) -> Result<Bytes, Memory>
     ensures { IfOk result (λ text. text ≡ run_text replayed.now) }

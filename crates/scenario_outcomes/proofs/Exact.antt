@@ -5,7 +5,7 @@ use Rattle.feature_trees.specs.declared.value.Value.{Value}
 use Rattle.tree_clauses.specs.Literals.{Covers}
 use Rattle.clause_solver.specs.Stands.{Seen}
 use Rattle.clause_solver.specs.Pairs.{HasPair}
-use Rattle.utility_calls.specs.Decisions.{Decision, Played, play}
+use Rattle.utility_calls.specs.Walks.{Walk, Walked, walk, fresh}
 use Rattle.case_paths.specs.Traces as order
 use Rattle.case_paths.specs.Paths as paths_of
 use Rattle.case_paths.specs.Paths.{IsAt, AreThePaths, AllAlive, states, traces, AllPlayed}
@@ -140,12 +140,12 @@ as_many : (paths : List Path) → length (traces (states paths)) ≡ length path
 as_many [] = refl
 as_many (x ∷ xs) = ap suc (as_many xs)
 
-module _ (run : Value → Option Replayed) (start : Value → Type 0) (d : Decision (Ending × List ScriptCall)) (s : Seen)
-    (played : (tree : Value) → run tree ≡ Some (replayed_of (play d tree [] [])))
+module _ (run : Value → Option Replayed) (start : Value → Type 0) (d : Walk (Ending × List ScriptCall)) (s : Seen)
+    (played : (tree : Value) → run tree ≡ Some (replayed_of (walk d (fresh tree) [] [])))
     (starts : (t u : Value) → HasPair s t u ↔ (start t × (u ≡ t))) where
-  -- what is played from a start tree
-  abbrev from : Value → Played (Ending × List ScriptCall)
-  from tree = play d tree [] []
+  -- what is walked from a start tree
+  abbrev from : Value → Walked (Ending × List ScriptCall)
+  from tree = walk d (fresh tree) [] []
 
   module _ (paths : List Path) (outcomes : List Outcome) (are : AreThePaths d s paths) (made : AreOutcomes 0 paths outcomes) where
     covers_once : (tree : Value) → start tree → CoversOnce outcomes tree
@@ -154,7 +154,7 @@ module _ (run : Value → Option Replayed) (start : Value → Type 0) (d : Decis
         let found = outcome_at 0 one.place paths outcomes one.path made one.is_there in
         record {
           place = one.place;
-          covers = record { outcome = found.outcome; at = found.there; covers = ((from tree).tree, (found.is.covers tree (from tree).tree).1 one.has) };
+          covers = record { outcome = found.outcome; at = found.there; covers = ((from tree).world.tree, (found.is.covers tree (from tree).world.tree).1 one.has) };
           alone = λ place covers.
               let back = path_at 0 place paths outcomes covers.outcome made covers.at in
               one.alone place back.path covers.covers.0 back.there ((back.is.covers tree covers.covers.0).0 covers.covers.1);
@@ -168,9 +168,9 @@ module _ (run : Value → Option Replayed) (start : Value → Type 0) (d : Decis
         record {
           replayed = replayed_of (from tree);
           is_run = played tree;
-          ending = ap (λ (p : Played (Ending × List ScriptCall)). p.value.0) (sym here) ∙ ap (λ (v : Ending × List ScriptCall). v.0) (sym ends.value) ∙ sym is.ending;
-          trace = ap (λ (p : Played (Ending × List ScriptCall)). p.trace) (sym here) ∙ sym ends.trace ∙ sym is.trace;
-          after = ap (λ (p : Played (Ending × List ScriptCall)). p.tree) (sym here) ∙ sym ends.tree;
+          ending = ap (λ (p : Walked (Ending × List ScriptCall)). p.value.0) (sym here) ∙ ap (λ (v : Ending × List ScriptCall). v.0) (sym ends.value) ∙ sym is.ending;
+          trace = ap (λ (p : Walked (Ending × List ScriptCall)). p.trace) (sym here) ∙ sym ends.trace ∙ sym is.trace;
+          after = ap (λ (p : Walked (Ending × List ScriptCall)). p.world.tree) (sym here) ∙ sym ends.tree;
         }
 
     covered_runs : (place : ℕ) (outcome : Outcome) (tree now : Value) → slice_get outcomes place ≡ Some outcome → Covers outcome.clause tree now → start tree × EndsAs run outcome tree now

@@ -24,7 +24,7 @@ pub record CoversOnce (outcomes : List Outcome) (tree : Value) : Type 0 where
   pub covers : CoversAt outcomes place tree
   pub alone : (other : ℕ) → CoversAt outcomes other tree → other ≡ place
 
--- the run from the start tree ends as the outcome says, with its acts, and leaves the tree now
+-- the run from the start tree ends as the outcome says, with its trace, and leaves the tree now
 pub record EndsAs (run : Value → Option Replayed) (outcome : Outcome) (tree now : Value) : Type 0 where
   pub replayed : Replayed
   pub is_run : run tree ≡ Some replayed

@@ -13,7 +13,7 @@ use scenario_runs::{Job, Replayed, ScriptCall, run};
 use script_names::{List, Memory};
 use std::alloc::Global;
 
-/// The runs of a job, which one decision plays.
+/// The runs of a job, which are one walk.
 #[derive(Drop)]
 pub(crate) struct JobRuns<'a> {
     job: &'a Job,
@@ -42,12 +42,12 @@ impl<'a> Machine for JobRuns<'a> {
             trace,
             after: _,
             calls,
-            acts,
+            deeds,
         } = run(alloc, self.job, start)?;
         Ok(Ran {
             value: (ending, calls),
             trace,
-            acts,
+            deeds,
         })
     }
 

@@ -13,7 +13,7 @@ use script_names::{Copied, List, Mark, Memory};
 use std::alloc::Global;
 use tree_clauses::Clause;
 
-/// One way in which a scenario can end: its number from 1, the ending of its runs and the marks of their acts, the
+/// One way in which a scenario can end: its number from 1, the ending of its runs and the marks of their deeds, the
 /// clause that says which start trees they begin from and which trees they leave, and one such start tree.
 #[derive(Drop)]
 pub struct Outcome {
@@ -77,7 +77,12 @@ pub fn make_outcome(
 {
     let Found { value, state } = path;
     let (ending, _calls) = value;
-    let PathState { store, trace } = state;
+    let PathState {
+        store,
+        kept: _,
+        trace,
+        done: _,
+    } = state;
     let clause = store.clause()?;
     let shown = store.start_tree(alloc)?;
     Ok(Outcome {

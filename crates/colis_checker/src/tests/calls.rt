@@ -408,20 +408,85 @@ verdict 0
             ("b", b"dir /etc\n"),
         ],
         (
-            2,
+            1,
             b"colis brief 2
 scenario install outcomes 5
 outcome 1 incomplete link 2:1
 trace 2:0:68 2:1:65
-outcome 2 incomplete restore 2:1
-trace 2:0:68 2:1:67
-outcome 3 incomplete restore 2:2
-trace 2:0:68 2:1:68 2:2:67
+outcome 2 failed Not-Installed
+trace 2:0:68 2:1:67 5:0:66
+outcome 3 failed Not-Installed
+trace 2:0:68 2:1:68 2:2:67 5:0:66 5:1:66
 outcome 4 done Installed
 trace 2:0:68 2:1:68 2:2:68
 outcome 5 incomplete conffile 2:2
 trace 2:0:68 2:1:68 2:2:69
-verdict 2
+verdict 1
+",
+            b"",
+        ),
+    ),
+    // What was unpacked is put back, the last first, where a further entry fails.
+    Called(
+        &[
+            "check",
+            "p",
+            "--scenario",
+            "install",
+            "--brief",
+            "--base",
+            "b",
+        ],
+        &[
+            ("p/list", b"/.\n/srv\n/srv/a\n/srv/b\n"),
+            ("b", b"dir /srv\n"),
+        ],
+        (
+            1,
+            b"colis brief 2
+scenario install outcomes 3
+outcome 1 failed Not-Installed
+trace 2:0:68 2:1:67 5:0:66
+outcome 2 failed Not-Installed
+trace 2:0:68 2:1:68 2:2:67 5:0:68 5:1:66
+outcome 3 done Installed
+trace 2:0:68 2:1:68 2:2:68
+verdict 1
+",
+            b"",
+        ),
+    ),
+    // And where both calls of postrm fail in an upgrade: here a link comes back.
+    Called(
+        &[
+            "run",
+            "p",
+            "--old",
+            "o",
+            "--scenario",
+            "upgrade",
+            "--tree",
+            "t",
+        ],
+        &[
+            ("p/control", b"Version: 2\n"),
+            ("p/list", b"/.\n/srv\n/srv/a\n"),
+            ("p/postrm", b"#!/bin/sh\n[ \"$1\" = abort-upgrade ]\n"),
+            ("o/control", b"Version: 1\n"),
+            ("o/list", b"/.\n/srv\n/srv/a\n"),
+            ("o/postrm", b"#!/bin/sh\nexit 1\n"),
+            ("t", b"d /srv\nl /srv/a x\n"),
+        ],
+        (
+            1,
+            b"result failed Installed
+trace 4:0:68 4:1:68 14:0:68 14:1:66
+call old postrm upgrade 2 failed
+call new postrm failed-upgrade 1 2 failed
+call new postrm abort-upgrade 1 2 ok
+after
+d /srv
+l /srv/a x
 ",
             b"",
         ),
@@ -593,17 +658,17 @@ verdict 0
     ),
     Stated(
         &["check", "p", "--scenario", "install", "--base", "b"],
-        2,
+        1,
         b"colis report 2
 scenario install outcomes 5
 outcome 1 incomplete link 2:1
 trace 2:0:68 2:1:65
 confirmed yes
-outcome 2 incomplete restore 2:1
-trace 2:0:68 2:1:67
+outcome 2 failed Not-Installed
+trace 2:0:68 2:1:67 5:0:66
 confirmed yes
-outcome 3 incomplete restore 2:2
-trace 2:0:68 2:1:68 2:2:67
+outcome 3 failed Not-Installed
+trace 2:0:68 2:1:68 2:2:67 5:0:66 5:1:66
 confirmed yes
 outcome 4 done Installed
 trace 2:0:68 2:1:68 2:2:68
@@ -611,9 +676,11 @@ confirmed yes
 outcome 5 incomplete conffile 2:2
 trace 2:0:68 2:1:68 2:2:69
 confirmed yes
-place incomplete 2:1 2
-place incomplete 2:2 2
-verdict 2
+place incomplete 2:1 1
+place failed 5:0 1
+place failed 5:1 1
+place incomplete 2:2 1
+verdict 1
 ",
     ),
 ];

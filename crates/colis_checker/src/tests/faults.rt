@@ -8,7 +8,10 @@ use std::test::Fail;
 // A package that is on no system of the base, and whose script has four outcomes.
 const UNFIT: &[File] = &[
     ("p/list", b"/.\n/usr\n/usr/bin\n/usr/bin/x\n"),
-    ("p/postrm", b"#!/bin/sh\n[ -e /srv/a ]\n"),
+    (
+        "p/postrm",
+        b"#!/bin/sh\n[ \"$1\" != purge ] || [ -e /srv/a ]\n",
+    ),
     ("b", b"file /usr\n"),
 ];
 
