@@ -1,5 +1,5 @@
-//! Tests of script_names, shown_texts, shared_table, checker_io and case_pool. They stand apart from these crates, so
-//! that no crate is proved twice.
+//! Tests of script_names, shown_texts, shared_table, debian_versions, checker_io and case_pool. They stand apart from
+//! these crates, so that no crate is proved twice.
 #![tactic(auto)]
 
 #[cfg(test)]
@@ -16,3 +16,5 @@ mod shared_lists;
 mod shelves;
 #[cfg(test)]
 mod shown;
+#[cfg(test)]
+mod versions;
