@@ -17,7 +17,7 @@ use Rattle.utility_calls.specs.declared.sights.Effect.TheVariants.{Nothing, Make
 use Rattle.utility_calls.specs.declared.sights.Where.{Where}
 use Rattle.utility_calls.specs.declared.sights.Where.TheVariants.{Anything, Is, Within as within, Inside, Outside, Empty, Full, Into, IntoEmpty, IntoFull}
 use Rattle.utility_calls.specs.declared.sights.Rule.{Rule}
-use Rattle.utility_calls.specs.Table.{rules, remove_by, symlink_by}
+use Rattle.utility_calls.specs.Table.{rules, can_run_by, remove_by, symlink_by}
 use Rattle.utility_calls.specs.Acts.{path_of, inner_name, target_of, is_question, IsPerformed}
 use Rattle.utility_calls.specs.ActRows.{IsAmong}
 use Rattle.utility_calls.proofs.ActRow.{all_kinds, each_kind}
@@ -206,6 +206,10 @@ puts_well asks s r =
 abbrev PutWell : List Rule → Bool → Type 0
 PutWell rs asks = (all_of (puts_well asks false) rs ≡ true) × (all_of (puts_well asks true) rs ≡ true)
 
+runs_well : (runs : Bool) → PutWell (can_run_by runs) true
+runs_well false = (refl, refl)
+runs_well true = (refl, refl)
+
 remove_well : (force deep : Bool) → PutWell (remove_by force deep) false
 remove_well false false = (refl, refl)
 remove_well false true = (refl, refl)
@@ -221,7 +225,7 @@ put_well (Exists p) one = (refl, refl)
 put_well (IsReg p) one = (refl, refl)
 put_well (IsDir p) one = (refl, refl)
 put_well (IsLink p) one = (refl, refl)
-put_well (CanRun p) one = (refl, refl)
+put_well (CanRun p runs) one = runs_well runs
 put_well (IsSpecial p kind) one = (refl, refl)
 put_well (MakeDir p) one = (refl, refl)
 put_well (EnsureDir p) one = (refl, refl)

@@ -8,7 +8,7 @@ use Rattle.utility_calls.specs.declared.acts.Act.TheVariants.{Exists, IsReg, IsD
 use Rattle.utility_calls.specs.declared.sights.Effect.{Effect}
 use Rattle.utility_calls.specs.declared.sights.Effect.TheVariants.{Nothing, MakesDir, KeepsDir, MakesFile, MakesLink, LinksInside, TakesAway, Moves, MovesInside}
 use Rattle.utility_calls.specs.declared.sights.Rule.{Rule}
-use Rattle.utility_calls.specs.Table.{rules, remove_by, symlink_by}
+use Rattle.utility_calls.specs.Table.{rules, can_run_by, remove_by, symlink_by}
 use Rattle.utility_calls.specs.Acts.{inner_name, is_question}
 use Rattle.utility_calls.specs.ActRows.{IsAmong}
 use Rattle.act_cases.specs.Tables.{is_inner}
@@ -109,6 +109,10 @@ suits_is asks inner r h =
 abbrev Tabled : List Rule → Bool → Bool → Type 0
 Tabled rs asks inner = (all_of (suits asks inner) rs ≡ true) × (apart rs ≡ true)
 
+runs_tabled : (runs : Bool) → Tabled (can_run_by runs) true false
+runs_tabled false = (refl, refl)
+runs_tabled true = (refl, refl)
+
 remove_tabled : (force deep : Bool) → Tabled (remove_by force deep) false false
 remove_tabled false false = (refl, refl)
 remove_tabled false true = (refl, refl)
@@ -124,7 +128,7 @@ tabled (Exists p) one = (refl, refl)
 tabled (IsReg p) one = (refl, refl)
 tabled (IsDir p) one = (refl, refl)
 tabled (IsLink p) one = (refl, refl)
-tabled (CanRun p) one = (refl, refl)
+tabled (CanRun p runs) one = runs_tabled runs
 tabled (IsSpecial p kind) one = (refl, refl)
 tabled (MakeDir p) one = (refl, refl)
 tabled (EnsureDir p) one = (refl, refl)

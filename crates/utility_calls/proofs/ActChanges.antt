@@ -20,7 +20,7 @@ use Rattle.utility_calls.specs.declared.sights.Effect.{Effect}
 use Rattle.utility_calls.specs.declared.sights.Effect.TheVariants.{Nothing, MakesDir, KeepsDir, MakesFile, MakesLink, LinksInside, TakesAway, Moves, MovesInside}
 use Rattle.utility_calls.specs.Ways.{link_on_way}
 use Rattle.utility_calls.specs.declared.sights.Rule.{Rule}
-use Rattle.utility_calls.specs.Table.{rules, rule_holds, row_of, first_row, stop, remove_by, symlink_by, move_by}
+use Rattle.utility_calls.specs.Table.{rules, rule_holds, row_of, first_row, stop, can_run_by, remove_by, symlink_by, move_by}
 use Rattle.utility_calls.specs.Acts.{path_of, place_of, moved, inner_name, target_of, with_name, source_of, is_below, second_link, by_way, by_slash, slash_row, sight_on, own_row, row, effect_on, is_question, tree_after, IsPerformed}
 use Rattle.utility_calls.specs.ActChanges.{AreNames, HasNames}
 
@@ -105,12 +105,16 @@ leaves r = is_nothing r.effect
 abbrev succeeds : Row → Bool
 succeeds r = is_ok r.answer || is_nothing r.effect
 
+runs_leave : (runs : Bool) → all_rules leaves (can_run_by runs) ≡ true
+runs_leave false = refl
+runs_leave true = refl
+
 question_leaves : (act : Act) → is_question act ≡ true → all_rules leaves (rules (is_below act) act) ≡ true
 question_leaves (Exists p) h = refl
 question_leaves (IsReg p) h = refl
 question_leaves (IsDir p) h = refl
 question_leaves (IsLink p) h = refl
-question_leaves (CanRun p) h = refl
+question_leaves (CanRun p runs) h = runs_leave runs
 question_leaves (IsSpecial p kind) h = refl
 question_leaves (MakeDir p) h = cc
 question_leaves (EnsureDir p) h = cc
@@ -124,6 +128,10 @@ question_leaves (PlaceLink p target) h = cc
 question_leaves (PlaceConf p) h = cc
 question_leaves (Discard p) h = cc
 question_leaves (DiscardDir p) h = cc
+
+runs_succeed : (runs : Bool) → all_rules succeeds (can_run_by runs) ≡ true
+runs_succeed false = refl
+runs_succeed true = refl
 
 removes_succeed : (force deep : Bool) → all_rules succeeds (remove_by force deep) ≡ true
 removes_succeed false false = refl
@@ -144,7 +152,7 @@ all_succeed (Exists p) = refl
 all_succeed (IsReg p) = refl
 all_succeed (IsDir p) = refl
 all_succeed (IsLink p) = refl
-all_succeed (CanRun p) = refl
+all_succeed (CanRun p runs) = runs_succeed runs
 all_succeed (IsSpecial p kind) = refl
 all_succeed (MakeDir p) = refl
 all_succeed (EnsureDir p) = refl
@@ -268,7 +276,7 @@ still_or_move (Exists p) = refl
 still_or_move (IsReg p) = refl
 still_or_move (IsDir p) = refl
 still_or_move (IsLink p) = refl
-still_or_move (CanRun p) = refl
+still_or_move (CanRun p runs) = refl
 still_or_move (IsSpecial p kind) = refl
 still_or_move (MakeDir p) = refl
 still_or_move (EnsureDir p) = refl

@@ -16,7 +16,7 @@ use Rattle.utility_calls.specs.declared.sights.Row.{Row}
 use Rattle.utility_calls.specs.Ways.{link_on_way, in_dir, kind_at, NoLinkOnWay}
 use Rattle.utility_calls.specs.Sights.{sight, sight_of}
 use Rattle.utility_calls.specs.declared.sights.Rule.{Rule}
-use Rattle.utility_calls.specs.Table.{rules, rule_holds, row_of, first_row, exists_rules, is_reg_rules, is_dir_rules, is_link_rules, can_run_rules, is_special_rules, make_dir_rules, ensure_dir_rules, remove_dir_rules, remove_rules, remove_deep_rules, remove_force_rules, remove_force_deep_rules, remove_by, touch_rules, place_file_rules, place_link_rules, place_conf_rules, discard_rules, discard_dir_rules, symlink_rules, symlink_force_rules, symlink_by, move_below_rules, move_rules, move_by}
+use Rattle.utility_calls.specs.Table.{rules, rule_holds, row_of, first_row, exists_rules, is_reg_rules, is_dir_rules, is_link_rules, can_run_rules, can_run_file_rules, can_run_by, is_special_rules, make_dir_rules, ensure_dir_rules, remove_dir_rules, remove_rules, remove_deep_rules, remove_force_rules, remove_force_deep_rules, remove_by, touch_rules, place_file_rules, place_link_rules, place_conf_rules, discard_rules, discard_dir_rules, symlink_rules, symlink_force_rules, symlink_by, move_below_rules, move_rules, move_by}
 use Rattle.utility_calls.specs.Acts.{path_of, place_of, inner_of, source_of, is_prefix, is_below, is_there, second_link, by_way, by_slash, slash_row, sight_on, own_row, row, IsPerformed}
 use Rattle.utility_calls.specs.ActRows.{IsAmong, FitsSlash, Reaches, LooksAtWay, Applies, on_way, at_slash, on_second_way, own}
 use Rattle.utility_calls.proofs.Ways.{Found, IsFirstLink, found, counted}
@@ -143,6 +143,10 @@ asks_one rs k h s = eqb-true (count k s rs) 1 (each_sight (one rs k) h s)
 pub does_one : (rs : List Rule) (k : Kind) → all_sights (one_if_possible rs k) ≡ true → (s : Sight) → possible s ≡ true → count k s rs ≡ 1
 does_one rs k h s p = eqb-true (count k s rs) 1 (given_possible (possible s) (one rs k s) p (each_sight (one_if_possible rs k) h s))
 
+runs_one : (runs : Bool) (s : Sight) → count Absent s (can_run_by runs) ≡ 1
+runs_one false = asks_one can_run_rules Absent refl
+runs_one true = asks_one can_run_file_rules Absent refl
+
 specials_one : (kind : SpecialKind) (s : Sight) → count Absent s (is_special_rules kind) ≡ 1
 specials_one Fifo = asks_one (is_special_rules Fifo) Absent refl
 specials_one Socket = asks_one (is_special_rules Socket) Absent refl
@@ -198,7 +202,7 @@ one_holds (Exists p) tree h = asks_one exists_rules Absent refl (sight_on (Exist
 one_holds (IsReg p) tree h = asks_one is_reg_rules Absent refl (sight_on (IsReg p) tree)
 one_holds (IsDir p) tree h = asks_one is_dir_rules Absent refl (sight_on (IsDir p) tree)
 one_holds (IsLink p) tree h = asks_one is_link_rules Absent refl (sight_on (IsLink p) tree)
-one_holds (CanRun p) tree h = asks_one can_run_rules Absent refl (sight_on (CanRun p) tree)
+one_holds (CanRun p runs) tree h = runs_one runs (sight_on (CanRun p runs) tree)
 one_holds (IsSpecial p kind) tree h = specials_one kind (sight_on (IsSpecial p kind) tree)
 one_holds (MakeDir p) tree h = does_one make_dir_rules Absent refl (sight_on (MakeDir p) tree) (seen_possible tree value.Absent p.names (h.0 refl).1)
 one_holds (EnsureDir p) tree h = does_one ensure_dir_rules Absent refl (sight_on (EnsureDir p) tree) (seen_possible tree value.Absent p.names (h.0 refl).1)

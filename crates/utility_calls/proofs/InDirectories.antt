@@ -24,7 +24,8 @@ use Rattle.utility_calls.specs.declared.sights.Effect.TheVariants.{Nothing, Make
 use Rattle.utility_calls.specs.declared.sights.Effect.TheVariants.{LinksInside, TakesAway, Moves, MovesInside}
 use Rattle.utility_calls.specs.Ways.{link_on_way}
 use Rattle.utility_calls.specs.declared.sights.Rule.{Rule}
-use Rattle.utility_calls.specs.Table.{rules, first_row, is_special_rules, remove_by, symlink_by, move_by}
+use Rattle.utility_calls.specs.Table.{rules, first_row, can_run_by, is_special_rules, remove_by, symlink_by}
+use Rattle.utility_calls.specs.Table.{move_by}
 use Rattle.utility_calls.specs.Acts.{path_of, place_of, inner_name, inner_of, with_name, source_of, is_prefix, is_below}
 use Rattle.utility_calls.specs.Acts.{is_there, second_link, by_way, by_slash, sight_on, own_row, row, is_question}
 use Rattle.utility_calls.specs.Acts.{IsPerformed}
@@ -66,6 +67,10 @@ fitting : (rs : List Rule) → all_sights (fits rs) ≡ true → (s : Sight) →
     → seen_by (first_row rs Absent s).effect s ≡ true
 fitting rs h s p =
     given_possible (possible s) (seen_by (first_row rs Absent s).effect s) p (each_sight (fits rs) h s)
+
+runs_fit : (runs : Bool) → all_sights (fits (can_run_by runs)) ≡ true
+runs_fit false = refl
+runs_fit true = refl
 
 specials_fit : (kind : SpecialKind) → all_sights (fits (is_special_rules kind)) ≡ true
 specials_fit Fifo = refl
@@ -213,7 +218,7 @@ own_in (Exists p) tree h ne s = own_still (Exists p) tree ne refl refl refl
 own_in (IsReg p) tree h ne s = own_still (IsReg p) tree ne refl refl refl
 own_in (IsDir p) tree h ne s = own_still (IsDir p) tree ne refl refl refl
 own_in (IsLink p) tree h ne s = own_still (IsLink p) tree ne refl refl refl
-own_in (CanRun p) tree h ne s = own_still (CanRun p) tree ne refl refl refl
+own_in (CanRun p runs) tree h ne s = own_still (CanRun p runs) tree ne refl refl (runs_fit runs)
 own_in (IsSpecial p kind) tree h ne s = own_still (IsSpecial p kind) tree ne refl refl (specials_fit kind)
 own_in (MakeDir p) tree h ne s = own_still (MakeDir p) tree ne refl refl refl
 own_in (EnsureDir p) tree h ne s = own_still (EnsureDir p) tree ne refl refl refl

@@ -30,7 +30,7 @@ path_of (Exists p) = p
 path_of (IsReg p) = p
 path_of (IsDir p) = p
 path_of (IsLink p) = p
-path_of (CanRun p) = p
+path_of (CanRun p runs) = p
 path_of (IsSpecial p kind) = p
 path_of (MakeDir p) = p
 path_of (EnsureDir p) = p
@@ -180,7 +180,7 @@ is_question (Exists p) = true
 is_question (IsReg p) = true
 is_question (IsDir p) = true
 is_question (IsLink p) = true
-is_question (CanRun p) = true
+is_question (CanRun p runs) = true
 is_question (IsSpecial p kind) = true
 is_question act = false
 

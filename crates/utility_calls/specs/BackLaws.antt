@@ -20,6 +20,7 @@ pub record OneRow (b : Back) (kept tree : Value) : Type 0 where
   pub applies : BackApplies b kept tree (back_row b kept tree).number
   pub alone : (n : ℕ) → BackApplies b kept tree n → n ≡ (back_row b kept tree).number
 
+-- exactly one row applies to each back that has a path, on each tree that is a directory
 abbrev pub OneBackRow : Type 0
 OneBackRow = (b : Back) (kept tree : Value) → IsNamed b → kind_of tree ≡ Dir → OneRow b kept tree
 

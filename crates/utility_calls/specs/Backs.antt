@@ -30,10 +30,11 @@ abbrev pub names_of : Back → List (List ℕ)
 names_of (Folder p) = p.names
 names_of (File p) = p.names
 
--- what is put back for an act that unpacked something
-abbrev pub back_of : Act → Back
-back_of (EnsureDir p) = Folder p
-back_of act = File (path_of act)
+-- What is put back for an act that unpacked something: its kind by the act as it was listed, its path by the act that
+-- was done for it.
+abbrev pub back_of : Act → Act → Back
+back_of (EnsureDir p) done = Folder (path_of done)
+back_of listed done = File (path_of done)
 
 -- A directory is taken away that was not there before, unless it has an entry by now. The kinds of a row are those of
 -- what stood there in the kept tree.

@@ -50,13 +50,13 @@ question_of op =
     else (if bytes_eq op (codes "-x") then Some question.CanRun
     else special_question (special_of op)))))
 
--- the act that asks it of a path
+-- the act that asks it of a path; whether a regular file may be run is not known
 abbrev pub asking : Question → PathParts → Act
 asking question.Exists path = Exists path
 asking question.IsReg path = IsReg path
 asking question.IsDir path = IsDir path
 asking question.IsLink path = IsLink path
-asking question.CanRun path = CanRun path
+asking question.CanRun path = CanRun path false
 asking (question.IsSpecial kind) path = IsSpecial path kind
 
 -- what a plan is for a word that spells no path

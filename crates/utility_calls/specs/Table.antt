@@ -104,6 +104,15 @@ can_run_rules =
     ∷ leaves 68 (Is file) (Stopped reason.Run)
     ∷ []
 
+-- `test -x` where a regular file may be run; nothing says whether a special file may
+abbrev pub can_run_file_rules : List Rule
+can_run_file_rules =
+    stops
+    ∷ leaves 66 (Is (of Absent)) Failed
+    ∷ leaves 67 (Is (two Reg Dir)) Ok
+    ∷ leaves 68 (Is special) (Stopped reason.Run)
+    ∷ []
+
 -- `test -p`, `-S`, `-b` and `-c`, each for its special kind
 abbrev pub is_special_rules : Special → List Rule
 is_special_rules s =
@@ -267,6 +276,11 @@ move_rules =
     ∷ leaves_from 81 file (Into (of Link)) (Stopped reason.Same)
     ∷ []
 
+-- the rows of `test -x` by whether a regular file may be run
+abbrev pub can_run_by : Bool → List Rule
+can_run_by false = can_run_rules
+can_run_by true = can_run_file_rules
+
 -- the rows of `rm` by its options
 abbrev pub remove_by : Bool → Bool → List Rule
 remove_by false false = remove_rules
@@ -290,7 +304,7 @@ rules below (Exists p) = exists_rules
 rules below (IsReg p) = is_reg_rules
 rules below (IsDir p) = is_dir_rules
 rules below (IsLink p) = is_link_rules
-rules below (CanRun p) = can_run_rules
+rules below (CanRun p runs) = can_run_by runs
 rules below (IsSpecial p kind) = is_special_rules kind
 rules below (MakeDir p) = make_dir_rules
 rules below (EnsureDir p) = ensure_dir_rules

@@ -44,13 +44,15 @@ pub record Walked (A : Type 0) : Type 0 where
 abbrev pub back_mark : Site → Back → World → Mark
 back_mark site back w = record { site = site; row = (back_row back w.kept w.tree).number }
 
--- the world behind an act, behind a back, and behind keeping the tree
+-- the world behind an act, which leaves the kept tree
 abbrev pub after_act : Act → World → World
 after_act act w = world (tree_after act w.tree) w.kept
 
+-- the world behind a back, which leaves the kept tree
 abbrev pub after_back : Back → World → World
 after_back back w = world (back_after back w.kept w.tree) w.kept
 
+-- the world behind keeping the tree: the kept tree is the one of now
 abbrev pub after_keep : World → World
 after_keep w = fresh w.tree
 

@@ -1,5 +1,5 @@
 ghost use Rattle.std.specs.Prelude.{◌≡◌, IfOk};
-ghost use Rattle.utility_calls.specs.declared.acts.Act.TheVariants.{IsSpecial, Remove, Symlink, Move, PlaceLink};
+ghost use Rattle.utility_calls.specs.declared.acts.Act.TheVariants.{CanRun, IsSpecial, Remove, Symlink, Move, PlaceLink};
 
 use feature_trees::Special;
 use script_names::{Bytes, Copied, Memory, Name, Path};
@@ -17,8 +17,12 @@ pub enum Act {
     IsDir(Path),
     /// `test -h`: whether a symbolic link stands at the path.
     IsLink(Path),
-    /// `test -x`: whether what stands at the path may be run or searched.
-    CanRun(Path),
+    /// `test -x`: whether what stands at the path may be run or searched. With `runs` it is taken that a regular file
+    /// may be run; else its mode is not known.
+    CanRun {
+        p: Path,
+        runs: bool,
+    },
     /// `test -p`, `-S`, `-b`, `-c`: whether what stands at the path is of this special kind.
     IsSpecial {
         p: Path,
@@ -74,7 +78,7 @@ impl Copied for Act {
             Act::IsReg(p) => Ok(Act::IsReg(p.copy(alloc)?)),
             Act::IsDir(p) => Ok(Act::IsDir(p.copy(alloc)?)),
             Act::IsLink(p) => Ok(Act::IsLink(p.copy(alloc)?)),
-            Act::CanRun(p) => Ok(Act::CanRun(p.copy(alloc)?)),
+            Act::CanRun { p, runs } => copy_can_run(alloc, p, *runs),
             Act::IsSpecial { p, kind } => copy_is_special(alloc, p, *kind),
             Act::MakeDir(p) => Ok(Act::MakeDir(p.copy(alloc)?)),
             Act::EnsureDir(p) => Ok(Act::EnsureDir(p.copy(alloc)?)),
@@ -95,6 +99,14 @@ impl Copied for Act {
             Act::DiscardDir(p) => Ok(Act::DiscardDir(p.copy(alloc)?)),
         }
     }
+}
+
+// `test -x` of a copy of the path.
+fn copy_can_run(alloc: Global, p: &Path, runs: bool) -> Result<Act, Memory>
+    ensures { IfOk result (λ act. act ≡ CanRun p.now runs) }
+{
+    let p = p.copy(alloc)?;
+    Ok(Act::CanRun { p, runs })
 }
 
 // The question of a copy of the path.

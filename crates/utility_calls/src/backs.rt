@@ -36,13 +36,14 @@ impl Back {
     }
 }
 
-/// What is put back for an act that unpacked something: a directory for one that makes a directory, else what its path
-/// had.
-pub fn back_of(alloc: Global, act: &Act) -> Result<Back, Memory>
-    ensures { IfOk result (λ back. back ≡ back_of act.now) }
+/// What is put back for an act that unpacked something: a directory where the act as it was listed makes one, else what
+/// was replaced; at the path of the act that was done for it.
+pub fn back_of(alloc: Global, listed: &Act, done: &Act) -> Result<Back, Memory>
+    ensures { IfOk result (λ back. back ≡ back_of listed.now done.now) }
 {
-    match act {
-        Act::EnsureDir(p) => Ok(Back::Folder(p.copy(alloc)?)),
-        _ => Ok(Back::File(act.path().copy(alloc)?)),
+    let path = done.path().copy(alloc)?;
+    match listed {
+        Act::EnsureDir(_) => Ok(Back::Folder(path)),
+        _ => Ok(Back::File(path)),
     }
 }

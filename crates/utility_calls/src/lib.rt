@@ -22,5 +22,7 @@ mod stated_calls;
 mod table;
 pub mod theorems;
 
+pub use pairs::{is_in, is_parent, reaches, same_name, same_names, same_or_below};
+pub use places::is_prefix;
 pub use stated_call::{CallEnd, StatedCall};
 pub use stated_calls::{StatedCalls, StatedFault, can_be_stated};

@@ -13,15 +13,15 @@ use crate::operands::{read_file, read_operand, without_slash};
 use script_names::{Bytes, Copied, MAX_NAMES, Memory, Name, NameFault, Path, PathFault, Reason};
 use std::alloc::Global;
 
-// Whether two names are the same.
-pub(crate) fn same_name(f: &Name, g: &Name) -> bool
+/// Whether two names are the same.
+pub fn same_name(f: &Name, g: &Name) -> bool
     ensures { result ≡ bytes_eq f.now g.now }
 {
     f.as_slice() == g.as_slice()
 }
 
-// Whether two lists of names are the same.
-fn same_names(p: &[Name], q: &[Name]) -> bool
+/// Whether two lists of names are the same.
+pub fn same_names(p: &[Name], q: &[Name]) -> bool
     ensures { result ≡ same_names p.now q.now }
 {
     let mut left = p;
@@ -41,8 +41,8 @@ fn same_names(p: &[Name], q: &[Name]) -> bool
     right.is_empty()
 }
 
-// Whether names are those of the directory that holds what the others name.
-fn is_parent(above: &[Name], names: &[Name]) -> bool
+/// Whether names are those of the directory that holds what the others name.
+pub fn is_parent(above: &[Name], names: &[Name]) -> bool
     ensures { result ≡ is_parent above.now names.now }
 {
     let last = names.len().saturating_sub(1);
@@ -91,8 +91,8 @@ fn not_full(path: Path) -> Result<Path, CallFault>
     }
 }
 
-// Whether names are those of a path, with this one behind them.
-fn is_in(target: &[Name], path: &[Name], last: &Name) -> bool
+/// Whether names are those of a path, with this one behind them.
+pub fn is_in(target: &[Name], path: &[Name], last: &Name) -> bool
     ensures { result ≡ same_names target.now (path.now ++ last.now ∷ []) }
 {
     let mut left = target;
@@ -115,8 +115,8 @@ fn is_in(target: &[Name], path: &[Name], last: &Name) -> bool
     }
 }
 
-// Whether a target that is read from the root on is this path, or stands in it under the target's last name.
-fn reaches(alloc: Global, target: &[u8], path: &Path, last: &Name) -> Result<bool, Memory>
+/// Whether a target that is read from the root on is this path, or stands in it under the target's last name.
+pub fn reaches(alloc: Global, target: &[u8], path: &Path, last: &Name) -> Result<bool, Memory>
     ensures { IfOk result (λ yes.
         yes ≡ reaches (path_fault target.now) (spelled_names target.now) path.now.names last.now) }
 {
@@ -127,8 +127,8 @@ fn reaches(alloc: Global, target: &[u8], path: &Path, last: &Name) -> Result<boo
     }
 }
 
-// Whether a path is this one, or stands in it under the name.
-fn same_or_below(target: &Path, path: &Path, last: &Name) -> bool
+/// Whether a path is this one, or stands in it under the name.
+pub fn same_or_below(target: &Path, path: &Path, last: &Name) -> bool
     ensures { result ≡ reaches None target.now.names path.now.names last.now }
 {
     same_names(target.names(), path.names()) || is_in(target.names(), path.names(), last)

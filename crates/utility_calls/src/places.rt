@@ -14,9 +14,9 @@ impl Act {
         ensures { result.now ≡ path_of self.now }
     {
         match self {
-            Act::Exists(p) | Act::IsReg(p) | Act::IsDir(p) | Act::IsLink(p) | Act::CanRun(p) => p,
+            Act::Exists(p) | Act::IsReg(p) | Act::IsDir(p) | Act::IsLink(p) => p,
             Act::MakeDir(p) | Act::EnsureDir(p) | Act::RemoveDir(p) | Act::Touch(p) => p,
-            Act::IsSpecial { p, .. } | Act::Remove { p, .. } => p,
+            Act::CanRun { p, .. } | Act::IsSpecial { p, .. } | Act::Remove { p, .. } => p,
             Act::Symlink { p, .. } | Act::PlaceLink { p, .. } => p,
             Act::Move { a, .. } => a,
             Act::PlaceFile(p) | Act::PlaceConf(p) | Act::Discard(p) | Act::DiscardDir(p) => p,
@@ -28,9 +28,9 @@ impl Act {
         ensures { result.now.names ≡ place_of self.now }
     {
         match self {
-            Act::Exists(p) | Act::IsReg(p) | Act::IsDir(p) | Act::IsLink(p) | Act::CanRun(p) => p,
+            Act::Exists(p) | Act::IsReg(p) | Act::IsDir(p) | Act::IsLink(p) => p,
             Act::MakeDir(p) | Act::EnsureDir(p) | Act::RemoveDir(p) | Act::Touch(p) => p,
-            Act::IsSpecial { p, .. } | Act::Remove { p, .. } => p,
+            Act::CanRun { p, .. } | Act::IsSpecial { p, .. } | Act::Remove { p, .. } => p,
             Act::Symlink { p, .. } | Act::PlaceLink { p, .. } => p,
             Act::Move { b, .. } => b,
             Act::PlaceFile(p) | Act::PlaceConf(p) | Act::Discard(p) | Act::DiscardDir(p) => p,
@@ -44,7 +44,7 @@ impl Act {
         match self {
             Act::Symlink { last, .. } => Some(last),
             Act::Move { a, .. } => a.last(),
-            Act::Exists(_) | Act::IsReg(_) | Act::IsDir(_) | Act::IsLink(_) | Act::CanRun(_) =>
+            Act::Exists(_) | Act::IsReg(_) | Act::IsDir(_) | Act::IsLink(_) | Act::CanRun { .. } =>
                 None,
             Act::MakeDir(_) | Act::EnsureDir(_) | Act::RemoveDir(_) | Act::Touch(_) => None,
             Act::IsSpecial { .. } | Act::Remove { .. } | Act::PlaceLink { .. } => None,
@@ -59,9 +59,8 @@ impl Act {
         match self {
             Act::Symlink { target, .. } => target.copy(alloc),
             Act::PlaceLink { target, .. } => target.copy(alloc),
-            Act::Exists(_) | Act::IsReg(_) | Act::IsDir(_) | Act::IsLink(_) | Act::CanRun(_) => Ok(
-                Bytes::new(alloc),
-            ),
+            Act::Exists(_) | Act::IsReg(_) | Act::IsDir(_) | Act::IsLink(_) | Act::CanRun { .. } =>
+                Ok(Bytes::new(alloc)),
             Act::MakeDir(_) | Act::EnsureDir(_) | Act::RemoveDir(_) | Act::Touch(_) => Ok(
                 Bytes::new(alloc),
             ),
@@ -78,7 +77,7 @@ impl Act {
     {
         match self {
             Act::Move { a, .. } => Some(a),
-            Act::Exists(_) | Act::IsReg(_) | Act::IsDir(_) | Act::IsLink(_) | Act::CanRun(_) =>
+            Act::Exists(_) | Act::IsReg(_) | Act::IsDir(_) | Act::IsLink(_) | Act::CanRun { .. } =>
                 None,
             Act::MakeDir(_) | Act::EnsureDir(_) | Act::RemoveDir(_) | Act::Touch(_) => None,
             Act::IsSpecial { .. } | Act::Remove { .. } => None,
@@ -98,8 +97,8 @@ impl Act {
     }
 }
 
-// Whether names begin others, which have at least one more.
-fn is_prefix(p: &[Name], q: &[Name]) -> bool
+/// Whether names begin others, which have at least one more.
+pub fn is_prefix(p: &[Name], q: &[Name]) -> bool
     ensures { result ≡ is_prefix p.now q.now }
 {
     let mut left = p;
@@ -125,7 +124,7 @@ impl Act {
         ensures { result ≡ is_question self.now }
     {
         match self {
-            Act::Exists(_) | Act::IsReg(_) | Act::IsDir(_) | Act::IsLink(_) | Act::CanRun(_) =>
+            Act::Exists(_) | Act::IsReg(_) | Act::IsDir(_) | Act::IsLink(_) | Act::CanRun { .. } =>
                 true,
             Act::IsSpecial { .. } => true,
             Act::MakeDir(_) | Act::EnsureDir(_) | Act::RemoveDir(_) | Act::Touch(_) => false,

@@ -94,7 +94,10 @@ fn asking(question: Question, path: Path) -> Act
         Question::IsReg => Act::IsReg(path),
         Question::IsDir => Act::IsDir(path),
         Question::IsLink => Act::IsLink(path),
-        Question::CanRun => Act::CanRun(path),
+        Question::CanRun => Act::CanRun {
+            p: path,
+            runs: false,
+        },
         Question::IsSpecial(kind) => Act::IsSpecial { p: path, kind },
     }
 }

@@ -1,18 +1,25 @@
-use script_names::{Bytes, Copied, Memory};
+use script_names::{Bytes, Copied, Memory, Path};
 use std::alloc::Global;
 
 /// How each call of a command ends, as it is stated.
-#[derive(Clone, Copy, Debug, PartialEq, Eq)]
+#[derive(Debug, Drop)]
 pub enum CallEnd {
     /// With success, as `true` does (POSIX.1-2017, XCU, true).
     Succeeds,
     /// With a failure, as `false` does (POSIX.1-2017, XCU, false).
     Fails,
+    /// Each call succeeds exactly where something stands at the path when it is made, as `test -e` does
+    /// (POSIX.1-2017, XCU, test).
+    Asks(Path),
 }
 
 impl Copied for CallEnd {
-    fn copy(&self, _alloc: Global) -> Result<CallEnd, Memory> {
-        Ok(*self)
+    fn copy(&self, alloc: Global) -> Result<CallEnd, Memory> {
+        match self {
+            CallEnd::Succeeds => Ok(CallEnd::Succeeds),
+            CallEnd::Fails => Ok(CallEnd::Fails),
+            CallEnd::Asks(path) => Ok(CallEnd::Asks(path.copy(alloc)?)),
+        }
     }
 }
 
@@ -26,9 +33,7 @@ pub struct StatedCall {
 impl Copied for StatedCall {
     fn copy(&self, alloc: Global) -> Result<StatedCall, Memory> {
         let name = self.name.copy(alloc)?;
-        Ok(StatedCall {
-            name,
-            end: self.end,
-        })
+        let end = self.end.copy(alloc)?;
+        Ok(StatedCall { name, end })
     }
 }

@@ -1,7 +1,10 @@
-ghost use Rattle.std.specs.Prelude.{◌≡◌, [], ◌∷◌, ◌++◌, IsTrue, OnOk, OnErr, IfOk};
-ghost use Rattle.std.specs.List.{list_any, list_all};
+ghost use Rattle.std.specs.Prelude.{◌≡◌, false, [], ◌∷◌, ◌++◌, IsTrue, OnOk, OnErr, IfOk};
+ghost use Rattle.std.specs.List.{list_any, list_all, find};
+ghost use Rattle.std.specs.Option.{option_copied};
+ghost use Rattle.script_names.specs.CommandNames.{is_one_of};
+ghost use Rattle.utility_calls.specs.StatedNames.{changing_special_built_ins, changing_utilities, changes_shell};
 ghost use Rattle.utility_calls.specs.StatedNames.{is_name_byte, can_be_stated};
-ghost use Rattle.utility_calls.specs.StatedCalls.{is_stated, are_stated, added_fault, AddGives};
+ghost use Rattle.utility_calls.specs.StatedCalls.{has_name, is_stated, are_stated, added_fault, AddGives};
 
 use crate::stated_call::{CallEnd, StatedCall};
 use script_names::{Bytes, Copied, List, Memory, NAME_MAX, is_kept_name};
@@ -63,9 +66,8 @@ impl StatedCalls {
         }
     }
 
-    /// One stated call more, behind the others. Its name is 1 to `NAME_MAX` bytes without blanks and NUL, and none that
-    /// has a meaning already (else NoName); no call of that name was stated before, whatever its end (else Before).
-    /// Where it is not added the calls are as before.
+    /// One stated call more, behind the others. Its name can be stated, by `can_be_stated` (else NoName); no call of that
+    /// name was stated before, whatever its end (else Before). Where it is not added the calls are as before.
     pub fn add(&mut self, alloc: Global, name: &[u8], end: CallEnd) -> Result<(), StatedFault>
         ensures added { OnOk result (self.new ≡ self.old ++ record { name = name.now; end = end } ∷ []) }
         ensures kept { OnErr result (self.new ≡ self.old) }
@@ -77,6 +79,18 @@ impl StatedCalls {
         if is_stated(self.calls.as_slice(), name) {
             return Err(StatedFault::Before);
         }
+        self.append(alloc, name, end)?;
+        Ok(())
+    }
+
+    /// One stated call more, behind the others, whose name can be stated and is that of none of them, as a caller knows
+    /// that keeps a set of the names. For want of memory the calls are as before.
+    pub fn append(&mut self, alloc: Global, name: &[u8], end: CallEnd) -> Result<(), Memory>
+        requires able { IsTrue (can_be_stated name.now) }
+        requires fresh { is_stated self.old name.now ≡ false }
+        ensures added { OnOk result (self.new ≡ self.old ++ record { name = name.now; end = end } ∷ []) }
+        ensures kept { OnErr result (self.new ≡ self.old) }
+    {
         let name = Bytes::from_slice(alloc, name)?;
         self.calls.add(StatedCall { name, end })?;
         Ok(())
@@ -88,6 +102,16 @@ impl StatedCalls {
         ensures stated { IsTrue (are_stated self.now) }
     {
         self.calls.as_slice()
+    }
+
+    /// The call of this name, where one is stated.
+    pub fn find(&self, name: &[u8]) -> Option<&StatedCall>
+        ensures { option_copied result ≡ find (has_name name.now) self.now }
+    {
+        self.calls
+            .as_slice()
+            .iter()
+            .find(|call| call.name.as_slice() == name)
     }
 
     /// Says of the calls that each has a name that can be stated, and that no two have one name. It does nothing.
@@ -112,12 +136,45 @@ fn is_stated(calls: &[StatedCall], name: &[u8]) -> bool
     calls.iter().any(|call| call.name.as_slice() == name)
 }
 
-/// Whether a name can be stated: it is 1 to `NAME_MAX` bytes without blanks and NUL, and none that has a meaning
-/// already.
+/// Whether a name can be stated: it is 1 to `NAME_MAX` bytes without blanks and NUL, none that has a meaning already, and
+/// none of a utility that changes the shell itself (`cd`, `shift`, `exec`, `eval`, `local`, `read`, `trap`, `readonly`,
+/// `getopts`), since no call of these changes nothing.
 pub fn can_be_stated(name: &[u8]) -> bool
     ensures { result ≡ can_be_stated name.now }
 {
-    !name.is_empty() && name.len() <= NAME_MAX && are_name_bytes(name) && !is_kept_name(name)
+    !name.is_empty()
+        && name.len() <= NAME_MAX
+        && are_name_bytes(name)
+        && !is_kept_name(name)
+        && !changes_shell(name)
+}
+
+// Whether a name is that of a utility that changes the shell itself.
+fn changes_shell(name: &[u8]) -> bool
+    ensures { result ≡ changes_shell name.now }
+{
+    is_changing_special_built_in(name) || is_changing_utility(name)
+}
+
+// Whether a name is that of a special built-in utility that changes the shell itself.
+fn is_changing_special_built_in(name: &[u8]) -> bool
+    ensures { result ≡ is_one_of name.now changing_special_built_ins }
+{
+    name == b"eval".as_slice()
+        || name == b"exec".as_slice()
+        || name == b"readonly".as_slice()
+        || name == b"shift".as_slice()
+        || name == b"trap".as_slice()
+}
+
+// Whether a name is that of another utility that changes the shell itself.
+fn is_changing_utility(name: &[u8]) -> bool
+    ensures { result ≡ is_one_of name.now changing_utilities }
+{
+    name == b"cd".as_slice()
+        || name == b"getopts".as_slice()
+        || name == b"local".as_slice()
+        || name == b"read".as_slice()
 }
 
 // Whether no byte is a blank or NUL.

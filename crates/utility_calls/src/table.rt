@@ -1,6 +1,7 @@
 ghost use Rattle.std.specs.Prelude.{◌≡◌};
 ghost use Rattle.utility_calls.specs.Backs.{back_rules};
-ghost use Rattle.utility_calls.specs.Table.{first_row, rules, is_special_rules, remove_by, symlink_by, move_by};
+ghost use Rattle.utility_calls.specs.Table.{first_row, rules, can_run_by, is_special_rules, remove_by};
+ghost use Rattle.utility_calls.specs.Table.{symlink_by, move_by};
 
 use crate::acts::Act;
 use crate::backs::Back;
@@ -148,6 +149,14 @@ const CAN_RUN: &[Rule] = &[
     leaves!(66, Is(ABSENT), Failed),
     leaves!(67, Is(DIR), Done::Ok),
     leaves!(68, Is(FILE), Stopped(Reason::Run)),
+];
+
+// The rows of `test -x` where a regular file may be run; nothing says whether a special file may.
+const CAN_RUN_FILE: &[Rule] = &[
+    STOPS,
+    leaves!(66, Is(ABSENT), Failed),
+    leaves!(67, Is(kinds!(reg dir)), Done::Ok),
+    leaves!(68, Is(special!()), Stopped(Reason::Run)),
 ];
 
 // The rows of `test -p`.
@@ -322,6 +331,13 @@ fn is_special(kind: Special) -> &'static [Rule]
     }
 }
 
+// The rows of `test -x` by whether a regular file may be run.
+fn can_run_by(runs: bool) -> &'static [Rule]
+    ensures { result.now ≡ can_run_by runs }
+{
+    if runs { CAN_RUN_FILE } else { CAN_RUN }
+}
+
 // The rows of `rm` by its options.
 fn remove_by(force: bool, deep: bool) -> &'static [Rule]
     ensures { result.now ≡ remove_by force deep }
@@ -374,7 +390,7 @@ impl Act {
             Act::IsReg(_) => IS_REG,
             Act::IsDir(_) => IS_DIR,
             Act::IsLink(_) => IS_LINK,
-            Act::CanRun(_) => CAN_RUN,
+            Act::CanRun { p: _, runs } => can_run_by(*runs),
             Act::IsSpecial { p: _, kind } => is_special(*kind),
             Act::MakeDir(_) => MAKE_DIR,
             Act::EnsureDir(_) => ENSURE_DIR,
