@@ -88,7 +88,7 @@ fn is_left(alloc: Global, tree: &Value, text: &str) -> Result<bool, Fail> {
     Ok(tree.equal(&left))
 }
 
-fn answer_text(answer: Done) -> &'static str {
+pub(crate) fn answer_text(answer: Done) -> &'static str {
     match answer {
         Done::Ok => "ok",
         Done::Failed => "failed",
@@ -157,9 +157,12 @@ fn call_takes(alloc: Global, row: &Taken) -> Result<bool, Fail> {
     plan_takes(alloc, &planned, row)
 }
 
-// The act of a package manager that a word names.
-fn place(alloc: Global, name: &[u8], p: Path) -> Result<Act, Memory> {
+// The act that a word names, and that no call comes to: one of a package manager, or `test -x` where it is taken that a
+// regular file may be run.
+pub(crate) fn place(alloc: Global, name: &[u8], p: Path) -> Result<Act, Memory> {
     match name {
+        b"CanRunFile" => Ok(Act::CanRun { p, runs: true }),
+        b"EnsureDir" => Ok(Act::EnsureDir(p)),
         b"PlaceFile" => Ok(Act::PlaceFile(p)),
         b"PlaceConf" => Ok(Act::PlaceConf(p)),
         b"Discard" => Ok(Act::Discard(p)),
@@ -171,14 +174,14 @@ fn place(alloc: Global, name: &[u8], p: Path) -> Result<Act, Memory> {
     }
 }
 
-// The act of a package manager that a row names, by a word and a path.
+// The act that a row names, by a word and a path.
 pub(crate) fn placed(alloc: Global, text: &str) -> Result<Act, Fail> {
     let (name, path) = text.split_once(' ').unwrap_or(("", "/"));
     let p = Path::read(alloc, path.as_bytes())?;
     Ok(place(alloc, name.as_bytes(), p)?)
 }
 
-// Whether the act of a package manager takes the row.
+// Whether the act that a row names takes the row.
 fn placed_takes(alloc: Global, row: &Taken) -> Result<bool, Fail> {
     let a = placed(alloc, row.0)?;
     takes(alloc, &a, row)
@@ -343,6 +346,24 @@ const PLACES: &[Taken] = &[
     ("DiscardDir /e", 68, "ok", "- /e"),
 ];
 
+const RUNS: &[Taken] = &[
+    ("CanRunFile /l", 65, "link", ""),
+    ("CanRunFile /n", 66, "failed", ""),
+    ("CanRunFile /f/a", 66, "failed", ""),
+    ("CanRunFile /d", 67, "ok", ""),
+    ("CanRunFile /f", 67, "ok", ""),
+    ("CanRunFile /d/f", 67, "ok", ""),
+    ("CanRunFile /", 67, "ok", ""),
+    ("CanRunFile /p", 68, "run", ""),
+    ("CanRunFile /o", 68, "run", ""),
+    ("CanRunFile /b", 68, "run", ""),
+    ("CanRunFile /c", 68, "run", ""),
+    ("CanRunFile /l/a", 1, "link", ""),
+    ("CanRunFile /d/l/a", 2, "link", ""),
+    ("CanRunFile /f/", 64, "slash", ""),
+    ("CanRunFile /d/", 67, "ok", ""),
+];
+
 #[test]
 fn questions_take_each_row(rt: HostRuntime) -> Result<(), Fail> {
     for row in QUESTIONS {
@@ -363,6 +384,15 @@ fn changes_take_each_row(rt: HostRuntime) -> Result<(), Fail> {
 fn moves_take_each_row(rt: HostRuntime) -> Result<(), Fail> {
     for row in MOVES {
         assert!(rt; call_takes(rt.alloc(), row)?, "{}", row.0);
+    }
+    Ok(())
+}
+
+#[test]
+fn test_x_takes_each_row_where_files_run(rt: HostRuntime) -> Result<(), Fail> {
+    for row in RUNS {
+        assert!(rt; placed_takes(rt.alloc(), row)?, "{}", row.0);
+        assert!(rt; copy_takes(rt.alloc(), row)?, "{}", row.0);
     }
     Ok(())
 }

@@ -97,7 +97,7 @@ fn call_takes(alloc: Global, row: &Taken) -> Result<bool, Fail> {
     plan_takes(alloc, &planned, row)
 }
 
-// Whether the act of a package manager takes the row of each kind.
+// Whether the act that a row names takes the row of each kind.
 fn placed_takes(alloc: Global, row: &Taken) -> Result<bool, Fail> {
     let a = placed(alloc, row.0)?;
     takes_each(alloc, &a, row)
@@ -262,6 +262,23 @@ const PLACES: &[Taken] = &[
     ("PlaceFile /a/b", "", "/a", &[66, 66, 1, 66, 66, 66, 66, 68]),
 ];
 
+// `test -x` where it is taken that a regular file may be run.
+const RUNS: &[Taken] = &[
+    ("CanRunFile /a", "", "/a", &[66, 67, 65, 68, 68, 68, 68, 67]),
+    (
+        "CanRunFile /a/",
+        "",
+        "/a",
+        &[66, 64, 64, 64, 64, 64, 64, 67],
+    ),
+    (
+        "CanRunFile /a/b",
+        "",
+        "/a",
+        &[66, 66, 1, 66, 66, 66, 66, 66],
+    ),
+];
+
 #[test]
 fn calls_take_a_row_at_each_kind(rt: HostRuntime) -> Result<(), Fail> {
     for row in CALLS {
@@ -282,6 +299,14 @@ fn what_stands_below_is_of_each_kind(rt: HostRuntime) -> Result<(), Fail> {
 fn moves_take_a_row_at_each_kind(rt: HostRuntime) -> Result<(), Fail> {
     for row in MOVES {
         assert!(rt; call_takes(rt.alloc(), row)?, "{} {}", row.0, row.1);
+    }
+    Ok(())
+}
+
+#[test]
+fn test_x_takes_a_row_at_each_kind_where_files_run(rt: HostRuntime) -> Result<(), Fail> {
+    for row in RUNS {
+        assert!(rt; placed_takes(rt.alloc(), row)?, "{}", row.0);
     }
     Ok(())
 }

@@ -1,9 +1,11 @@
-//! Tests of feature_trees, tree_clauses, utility_calls and concrete_utils. They stand apart from these crates, so that
-//! no crate is proved twice.
+//! Tests of feature_trees, tree_clauses, utility_calls, link_walks and concrete_utils. They stand apart from these
+//! crates, so that no crate is proved twice.
 #![tactic(auto)]
 
 #[cfg(test)]
 mod all_acts;
+#[cfg(test)]
+mod backs;
 #[cfg(test)]
 mod clause_texts;
 #[cfg(test)]
@@ -13,7 +15,11 @@ mod deep_paths;
 #[cfg(test)]
 mod each_kind;
 #[cfg(test)]
+mod known_links;
+#[cfg(test)]
 mod plans;
+#[cfg(test)]
+mod stated;
 #[cfg(test)]
 mod tree_texts;
 #[cfg(test)]

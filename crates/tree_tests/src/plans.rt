@@ -41,7 +41,7 @@ fn word(alloc: Global, text: &[u8]) -> Result<Bytes, Memory> {
 }
 
 // The words of a row.
-fn words(alloc: Global, text: &str) -> Result<List<Bytes>, Memory> {
+pub(crate) fn words(alloc: Global, text: &str) -> Result<List<Bytes>, Memory> {
     let mut all = List::new(alloc);
     for part in text.split(' ') {
         let one = word(alloc, part.as_bytes())?;
@@ -50,7 +50,7 @@ fn words(alloc: Global, text: &str) -> Result<List<Bytes>, Memory> {
     Ok(all)
 }
 
-fn put_path(out: &mut Bytes, p: &Path) -> Result<(), Memory> {
+pub(crate) fn put_path(out: &mut Bytes, p: &Path) -> Result<(), Memory> {
     if p.names().is_empty() {
         return out.push(b'/');
     }
@@ -111,13 +111,14 @@ fn special_name(kind: Special) -> &'static [u8] {
     }
 }
 
-fn put_act(out: &mut Bytes, act: &Act) -> Result<(), Memory> {
+pub(crate) fn put_act(out: &mut Bytes, act: &Act) -> Result<(), Memory> {
     match act {
         Act::Exists(p) => put_named(out, b"Exists", p),
         Act::IsReg(p) => put_named(out, b"IsReg", p),
         Act::IsDir(p) => put_named(out, b"IsDir", p),
         Act::IsLink(p) => put_named(out, b"IsLink", p),
-        Act::CanRun(p) => put_named(out, b"CanRun", p),
+        Act::CanRun { p, runs: false } => put_named(out, b"CanRun", p),
+        Act::CanRun { p, runs: true } => put_named(out, b"CanRunFile", p),
         Act::IsSpecial { p, kind } => put_named(out, special_name(*kind), p),
         Act::MakeDir(p) => put_named(out, b"MakeDir", p),
         Act::EnsureDir(p) => put_named(out, b"EnsureDir", p),
@@ -180,7 +181,7 @@ fn put_printed(out: &mut Bytes, text: &[u8]) -> Result<(), Memory> {
     Ok(())
 }
 
-fn put_plan(out: &mut Bytes, planned: &Planned) -> Result<(), Memory> {
+pub(crate) fn put_plan(out: &mut Bytes, planned: &Planned) -> Result<(), Memory> {
     match planned {
         Planned::Known(status) => out.extend(if *status { b"yes" } else { b"no" }),
         Planned::Ask { act, negate } => {

@@ -1,0 +1,9 @@
+pub mod Named
+pub mod SameNames
+pub mod Found
+pub mod Meets
+pub mod Resolved
+pub mod PutsApart
+pub mod Stays
+pub mod Known
+pub mod Performed

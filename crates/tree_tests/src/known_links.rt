@@ -1,0 +1,228 @@
+use crate::all_acts::placed;
+use crate::plans::{put_act, put_path, put_plan, words};
+use link_walks::{KnownLink, Reached, follow, follow_act, reach};
+use script_names::{Bytes, List, Path};
+use std::alloc::Global;
+use std::test::Fail;
+use utility_calls::calls::plan;
+
+// Known links as a text has them: a path, a space and a target, and further ones behind a comma.
+fn links(alloc: Global, text: &str) -> Result<List<KnownLink>, Fail> {
+    let mut all = List::new(alloc);
+    for part in text.split(',') {
+        if let Some((at, target)) = part.split_once(' ') {
+            let at = Path::read(alloc, at.as_bytes())?;
+            if let Some(link) = KnownLink::new(alloc, at, target.as_bytes())? {
+                all.add(link)?;
+            }
+        }
+    }
+    Ok(all)
+}
+
+// Known links, what is done, and what it comes to along them.
+type Row = (&'static str, &'static str, &'static str);
+
+// Whether the plan of a call comes to what the row says.
+fn call_comes(alloc: Global, row: &Row) -> Result<bool, Fail> {
+    let links = links(alloc, row.0)?;
+    let list = words(alloc, row.1)?;
+    if list.len() == 0 {
+        return Ok(false);
+    }
+    let planned = plan(alloc, &list)?;
+    let there = follow(alloc, links.as_slice(), planned)?;
+    let mut text = Bytes::new(alloc);
+    put_plan(&mut text, &there)?;
+    Ok(text.as_slice() == row.2.as_bytes())
+}
+
+// Whether the act of a package manager comes to what the row says.
+fn place_comes(alloc: Global, row: &Row) -> Result<bool, Fail> {
+    let links = links(alloc, row.0)?;
+    let act = placed(alloc, row.1)?;
+    let there = follow_act(alloc, links.as_slice(), act)?;
+    let mut text = Bytes::new(alloc);
+    put_act(&mut text, &there)?;
+    Ok(text.as_slice() == row.2.as_bytes())
+}
+
+// Where a path leads, its last name taken too; a blocked one behind `!`.
+fn path_leads(alloc: Global, row: &Row) -> Result<bool, Fail> {
+    let links = links(alloc, row.0)?;
+    let path = Path::read(alloc, row.1.as_bytes())?;
+    let mut text = Bytes::new(alloc);
+    match reach(alloc, links.as_slice(), &path, true)? {
+        Reached::At(end) => put_path(&mut text, &end)?,
+        Reached::Blocked(at) => {
+            text.push(b'!')?;
+            put_path(&mut text, &at)?;
+        }
+    }
+    Ok(text.as_slice() == row.2.as_bytes())
+}
+
+// The place of the known link at a path with a target; `none` where there is no such link.
+fn link_leads(alloc: Global, row: &Row) -> Result<bool, Fail> {
+    let at = Path::read(alloc, row.0.as_bytes())?;
+    let mut text = Bytes::new(alloc);
+    match KnownLink::new(alloc, at, row.1.as_bytes())? {
+        Some(link) => put_path(&mut text, link.place())?,
+        None => text.extend(b"none")?,
+    }
+    Ok(text.as_slice() == row.2.as_bytes())
+}
+
+// The links of a system with a merged /usr.
+const USR: &str = "/bin usr/bin,/sbin usr/sbin,/lib usr/lib";
+
+// A path, a target, and the link's place.
+const LINKS: &[Row] = &[
+    ("/bin", "usr/bin", "/usr/bin"),
+    ("/a/b", "c", "/a/c"),
+    ("/a/b", "/c", "/c"),
+    ("/a/b/", "c/d", "/a/c/d"),
+    ("/a/b", "b", "/a/b"),
+    ("/", "a", "none"),
+    ("/a", "", "none"),
+    ("/a", "/", "none"),
+    ("/a", "b/", "none"),
+    ("/a", "//b", "none"),
+    ("/a", "b//c", "none"),
+    ("/a", "./b", "none"),
+    ("/a/b", "../c", "none"),
+    ("/a", "b\0", "none"),
+];
+
+const PATHS: &[Row] = &[
+    ("", "/bin", "/bin"),
+    (USR, "/", "/"),
+    (USR, "/bin", "/usr/bin"),
+    (USR, "/bin/", "/usr/bin/"),
+    (USR, "/bins/a", "/bins/a"),
+    (USR, "/usr/bin/a", "/usr/bin/a"),
+    ("/a/b c", "/a/b/d", "/a/c/d"),
+    ("/a/b /c", "/a/b/d", "/c/d"),
+    ("/a b,/a c", "/a", "/b"),
+    ("/a/b d,/a c", "/a/b", "/c/b"),
+    ("/a b,/b c,/c d", "/a/x", "/d/x"),
+    ("/bin usr/bin,/usr u", "/bin/x", "/u/bin/x"),
+    ("/a b,/b c,/c d,/d e,/e f,/f g,/g h,/h i", "/a", "/i"),
+    ("/a b,/b c,/c d,/d e,/e f,/f g,/g h,/h i,/i j", "/a", "!/i"),
+    ("/a b,/b c,/c d,/d e,/e f,/f g,/g h,/h i,/i j", "/b", "/j"),
+    ("/a b,/b a", "/a/x", "!/a"),
+    ("/a b,/b a", "/b", "!/b"),
+    ("/a a/b", "/a", "!/a"),
+];
+
+const CALLS: &[Row] = &[
+    ("", "mv /bin/a /b", ";,Move /bin/a /b"),
+    (USR, "true", "yes"),
+    (USR, "echo a", "a|"),
+    (USR, "mkdir", "call"),
+    (USR, "test -e /bin", "ask Exists /usr/bin"),
+    (USR, "test -f /bin/a", "ask IsReg /usr/bin/a"),
+    (USR, "[ ! -d /lib ]", "not IsDir /usr/lib"),
+    (USR, "test -x /sbin/a", "ask CanRun /usr/sbin/a"),
+    (USR, "test -S /bin/", "ask IsSocket /usr/bin/"),
+    (USR, "test -h /bin", "ask IsLink /bin"),
+    (USR, "test -h /bin/a", "ask IsLink /usr/bin/a"),
+    (USR, "mkdir /bin", ";,MakeDir /bin"),
+    (USR, "mkdir /bin/a /a", ";,MakeDir /usr/bin/a;,MakeDir /a"),
+    (
+        USR,
+        "mkdir -p /bin/a/",
+        ";,EnsureDir /usr/bin,EnsureDir /usr/bin/a/",
+    ),
+    (USR, "rmdir /bin", ";,RemoveDir /bin"),
+    (USR, "rmdir /usr", ";,RemoveDir /usr"),
+    (
+        USR,
+        "rmdir /usr/lib /lib/a",
+        ";,Exists /lib;,RemoveDir /usr/lib/a",
+    ),
+    (USR, "rm /bin", ";,Exists /bin"),
+    (USR, "rm -r /bin/", ";,Exists /bin"),
+    (USR, "rm -f /bin/a", ";,Remove-f /usr/bin/a"),
+    (USR, "rm -f /usr/bin", ";,Remove-f /usr/bin"),
+    (USR, "rm -rf /usr/sbin", ";,Exists /sbin"),
+    (USR, "rm -rf /usr", ";,Exists /bin"),
+    ("/a/b c", "rm -r /a", ";,Exists /a/b"),
+    ("/a/b c", "rm /a", ";,Remove /a"),
+    ("/a a", "rm -r /b", ";,Remove-r /b"),
+    (USR, "touch /bin", ";,Touch /usr/bin"),
+    (USR, "touch /bin/a", ";,Touch /usr/bin/a"),
+    (USR, "ln -s t /bin", ";,Symlink /usr/bin t t"),
+    (
+        USR,
+        "ln -s /bin/a /usr/bin/a",
+        ";,Symlink /usr/bin/a /bin/a a",
+    ),
+    (USR, "ln -sf /bin /usr/bin", ";,Symlink-f /usr/bin /bin bin"),
+    (USR, "ln -sf /usr/bin/a /bin/a", "same"),
+    (USR, "ln -sf /bin/a /usr/bin/a", "same"),
+    (USR, "ln -sf /bin/a /usr/bin", "same"),
+    ("/a/b c", "ln -sf b /a", ";,Exists /a/b"),
+    ("/a/b c", "ln -s b /a", ";,Symlink /a b b"),
+    (USR, "mv /bin/a /lib/b", ";,Move /usr/bin/a /usr/lib/b"),
+    (USR, "mv /a /bin", ";,Move /a /usr/bin"),
+    (USR, "mv /bin/a /usr/bin/a", "same"),
+    (USR, "mv /usr/bin/a /bin", "same"),
+    (USR, "mv /bin /a", ";,Exists /bin"),
+    (USR, "mv /usr/lib /a", ";,Exists /lib"),
+    (USR, "mv /usr /a", ";,Exists /bin"),
+    ("/a/b c", "mv /a /d", ";,Exists /a/b"),
+    ("/a b,/b a,/c c", "mv /a/x /c/y", ";,Exists /a"),
+    ("/a b,/b a,/c c", "mv /d /c", ";,Exists /c"),
+    ("/a b,/b a,/c c", "touch /b", ";,Exists /b"),
+    ("/n m", "test -e @64", "ask Exists many"),
+    ("/n a/b", "test -e @63", "ask Exists many"),
+    ("/n a/b", "test -e @64", "ask Exists /n"),
+];
+
+const PLACES: &[Row] = &[
+    (USR, "PlaceFile /bin/a", "PlaceFile /usr/bin/a"),
+    (USR, "PlaceFile /bin", "Exists /bin"),
+    (USR, "PlaceConf /lib/a", "PlaceConf /usr/lib/a"),
+    (USR, "PlaceConf /bin", "Exists /bin"),
+    (USR, "PlaceLink /bin", "Exists /bin"),
+    ("/bin t", "PlaceLink /bin", "PlaceLink /bin"),
+    (USR, "Discard /bin", "Exists /bin"),
+    (USR, "Discard /bin/a", "Discard /usr/bin/a"),
+    (USR, "Discard /usr/bin", "Discard /usr/bin"),
+    (USR, "DiscardDir /bin", "DiscardDir /bin"),
+    (USR, "DiscardDir /lib/a", "DiscardDir /usr/lib/a"),
+    (USR, "DiscardDir /usr/lib", "Exists /lib"),
+];
+
+#[test]
+fn links_are_known(rt: HostRuntime) -> Result<(), Fail> {
+    for row in LINKS {
+        assert!(rt; link_leads(rt.alloc(), row)?, "{} {}", row.0, row.1);
+    }
+    Ok(())
+}
+
+#[test]
+fn paths_lead_along_links(rt: HostRuntime) -> Result<(), Fail> {
+    for row in PATHS {
+        assert!(rt; path_leads(rt.alloc(), row)?, "{} {}", row.0, row.1);
+    }
+    Ok(())
+}
+
+#[test]
+fn calls_go_along_links(rt: HostRuntime) -> Result<(), Fail> {
+    for row in CALLS {
+        assert!(rt; call_comes(rt.alloc(), row)?, "{} {}", row.0, row.1);
+    }
+    Ok(())
+}
+
+#[test]
+fn a_package_manager_goes_along_links(rt: HostRuntime) -> Result<(), Fail> {
+    for row in PLACES {
+        assert!(rt; place_comes(rt.alloc(), row)?, "{} {}", row.0, row.1);
+    }
+    Ok(())
+}
