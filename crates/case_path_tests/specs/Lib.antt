@@ -1,2 +1,3 @@
 pub mod TwoActs
 pub mod Questions
+pub mod Keeping

@@ -14,8 +14,8 @@ use std::alloc::Global;
 use utility_calls::acts::Act;
 use utility_calls::deeds::Deed;
 
-// Does an act, and adds its mark and its deed to those that were done before.
-fn perform(
+/// Does an act, and adds its mark and its deed to those that were done before.
+pub(crate) fn perform(
     alloc: Global,
     at: u32,
     own: Act,

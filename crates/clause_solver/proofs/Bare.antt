@@ -21,7 +21,7 @@ use Rattle.clause_solver.specs.NewNames.{IsNew}
 use Rattle.clause_solver.specs.Opens.{mark_at, opened, IsRoot, itself, derived, ensured, AreReasoned}
 use Rattle.clause_solver.specs.Stands.{Seen, Stands}
 use Rattle.clause_solver.specs.Variables.{var_at, is_node, Ordered}
-use Rattle.clause_solver.specs.Written.{var, definition_literals, kinds_literals, fence_literals, filled_literals, literals_of, literals_from}
+use Rattle.clause_solver.specs.Written.{var, definition_literals, kinds_literals, fence_literals, filled_literals, target_literals, literals_of, literals_from}
 use Rattle.clause_solver.proofs.Alive.{opened_none}
 use Rattle.clause_solver.proofs.Grown.{evals, evals_length, all_fit, node_is, child_is, place_entry, place_new, only_new}
 use Rattle.clause_solver.proofs.OneMore.{seen_of}
@@ -46,17 +46,19 @@ definition_literal : (vars : List Variable) (i : ℕ) (d : Definition) (l : Lite
 definition_literal vars i d l w e c =
     let v = var_at vars i in
     literal_of vars i l w
-    (Contains-append_left (definition_literals i v.definition) (kinds_literals i v.kinds ++ (fence_literals i v.fence ++ filled_literals i v.not_empty)) l (rw e c))
+    (Contains-append_left (definition_literals i v.definition) (kinds_literals i v.kinds ++ (fence_literals i v.fence ++ (filled_literals i v.not_empty ++ target_literals i v.target))) l (rw e c))
 
 filled_literal : (vars : List Variable) (i : ℕ) → i < length vars → IsTrue (var_at vars i).not_empty → Contains (literals_from 0 vars) (L.NotEmpty (var i))
 filled_literal vars i w t =
     let v = var_at vars i in
     let l = L.NotEmpty (var i) in
+    let more = filled_literals i v.not_empty ++ target_literals i v.target in
     let last : Contains (filled_literals i v.not_empty) l = rw t (contains_head l []) in
     literal_of vars i l w
-    (Contains-append_right (definition_literals i v.definition) (kinds_literals i v.kinds ++ (fence_literals i v.fence ++ filled_literals i v.not_empty)) l
-    (Contains-append_right (kinds_literals i v.kinds) (fence_literals i v.fence ++ filled_literals i v.not_empty) l
-    (Contains-append_right (fence_literals i v.fence) (filled_literals i v.not_empty) l last)))
+    (Contains-append_right (definition_literals i v.definition) (kinds_literals i v.kinds ++ (fence_literals i v.fence ++ more)) l
+    (Contains-append_right (kinds_literals i v.kinds) (fence_literals i v.fence ++ more) l
+    (Contains-append_right (fence_literals i v.fence) more l
+    (Contains-append_left (filled_literals i v.not_empty) (target_literals i v.target) l last))))
 
 made_from : (vars : List Variable) → Ordered vars → {x n : ℕ} → IsRoot vars x n → x < length vars → IsMadeFrom (literals_from 0 vars) x n
 made_from vars order (itself node) w = same

@@ -1,5 +1,5 @@
 -- The tree of the greatest kinds, one value moved into its parent after another.
-use Rattle.std.proofs.Common.{◌≡◌, ℕ, zero, suc, ◌+◌, ◌<◌, inl, inr, Bool, true, false, nat_eq, List, [], ◌∷◌, ◌++◌, length, take, drop, refl, sym, ap, ◌∙◌, arith, length-set, get_or-set_other, get_or-set_same}
+use Rattle.std.proofs.Common.{◌≡◌, ℕ, zero, suc, ◌+◌, ◌<◌, inl, inr, Bool, true, false, Option, nat_eq, List, [], ◌∷◌, ◌++◌, length, take, drop, refl, sym, ap, ◌∙◌, arith, length-set, get_or-set_other, get_or-set_same}
 use Rattle.std.proofs.lemmas.List.{drop_more, drop_all, get_or-take, length-take-le, length-append}
 use Rattle.std.proofs.Math.Seq.{get_or-append_seam, take-append_seam}
 use Rattle.feature_trees.specs.declared.kind.Kind.{Kind}
@@ -20,21 +20,21 @@ use Rattle.clause_solver.specs.Builds.{IsBuilt, with_entry, moved_to_parent}
 use Rattle.clause_solver.proofs.Names.{nat_cases, eq_cases, same_yes}
 use Rattle.clause_solver.proofs.Grown.{values_length}
 
-value_grown : (best : List Kind) (o : ℕ → Bool) (z : List ℕ) (k : ℕ) (vs : List Variable) (i : ℕ) → i < length vs → value_of_variable (values best o z k vs) i ≡ grown (kind_at best (k + i)) (children (k + i) (drop (suc i) vs) (drop (suc i) (values best o z k vs)) (extra (o (k + i)) z))
+value_grown : (best : List Kind) (o : ℕ → Bool) (z : List ℕ) (k : ℕ) (vs : List Variable) (i : ℕ) → i < length vs → value_of_variable (values best o z k vs) i ≡ grown (kind_at best (k + i)) (var_at vs i).target (children (k + i) (drop (suc i) vs) (drop (suc i) (values best o z k vs)) (extra (o (k + i)) z))
 value_grown best o z k [] i w = absurd (omega arith)
 value_grown best o z k (v ∷ vs) zero w = let e : k + 0 ≡ k = omega arith in rw e refl
 value_grown best o z k (v ∷ vs) (suc i) w = let e : k + suc i ≡ suc k + i = omega arith in rw e (value_grown best o z (suc k) vs i (omega arith))
 
 -- the value of a variable from the ones after it
-pub value_at : (best : List Kind) (o : ℕ → Bool) (z : List ℕ) (vs : List Variable) (n : ℕ) → n < length vs → value_of_variable (values best o z 0 vs) n ≡ grown (kind_at best n) (children n (drop (n + 1) vs) (drop (n + 1) (values best o z 0 vs)) (extra (o n) z))
+pub value_at : (best : List Kind) (o : ℕ → Bool) (z : List ℕ) (vs : List Variable) (n : ℕ) → n < length vs → value_of_variable (values best o z 0 vs) n ≡ grown (kind_at best n) (var_at vs n).target (children n (drop (n + 1) vs) (drop (n + 1) (values best o z 0 vs)) (extra (o n) z))
 value_at best o z vs n w = let e : 0 + n ≡ n = omega arith in let e' : n + 1 ≡ suc n = omega arith in rw e' (rw e at (value_grown best o z 0 vs n w))
 
-with_grown : (b : Kind) (es : List Entry) (f : List ℕ) (t : Value) → with_entry (grown b es) f t ≡ grown b (update es f t)
-with_grown kind.Absent es f t = refl
-with_grown kind.Reg es f t = refl
-with_grown kind.Link es f t = refl
-with_grown (kind.Special s) es f t = refl
-with_grown kind.Dir es f t = refl
+with_grown : (b : Kind) (target : Option (List ℕ)) (es : List Entry) (f : List ℕ) (t : Value) → with_entry (grown b target es) f t ≡ grown b target (update es f t)
+with_grown kind.Absent target es f t = refl
+with_grown kind.Reg target es f t = refl
+with_grown kind.Link target es f t = refl
+with_grown (kind.Special s) target es f t = refl
+with_grown kind.Dir target es f t = refl
 
 module _ (vars : List Variable) (best : List Kind) (marks : List Bool) (z : List ℕ) where
   abbrev all : Valuation
@@ -62,16 +62,16 @@ module _ (vars : List Variable) (best : List Kind) (marks : List Bool) (z : List
     rest_length : length (take i vs) ≡ i
     rest_length = length-take-le i vs (let c = h.counted in omega arith)
 
-    old : (k : ℕ) → k < i → value_of_variable (take i vs) k ≡ grown (kind_at best k) (children k (drop (i + 1) vars) (drop (i + 1) all) (extra (opened vars marks k) z))
+    old : (k : ℕ) → k < i → value_of_variable (take i vs) k ≡ grown (kind_at best k) (var_at vars k).target (children k (drop (i + 1) vars) (drop (i + 1) all) (extra (opened vars marks k) z))
     old k b = get_or-take i vs k Absent b ∙ h.each k (omega arith)
 
-    same_by : (d : Definition) (k : ℕ) → k < i → (var_at vars i).definition ≡ d → ((es : List Entry) → add k d v es ≡ es) → value_of_variable (take i vs) k ≡ grown (kind_at best k) (children k (drop i vars) (drop i all) (extra (opened vars marks k) z))
+    same_by : (d : Definition) (k : ℕ) → k < i → (var_at vars i).definition ≡ d → ((es : List Entry) → add k d v es ≡ es) → value_of_variable (take i vs) k ≡ grown (kind_at best k) (var_at vars k).target (children k (drop i vars) (drop i all) (extra (opened vars marks k) z))
     same_by d k b q none =
         let first = extra (opened vars marks k) z in
         let es = children k (drop (i + 1) vars) (drop (i + 1) all) first in
-        old k b ∙ ap (grown (kind_at best k)) (sym (children_next i k first w ∙ ap (λ t. add k (var_at vars i).definition t es) (sym v_is) ∙ ap (λ x. add k x v es) q ∙ none es))
+        old k b ∙ ap (grown (kind_at best k) (var_at vars k).target) (sym (children_next i k first w ∙ ap (λ t. add k (var_at vars i).definition t es) (sym v_is) ∙ ap (λ x. add k x v es) q ∙ none es))
 
-    each_by : (d : Definition) → (var_at vars i).definition ≡ d → (k : ℕ) → k < i → value_of_variable (moved_to_parent (take i vs) d v) k ≡ grown (kind_at best k) (children k (drop i vars) (drop i all) (extra (opened vars marks k) z))
+    each_by : (d : Definition) → (var_at vars i).definition ≡ d → (k : ℕ) → k < i → value_of_variable (moved_to_parent (take i vs) d v) k ≡ grown (kind_at best k) (var_at vars k).target (children k (drop i vars) (drop i all) (extra (opened vars marks k) z))
     each_by Start q k b = same_by Start k b q (λ es. refl)
     each_by (Child p f) q k b = elim (nat_cases k p) [
       | inl same ↦
@@ -83,8 +83,8 @@ module _ (vars : List Variable) (best : List Kind) (marks : List Bool) (z : List
           let added : add k (Child p f) v es ≡ update es f v = rw yes refl in
           here
           ∙ ap (λ u. with_entry u f v) (ap (value_of_variable (take i vs)) (sym same) ∙ old k b)
-          ∙ with_grown (kind_at best k) es f v
-          ∙ ap (grown (kind_at best k)) (sym (children_next i k first w ∙ ap (λ t. add k (var_at vars i).definition t es) (sym v_is) ∙ ap (λ x. add k x v es) q ∙ added))
+          ∙ with_grown (kind_at best k) (var_at vars k).target es f v
+          ∙ ap (grown (kind_at best k) (var_at vars k).target) (sym (children_next i k first w ∙ ap (λ t. add k (var_at vars i).definition t es) (sym v_is) ∙ ap (λ x. add k x v es) q ∙ added))
       | inr ne ↦
           let no : nat_eq p k ≡ false = elim (eq_cases p k) [ inl a ↦ absurd (ne (sym a.0)) | inr a ↦ a.1 ] in
           let here : value_of_variable (moved_to_parent (take i vs) (Child p f) v) k ≡ value_of_variable (take i vs) k = get_or-set_other (take i vs) p k _ Absent ne in

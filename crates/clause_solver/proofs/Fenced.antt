@@ -56,6 +56,12 @@ module _ (vars : List Variable) (n : ℕ) (names : List (List ℕ)) (inside : n 
     | inr ne ↦ rw get_or-set_other refl
   ]
 
+  fenced_target : (i : ℕ) → (var_at (fenced vars n names) i).target ≡ (var_at vars i).target
+  fenced_target i = elim (nat_cases i n) [
+    | inl e ↦ rw (e, get_or-set_same) refl
+    | inr ne ↦ rw get_or-set_other refl
+  ]
+
   -- both fences let a name in, or the new one does not
   pub let_in_both : (f : List ℕ) → IsTrue (allowed fence f) → Listed f names × IsTrue (allowed (var_at vars n).fence f)
   let_in_both f t = kept_of (allowed (var_at vars n).fence) names f (listed_from_member f (let_in (var_at vars n).fence names) t)
@@ -68,7 +74,7 @@ module _ (vars : List Variable) (n : ℕ) (names : List (List ℕ)) (inside : n 
       let longer : n < length (fenced vars n names) = rw length-set inside in
       let here : Fits g n here_now = rw get_or-set_same at (h n longer) in (
         λ i w. elim (nat_cases i n) [
-          | inl e ↦ rw e (record { is = here.is; kind = here.kind; fenced = λ f some. (let_in_both f (here.fenced f some)).1; filled = here.filled })
+          | inl e ↦ rw e (record { is = here.is; kind = here.kind; fenced = λ f some. (let_in_both f (here.fenced f some)).1; filled = here.filled; aimed = here.aimed })
           | inr ne ↦ let w' : i < length (fenced vars n names) = rw length-set w in rw get_or-set_other at (h i w')
         ],
         λ f out. elim (absent_or_not (entry (value_of_variable g n) f)) [
@@ -90,7 +96,7 @@ module _ (vars : List Variable) (n : ℕ) (names : List (List ℕ)) (inside : n 
       elim (nat_cases i n) [
         | inl e ↦
             let here = h n inside in
-            rw e (rw get_or-set_same (record { is = here.is; kind = here.kind; fenced = λ f some. both_let_in f (listed_there g none f some) (here.fenced f some); filled = here.filled }))
+            rw e (rw get_or-set_same (record { is = here.is; kind = here.kind; fenced = λ f some. both_let_in f (listed_there g none f some) (here.fenced f some); filled = here.filled; aimed = here.aimed }))
         | inr ne ↦ rw get_or-set_other (h i w)
       ]
 
@@ -137,6 +143,9 @@ module _ (vars : List Variable) (n : ℕ) (names : List (List ℕ)) (inside : n 
           let bad : true ≡ false = sym node ∙ here in absurd (cc)
       | inr ne ↦ rw get_or-set_other (order.nodes i (rw length-set at w) (ap is_node (sym (fenced_definition i)) ∙ no_node))
     ];
+    aims = λ i b w t.
+        let place = order.aims i b (rw length-set at w) (sym (fenced_target i) ∙ t) in
+        (ap is_node (fenced_definition i) ∙ place.0, λ q h. place.1 q (rw fenced_kinds at h));
   }
 
   pub fenced_linked : (kin : List Kin) → AreLinked vars kin → AreLinked (fenced vars n names) kin

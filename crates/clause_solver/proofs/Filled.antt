@@ -39,12 +39,18 @@ module _ (vars : List Variable) (x : ℕ) (inside : x < length vars) where
     | inr n ↦ rw get_or-set_other refl
   ]
 
+  filled_target : (i : ℕ) → (var_at (filled vars x) i).target ≡ (var_at vars i).target
+  filled_target i = elim (nat_cases i x) [
+    | inl e ↦ rw (e, get_or-set_same) refl
+    | inr n ↦ rw get_or-set_other refl
+  ]
+
   pub filled_fits : (g : Valuation) → AllFit (filled vars x) g → AllFit vars g × HasSome (value_of_variable g x)
   filled_fits g h =
       let longer : x < length (filled vars x) = rw length-set inside in
       let here : Fits g x here_now = rw get_or-set_same at (h x longer) in (
         λ i w. elim (nat_cases i x) [
-          | inl e ↦ rw e (record { is = here.is; kind = here.kind; fenced = here.fenced; filled = λ t. here.filled refl })
+          | inl e ↦ rw e (record { is = here.is; kind = here.kind; fenced = here.fenced; filled = λ t. here.filled refl; aimed = here.aimed })
           | inr n ↦ let w' : i < length (filled vars x) = rw length-set w in rw get_or-set_other at (h i w')
         ],
         here.filled refl,
@@ -54,7 +60,7 @@ module _ (vars : List Variable) (x : ℕ) (inside : x < length vars) where
   fits_filled g h some i w' =
       let w : i < length vars = rw length-set at w' in
       elim (nat_cases i x) [
-        | inl e ↦ let here = h x inside in rw e (rw get_or-set_same (record { is = here.is; kind = here.kind; fenced = here.fenced; filled = λ t. some }))
+        | inl e ↦ let here = h x inside in rw e (rw get_or-set_same (record { is = here.is; kind = here.kind; fenced = here.fenced; filled = λ t. some; aimed = here.aimed }))
         | inr n ↦ rw get_or-set_other (h i w)
       ]
 
@@ -81,6 +87,9 @@ module _ (vars : List Variable) (x : ℕ) (inside : x < length vars) where
         let m = order.known i names f (rw length-set at w) (sym (filled_fence i) ∙ fence) listed in
         (m.0, rw length-set m.1, filled_definition m.0 ∙ m.2);
     nodes = λ i w node. filled_fence i ∙ order.nodes i (rw length-set at w) (ap is_node (sym (filled_definition i)) ∙ node);
+    aims = λ i b w t.
+        let place = order.aims i b (rw length-set at w) (sym (filled_target i) ∙ t) in
+        (ap is_node (filled_definition i) ∙ place.0, λ q h. place.1 q (rw filled_kinds at h));
   }
 
   pub filled_exact : (now : ℕ) → Ordered vars → (t : Value) (g : Valuation) → Stands (seen_of (filled vars x) now) t g ↔ (Stands (seen_of vars now) t g × HasSome (value_of_variable g x))

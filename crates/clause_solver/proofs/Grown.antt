@@ -1,5 +1,5 @@
 -- The tree of the greatest kinds, and the valuation that it gives.
-use Rattle.std.proofs.Common.{◌≡◌, ◌≢◌, ℕ, zero, suc, ◌+◌, ◌<◌, ◌≤◌, ◌⊎◌, inl, inr, Bool, true, false, IsTrue, None, List, [], ◌∷◌, ◌++◌, length, refl, sym, ap, subst, ◌∙◌, arith, nat_eq}
+use Rattle.std.proofs.Common.{◌≡◌, ◌≢◌, ℕ, zero, suc, ◌+◌, ◌<◌, ◌≤◌, ◌⊎◌, inl, inr, Bool, true, false, IsTrue, Option, None, Some, List, [], ◌∷◌, ◌++◌, length, refl, sym, ap, subst, ◌∙◌, arith, nat_eq}
 use Rattle.std.proofs.lemmas.List.{length-append, get_or_append_left}
 use Rattle.std.proofs.lemmas.Cmp.{tied_itself}
 use Rattle.std.proofs.Math.Seq.{get_or-append_seam}
@@ -7,8 +7,9 @@ use Rattle.script_names.specs.Names.{is_name}
 use Rattle.feature_trees.specs.declared.kind.Kind.{Kind}
 use Rattle.feature_trees.specs.declared.kind.Kind.TheVariants as kind
 use Rattle.feature_trees.specs.declared.value.Value.{Value}
-use Rattle.feature_trees.specs.declared.value.Value.TheVariants.{Absent, Reg}
+use Rattle.feature_trees.specs.declared.value.Value.TheVariants.{Absent, Reg, Link}
 use Rattle.feature_trees.specs.declared.shape.Entry.{Entry}
+use Rattle.feature_trees.specs.Kinds.{has}
 use Rattle.feature_trees.specs.Tree.{entry, kind_of, find, update, by_order}
 use Rattle.feature_trees.specs.View.{node_of, value_of, value_of-node_of}
 use Rattle.feature_trees.specs.Sound.{sound, sound_all}
@@ -28,19 +29,19 @@ use Rattle.tree_clauses.proofs.Values.{entry_of_dir, absent_kind, present_kind, 
 use Rattle.clause_solver.proofs.Pairs.{sound_at}
 use Rattle.clause_solver.proofs.OneMore.{defined_sound, defined_same, sound_push}
 
-pub kind_grown : (k : Kind) (es : List Entry) → kind_of (grown k es) ≡ k
-kind_grown kind.Absent es = refl
-kind_grown kind.Reg es = refl
-kind_grown kind.Link es = refl
-kind_grown (kind.Special s) es = refl
-kind_grown kind.Dir es = refl
+pub kind_grown : (k : Kind) (target : Option (List ℕ)) (es : List Entry) → kind_of (grown k target es) ≡ k
+kind_grown kind.Absent target es = refl
+kind_grown kind.Reg target es = refl
+kind_grown kind.Link target es = refl
+kind_grown (kind.Special s) target es = refl
+kind_grown kind.Dir target es = refl
 
-grown_sound : (k : Kind) (es : List Entry) → IsTrue (sound_all es) → IsTrue (sound (grown k es))
-grown_sound kind.Absent es s = refl
-grown_sound kind.Reg es s = refl
-grown_sound kind.Link es s = refl
-grown_sound (kind.Special which) es s = refl
-grown_sound kind.Dir es s = s
+grown_sound : (k : Kind) (target : Option (List ℕ)) (es : List Entry) → IsTrue (sound_all es) → IsTrue (sound (grown k target es))
+grown_sound kind.Absent target es s = refl
+grown_sound kind.Reg target es s = refl
+grown_sound kind.Link target es s = refl
+grown_sound (kind.Special which) target es s = refl
+grown_sound kind.Dir target es s = s
 
 -- a child's name is a name
 abbrev pub Named : Definition → Type 0
@@ -98,13 +99,19 @@ values_length best open_at z k (c ∷ cs) = ap suc (values_length best open_at z
 
 pub values_kind : (best : List Kind) (open_at : ℕ → Bool) (z : List ℕ) (k : ℕ) (cs : List Variable) (i : ℕ) → i < length cs → kind_of (value_of_variable (values best open_at z k cs) i) ≡ kind_at best (k + i)
 values_kind best open_at z k [] i w = absurd (omega arith)
-values_kind best open_at z k (c ∷ cs) zero w = let e : k + 0 ≡ k = omega arith in rw e (kind_grown (kind_at best k) (children k cs (values best open_at z (suc k) cs) (extra (open_at k) z)))
+values_kind best open_at z k (c ∷ cs) zero w = let e : k + 0 ≡ k = omega arith in rw e (kind_grown (kind_at best k) c.target (children k cs (values best open_at z (suc k) cs) (extra (open_at k) z)))
 values_kind best open_at z k (c ∷ cs) (suc i) w = let e : k + suc i ≡ suc k + i = omega arith in rw e (values_kind best open_at z (suc k) cs i (omega arith))
+
+-- a link has its target, where one is known
+values_target : (best : List Kind) (open_at : ℕ → Bool) (z : List ℕ) (k : ℕ) (cs : List Variable) (i : ℕ) (b : List ℕ) → i < length cs → kind_at best (k + i) ≡ kind.Link → (var_at cs i).target ≡ Some b → value_of_variable (values best open_at z k cs) i ≡ Link b
+values_target best open_at z k [] i b w d t = absurd (omega arith)
+values_target best open_at z k (c ∷ cs) zero b w d t = let e : k + 0 ≡ k = omega arith in let d' : kind_at best k ≡ kind.Link = rw e at d in rw (d', t) refl
+values_target best open_at z k (c ∷ cs) (suc i) b w d t = let e : k + suc i ≡ suc k + i = omega arith in values_target best open_at z (suc k) cs i b (omega arith) (rw e at d) t
 
 pub values_sound : (best : List Kind) (open_at : ℕ → Bool) (z : List ℕ) (k : ℕ) (cs : List Variable) → IsTrue (is_name z) → AllNamed cs → AllSound (values best open_at z k cs)
 values_sound best open_at z k [] zn n i = refl
 values_sound best open_at z k (c ∷ cs) zn n zero =
-    grown_sound (kind_at best k) _ (children_sound k cs (values best open_at z (suc k) cs) (extra (open_at k) z) (tail_named c cs n) (values_sound best open_at z (suc k) cs zn (tail_named c cs n)) (extra_sound (open_at k) z zn))
+    grown_sound (kind_at best k) c.target _ (children_sound k cs (values best open_at z (suc k) cs) (extra (open_at k) z) (tail_named c cs n) (values_sound best open_at z (suc k) cs zn (tail_named c cs n)) (extra_sound (open_at k) z zn))
 values_sound best open_at z k (c ∷ cs) zn n (suc i) = values_sound best open_at z (suc k) cs zn (tail_named c cs n) i
 
 add_cases : (p : ℕ) (d : Definition) (t : Value) (es : List Entry) (h : List ℕ) → Rises es → ((d ≡ Child p h) × (find (add p d t es) h ≡ t)) ⊎ (find (add p d t es) h ≡ find es h)
@@ -166,12 +173,12 @@ extra_only true z h some = elim (name_cases z h) [
   | inr n ↦ absurd (some (find-update_other [] z h Reg (rises_of [] refl) n.0))
 ]
 
-grown_entry : (b : Kind) (es : List Entry) (h : List ℕ) → entry (grown b es) h ≢ Absent → find es h ≢ Absent
-grown_entry kind.Absent es h some = absurd (some refl)
-grown_entry kind.Reg es h some = absurd (some refl)
-grown_entry kind.Link es h some = absurd (some refl)
-grown_entry (kind.Special s) es h some = absurd (some refl)
-grown_entry kind.Dir es h some = some
+grown_entry : (b : Kind) (target : Option (List ℕ)) (es : List Entry) (h : List ℕ) → entry (grown b target es) h ≢ Absent → find es h ≢ Absent
+grown_entry kind.Absent target es h some = absurd (some refl)
+grown_entry kind.Reg target es h some = absurd (some refl)
+grown_entry kind.Link target es h some = absurd (some refl)
+grown_entry (kind.Special s) target es h some = absurd (some refl)
+grown_entry kind.Dir target es h some = some
 
 module _ (best : List Kind) (open_at : ℕ → Bool) (z : List ℕ) (zn : IsTrue (is_name z)) where
   entry_values : (k : ℕ) (f : List ℕ) (cs : List Variable) (i j : ℕ) → AllNamed cs → i < j → j < length cs → (var_at cs j).definition ≡ Child (k + i) f → kind_at best (k + i) ≡ kind.Dir → ((m : ℕ) → m < j → (var_at cs m).definition ≡ Child (k + i) f → ⊥) → value_of_variable (values best open_at z k cs) j ≡ entry (value_of_variable (values best open_at z k cs) i) f
@@ -195,7 +202,7 @@ module _ (best : List Kind) (open_at : ℕ → Bool) (z : List ℕ) (zn : IsTrue
       let zz : k + 0 ≡ k = omega arith in
       let vs = values best open_at z (suc k) cs in
       elim (children_only k h cs vs (extra (open_at k) z) (tail_named c cs n) (values_sound best open_at z (suc k) cs zn (tail_named c cs n)) (extra_sound (open_at k) z zn) (values_length best open_at z (suc k) cs)
-      (grown_entry (kind_at best k) (children k cs vs (extra (open_at k) z)) h some)) [
+      (grown_entry (kind_at best k) c.target (children k cs vs (extra (open_at k) z)) h some)) [
         | inl r ↦ inl (suc r.0, let w' = r.1 in omega arith, rw zz r.2, r.3)
         | inr r ↦ inr (rw zz r)
       ]
@@ -461,10 +468,17 @@ module _ (vars : List Variable) (best : List Kind) (open_at : ℕ → Bool) (z :
       let at_h : entry (value_of_variable whole i) h ≡ entry (value_of_variable whole x) h = ap (λ v. entry v h) (is_by i w (Ensured x) e) ∙ entry_is (value_of_variable whole x) h in
       only_new root ds (omega (arith, before)) (λ l. none (kept x e l)) h out (λ q. some (at_h ∙ q))
 
+  target_is : (i : ℕ) (b : List ℕ) → i < length vars → IsTrue (has (var_at vars i).kinds (kind_at best i)) → (var_at vars i).target ≡ Some b → value_of_variable whole i ≡ Link b
+  target_is i b w fits t =
+      let zz : 0 + i ≡ i = omega arith in
+      let place = order.aims i b w t in
+      node_is i w place.0 ∙ values_target best open_at z 0 vars i b w (rw zz (place.1 (kind_at best i) fits)) t
+
   pub all_fit : IsSatisfied vars best open_at → AllFit vars whole
   all_fit satisfied i w = record {
     is = is_by i w (var_at vars i).definition refl;
     kind = rw (kind_is i w) ((satisfied i w).fits);
     fenced = λ h some. fence_is i h w some;
     filled = λ t. let r = has_entry_is ((satisfied i w).filled t) w (λ l. l) in (r.0, r.2);
+    aimed = λ b t. target_is i b w (satisfied i w).fits t;
   }

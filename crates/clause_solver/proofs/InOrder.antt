@@ -12,7 +12,7 @@ use Rattle.clause_solver.specs.declared.variable.Definition.{Definition}
 use Rattle.clause_solver.specs.declared.variable.Definition.TheVariants.{Start, Child, Derived, Ensured, Made}
 use Rattle.clause_solver.specs.declared.variable.Variable.{Variable}
 use Rattle.clause_solver.specs.Variables.{var_at, Earlier, Ordered}
-use Rattle.clause_solver.specs.Written.{var, made_literals, definition_literals, is_all, kinds_literals, fence_literals, filled_literals, literals_from}
+use Rattle.clause_solver.specs.Written.{var, made_literals, definition_literals, is_all, kinds_literals, fence_literals, filled_literals, target_literals, literals_from}
 use Rattle.tree_clauses.specs.Solved.{Solves, done, made, fact}
 use Rattle.clause_solver.proofs.Names.{bool_cases, nat_cases}
 use Rattle.tree_clauses.proofs.PlainCases.{none_in_order, one_in_order}
@@ -58,10 +58,19 @@ filled_on : (i n : ℕ) (b : Bool) (rest : List Literal) (after : List ℕ) → 
 filled_on i n false rest after w h = h
 filled_on i n true rest after w h = fact (L.NotEmpty (var i)) (contains_below n i w) h
 
-facts_on : (i n : ℕ) (v : Variable) (rest : List Literal) (after : List ℕ) → i < n → Solves (below n) rest after → Solves (below n) ((kinds_literals i v.kinds ++ (fence_literals i v.fence ++ filled_literals i v.not_empty)) ++ rest) after
+target_on : (i n : ℕ) (target : Option (List ℕ)) (rest : List Literal) (after : List ℕ) → i < n → Solves (below n) rest after → Solves (below n) (target_literals i target ++ rest) after
+target_on i n None rest after w h = h
+target_on i n (Some b) rest after w h = fact (L.Target (var i) b) (contains_below n i w) h
+
+-- the literals of the facts of a variable
+abbrev facts_literals : ℕ → Variable → List Literal
+facts_literals i v = kinds_literals i v.kinds ++ (fence_literals i v.fence ++ (filled_literals i v.not_empty ++ target_literals i v.target))
+
+facts_on : (i n : ℕ) (v : Variable) (rest : List Literal) (after : List ℕ) → i < n → Solves (below n) rest after → Solves (below n) (facts_literals i v ++ rest) after
 facts_on i n v rest after w h =
-    rw (append_assoc (kinds_literals i v.kinds) (fence_literals i v.fence ++ filled_literals i v.not_empty) rest, append_assoc (fence_literals i v.fence) (filled_literals i v.not_empty) rest)
-    (kinds_on i n v.kinds _ after w (fence_on i n v.fence _ after w (filled_on i n v.not_empty rest after w h)))
+    let more = filled_literals i v.not_empty ++ target_literals i v.target in
+    rw (append_assoc (kinds_literals i v.kinds) (fence_literals i v.fence ++ more) rest, append_assoc (fence_literals i v.fence) more rest, append_assoc (filled_literals i v.not_empty) (target_literals i v.target) rest)
+    (kinds_on i n v.kinds _ after w (fence_on i n v.fence _ after w (filled_on i n v.not_empty _ after w (target_on i n v.target rest after w h))))
 
 -- a definition makes its variable known
 made_on : (i : ℕ) (m : MadeValue) (rest : List Literal) (after : List ℕ) → Solves (below (suc i)) rest after → Solves (below i) (made_literals i m ++ rest) after
@@ -91,7 +100,7 @@ variables_on vars k (v ∷ vs) w e =
     let first : Earlier vars k v.definition = rw zz at (e 0 (omega arith)) in
     let shift : k + suc (length vs) ≡ suc k + length vs = omega arith in
     let rest = variables_on vars (suc k) vs (omega arith) (λ i b. let q : k + suc i ≡ suc k + i = omega arith in rw q at (e (suc i) (omega arith))) in
-    rw (shift, append_assoc (definition_literals k v.definition) (kinds_literals k v.kinds ++ (fence_literals k v.fence ++ filled_literals k v.not_empty)) (literals_from (suc k) vs))
+    rw (shift, append_assoc (definition_literals k v.definition) (facts_literals k v) (literals_from (suc k) vs))
     (definition_on vars k v.definition _ _ w first (facts_on k (suc k) v (literals_from (suc k) vs) _ (omega arith) rest))
 
 start_on : (vars whole : List Variable) → 0 < length vars → (var_at vars 0).definition ≡ Start → ((i : ℕ) → i < length vars → Earlier whole i (var_at vars i).definition) → Solves (below 1) (literals_from 0 vars) (below (length vars))

@@ -30,6 +30,8 @@ pub mod SameKinds
 pub mod ListSteps
 pub mod Excluded
 pub mod Filled
+pub mod Aimed
+pub mod Led
 pub mod Emptied
 pub mod Fenced
 pub mod Entered

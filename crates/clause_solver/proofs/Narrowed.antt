@@ -56,6 +56,12 @@ module _ (vars : List Variable) (x : ℕ) (k : Kinds) (inside : x < length vars)
     | inr n ↦ rw get_or-set_other refl
   ]
 
+  pub narrowed_target : (i : ℕ) → (var_at (narrowed vars x k) i).target ≡ (var_at vars i).target
+  narrowed_target i = elim (nat_cases i x) [
+    | inl e ↦ rw (e, get_or-set_same) refl
+    | inr n ↦ rw get_or-set_other refl
+  ]
+
   pub narrowed_has : (i : ℕ) (q : Kind) → IsTrue (has (var_at (narrowed vars x k) i).kinds q) → IsTrue (has (var_at vars i).kinds q)
   narrowed_has i q h = elim (nat_cases i x) [
     | inl e ↦ rw e (kinds_only (fixed_in (var_at vars x).definition k) (var_at vars x).kinds k q (rw (e, get_or-set_same) at h))
@@ -69,7 +75,7 @@ module _ (vars : List Variable) (x : ℕ) (k : Kinds) (inside : x < length vars)
       let fixed : fixed_in (var_at vars x).definition k ≡ true → IsTrue (has k (kind_of (value_of_variable g x))) = λ e. subst (λ v. IsTrue (has k (kind_of v))) (sym here.is) (fixed_fits g (var_at vars x).definition k e) in
       let parts = kinds_by (fixed_in (var_at vars x).definition k) (var_at vars x).kinds k (kind_of (value_of_variable g x)) fixed here.kind in (
         λ i w. elim (nat_cases i x) [
-          | inl e ↦ rw e (record { is = here.is; kind = parts.0; fenced = here.fenced; filled = here.filled })
+          | inl e ↦ rw e (record { is = here.is; kind = parts.0; fenced = here.fenced; filled = here.filled; aimed = here.aimed })
           | inr n ↦ let w' : i < length (narrowed vars x k) = rw length-set w in rw get_or-set_other at (h i w')
         ],
         parts.1,
@@ -81,7 +87,7 @@ module _ (vars : List Variable) (x : ℕ) (k : Kinds) (inside : x < length vars)
       elim (nat_cases i x) [
         | inl e ↦
             let here = h x inside in
-            rw e (rw get_or-set_same (record { is = here.is; kind = kinds_to (fixed_in (var_at vars x).definition k) (var_at vars x).kinds k (kind_of (value_of_variable g x)) here.kind fit; fenced = here.fenced; filled = here.filled }))
+            rw e (rw get_or-set_same (record { is = here.is; kind = kinds_to (fixed_in (var_at vars x).definition k) (var_at vars x).kinds k (kind_of (value_of_variable g x)) here.kind fit; fenced = here.fenced; filled = here.filled; aimed = here.aimed }))
         | inr n ↦ rw get_or-set_other (h i w)
       ]
 
@@ -112,6 +118,9 @@ module _ (vars : List Variable) (x : ℕ) (k : Kinds) (inside : x < length vars)
         let m = order.known i names f (rw length-set at w) (sym (narrowed_fence i) ∙ fence) listed in
         (m.0, rw length-set m.1, narrowed_definition m.0 ∙ m.2);
     nodes = λ i w node. narrowed_fence i ∙ order.nodes i (rw length-set at w) (ap is_node (sym (narrowed_definition i)) ∙ node);
+    aims = λ i b w t.
+        let place = order.aims i b (rw length-set at w) (sym (narrowed_target i) ∙ t) in
+        (ap is_node (narrowed_definition i) ∙ place.0, λ q h. place.1 q (narrowed_has i q h));
   }
 
   pub narrowed_exact : (now : ℕ) → Ordered vars → (t : Value) (g : Valuation) → Stands (seen_of (narrowed vars x k) now) t g ↔ (Stands (seen_of vars now) t g × IsTrue (has k (kind_of (value_of_variable g x))))

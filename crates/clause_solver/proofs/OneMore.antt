@@ -61,6 +61,7 @@ module _ (vars : List Variable) (g h : Valuation) (n : ℕ) (same : (i : ℕ) �
     kind = rw (← same i w) q.kind;
     fenced = λ f some. q.fenced f (λ z. some (ap (λ u. entry u f) (sym (same i w)) ∙ z));
     filled = λ t. let r = q.filled t in (r.0, λ z. r.1 (ap (λ u. entry u r.0) (same i w) ∙ z));
+    aimed = λ b t. sym (same i w) ∙ q.aimed b t;
   }
 
 pub sound_take : (n : ℕ) (g : Valuation) → n ≤ length g → IsSound g → IsSound (take n g)
@@ -124,6 +125,12 @@ module _ (vars : List Variable) (order : Ordered vars) (d : Definition) (before 
           | inl b ↦ rw (old_at i b) (order.nodes i b (rw (old_at i b) at node))
           | inr e ↦ rw (e, new_at) refl
         ];
+    aims = λ i b w' target.
+        let w : i < length vars + 1 = rw longer at w' in
+        elim (last_cases i (length vars) w) [
+          | inl low ↦ rw (old_at i low) (order.aims i b low (rw (old_at i low) at target))
+          | inr e ↦ let bad : None ≡ Some b = rw (e, new_at) at target in absurd (cc)
+        ];
   }
 
   pub append_only : (i : ℕ) → i < length vars → OnlyDir vars i → OnlyDir (vars ++ fresh d ∷ []) i
@@ -182,6 +189,7 @@ module _ (vars : List Variable) (order : Ordered vars) (d : Definition) (before 
               kind = all_have all _ refl;
               fenced = λ h some. refl;
               filled = λ t. cc;
+              aimed = λ b t. cc;
             })
       ]
 

@@ -15,7 +15,7 @@ use Rattle.clause_solver.specs.declared.variable.Variable.{Variable}
 use Rattle.tree_clauses.specs.Literals.{Valuation, value_of_variable, MeetsAll, IsSound}
 use Rattle.clause_solver.specs.Variables.{var_at, allowed, member, defined, made_value, Fits, AllFit, Earlier, Ordered}
 use Rattle.tree_clauses.specs.declared.clause.Literal.TheVariants.{Kind as KindLiteral}
-use Rattle.clause_solver.specs.Written.{var, made_literals, definition_literals, is_all, kinds_literals, fence_literals, filled_literals, literals_of, literals_from}
+use Rattle.clause_solver.specs.Written.{var, made_literals, definition_literals, is_all, kinds_literals, fence_literals, filled_literals, target_literals, literals_of, literals_from}
 use Rattle.clause_solver.proofs.Names.{bool_cases, listed_from_member, member_from_listed, listed_from_contains, contains_from_listed}
 use Rattle.tree_clauses.proofs.KindSets.{of_absent, of_reg, of_dir}
 use Rattle.clause_solver.proofs.GreatestKinds.{all_have}
@@ -112,23 +112,34 @@ module _ (g : Valuation) (i : ℕ) where
   filled_to false h = tt
   filled_to true h = (h refl, tt)
 
+  target_from : (target : Option (List ℕ)) → MeetsAll g (target_literals i target) → (b : List ℕ) → target ≡ Some b → value_of_variable g i ≡ value.Link b
+  target_from None h b e = cc
+  target_from (Some a) h b e = h.0 ∙ ap value.Link (let same : a ≡ b = cc in same)
+
+  target_to : (target : Option (List ℕ)) → ((b : List ℕ) → target ≡ Some b → value_of_variable g i ≡ value.Link b) → MeetsAll g (target_literals i target)
+  target_to None h = tt
+  target_to (Some a) h = (h a refl, tt)
+
   pub one_from : (vars : List Variable) (v : Variable) → IsSound g → Earlier vars i v.definition → MeetsAll g (literals_of i v) → Fits g i v
   one_from vars v s before h =
       let a = meets_split g (definition_literals i v.definition) _ h in
       let b = meets_split g (kinds_literals i v.kinds) _ a.1 in
       let c = meets_split g (fence_literals i v.fence) _ b.1 in
+      let d = meets_split g (filled_literals i v.not_empty) _ c.1 in
       record {
         is = definition_from vars v.definition s before a.0;
         kind = kinds_from v.kinds b.0;
         fenced = fence_from v.fence c.0;
-        filled = filled_from v.not_empty c.1;
+        filled = filled_from v.not_empty d.0;
+        aimed = target_from v.target d.1;
       }
 
   pub one_to : (v : Variable) → IsSound g → Fits g i v → MeetsAll g (literals_of i v)
   one_to v s h =
       meets_join g (definition_literals i v.definition) _ (definition_to v.definition s h.is)
       (meets_join g (kinds_literals i v.kinds) _ (kinds_to v.kinds h.kind)
-      (meets_join g (fence_literals i v.fence) _ (fence_to v.fence h.fenced) (filled_to v.not_empty h.filled)))
+      (meets_join g (fence_literals i v.fence) _ (fence_to v.fence h.fenced)
+      (meets_join g (filled_literals i v.not_empty) _ (filled_to v.not_empty h.filled) (target_to v.target h.aimed))))
 
 all_from : (whole : List Variable) (g : Valuation) (k : ℕ) (vars : List Variable) → IsSound g → ((i : ℕ) → i < length vars → Earlier whole (k + i) (var_at vars i).definition) → MeetsAll g (literals_from k vars) → (i : ℕ) → i < length vars → Fits g (k + i) (var_at vars i)
 all_from whole g k [] s before h i w = absurd (omega arith)

@@ -33,7 +33,7 @@ pub record IsBuilt (vars : List Variable) (best : List Kind) (marks : List Bool)
     (vs : Valuation) : Type 0 where
   pub counted : length vs ≡ i
   pub each : (k : ℕ) → k < i
-      → value_of_variable vs k ≡ grown (kind_at best k)
+      → value_of_variable vs k ≡ grown (kind_at best k) (var_at vars k).target
       (children k (drop i vars) (drop i (values best (opened vars marks) z 0 vars)) (extra (opened vars marks k) z))
 
 -- the first i values, as they are once their entries are put in, and what is gathered for each: values of its children

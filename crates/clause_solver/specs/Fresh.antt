@@ -6,4 +6,4 @@ use Rattle.clause_solver.specs.declared.variable.Variable.{Variable}
 
 -- a variable of which only the definition is known
 abbrev pub fresh : Definition → Variable
-fresh d = record { definition = d; kinds = all; fence = None; not_empty = false }
+fresh d = record { definition = d; kinds = all; fence = None; not_empty = false; target = None }

@@ -1,5 +1,5 @@
 -- The start tree in which each place has its greatest kind.
-use Rattle.std.specs.Prelude.{ℕ, suc, List, [], ◌∷◌, Bool, true, false, nat_eq, if◌then◌else◌}
+use Rattle.std.specs.Prelude.{ℕ, suc, List, [], ◌∷◌, Bool, true, false, Option, unwrap_or, nat_eq, if◌then◌else◌}
 use Rattle.script_names.specs.Ascii.{lower_x}
 use Rattle.feature_trees.specs.declared.kind.Kind.{Kind}
 use Rattle.feature_trees.specs.declared.kind.Kind.TheVariants as kind
@@ -14,17 +14,17 @@ use Rattle.clause_solver.specs.declared.variable.Variable.{Variable}
 use Rattle.tree_clauses.specs.Literals.{Valuation}
 use Rattle.clause_solver.specs.Greatest.{kind_at}
 
--- the target of a link of which nothing is known: `x`
+-- the target of a link of which no target is known: `x`
 abbrev pub some_target : List ℕ
 some_target = lower_x ∷ []
 
--- a value of a kind, with these entries where it is a directory
-abbrev pub grown : Kind → List Entry → Value
-grown kind.Absent es = Absent
-grown kind.Reg es = Reg
-grown kind.Link es = Link some_target
-grown (kind.Special s) es = Special s
-grown kind.Dir es = Dir es
+-- a value of a kind, with the target where it is a link and one is known, and with the entries where it is a directory
+abbrev pub grown : Kind → Option (List ℕ) → List Entry → Value
+grown kind.Absent target es = Absent
+grown kind.Reg target es = Reg
+grown kind.Link target es = Link (unwrap_or target some_target)
+grown (kind.Special s) target es = Special s
+grown kind.Dir target es = Dir es
 
 -- the entries of the place p with the value of one more variable, where the variable is an entry of p
 abbrev pub add : ℕ → Definition → Value → List Entry → List Entry
@@ -49,5 +49,5 @@ extra true z = record { name = z; node = node_of Reg } ∷ []
 abbrev pub values : List Kind → (ℕ → Bool) → List ℕ → ℕ → List Variable → Valuation
 values best open_at z k [] = []
 values best open_at z k (c ∷ cs) =
-    grown (kind_at best k) (children k cs (values best open_at z (suc k) cs) (extra (open_at k) z))
+    grown (kind_at best k) c.target (children k cs (values best open_at z (suc k) cs) (extra (open_at k) z))
     ∷ values best open_at z (suc k) cs

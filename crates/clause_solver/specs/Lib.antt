@@ -5,6 +5,7 @@ pub mod Greatest
 pub mod Written
 pub mod ReplacedNames
 pub mod Fresh
+pub mod Aims
 pub mod Appends
 pub mod Differences
 pub mod Linked

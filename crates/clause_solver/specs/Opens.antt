@@ -36,4 +36,4 @@ AreReasoned vars best marks = (n : ℕ) → IsTrue (mark_at marks n) → (i : �
 
 -- a place of its greatest kind before any entry is known, with one entry of a new name where it is opened
 abbrev pub without_children : List Variable → List Kind → List Bool → List ℕ → ℕ → Value
-without_children vars best marks z n = grown (kind_at best n) (extra (opened vars marks n) z)
+without_children vars best marks z n = grown (kind_at best n) (var_at vars n).target (extra (opened vars marks n) z)

@@ -20,7 +20,7 @@ use Rattle.clause_solver.specs.declared.variable.Variable.{Variable}
 
 -- stands past the end of the list of variables
 abbrev pub no_variable : Variable
-no_variable = record { definition = Start; kinds = none; fence = None; not_empty = false }
+no_variable = record { definition = Start; kinds = none; fence = None; not_empty = false; target = None }
 
 -- the variable with this number
 abbrev pub var_at : List Variable → ℕ → Variable
@@ -61,6 +61,7 @@ pub record Fits (g : Valuation) (i : ℕ) (v : Variable) : Type 0 where
   pub kind : IsTrue (has v.kinds (kind_of (value_of_variable g i)))
   pub fenced : (f : List ℕ) → entry (value_of_variable g i) f ≢ value.Absent → IsTrue (allowed v.fence f)
   pub filled : IsTrue v.not_empty → (f : List ℕ) × (entry (value_of_variable g i) f ≢ value.Absent)
+  pub aimed : (b : List ℕ) → v.target ≡ Some b → value_of_variable g i ≡ value.Link b
 
 -- the valuation gives every variable its defined value, and the facts on each hold
 abbrev pub AllFit : List Variable → Valuation → Type 0
@@ -82,6 +83,10 @@ Earlier vars i (Derived x f y) = (x < i) × (y < i) × IsTrue (is_name f)
 Earlier vars i (Ensured x) = x < i
 Earlier vars i (Made m) = Unit {0}
 
+-- the variable is a place of the start tree, and its kinds allow a symbolic link at most
+abbrev pub IsLinkPlace : Variable → Type 0
+IsLinkPlace v = IsTrue (is_node v.definition) × ((k : Kind) → IsTrue (has v.kinds k) → k ≡ kind.Link)
+
 -- the order that the variables of every store stand in
 pub record Ordered (vars : List Variable) : Type 0 where
   pub some : 0 < length vars
@@ -95,6 +100,8 @@ pub record Ordered (vars : List Variable) : Type 0 where
       → IsTrue (member f names) → (m : ℕ) × (m < length vars) × ((var_at vars m).definition ≡ Child i f)
   -- only places of the start tree have fences
   pub nodes : (i : ℕ) → i < length vars → is_node (var_at vars i).definition ≡ false → (var_at vars i).fence ≡ None
+  -- what has a target is a place of the start tree, and can be nothing but a link
+  pub aims : (i : ℕ) (b : List ℕ) → i < length vars → (var_at vars i).target ≡ Some b → IsLinkPlace (var_at vars i)
 
 -- the variable is a directory wherever all is met
 abbrev pub AlwaysDir : List Variable → ℕ → Type 0
@@ -128,6 +135,10 @@ narrowed vars x k = slice_set vars x (record (var_at vars x) { kinds = narrowed_
 -- the variable at a place has an entry
 abbrev pub filled : List Variable → ℕ → List Variable
 filled vars x = slice_set vars x (record (var_at vars x) { not_empty = true })
+
+-- the variable at a place has this target as a symbolic link
+abbrev pub aimed : List Variable → ℕ → List ℕ → List Variable
+aimed vars x b = slice_set vars x (record (var_at vars x) { target = Some b })
 
 -- the one kind that a definition fixes, else the kinds that are given
 abbrev pub possible_by : Definition → Kinds → Kinds

@@ -49,11 +49,17 @@ abbrev pub filled_literals : ℕ → Bool → List Literal
 filled_literals i false = []
 filled_literals i true = NotEmpty (var i) ∷ []
 
+-- the literal of a target
+abbrev pub target_literals : ℕ → Option (List ℕ) → List Literal
+target_literals i None = []
+target_literals i (Some b) = Target (var i) b ∷ []
+
 -- the literals of one variable
 abbrev pub literals_of : ℕ → Variable → List Literal
 literals_of i v =
     definition_literals i v.definition
-    ++ (kinds_literals i v.kinds ++ (fence_literals i v.fence ++ filled_literals i v.not_empty))
+    ++ (kinds_literals i v.kinds
+    ++ (fence_literals i v.fence ++ (filled_literals i v.not_empty ++ target_literals i v.target)))
 
 -- the literals of the variables from a number on
 abbrev pub literals_from : ℕ → List Variable → List Literal

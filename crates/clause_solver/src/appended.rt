@@ -92,6 +92,7 @@ impl Lists {
             kinds: Kinds::all(),
             fence: None,
             not_empty: false,
+            target: None,
         };
         push_alone(&mut self.vars, variable)?;
         Ok(y as u32)

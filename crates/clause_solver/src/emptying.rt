@@ -228,10 +228,12 @@ fn enclosed_at(
     let v = var_at(vars, n);
     let definition = v.definition.fork()?;
     let fence = let_in(alloc, &v.fence, names)?;
+    let target = v.target.copy(alloc)?;
     Ok(Variable {
         definition,
         kinds: v.kinds,
         fence: Some(fence),
         not_empty: v.not_empty,
+        target,
     })
 }

@@ -1,13 +1,13 @@
-//! What becomes known of a variable: its kinds, and that it has an entry.
+//! What becomes known of a variable: its kinds, that it has an entry, and its target as a symbolic link.
 
-ghost use Rattle.std.specs.Prelude.{◌≡◌, ◌<◌, length, IfOk, OnOk, IsTrue, true};
-ghost use Rattle.clause_solver.specs.Variables.{filled, fixed_in, narrowed, narrowed_kinds, var_at};
+ghost use Rattle.std.specs.Prelude.{◌≡◌, ◌<◌, length, IfOk, OnOk, IsTrue, true, Some};
+ghost use Rattle.clause_solver.specs.Variables.{aimed, filled, fixed_in, narrowed, narrowed_kinds, var_at};
 
 use crate::greatest::kind_made;
 use crate::places::var_at;
 use crate::variable::{Definition, Variable};
 use feature_trees::{Kind, Kinds};
-use script_names::{Copied, Memory};
+use script_names::{Bytes, Copied, Memory};
 use shared_table::{Shared, set_alone};
 use std::alloc::Global;
 
@@ -58,11 +58,13 @@ fn narrowed_at(
     let v = var_at(vars, x);
     let definition = v.definition.fork()?;
     let fence = v.fence.copy(alloc)?;
+    let target = v.target.copy(alloc)?;
     Ok(Variable {
         definition,
         kinds: narrowed_kinds(v, k),
         fence,
         not_empty: v.not_empty,
+        target,
     })
 }
 
@@ -84,11 +86,51 @@ fn filled_at(alloc: Global, vars: &Shared<Variable>, x: usize) -> Result<Variabl
     let v = var_at(vars, x);
     let definition = v.definition.fork()?;
     let fence = v.fence.copy(alloc)?;
+    let target = v.target.copy(alloc)?;
     Ok(Variable {
         definition,
         kinds: v.kinds,
         fence,
         not_empty: true,
+        target,
+    })
+}
+
+/// Gives the variable at a place its target as a symbolic link; for want of memory all is as before.
+pub(crate) fn aim(
+    alloc: Global,
+    vars: &mut Shared<Variable>,
+    x: usize,
+    target: &Bytes,
+) -> Result<(), Memory>
+    requires { x < length vars.old }
+    ensures { OnOk result (vars.new ≡ aimed vars.old x target.now) }
+{
+    let aimed = aimed_at(alloc, vars, x, target)?;
+    set_alone(vars, x, aimed)?;
+    Ok(())
+}
+
+// The variable at a place, with this target.
+fn aimed_at(
+    alloc: Global,
+    vars: &Shared<Variable>,
+    x: usize,
+    target: &Bytes,
+) -> Result<Variable, Memory>
+    requires { x < length vars.now }
+    ensures { IfOk result (λ v. v ≡ record (var_at vars.now x) { target = Some target.now }) }
+{
+    let v = var_at(vars, x);
+    let definition = v.definition.fork()?;
+    let fence = v.fence.copy(alloc)?;
+    let target = target.copy(alloc)?;
+    Ok(Variable {
+        definition,
+        kinds: v.kinds,
+        fence,
+        not_empty: v.not_empty,
+        target: Some(target),
     })
 }
 

@@ -14,6 +14,7 @@ mod facts;
 mod greatest;
 mod growing;
 mod kin;
+mod leading;
 mod lists;
 mod literals;
 mod looking;

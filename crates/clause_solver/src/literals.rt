@@ -1,12 +1,12 @@
 ghost use Rattle.std.specs.Prelude.{◌≡◌, ◌++◌, ◌≤◌, length, OnOk, IfOk};
 ghost use Rattle.clause_solver.specs.declared.variable.Definition.TheVariants as Definition;
 ghost use Rattle.clause_solver.specs.Written.{made_literals, definition_literals, is_all, kinds_literals};
-ghost use Rattle.clause_solver.specs.Written.{fence_literals, filled_literals, literals_of, literals_from};
+ghost use Rattle.clause_solver.specs.Written.{fence_literals, filled_literals, target_literals, literals_of, literals_from};
 
 use crate::places::var_at;
 use crate::variable::{Definition, MOST_VARIABLES, MadeValue, Variable};
 use feature_trees::{Kind, Kinds};
-use script_names::{Copied, List, Memory, Name};
+use script_names::{Bytes, Copied, List, Memory, Name};
 use shared_table::Shared;
 use std::alloc::Global;
 use tree_clauses::{Literal, Var};
@@ -123,6 +123,21 @@ fn add_filled(literals: &mut List<Literal>, i: u32, not_empty: bool) -> Result<(
     }
 }
 
+// Adds the literal of a target.
+fn add_target(
+    alloc: Global,
+    literals: &mut List<Literal>,
+    i: u32,
+    target: &Option<Bytes>,
+) -> Result<(), Memory>
+    ensures { OnOk result (literals.new ≡ literals.old ++ target_literals i target.now) }
+{
+    match target {
+        None => Ok(()),
+        Some(bytes) => literals.add(Literal::Target(Var(i), bytes.copy(alloc)?)),
+    }
+}
+
 // Adds the literals of a variable.
 fn add_variable(
     alloc: Global,
@@ -135,7 +150,8 @@ fn add_variable(
     add_definition(alloc, literals, i, v.definition.get())?;
     add_kinds(literals, i, v.kinds)?;
     add_fence(alloc, literals, i, &v.fence)?;
-    add_filled(literals, i, v.not_empty)
+    add_filled(literals, i, v.not_empty)?;
+    add_target(alloc, literals, i, &v.target)
 }
 
 /// The literals of the variables, in order.

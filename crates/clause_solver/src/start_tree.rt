@@ -1,4 +1,5 @@
 ghost use Rattle.std.specs.Prelude.{◌≡◌, ◌⊎◌, ℕ, ◌<◌, List, [], length, map, IsTrue, OnOk, IfOk, IfSome, Some};
+ghost use Rattle.std.specs.Prelude.{unwrap_or};
 ghost use Rattle.feature_trees.specs.declared.value.Value.TheVariants as value;
 ghost use Rattle.tree_clauses.specs.Literals.{value_of_variable};
 ghost use Rattle.clause_solver.specs.Variables.{Ordered, var_at};
@@ -16,7 +17,7 @@ use crate::lists::{Lists, number_at};
 use crate::places::{definition_at, kind_at, var_at};
 use crate::variable::{Definition, Variable};
 use feature_trees::{Entries, Kind, Value};
-use script_names::{Bytes, Memory, Name, NameFault};
+use script_names::{Bytes, Copied, Memory, Name, NameFault};
 use shared_table::Shared;
 use std::alloc::Global;
 
@@ -31,19 +32,30 @@ fn dir_without_children(alloc: Global, wanted: bool, z: &Name) -> Result<Value, 
     Ok(Value::Dir(entries))
 }
 
-// A place of a kind before any entry is known.
+// The target of a link, and `x` where none is known.
+fn link_target(alloc: Global, target: &Option<Bytes>) -> Result<Bytes, Memory>
+    ensures { IfOk result (λ bytes. bytes ≡ unwrap_or target.now some_target) }
+{
+    match target {
+        Some(bytes) => bytes.copy(alloc),
+        None => Bytes::from_slice(alloc, b"x"),
+    }
+}
+
+// A place of a kind before any entry is known, with this target where it is a link.
 fn value_without_children(
     alloc: Global,
     kind: Kind,
+    target: &Option<Bytes>,
     wanted: bool,
     z: &Name,
 ) -> Result<Value, Memory>
-    ensures { IfOk result (λ v. v ≡ grown kind (extra wanted z.now)) }
+    ensures { IfOk result (λ v. v ≡ grown kind target.now (extra wanted z.now)) }
 {
     match kind {
         Kind::Absent => Ok(Value::Absent),
         Kind::Reg => Ok(Value::Reg),
-        Kind::Link => Ok(Value::Link(Bytes::from_slice(alloc, b"x")?)),
+        Kind::Link => Ok(Value::Link(link_target(alloc, target)?)),
         Kind::Special(s) => Ok(Value::Special(s)),
         Kind::Dir => dir_without_children(alloc, wanted, z),
     }
@@ -73,7 +85,8 @@ fn places_without_children<'a>(
     let mut places = Vec::new(alloc);
     for i in 0..vars.len() {
         let wanted = is_wanted(vars, marks, i);
-        let base = value_without_children(alloc, kind_at(best, i), wanted, z)?;
+        let target = &var_at(vars, i).target;
+        let base = value_without_children(alloc, kind_at(best, i), target, wanted, z)?;
         places.push(Growing::new(alloc, base))?;
     }
     Ok(places)

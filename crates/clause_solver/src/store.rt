@@ -67,6 +67,7 @@ impl Store {
             kinds: Kinds::of(Kind::Dir),
             fence: None,
             not_empty: false,
+            target: None,
         };
         let mut vars = Shared::new(alloc);
         push_alone(&mut vars, first)?;
@@ -122,6 +123,23 @@ impl Store {
     {
         let mut new = self.lists.fork()?;
         new.narrow(self.alloc, x.0, k)?;
+        let left = new.alive;
+        self.lists = new;
+        Ok(left)
+    }
+
+    /// Leaves the pairs in which a variable is a symbolic link with this target, and says whether one is left. For want
+    /// of memory the store is as before.
+    pub fn lead(&mut self, x: Var, target: &Bytes) -> Result<bool, Memory>
+        requires { x.0 < self.old.count }
+        ensures kept { (self.new.count ≡ self.old.count) × (self.new.current ≡ self.old.current) }
+        ensures exact { IfOk result (λ left. (t : Value) (g : Valuation) → Stands self.new t g
+            ↔ (Stands self.old t g × (value_of_variable g x.0 ≡ value.Link target.now))) }
+        ensures alive { IfOk result (λ left. IsTrue left ↔ Alive self.new) }
+        ensures unchanged { OnErr result (self.new ≡ self.old) }
+    {
+        let mut new = self.lists.fork()?;
+        new.lead(self.alloc, x.0, target)?;
         let left = new.alive;
         self.lists = new;
         Ok(left)

@@ -41,17 +41,21 @@ pub(crate) struct Variable {
     pub(crate) fence: Option<List<Name>>,
     /// Whether it has an entry.
     pub(crate) not_empty: bool,
+    /// Its target as a symbolic link. Places of the start tree alone have one, whose kinds allow nothing but a link.
+    pub(crate) target: Option<Bytes>,
 }
 
 impl Copied for Variable {
     fn copy(&self, alloc: Global) -> Result<Variable, Memory> {
         let definition = self.definition.fork()?;
         let fence = self.fence.copy(alloc)?;
+        let target = self.target.copy(alloc)?;
         Ok(Variable {
             definition,
             kinds: self.kinds,
             fence,
             not_empty: self.not_empty,
+            target,
         })
     }
 }

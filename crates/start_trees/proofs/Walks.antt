@@ -127,7 +127,21 @@ limited_leaves old new x k count same exact = record {
   up = λ t g st is. (g, (exact t g).1 (st, is), take_counted g old.count st.counted);
 }
 
--- so does one that is fenced in
+-- so does one that is led to a target, where the variable is a symbolic link with it
+pub led_leaves : (old new : Seen) (x : ℕ) (b : List ℕ) → new.count ≡ old.count → new.current ≡ old.current
+    → ((t : Value) (g : Valuation) → Stands new t g ↔ (Stands old t g × (value_of_variable g x ≡ value.Link b)))
+    → Leaves old new x (wanted.Target b)
+led_leaves old new x b count same exact = record {
+  more = omega (arith, count);
+  same = same;
+  down = λ t g st.
+      let both = (exact t g).0 st in
+      let P : Valuation → Type 0 = λ h. Stands old t h in
+      (subst P (sym (take_counted g old.count both.0.counted)) both.0, both.1);
+  up = λ t g st is. (g, (exact t g).1 (st, is), take_counted g old.count st.counted);
+}
+
+-- and one that is fenced in
 pub fenced_leaves : (old new : Seen) (x : ℕ) (names : List (List ℕ)) → Fences old new x names → Leaves old new x (wanted.Names names)
 fenced_leaves old new x names f = record { more = f.more; same = f.same; down = f.down; up = f.up }
 

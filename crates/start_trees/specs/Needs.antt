@@ -1,6 +1,8 @@
--- What a start tree has: something of some kinds, or with entries under some names, at each of some paths.
+-- What a start tree has: something of some kinds, or with entries under some names, or a symbolic link, at each of some
+-- paths.
 use Rattle.std.specs.Prelude.{◌≡◌, ◌↔◌, ◌≤◌, ℕ, IsTrue, List, [], ◌∷◌, Option, Some, None, take}
 use Rattle.feature_trees.specs.declared.value.Value.{Value}
+use Rattle.feature_trees.specs.declared.value.Value.TheVariants as value
 use Rattle.feature_trees.specs.Kinds.{has}
 use Rattle.feature_trees.specs.Tree.{at, kind_of}
 use Rattle.feature_trees.specs.Sound.{IsTree}
@@ -9,12 +11,14 @@ use Rattle.clause_solver.specs.Stands.{Seen, Stands, Alive, IsFenced}
 use Rattle.clause_solver.specs.Pairs.{HasPair}
 use Rattle.start_trees.specs.declared.need.Need.{Need}
 use Rattle.start_trees.specs.declared.need.Wanted.{Wanted}
-use Rattle.start_trees.specs.declared.need.Wanted.TheVariants.{Kinds, Names}
+use Rattle.start_trees.specs.declared.need.Wanted.TheVariants.{Kinds, Names, Target}
 
--- a value, which may be nothing, is as wanted: it is of one of the kinds; it has entries under the names alone
+-- a value, which may be nothing, is as wanted: it is of one of the kinds; it has entries under the names alone; it is
+-- a symbolic link with the target
 abbrev pub IsWanted : Wanted → Value → Type 0
 IsWanted (Kinds kinds) v = IsTrue (has kinds (kind_of v))
 IsWanted (Names names) v = IsFenced v names
+IsWanted (Target b) v = v ≡ value.Link b
 
 -- what stands at the path, which may be nothing, is as wanted
 abbrev pub MeetsNeed : Value → Need → Type 0

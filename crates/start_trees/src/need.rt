@@ -1,7 +1,7 @@
 ghost use Rattle.std.specs.Prelude.{◌≡◌};
 
 use feature_trees::Kinds;
-use script_names::{Copied, List, Memory, Name, Path};
+use script_names::{Bytes, Copied, List, Memory, Name, Path};
 use std::alloc::Global;
 
 /// What is wanted of what stands at a path, which may be nothing.
@@ -11,6 +11,8 @@ pub enum Wanted {
     Kinds(Kinds),
     /// It has entries under these names alone; what is no directory has none.
     Names(List<Name>),
+    /// It is a symbolic link with this target.
+    Target(Bytes),
 }
 
 impl Copied for Wanted {
@@ -18,6 +20,7 @@ impl Copied for Wanted {
         match self {
             Wanted::Kinds(kinds) => Ok(Wanted::Kinds(*kinds)),
             Wanted::Names(names) => Ok(Wanted::Names(names.copy(alloc)?)),
+            Wanted::Target(target) => Ok(Wanted::Target(target.copy(alloc)?)),
         }
     }
 }

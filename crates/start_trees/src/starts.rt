@@ -25,6 +25,10 @@ fn want(store: &mut Store, x: Var, wanted: &Wanted) -> Result<bool, Memory>
             let left = store.fence(x, names)?;
             Ok(left)
         }
+        Wanted::Target(target) => {
+            let left = store.lead(x, target)?;
+            Ok(left)
+        }
     }
 }
 

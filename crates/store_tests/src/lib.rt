@@ -1,5 +1,5 @@
-//! Tests of act_cases, clause_solver and start_trees: cases of calls and of backs, stores, and cases that are added to stores. They
-//! stand apart from these crates, so that no crate is proved twice.
+//! Tests of act_cases, clause_solver and start_trees: cases of calls and of backs, stores, and cases that are added to
+//! stores. They stand apart from these crates, so that no crate is proved twice.
 #![tactic(auto)]
 
 #[cfg(test)]
@@ -20,3 +20,5 @@ mod starts;
 mod stores;
 #[cfg(test)]
 mod taken;
+#[cfg(test)]
+mod targets;

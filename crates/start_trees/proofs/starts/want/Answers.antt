@@ -1,7 +1,7 @@
 use Rattle.std.proofs.Common.{sym, subst}
 use Rattle.start_trees.specs.declared.need.Wanted.{Wanted}
 use Rattle.start_trees.specs.Needs.{Leaves}
-use Rattle.start_trees.proofs.Walks.{limited_leaves, fenced_leaves}
+use Rattle.start_trees.proofs.Walks.{limited_leaves, fenced_leaves, led_leaves}
 use Rattle.start_trees.proofs.starts.want.Goals as goal
 
 pub returns-in_ok-left-in-Kinds-clause-leaves : goal.returns-in_ok-left-in-Kinds-clause-leaves
@@ -18,3 +18,11 @@ returns-in_ok-left-in-Names-clause-leaves c =
     let new = c.fence.new.self in
     let P : Wanted → Type 0 = λ w. Leaves old new c.args.x.0 w in
     subst P (sym c.in-Names.is) (fenced_leaves old new c.args.x.0 c.in-Names.names c.in_ok-left-in-Names.ensures.fences)
+
+pub returns-in_ok-left-in-Target-clause-leaves : goal.returns-in_ok-left-in-Target-clause-leaves
+returns-in_ok-left-in-Target-clause-leaves c =
+    let old = c.args.store.now in
+    let new = c.lead.new.self in
+    let P : Wanted → Type 0 = λ w. Leaves old new c.args.x.0 w in
+    let exact = c.in_ok-left-in-Target.ensures in
+    subst P (sym c.in-Target.is) (led_leaves old new c.args.x.0 c.in-Target.target exact.kept.0 exact.kept.1 exact.exact)
