@@ -7,9 +7,10 @@ use Rattle.script_names.specs.declared.reason.Reason.TheVariants as reason
 use Rattle.shell_rules.specs.State as st
 use Rattle.shell_rules.specs.Cases.{matches, pattern_answer}
 use Rattle.shell_rules.specs.Calls.{do_call_of, do_planned}
+use Rattle.shell_rules.specs.Planned.{planned}
+use Rattle.shell_rules.specs.declared.spelled.Spelled.{Spelled}
 use Rattle.shell_rules.proofs.PatternMatches.{passes_matches, matches_passes}
 use Rattle.utility_calls.specs.declared.planned.Planned.{Planned}
-use Rattle.utility_calls.specs.Calls.{call}
 use Rattle.colis_interp.specs.declared.shell.Shell.{Shell}
 use Rattle.colis_interp.specs.declared.halt.Halt.{Halt}
 use Rattle.colis_interp.specs.Runs.{Runs, state_of}
@@ -33,7 +34,8 @@ decided letters subject answer p s h =
     (λ e. h.1.1 (passes_matches (items letters) subject e)) (λ e. matches_passes (items letters) subject (h.1.0 e)))
 
 -- a command with fields
-pub called : (fields : List (List ℕ)) (planned : Planned) (p : st.Place) (s : st.State) (r : Result (Unit {0}) Halt) (t : Shell) → 0 < length fields → planned ≡ call fields
-    → Runs (do_planned planned p s) r t → Runs (do_call_of fields p s) r t
-called [] planned p s r t lt e h = absurd (omega arith)
-called (name ∷ words) planned p s r t lt e h = subst (λ x. Runs (do_planned x p s) r t) e h
+pub called : (spelled : Spelled) (fields : List (List ℕ)) (plan : Planned) (p : st.Place) (s : st.State) (r : Result (Unit {0}) Halt) (t : Shell) → 0 < length fields
+    → plan ≡ planned s.conc.premises p.functions spelled fields
+    → Runs (do_planned plan p s) r t → Runs (do_call_of spelled fields p s) r t
+called spelled [] plan p s r t lt e h = absurd (omega arith)
+called spelled (name ∷ words) plan p s r t lt e h = subst (λ x. Runs (do_planned x p s) r t) e h

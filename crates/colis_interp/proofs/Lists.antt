@@ -17,7 +17,7 @@ use Rattle.shell_rules.specs.State.{Run, State, Place, Action, Funs, Does, then_
 use Rattle.shell_rules.specs.Commands.{do_all, do_rest, do_links, do_chain, is_reached}
 use Rattle.shell_rules.specs.Expansion.{do_pieces}
 use Rattle.shell_rules.specs.Cases.{first_arm, some_pattern, pattern_answer}
-use Rattle.colis_meaning.specs.Meaning.{FieldsDo, StrDoes, PieceDoes, LinkDoes, CaseArmDoes, SetDoes, ArmDoes, fields_layer, stmt_layer, str_layer, piece_layer, link_layer, case_arm_layer, set_layer, arm_layer, co_stmt, co_piece, co_link, co_case_arm}
+use Rattle.colis_meaning.specs.Meaning.{FieldsDo, StrDoes, PieceDoes, LinkDoes, CaseArmDoes, SetDoes, ArmDoes, fields_layer, stmt_layer, str_layer, piece_layer, link_layer, case_arm_layer, set_layer, arm_layer, co_stmt, co_piece, co_link, co_case_arm, pieces_with}
 use Rattle.colis_interp.specs.declared.shell.Shell.{Shell}
 use Rattle.colis_interp.specs.declared.halt.Halt.{Halt}
 use Rattle.colis_interp.specs.Runs.{Runs, state_of}
@@ -124,21 +124,37 @@ module _ (f : Funs) (p : Place) where
 
   -- ---- `case`
 
-  pub arms_on : (subject : List ℕ) (arms : List PatArm) (i : ℕ) (arm d : PatArm) (patterns : List (List StrPiece)) (s t : State) (met : Bool) → i < length arms → arm ≡ get_or arms i d → patterns ≡ arm.patterns
-      → some_pattern subject (map (with f) (map (λ pieces. map co_piece pieces) patterns)) p s ≡ st.Go met t → met ≡ false
-      → first_arm subject (with f (map co_case_arm (drop i arms))) p s ≡ first_arm subject (with f (map co_case_arm (drop (i + 1) arms))) p t
-  arms_on subject arms i arm d patterns s t met lt is same e off =
-      ap (λ l. first_arm subject (with f (map co_case_arm l)) p s) (cut arms i arm d lt is)
-      ∙ ap (λ (x : List (List (st.Doing PieceParts)) × Action). first_arm subject (x ∷ with f (map co_case_arm (drop (i + 1) arms))) p s) (case_arm_at arm f)
-      ∙ ap (λ (l : List (List StrPiece)). then_do (some_pattern subject (map (with f) (map (λ pieces. map co_piece pieces) l)) p s) (λ met s. if met then co_stmt arm.body f p s else first_arm subject (with f (map co_case_arm (drop (i + 1) arms))) p s)) (sym same)
-      ∙ ap (λ q. then_do q (λ met s. if met then co_stmt arm.body f p s else first_arm subject (with f (map co_case_arm (drop (i + 1) arms))) p s)) e
-      ∙ ap (λ b. if b then co_stmt arm.body f p t else first_arm subject (with f (map co_case_arm (drop (i + 1) arms))) p t) off
+  module _ (subject : List ℕ) (arms : List PatArm) (i : ℕ) (arm d : PatArm) (patterns : List (List StrPiece)) (s : State) (lt : i < length arms) (is : arm ≡ get_or arms i d) (same : patterns ≡ arm.patterns) where
+    abbrev met_of : Run Bool
+    met_of = some_pattern subject (map (pieces_with f) (map (λ pieces. map co_piece pieces) patterns)) p s
+
+    abbrev behind_arm : Bool → State → Run (Unit {0})
+    behind_arm met t = if met then co_stmt arm.body f p t else first_arm subject (with f (map co_case_arm (drop (i + 1) arms))) p t
+
+    arm_is : first_arm subject (with f (map co_case_arm (drop i arms))) p s ≡ then_do met_of behind_arm
+    arm_is =
+        ap (λ l. first_arm subject (with f (map co_case_arm l)) p s) (cut arms i arm d lt is)
+        ∙ ap (λ (x : List (List (st.Doing PieceParts)) × Action). first_arm subject (x ∷ with f (map co_case_arm (drop (i + 1) arms))) p s) (case_arm_at arm f)
+        ∙ ap (λ (l : List (List StrPiece)). then_do (some_pattern subject (map (pieces_with f) (map (λ pieces. map co_piece pieces) l)) p s) behind_arm) (sym same)
+
+    pub arms_halt : (h : Halt) (t : Shell) → Runs met_of (Err h) t → Runs (first_arm subject (with f (map co_case_arm (drop i arms))) p s) (Err h) t
+    arms_halt h t r = subst (λ q. Runs q (Err h) t) (sym arm_is) (halts met_of behind_arm h t r)
+
+    pub arms_met : (t : State) (met : Bool) (r : Result (Unit {0}) Halt) (u : Shell) → met_of ≡ st.Go met t → met ≡ true → Runs (co_stmt arm.body f p t) r u
+        → Runs (first_arm subject (with f (map co_case_arm (drop i arms))) p s) r u
+    arms_met t met r u e on h =
+        subst (λ q. Runs q r u) (sym arm_is)
+        (goes_on met_of behind_arm met t r u e (subst (λ b. Runs (behind_arm b t) r u) (sym on) h))
+
+    pub arms_on : (t : State) (met : Bool) → met_of ≡ st.Go met t → met ≡ false
+        → first_arm subject (with f (map co_case_arm (drop i arms))) p s ≡ first_arm subject (with f (map co_case_arm (drop (i + 1) arms))) p t
+    arms_on t met e off = arm_is ∙ ap (λ q. then_do q behind_arm) e ∙ ap (λ b. behind_arm b t) off
 
   pub patterns_halt : (subject : List ℕ) (patterns : List (List StrPiece)) (i : ℕ) (pattern d : List StrPiece) (s : State) (pieces : List PieceParts) (t : Shell) (h : Halt) → i < length patterns → pattern ≡ get_or patterns i d
-      → do_pieces (with f (map co_piece pattern)) p s ≡ st.Go pieces (state_of t) → Runs (pattern_answer subject (pattern_letters pieces) p (state_of t)) (Err h) t
-      → Runs (some_pattern subject (map (with f) (map (λ pieces. map co_piece pieces) (drop i patterns))) p s) (Err h) t
+      → do_pieces (pieces_with f (map co_piece pattern)) p s ≡ st.Go pieces (state_of t) → Runs (pattern_answer subject (pattern_letters pieces) p (state_of t)) (Err h) t
+      → Runs (some_pattern subject (map (pieces_with f) (map (λ pieces. map co_piece pieces) (drop i patterns))) p s) (Err h) t
   patterns_halt subject patterns i pattern d s pieces t h lt is e r =
-      let later : Bool → State → Run Bool = λ met s. if met then st.Go true s else some_pattern subject (map (with f) (map (λ pieces. map co_piece pieces) (drop (i + 1) patterns))) p s in
-      subst (λ l. Runs (some_pattern subject (map (with f) (map (λ pieces. map co_piece pieces) l)) p s) (Err h) t) (sym (cut patterns i pattern d lt is))
-      (goes_on (do_pieces (with f (map co_piece pattern)) p s) (λ parts s. then_do (pattern_answer subject (pattern_letters parts) p s) later) pieces (state_of t) (Err h) t e
+      let later : Bool → State → Run Bool = λ met s. if met then st.Go true s else some_pattern subject (map (pieces_with f) (map (λ pieces. map co_piece pieces) (drop (i + 1) patterns))) p s in
+      subst (λ l. Runs (some_pattern subject (map (pieces_with f) (map (λ pieces. map co_piece pieces) l)) p s) (Err h) t) (sym (cut patterns i pattern d lt is))
+      (goes_on (do_pieces (pieces_with f (map co_piece pattern)) p s) (λ parts s. then_do (pattern_answer subject (pattern_letters parts) p s) later) pieces (state_of t) (Err h) t e
       (halts (pattern_answer subject (pattern_letters pieces) p (state_of t)) later h t r))

@@ -9,7 +9,7 @@ use Rattle.colis_interp.specs.declared.halt.Halt.{Halt}
 use Rattle.colis_interp.specs.declared.halt.Behind.TheVariants.{Holds, Ends, Again}
 use Rattle.colis_interp.specs.Halts.{Answer, behind_body, behind_condition}
 use Rattle.colis_interp.specs.Runs.{Runs, state_of}
-use Rattle.colis_interp.proofs.Steps.{condition_holds, condition_ends, condition_again, condition_left, body_done, body_left}
+use Rattle.colis_interp.proofs.Steps.{halts, condition_holds, condition_ends, condition_again, condition_left, body_done, body_left}
 
 -- an answer that is known
 pub answer_is : {A : Type 0} (r : Result A Halt) (x y : A) → ◌≡◌ {A = Result A Halt} (Ok x) r → x ≡ y → r ≡ Ok y
@@ -58,6 +58,12 @@ module _ (C B : Action) (q : Place) where
   round_next n last s r t t2 b u lt o e g k x =
       let next = step n u.conc.status (state_of u) lt in
       (next.0, next.1, turned n last s r t t2 o e g ∙ body_done (B q t2) (λ s. next_of n s.conc.status s) b u k x ∙ next.2)
+
+  pub round_again_left : (n : ℕ) (last : Bool) (s : State) (r : Answer) (t : Shell) (h : Halt) (u : Shell) → behind_condition r t.conc.status ≡ Ok Again → Runs (C (except q) s) r t → Runs (take_turn q (state_of t)) (Err h) u
+      → Runs (while_rounds n C B q last s) (Err h) u
+  round_again_left n last s r t h u o e k =
+      subst (λ x. Runs x (Err h) u) (sym (round_is n last s ∙ condition_again (C (except q) s) last (holds_of n) (again_of n last) r t o e))
+      (halts (take_turn q (state_of t)) (λ _ s. next_of n last s) h u k)
 
   pub round_again : (n : ℕ) (last : Bool) (s : State) (r : Answer) (t : Shell) (t2 : State) → 0 < n → behind_condition r t.conc.status ≡ Ok Again → Runs (C (except q) s) r t → take_turn q (state_of t) ≡ st.Go tt t2
       → (m : ℕ) × (n ≡ suc m) × (while_rounds n C B q last s ≡ while_rounds m C B q last t2)

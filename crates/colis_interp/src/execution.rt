@@ -8,6 +8,7 @@ ghost use Rattle.shell_rules.specs.Calls as calls;
 ghost use Rattle.colis_syntax.specs.declared.def.Def.{Def as DefRecord};
 ghost use Rattle.colis_meaning.specs.Meaning.{co_stmt, co_str, co_piece, co_fields, co_set, co_link, co_arm};
 ghost use Rattle.colis_meaning.specs.Meaning.{co_case_arm, funs_of};
+ghost use Rattle.colis_meaning.specs.Meaning.{values_with, pieces_with, fields_with, are_static};
 ghost use Rattle.colis_interp.specs.Places.{place_of};
 ghost use Rattle.colis_interp.specs.Runs.{Runs, state_of};
 
@@ -18,6 +19,7 @@ use crate::leaving::leave_with;
 use crate::names::{export_each, unset_each};
 use crate::place::Place;
 use crate::shell::{Shell, assign, checked, take_turn};
+use crate::spelling::spelled_by;
 use crate::strings::{append, argument, count, pattern_answer, short, trimmed, variable};
 use crate::utilities::call_utility;
 use colis_syntax::{ChainPart, Def, Fields, PatArm, SetTo, Stmt, StmtArm, Str, StrPiece};
@@ -372,7 +374,7 @@ fn run_patterns(
     shell: &mut Shell,
 ) -> Result<bool, Halt>
     ensures turns { shell.new.conc.turns ≤ shell.old.conc.turns }
-    ensures runs { let all = map (with (funs_of defs.now [])) (map (λ pieces. map co_piece pieces) patterns.now) in
+    ensures runs { let all = map (pieces_with (funs_of defs.now [])) (map (λ pieces. map co_piece pieces) patterns.now) in
         Runs (cases.some_pattern subject.now all (place_of place.entry) (state_of shell.old)) result shell.new }
 {
     for pattern in patterns {
@@ -433,7 +435,7 @@ fn run_set(
     checked(here, shell)
 }
 
-// Runs a utility.
+// Runs a command that is no call of a function.
 #[cycle(executing)]
 fn run_call(
     alloc: Global,
@@ -445,13 +447,14 @@ fn run_call(
 ) -> Result<(), Halt>
     ensures turns { shell.new.conc.turns ≤ shell.old.conc.turns }
     ensures runs { let f = funs_of defs.now [] in
-        Runs (calls.do_call at (with f (map co_fields words.now)) (place_of place.entry) (state_of shell.old))
-        result shell.new }
+        let words = map co_fields words.now in
+        let does = calls.do_call at (are_static words) (fields_with f words) in
+        Runs (does (place_of place.entry) (state_of shell.old)) result shell.new }
 {
     let here = Place { at, ..place };
     shell.substituted = true;
     let fields = run_fields(alloc, words, defs, here, shell)?;
-    call_utility(alloc, &fields, here, shell)?;
+    call_utility(alloc, spelled_by(words), &fields, here, shell)?;
     checked(here, shell)
 }
 
@@ -468,7 +471,7 @@ fn run_function(
 ) -> Result<(), Halt>
     ensures turns { shell.new.conc.turns ≤ shell.old.conc.turns }
     ensures runs { let f = funs_of defs.now [] in
-        let words = with f (map co_fields words.now) in
+        let words = fields_with f (map co_fields words.now) in
         Runs (calls.do_function at (calls.found name.now f) words (place_of place.entry) (state_of shell.old))
         result shell.new }
 {
@@ -531,7 +534,7 @@ fn run_leave(
     shell: &mut Shell,
 ) -> Result<(), Halt>
     ensures turns { shell.new.conc.turns ≤ shell.old.conc.turns }
-    ensures runs { let words = with (funs_of defs.now []) (map co_fields words.now) in
+    ensures runs { let words = fields_with (funs_of defs.now []) (map co_fields words.now) in
         Runs (calls.do_leave how words (place_of place.entry) (state_of shell.old)) result shell.new }
 {
     let fields = run_fields(alloc, words, defs, place, shell)?;
@@ -549,7 +552,7 @@ fn run_export(
     shell: &mut Shell,
 ) -> Result<(), Halt>
     ensures turns { shell.new.conc.turns ≤ shell.old.conc.turns }
-    ensures runs { let words = with (funs_of defs.now []) (map co_fields words.now) in
+    ensures runs { let words = fields_with (funs_of defs.now []) (map co_fields words.now) in
         Runs (calls.do_export at words (place_of place.entry) (state_of shell.old)) result shell.new }
 {
     let here = Place { at, ..place };
@@ -570,7 +573,7 @@ fn run_unset(
     shell: &mut Shell,
 ) -> Result<(), Halt>
     ensures turns { shell.new.conc.turns ≤ shell.old.conc.turns }
-    ensures runs { let words = with (funs_of defs.now []) (map co_fields words.now) in
+    ensures runs { let words = fields_with (funs_of defs.now []) (map co_fields words.now) in
         Runs (calls.do_unset at words (place_of place.entry) (state_of shell.old)) result shell.new }
 {
     let here = Place { at, ..place };
@@ -590,7 +593,7 @@ fn run_fields(
     shell: &mut Shell,
 ) -> Result<List<Bytes>, Halt>
     ensures turns { shell.new.conc.turns ≤ shell.old.conc.turns }
-    ensures runs { let words = with (funs_of defs.now []) (map co_fields words.now) in
+    ensures runs { let words = fields_with (funs_of defs.now []) (map co_fields words.now) in
         Runs (word.do_fields words (place_of place.entry) (state_of shell.old)) result shell.new }
 {
     let mut fields = List::new(alloc);
@@ -611,7 +614,7 @@ fn run_word(
     shell: &mut Shell,
 ) -> Result<List<Bytes>, Halt>
     ensures turns { shell.new.conc.turns ≤ shell.old.conc.turns }
-    ensures runs { let does = co_fields word.now (funs_of defs.now []) in
+    ensures runs { let does = (co_fields word.now).fields (funs_of defs.now []) in
         Runs (does (place_of place.entry) (state_of shell.old)) result shell.new }
 {
     match word {
@@ -636,7 +639,7 @@ fn run_pieces(
     shell: &mut Shell,
 ) -> Result<List<Piece>, Halt>
     ensures turns { shell.new.conc.turns ≤ shell.old.conc.turns }
-    ensures runs { let pieces = with (funs_of defs.now []) (map co_piece pieces.now) in
+    ensures runs { let pieces = pieces_with (funs_of defs.now []) (map co_piece pieces.now) in
         Runs (word.do_pieces pieces (place_of place.entry) (state_of shell.old)) result shell.new }
 {
     let mut parts = List::new(alloc);
@@ -657,7 +660,7 @@ fn run_piece(
     shell: &mut Shell,
 ) -> Result<Piece, Halt>
     ensures turns { shell.new.conc.turns ≤ shell.old.conc.turns }
-    ensures runs { let does = co_piece piece.now (funs_of defs.now []) in
+    ensures runs { let does = (co_piece piece.now).piece (funs_of defs.now []) in
         Runs (does (place_of place.entry) (state_of shell.old)) result shell.new }
 {
     match piece {
@@ -686,7 +689,7 @@ fn run_short(
     shell: &mut Shell,
 ) -> Result<Bytes, Halt>
     ensures turns { shell.new.conc.turns ≤ shell.old.conc.turns }
-    ensures runs { let string = co_str string.now (funs_of defs.now []) in
+    ensures runs { let string = (co_str string.now).value (funs_of defs.now []) in
         Runs (word.do_short string (place_of place.entry) (state_of shell.old)) result shell.new }
 {
     let text = run_str(alloc, string, defs, place, shell)?;
@@ -703,7 +706,7 @@ fn run_str(
     shell: &mut Shell,
 ) -> Result<Bytes, Halt>
     ensures turns { shell.new.conc.turns ≤ shell.old.conc.turns }
-    ensures runs { let does = co_str string.now (funs_of defs.now []) in
+    ensures runs { let does = (co_str string.now).value (funs_of defs.now []) in
         Runs (does (place_of place.entry) (state_of shell.old)) result shell.new }
 {
     match string {
@@ -733,7 +736,7 @@ fn run_join(
     shell: &mut Shell,
 ) -> Result<Bytes, Halt>
     ensures turns { shell.new.conc.turns ≤ shell.old.conc.turns }
-    ensures runs { let parts = with (funs_of defs.now []) (map co_str parts.now) in
+    ensures runs { let parts = values_with (funs_of defs.now []) (map co_str parts.now) in
         Runs (word.do_join parts (place_of place.entry) (state_of shell.old)) result shell.new }
 {
     let mut text = Bytes::new(alloc);
@@ -759,6 +762,7 @@ fn run_output(
 {
     let vars = shell.conc.vars.copy(alloc)?;
     let args = shell.conc.args.copy(alloc)?;
+    let premises = shell.conc.premises.fork()?;
     let strict = shell.conc.strict;
     let status = shell.conc.status;
     let captured = mem::replace(&mut shell.conc.captured, Some(Bytes::new(alloc)));
@@ -772,6 +776,7 @@ fn run_output(
     let written = mem::replace(&mut shell.conc.captured, captured);
     shell.conc.vars = vars;
     shell.conc.args = args;
+    shell.conc.premises = premises;
     shell.conc.strict = strict;
     shell.conc.status = status;
     ended_by_exit(ran)?;

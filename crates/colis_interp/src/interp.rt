@@ -12,8 +12,8 @@ use crate::root::Root;
 use crate::shell::Shell;
 use colis_syntax::Program;
 use feature_trees::Value;
-use script_names::{Copied, List, Memory};
-use shell_rules::{Conc, End, Leave, Trace};
+use script_names::{Common, Copied, List, Memory};
+use shell_rules::{Conc, End, Leave, Premises, Trace};
 use shell_words::Env;
 use std::alloc::Global;
 use std::mem;
@@ -61,6 +61,7 @@ pub fn run(
     ensures kept { OnErr result (trace.new ≡ trace.old) }
 {
     let kept = trace.copy(alloc)?;
+    let none = no_state(alloc, conc.premises.fork()?);
     let place = Place {
         step,
         at: 0,
@@ -69,7 +70,7 @@ pub fn run(
         inner: false,
     };
     let mut shell = Shell {
-        conc: mem::replace(conc, no_state(alloc)),
+        conc: mem::replace(conc, none),
         root: Root::new(mem::replace(tree, Value::Absent)),
         trace: mem::replace(trace, List::new(alloc)),
         acts: List::new(alloc),
@@ -98,7 +99,7 @@ pub fn run(
 }
 
 // A state that stands in for the one that a run has taken.
-fn no_state(alloc: Global) -> Conc {
+fn no_state(alloc: Global, premises: Common<Premises>) -> Conc {
     Conc {
         vars: Env::new(alloc),
         args: List::new(alloc),
@@ -106,5 +107,6 @@ fn no_state(alloc: Global) -> Conc {
         status: true,
         captured: None,
         turns: 0,
+        premises,
     }
 }

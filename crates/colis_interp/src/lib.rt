@@ -1,6 +1,7 @@
 //! Runs CoLiS programs on one concrete tree, by their meaning (colis_meaning). It stands on colis_meaning,
-//! colis_syntax, shell_rules, concrete_utils and the crates below these. Begin with `interp`; `execution` has a
-//! function for each construct of the language, over the state in `shell`.
+//! colis_syntax, shell_rules, concrete_utils, link_walks, debian_versions and the crates below these. Begin with
+//! `interp`; `execution` has a function for each construct of the language, over the state in `shell`; `planning` has
+//! what the fields of a command come to under the premises of the run.
 #![tactic(auto)]
 
 mod acts;
@@ -10,8 +11,10 @@ mod interp;
 mod leaving;
 mod names;
 mod place;
+mod planning;
 mod root;
 mod shell;
+mod spelling;
 mod strings;
 mod utilities;
 

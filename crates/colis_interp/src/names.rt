@@ -102,8 +102,8 @@ pub(crate) fn export_each(
     Ok(())
 }
 
-// Whether one of the functions has this name.
-fn is_function(name: &[u8], functions: &[Def]) -> bool
+/// Whether one of the functions has this name.
+pub(crate) fn is_function(name: &[u8], functions: &[Def]) -> bool
     ensures { result ≡ list_any (bytes_eq name.now) (names_of functions.now) }
 {
     has_name(name, functions)

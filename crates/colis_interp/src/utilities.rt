@@ -1,5 +1,4 @@
-ghost use Rattle.std.specs.Prelude.{◌≡◌, ◌≤◌, ◌<◌, length, IfOk};
-ghost use Rattle.utility_calls.specs.Calls.{call};
+ghost use Rattle.std.specs.Prelude.{◌≡◌, ◌≤◌};
 ghost use Rattle.utility_calls.specs.Performed.{HasPerformedActs};
 ghost use Rattle.shell_rules.specs.Calls.{do_planned, do_call_of, negated_if};
 ghost use Rattle.colis_interp.specs.Places.{place_of};
@@ -8,11 +7,12 @@ ghost use Rattle.colis_interp.specs.Runs.{Runs, state_of};
 use crate::acts::{do_act, do_operands};
 use crate::halt::Halt;
 use crate::place::Place;
+use crate::planning::planned;
 use crate::shell::{Shell, print};
-use script_names::{Bytes, List, Memory};
+use script_names::{Bytes, List};
+use shell_rules::Spelled;
 use std::alloc::Global;
-use utility_calls::calls::{Planned, plan};
-use utility_calls::theorems::planned_acts_are_performed;
+use utility_calls::calls::Planned;
 
 // The answer of a question, or its opposite.
 fn negated_if(negate: bool, yes: bool) -> bool
@@ -51,30 +51,22 @@ fn do_planned(alloc: Global, planned: Planned, place: Place, shell: &mut Shell) 
     }
 }
 
-// What the fields of a command come to; its acts meet their conditions.
-fn planned(alloc: Global, fields: &List<Bytes>) -> Result<Planned, Memory>
-    requires { 0 < length fields.now }
-    ensures call { IfOk result (λ planned. planned ≡ call fields.now) }
-    ensures performed { IfOk result (λ planned. HasPerformedActs planned) }
-{
-    planned_acts_are_performed();
-    plan(alloc, fields)
-}
-
-/// Runs a command of these fields: the first is the name of a utility.
+/// Runs a command of these fields: the first is its name. Of its words the first two are spelled out or not.
 pub(crate) fn call_utility(
     alloc: Global,
+    spelled: Spelled,
     fields: &List<Bytes>,
     place: Place,
     shell: &mut Shell,
 ) -> Result<(), Halt>
     ensures turns { shell.new.conc.turns ≤ shell.old.conc.turns }
-    ensures runs { Runs (do_call_of fields.now (place_of place.entry) (state_of shell.old)) result shell.new }
+    ensures runs { Runs (do_call_of spelled fields.now (place_of place.entry) (state_of shell.old)) result shell.new }
 {
     if fields.len() == 0 {
         shell.conc.status = shell.substituted;
         return Ok(());
     }
-    let planned = planned(alloc, fields)?;
+    let premises = shell.conc.premises.get();
+    let planned = planned(alloc, premises, place.functions, spelled, fields)?;
     do_planned(alloc, planned, place, shell)
 }

@@ -22,13 +22,12 @@ use Rattle.utility_calls.specs.declared.acts.Act.{Act}
 use Rattle.utility_calls.specs.declared.planned.Planned.{Planned}
 use Rattle.utility_calls.specs.declared.planned.Planned.TheVariants.{Known, Ask, Print, Change, Unspecified}
 use Rattle.utility_calls.specs.Acts.{row, tree_after, IsPerformed}
-use Rattle.utility_calls.specs.Calls.{call}
 use Rattle.utility_calls.specs.Performed.{HasPerformedActs}
-use Rattle.utility_calls.proofs.Performed.{performed}
 use Rattle.utility_calls.specs.Decisions.{Decided, Asks, mark_at}
 use Rattle.shell_rules.specs.declared.state.Conc.{Conc}
 use Rattle.shell_rules.specs.declared.leave.Leave.{Leave}
 use Rattle.shell_rules.specs.declared.leave.Leave.TheVariants as leave
+use Rattle.shell_rules.specs.declared.spelled.Spelled.{Spelled}
 use Rattle.shell_rules.specs.OwnNames.{is_shells_own}
 use Rattle.shell_rules.specs.State as st
 use Rattle.shell_rules.specs.State.{Text, State, Run, Go, Left, then_do, closed_off, Place, Doing, Action}
@@ -37,9 +36,11 @@ use Rattle.shell_rules.specs.Expansion as w
 use Rattle.shell_rules.specs.Commands as c
 use Rattle.shell_rules.specs.Loops as l
 use Rattle.shell_rules.specs.Cases as k
+use Rattle.shell_rules.specs.Planned.{spelled_by, planned}
 use Rattle.shell_rules.specs.Calls as u
 use Rattle.shell_rules.specs.Parts.{Property, Each, EachLink, EachArm, EachPattern, EachCaseArm, EachSet}
 use Rattle.shell_rules.specs.RuleLaws.{ExpansionsKeep, CommandsKeep, LoopsKeep, CallsKeep}
+use Rattle.shell_rules.proofs.PlannedActs.{planned_performed}
 use Rattle.colis_meaning.proofs.Playing.{Came, On, Off, at, came, Decides, IsDecision, stays, if_plays}
 use Rattle.colis_meaning.proofs.Playing.{then_decides, closed_plays, turn_decided, body_plays, condition_plays}
 
@@ -400,17 +401,21 @@ planned_decided (Change lists) h p s b =
     (λ ok s b. stays (On tt (record s { status = ok }) b)) s b
 planned_decided (Unspecified why) h p s b = stays (Off (leave.Stopped why (st.site_of p)) s b)
 
-call_of_decided : (fields : List Text) → IsDecision (u.do_call_of fields)
-call_of_decided [] p s b = stays (On tt (record s { status = b }) b)
-call_of_decided (name ∷ words) p s b = planned_decided (call (name ∷ words)) (performed (name ∷ words)) p s b
+call_of_decided : (spelled : Spelled) (fields : List Text) → IsDecision (u.do_call_of spelled fields)
+call_of_decided spelled [] p s b = stays (On tt (record s { status = b }) b)
+call_of_decided spelled (name ∷ words) p s b =
+    planned_decided (planned s.premises p.functions spelled (name ∷ words))
+    (planned_performed s.premises p.functions spelled (name ∷ words)) p s b
 
-pub call_decided : (at : ℕ) (words : List (Doing (List Text))) → Each Decisiveness words → IsDecision (u.do_call at words)
-call_decided at words h p =
+pub call_decided : (at : ℕ) (static : List Bool) (words : List (Doing (List Text))) → Each Decisiveness words
+    → IsDecision (u.do_call at static words)
+call_decided at static words h p =
     let q : Place = at_command at p in
+    let calls : List Text → Action = u.do_call_of (spelled_by static) in
     then_decides (λ s. w.do_fields words q (u.no_substitution s))
-    (λ fields s. then_do (u.do_call_of fields q s) (λ _ s. c.checked q s))
+    (λ fields s. then_do (calls fields q s) (λ _ s. c.checked q s))
     (λ s b. fields_decided words h q s true)
-    (λ fields. then_decides (u.do_call_of fields q) (λ _ s. c.checked q s) (call_of_decided fields q)
+    (λ fields. then_decides (calls fields q) (λ _ s. c.checked q s) (call_of_decided (spelled_by static) fields q)
     (λ _. checked_decided q))
 
 assignments_decided : (sets : List (Text × Doing Text)) → EachSet Decisiveness sets → IsDecision (u.do_assignments sets)

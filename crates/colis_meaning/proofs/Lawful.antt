@@ -1,4 +1,4 @@
--- What a program does keeps the three laws.
+-- What a program does keeps the four laws.
 use Rattle.std.proofs.Common.{List, []}
 use Rattle.colis_syntax.specs.declared.syntax.Stmt.{Stmt}
 use Rattle.colis_syntax.specs.declared.def.Def.{Def}

@@ -24,8 +24,8 @@ use Rattle.shell_rules.specs.RuleLaws.{ExpansionsKeep, CommandsKeep, LoopsKeep, 
 use Rattle.colis_meaning.specs.Meaning.{FieldsDo, StrDoes, PieceDoes, LinkDoes, CaseArmDoes, SetDoes, ArmDoes}
 use Rattle.colis_meaning.specs.Meaning.{co_stmt, co_str, co_piece, co_fields, co_set, co_link, co_arm, co_case_arm}
 use Rattle.colis_meaning.specs.Meaning.{stmt_layer, str_layer, piece_layer, fields_layer, set_layer, link_layer}
-use Rattle.colis_meaning.specs.Meaning.{arm_layer}
-use Rattle.colis_meaning.specs.Meaning.{case_arm_layer, funs_of}
+use Rattle.colis_meaning.specs.Meaning.{arm_layer, case_arm_layer, values_with, pieces_with, fields_with, are_static}
+use Rattle.colis_meaning.specs.Meaning.{funs_of}
 
 module _ (Has : Property) (expansions : ExpansionsKeep Has) (commands : CommandsKeep Has) (loops : LoopsKeep Has)
     (calls : CallsKeep Has) where
@@ -34,16 +34,16 @@ module _ (Has : Property) (expansions : ExpansionsKeep Has) (commands : Commands
   Obeys does = (f : Funs) → EachFun Has f → Has _ (does f)
 
   abbrev PF : Fields → Type 0
-  PF q = Obeys (co_fields q)
+  PF q = Obeys (co_fields q).fields
 
   abbrev PS : Stmt → Type 0
   PS q = Obeys (co_stmt q)
 
   abbrev PT : Str → Type 0
-  PT q = Obeys (co_str q)
+  PT q = Obeys (co_str q).value
 
   abbrev PP : StrPiece → Type 0
-  PP q = Obeys (co_piece q)
+  PP q = Obeys (co_piece q).piece
 
   abbrev PL : ChainPart → Type 0
   PL q = Obeys (λ f. (co_link q f).1)
@@ -88,6 +88,21 @@ module _ (Has : Property) (expansions : ExpansionsKeep Has) (commands : Commands
   each_obeys f hf g [] = tt
   each_obeys f hf g (y ∷ ys) = (y.1 f hf, each_obeys f hf g ys)
 
+  strings_obey : (f : Funs) → EachFun Has f → (ys : List YT)
+      → Each Has (values_with f (map co_str (map (λ y. y.0) ys)))
+  strings_obey f hf [] = tt
+  strings_obey f hf (y ∷ ys) = (y.1 f hf, strings_obey f hf ys)
+
+  pieces_obey : (f : Funs) → EachFun Has f → (ys : List YP)
+      → Each Has (pieces_with f (map co_piece (map (λ y. y.0) ys)))
+  pieces_obey f hf [] = tt
+  pieces_obey f hf (y ∷ ys) = (y.1 f hf, pieces_obey f hf ys)
+
+  words_obey : (f : Funs) → EachFun Has f → (ys : List YF)
+      → Each Has (fields_with f (map co_fields (map (λ y. y.0) ys)))
+  words_obey f hf [] = tt
+  words_obey f hf (y ∷ ys) = (y.1 f hf, words_obey f hf ys)
+
   links_obey : (f : Funs) → EachFun Has f → (ys : List YL) → EachLink Has (with f (map co_link (map (λ y. y.0) ys)))
   links_obey f hf [] = tt
   links_obey f hf (y ∷ ys) = (y.1 f hf, links_obey f hf ys)
@@ -105,9 +120,9 @@ module _ (Has : Property) (expansions : ExpansionsKeep Has) (commands : Commands
   case_arms_obey f hf (y ∷ ys) = let h = y.1 f hf in (h.0, h.1, case_arms_obey f hf ys)
 
   patterns_obey : (f : Funs) → EachFun Has f → (ys : List (List YP))
-      → EachPattern Has (map (with f) (map (λ l. map co_piece l) (map (λ l. map (λ y. y.0) l) ys)))
+      → EachPattern Has (map (pieces_with f) (map (λ l. map co_piece l) (map (λ l. map (λ y. y.0) l) ys)))
   patterns_obey f hf [] = tt
-  patterns_obey f hf (y ∷ ys) = (each_obeys f hf co_piece y, patterns_obey f hf ys)
+  patterns_obey f hf (y ∷ ys) = (pieces_obey f hf y, patterns_obey f hf ys)
 
   -- ---- one layer
 
@@ -124,15 +139,16 @@ module _ (Has : Property) (expansions : ExpansionsKeep Has) (commands : Commands
   stmt_obeys : (y : o.Stmt-F YF YS YT YP YL YC YA YM) → Obeys (co_layer (base_stmt y))
   stmt_obeys o.Skip f hf = commands.skip
   stmt_obeys (o.Set at sets) f hf = calls.assignments at _ (sets_obey f hf sets)
-  stmt_obeys (o.Call at fields) f hf = calls.utility at _ (each_obeys f hf co_fields fields)
+  stmt_obeys (o.Call at fields) f hf =
+      calls.utility at (are_static (map co_fields (map (λ y. y.0) fields))) _ (words_obey f hf fields)
   stmt_obeys (o.Fun at name fields) f hf =
-      calls.function at (found name f) _ (hf name) (each_obeys f hf co_fields fields)
+      calls.function at (found name f) _ (hf name) (words_obey f hf fields)
   stmt_obeys (o.Seq parts) f hf = commands.list _ (each_obeys f hf co_stmt parts)
   stmt_obeys (o.Chain first rest) f hf = commands.chain _ _ (first.1 f hf) (links_obey f hf rest)
   stmt_obeys (o.Not body) f hf = commands.negation _ (body.1 f hf)
   stmt_obeys (o.If arms last) f hf = commands.conditional _ _ (arms_obey f hf arms) (last.1 f hf)
   stmt_obeys (o.For at name fields body) f hf =
-      loops.for_loop at name _ _ (each_obeys f hf co_fields fields) (body.1 f hf)
+      loops.for_loop at name _ _ (words_obey f hf fields) (body.1 f hf)
   stmt_obeys (o.While at cond body) f hf = loops.while_loop at _ _ (cond.1 f hf) (body.1 f hf)
   stmt_obeys (o.Case at subject arms) f hf = loops.cases at _ _ (subject.1 f hf) (case_arms_obey f hf arms)
   stmt_obeys (o.Sub at body) f hf = commands.subshell at _ (body.1 f hf)
@@ -140,12 +156,12 @@ module _ (Has : Property) (expansions : ExpansionsKeep Has) (commands : Commands
   stmt_obeys (o.Err at body) f hf = commands.error_joined at _ (body.1 f hf)
   stmt_obeys o.Strict f hf = commands.strict
   stmt_obeys o.Lax f hf = commands.lax
-  stmt_obeys (o.Exit at fields) f hf = calls.exits at _ (each_obeys f hf co_fields fields)
-  stmt_obeys (o.Return at fields) f hf = calls.returns at _ (each_obeys f hf co_fields fields)
+  stmt_obeys (o.Exit at fields) f hf = calls.exits at _ (words_obey f hf fields)
+  stmt_obeys (o.Return at fields) f hf = calls.returns at _ (words_obey f hf fields)
   stmt_obeys o.Break f hf = loops.breaks
   stmt_obeys o.Continue f hf = loops.continues
-  stmt_obeys (o.Export at fields) f hf = calls.exports at _ (each_obeys f hf co_fields fields)
-  stmt_obeys (o.Unset at fields) f hf = calls.unsets at _ (each_obeys f hf co_fields fields)
+  stmt_obeys (o.Export at fields) f hf = calls.exports at _ (words_obey f hf fields)
+  stmt_obeys (o.Unset at fields) f hf = calls.unsets at _ (words_obey f hf fields)
   stmt_obeys (o.Stop at reason) f hf = commands.stop at reason
 
   stmt_from : (x : o.Stmt-F Fields Stmt Str StrPiece ChainPart PatArm SetTo StmtArm) → Obeys (co_layer x)
@@ -166,18 +182,19 @@ module _ (Has : Property) (expansions : ExpansionsKeep Has) (commands : Commands
       map-Str YF YS YT YP YL YC YA YM Fields Stmt Str StrPiece ChainPart PatArm SetTo StmtArm
       (λ y. y.0) (λ y. y.0) (λ y. y.0) (λ y. y.0) (λ y. y.0) (λ y. y.0) (λ y. y.0) (λ y. y.0) y
 
-  str_obeys : (y : o.Str-F YF YS YT YP YL YC YA YM) → Obeys (str_of (base_str y))
+  str_obeys : (y : o.Str-F YF YS YT YP YL YC YA YM) → Obeys (str_of (base_str y)).value
   str_obeys (o.Lit bytes) f hf = expansions.literal bytes
   str_obeys (o.Var name) f hf = expansions.variable name
   str_obeys (o.Arg number) f hf = expansions.argument number
   str_obeys o.Count f hf = expansions.count
   str_obeys (o.Or first other) f hf = expansions.default _ other (first.1 f hf)
   str_obeys (o.Output body) f hf = expansions.output _ (body.1 f hf)
-  str_obeys (o.Join parts) f hf = expansions.join _ (each_obeys f hf co_str parts)
+  str_obeys (o.Join parts) f hf = expansions.join _ (strings_obey f hf parts)
 
-  str_from : (x : o.Str-F Fields Stmt Str StrPiece ChainPart PatArm SetTo StmtArm) → Obeys (str_of x) → PT (roll-Str x)
+  str_from : (x : o.Str-F Fields Stmt Str StrPiece ChainPart PatArm SetTo StmtArm) → Obeys (str_of x).value
+      → PT (roll-Str x)
   str_from x h f hf =
-      subst (λ (d : StrDoes). Has _ (d f))
+      subst (λ (d : StrDoes). Has _ (d.value f))
       (sym (fold-roll-Str FieldsDo Does StrDoes PieceDoes LinkDoes CaseArmDoes SetDoes ArmDoes
       fields_layer stmt_layer str_layer piece_layer link_layer case_arm_layer set_layer arm_layer x)) (h f hf)
 
@@ -192,15 +209,15 @@ module _ (Has : Property) (expansions : ExpansionsKeep Has) (commands : Commands
       map-StrPiece YF YS YT YP YL YC YA YM Fields Stmt Str StrPiece ChainPart PatArm SetTo StmtArm
       (λ y. y.0) (λ y. y.0) (λ y. y.0) (λ y. y.0) (λ y. y.0) (λ y. y.0) (λ y. y.0) (λ y. y.0) y
 
-  piece_obeys : (y : o.StrPiece-F YF YS YT YP YL YC YA YM) → Obeys (piece_of (base_piece y))
+  piece_obeys : (y : o.StrPiece-F YF YS YT YP YL YC YA YM) → Obeys (piece_of (base_piece y)).piece
   piece_obeys (o.Plain string) f hf = expansions.plain _ (string.1 f hf)
   piece_obeys (o.Quoted string) f hf = expansions.quoted _ (string.1 f hf)
   piece_obeys (o.Split string) f hf = expansions.split _ (string.1 f hf)
 
-  piece_from : (x : o.StrPiece-F Fields Stmt Str StrPiece ChainPart PatArm SetTo StmtArm) → Obeys (piece_of x)
+  piece_from : (x : o.StrPiece-F Fields Stmt Str StrPiece ChainPart PatArm SetTo StmtArm) → Obeys (piece_of x).piece
       → PP (roll-StrPiece x)
   piece_from x h f hf =
-      subst (λ (d : PieceDoes). Has _ (d f))
+      subst (λ (d : PieceDoes). Has _ (d.piece f))
       (sym (fold-roll-StrPiece FieldsDo Does StrDoes PieceDoes LinkDoes CaseArmDoes SetDoes ArmDoes
       fields_layer stmt_layer str_layer piece_layer link_layer case_arm_layer set_layer arm_layer x)) (h f hf)
 
@@ -215,14 +232,14 @@ module _ (Has : Property) (expansions : ExpansionsKeep Has) (commands : Commands
       map-Fields YF YS YT YP YL YC YA YM Fields Stmt Str StrPiece ChainPart PatArm SetTo StmtArm
       (λ y. y.0) (λ y. y.0) (λ y. y.0) (λ y. y.0) (λ y. y.0) (λ y. y.0) (λ y. y.0) (λ y. y.0) y
 
-  fields_obey : (y : o.Fields-F YF YS YT YP YL YC YA YM) → Obeys (fields_from_parts (base_fields y))
-  fields_obey (o.Word pieces) f hf = expansions.fields _ (each_obeys f hf co_piece pieces)
+  fields_obey : (y : o.Fields-F YF YS YT YP YL YC YA YM) → Obeys (fields_from_parts (base_fields y)).fields
+  fields_obey (o.Word pieces) f hf = expansions.fields _ (pieces_obey f hf pieces)
   fields_obey o.Args f hf = expansions.arguments
 
-  fields_from : (x : o.Fields-F Fields Stmt Str StrPiece ChainPart PatArm SetTo StmtArm) → Obeys (fields_from_parts x)
-      → PF (roll-Fields x)
+  fields_from : (x : o.Fields-F Fields Stmt Str StrPiece ChainPart PatArm SetTo StmtArm)
+      → Obeys (fields_from_parts x).fields → PF (roll-Fields x)
   fields_from x h f hf =
-      subst (λ (d : FieldsDo). Has _ (d f))
+      subst (λ (d : FieldsDo). Has _ (d.fields f))
       (sym (fold-roll-Fields FieldsDo Does StrDoes PieceDoes LinkDoes CaseArmDoes SetDoes ArmDoes
       fields_layer stmt_layer str_layer piece_layer link_layer case_arm_layer set_layer arm_layer x)) (h f hf)
 

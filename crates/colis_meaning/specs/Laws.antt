@@ -21,6 +21,12 @@ TurnsNeverRise =
     (program : ProgramParts) (step : ℕ) (conc : Conc) (tree : Value) (trace : List Mark)
     → (co_program program step conc tree trace).conc.turns ≤ conc.turns
 
+-- a run leaves its premises as they are
+abbrev pub PremisesStay : Type 0
+PremisesStay =
+    (program : ProgramParts) (step : ℕ) (conc : Conc) (tree : Value) (trace : List Mark)
+    → (co_program program step conc tree trace).conc.premises ≡ conc.premises
+
 -- a run that is not bound is, with more turns, the same run, but for the turns that are left, which are more by as many
 abbrev pub MoreTurnsSameRun : Type 0
 MoreTurnsSameRun =
@@ -29,6 +35,6 @@ MoreTurnsSameRun =
     ⊎ (co_program program step (conc_with_more n conc) tree trace
     ≡ ended_with_more n (co_program program step conc tree trace))
 
--- the runs of each statement, where functions are defined, keep these three laws, from every state and at every place
+-- the runs of each statement, where functions are defined, keep these four laws, from every state and at every place
 abbrev pub StatementsAreLawful : Type 0
 StatementsAreLawful = (defs : List Def) (stmt : Stmt) → IsLawful (co_stmt stmt (funs_of defs []))

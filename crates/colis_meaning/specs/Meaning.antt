@@ -1,6 +1,6 @@
 -- What a program does: of each construct, from what its parts do. The rules are those of shell_rules, one for each
 -- construct.
-use Rattle.std.specs.Prelude.{ℕ, Bool, List, [], ◌∷◌, map}
+use Rattle.std.specs.Prelude.{ℕ, Bool, true, false, ◌&&◌, List, [], ◌∷◌, map}
 use Rattle.script_names.specs.declared.mark.Mark.{Mark}
 use Rattle.feature_trees.specs.declared.value.Value.{Value}
 use Rattle.shell_words.specs.Pieces.{PieceParts}
@@ -28,17 +28,20 @@ use Rattle.shell_rules.specs.Whole.{Ended, whole_run}
 
 -- ---- what the parts of a statement do, where functions are defined
 
--- a string
-abbrev pub StrDoes : Type 0
-StrDoes = Funs → Doing Text
+-- a string: whether it is static, which is to stand for its own bytes; and what its value is
+pub record StrDoes : Type 0 where
+  pub static : Bool
+  pub value : Funs → Doing Text
 
--- a piece of a word
-abbrev pub PieceDoes : Type 0
-PieceDoes = Funs → Doing PieceParts
+-- a piece of a word: whether it is static, and what it gives
+pub record PieceDoes : Type 0 where
+  pub static : Bool
+  pub piece : Funs → Doing PieceParts
 
--- what gives fields
-abbrev pub FieldsDo : Type 0
-FieldsDo = Funs → Doing (List Text)
+-- what gives fields: whether it is a static word, and which fields it gives
+pub record FieldsDo : Type 0 where
+  pub static : Bool
+  pub fields : Funs → Doing (List Text)
 
 -- a member of an and-or list: whether it stands behind `&&`, and what it does
 abbrev pub LinkDoes : Type 0
@@ -56,54 +59,83 @@ SetDoes = Funs → Text × Doing Text
 abbrev pub ArmDoes : Type 0
 ArmDoes = Funs → Action × Action
 
+-- a string that is computed
+abbrev pub computed : (Funs → Doing Text) → StrDoes
+computed value = record { static = false; value = value }
+
+-- the values of strings
+abbrev pub values_with : Funs → List StrDoes → List (Doing Text)
+values_with f [] = []
+values_with f (string ∷ strings) = string.value f ∷ values_with f strings
+
+-- what pieces give
+abbrev pub pieces_with : Funs → List PieceDoes → List (Doing PieceParts)
+pieces_with f [] = []
+pieces_with f (piece ∷ pieces) = piece.piece f ∷ pieces_with f pieces
+
+-- whether all pieces are static
+abbrev pub all_static : List PieceDoes → Bool
+all_static [] = true
+all_static (piece ∷ pieces) = piece.static && all_static pieces
+
+-- the fields of what gives fields
+abbrev pub fields_with : Funs → List FieldsDo → List (Doing (List Text))
+fields_with f [] = []
+fields_with f (one ∷ others) = one.fields f ∷ fields_with f others
+
+-- of each, whether it is a static word
+abbrev pub are_static : List FieldsDo → List Bool
+are_static = map (λ (one : FieldsDo). one.static)
+
 -- ---- the rules, a line for each construct, over its parts
 
--- what gives fields
+-- what gives fields: a word, which is static where all of its pieces are, or all arguments
 abbrev pub fields_layer : o.Fields-F FieldsDo Does StrDoes PieceDoes LinkDoes CaseArmDoes SetDoes ArmDoes → FieldsDo
-fields_layer (o.Word pieces) f = word.do_word (with f pieces)
-fields_layer o.Args f = word.do_arguments
+fields_layer (o.Word pieces) =
+    record { static = all_static pieces; fields = λ f. word.do_word (pieces_with f pieces) }
+fields_layer o.Args = record { static = false; fields = λ f. word.do_arguments }
 
 -- a statement
 abbrev pub stmt_layer : o.Stmt-F FieldsDo Does StrDoes PieceDoes LinkDoes CaseArmDoes SetDoes ArmDoes → Does
 stmt_layer o.Skip f = rule.do_skip
 stmt_layer (o.Set at sets) f = calls.do_set at (with f sets)
-stmt_layer (o.Call at fields) f = calls.do_call at (with f fields)
-stmt_layer (o.Fun at name fields) f = calls.do_function at (calls.found name f) (with f fields)
+stmt_layer (o.Call at fields) f = calls.do_call at (are_static fields) (fields_with f fields)
+stmt_layer (o.Fun at name fields) f = calls.do_function at (calls.found name f) (fields_with f fields)
 stmt_layer (o.Seq parts) f = rule.do_all (with f parts)
 stmt_layer (o.Chain first rest) f = rule.do_chain (first f) (with f rest)
 stmt_layer (o.Not body) f = rule.do_not (body f)
 stmt_layer (o.If arms last) f = rule.do_if (with f arms) (last f)
-stmt_layer (o.For at name fields body) f = loops.do_for at name (with f fields) (body f)
+stmt_layer (o.For at name fields body) f = loops.do_for at name (fields_with f fields) (body f)
 stmt_layer (o.While at cond body) f = loops.do_while at (cond f) (body f)
-stmt_layer (o.Case at subject arms) f = cases.do_case at (subject f) (with f arms)
+stmt_layer (o.Case at subject arms) f = cases.do_case at (subject.value f) (with f arms)
 stmt_layer (o.Sub at body) f = rule.do_subshell at (body f)
 stmt_layer (o.Quiet body) f = rule.do_quiet (body f)
 stmt_layer (o.Err at body) f = rule.do_error_joined at (body f)
 stmt_layer o.Strict f = rule.do_strict
 stmt_layer o.Lax f = rule.do_lax
-stmt_layer (o.Exit at fields) f = calls.do_exit at (with f fields)
-stmt_layer (o.Return at fields) f = calls.do_return at (with f fields)
+stmt_layer (o.Exit at fields) f = calls.do_exit at (fields_with f fields)
+stmt_layer (o.Return at fields) f = calls.do_return at (fields_with f fields)
 stmt_layer o.Break f = loops.do_break
 stmt_layer o.Continue f = loops.do_continue
-stmt_layer (o.Export at fields) f = calls.do_export at (with f fields)
-stmt_layer (o.Unset at fields) f = calls.do_unset at (with f fields)
+stmt_layer (o.Export at fields) f = calls.do_export at (fields_with f fields)
+stmt_layer (o.Unset at fields) f = calls.do_unset at (fields_with f fields)
 stmt_layer (o.Stop at reason) f = rule.do_stop at reason
 
--- a string
+-- a string: literal bytes alone are static
 abbrev pub str_layer : o.Str-F FieldsDo Does StrDoes PieceDoes LinkDoes CaseArmDoes SetDoes ArmDoes → StrDoes
-str_layer (o.Lit bytes) f = word.do_literal bytes
-str_layer (o.Var name) f = word.do_variable name
-str_layer (o.Arg number) f = word.do_argument number
-str_layer o.Count f = word.do_count
-str_layer (o.Or first other) f = word.do_default (first f) other
-str_layer (o.Output body) f = word.do_output (body f)
-str_layer (o.Join parts) f = word.do_join (with f parts)
+str_layer (o.Lit bytes) = record { static = true; value = λ f. word.do_literal bytes }
+str_layer (o.Var name) = computed (λ f. word.do_variable name)
+str_layer (o.Arg number) = computed (λ f. word.do_argument number)
+str_layer o.Count = computed (λ f. word.do_count)
+str_layer (o.Or first other) = computed (λ f. word.do_default (first.value f) other)
+str_layer (o.Output body) = computed (λ f. word.do_output (body f))
+str_layer (o.Join parts) = computed (λ f. word.do_join (values_with f parts))
 
--- a piece of a word
+-- a piece of a word: one that is plain or quoted is static where its string is
 abbrev pub piece_layer : o.StrPiece-F FieldsDo Does StrDoes PieceDoes LinkDoes CaseArmDoes SetDoes ArmDoes → PieceDoes
-piece_layer (o.Plain string) f = word.do_plain (string f)
-piece_layer (o.Quoted string) f = word.do_quoted (string f)
-piece_layer (o.Split string) f = word.do_split (string f)
+piece_layer (o.Plain string) = record { static = string.static; piece = λ f. word.do_plain (string.value f) }
+piece_layer (o.Quoted string) = record { static = string.static; piece = λ f. word.do_quoted (string.value f) }
+piece_layer (o.Split string) = record { static = false; piece = λ f. word.do_split (string.value f) }
 
 -- a member of an and-or list: whether it stands behind `&&`, and what it does
 abbrev pub link_layer : o.ChainPart-F FieldsDo Does StrDoes PieceDoes LinkDoes CaseArmDoes SetDoes ArmDoes → LinkDoes
@@ -112,11 +144,11 @@ link_layer link f = (link.and, link.stmt f)
 -- an arm of `case`
 abbrev pub case_arm_layer : o.PatArm-F FieldsDo Does StrDoes PieceDoes LinkDoes CaseArmDoes SetDoes ArmDoes
     → CaseArmDoes
-case_arm_layer arm f = (map (with f) arm.patterns, arm.body f)
+case_arm_layer arm f = (map (pieces_with f) arm.patterns, arm.body f)
 
 -- an assignment
 abbrev pub set_layer : o.SetTo-F FieldsDo Does StrDoes PieceDoes LinkDoes CaseArmDoes SetDoes ArmDoes → SetDoes
-set_layer set f = (set.name, set.value f)
+set_layer set f = (set.name, set.value.value f)
 
 -- an arm of `if`
 abbrev pub arm_layer : o.StmtArm-F FieldsDo Does StrDoes PieceDoes LinkDoes CaseArmDoes SetDoes ArmDoes → ArmDoes

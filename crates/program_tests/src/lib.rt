@@ -6,6 +6,8 @@
 #[cfg(test)]
 mod pages;
 #[cfg(test)]
+mod premises;
+#[cfg(test)]
 mod programs;
 #[cfg(test)]
 mod runs;

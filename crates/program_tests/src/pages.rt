@@ -19,6 +19,14 @@ impl Page {
         }
     }
 
+    /// A page on which nothing was put for want of memory.
+    pub(crate) fn lost(alloc: Global) -> Page {
+        Page {
+            text: Bytes::new(alloc),
+            whole: false,
+        }
+    }
+
     /// Notes whether a step was done.
     pub(crate) fn note(&mut self, done: Result<(), Memory>) {
         if done.is_err() {

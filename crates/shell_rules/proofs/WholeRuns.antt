@@ -1,4 +1,4 @@
--- A whole run keeps the three laws where its body does.
+-- A whole run keeps the four laws where its body does.
 use Rattle.std.proofs.Common.{◌≡◌, ◌⊎◌, inl, inr, ℕ, IsTrue, refl, sym, ap, subst, ◌∙◌, arith}
 use Rattle.shell_rules.specs.State as st
 use Rattle.shell_rules.specs.State.{State, Run, Go, Left, Action}
@@ -13,6 +13,10 @@ ended_trace (Left how s) = refl
 ended_turns : (q : Run (Unit {0})) → (ended_by q).conc.turns ≡ (state_of q).conc.turns
 ended_turns (Go v s) = refl
 ended_turns (Left how s) = refl
+
+ended_premises : (q : Run (Unit {0})) → (ended_by q).conc.premises ≡ (state_of q).conc.premises
+ended_premises (Go v s) = refl
+ended_premises (Left how s) = refl
 
 bound_end : (q : Run (Unit {0})) → IsBound q → IsTrue (is_bound_end (ended_by q).end)
 bound_end (Go v s) b = absurd b
@@ -45,6 +49,9 @@ whole_keeps body h = record {
   turns = λ step functions conc tree trace.
       let le = (h (place_in step functions) 0 (begun conc tree trace)).turns in
       let is = ended_turns (body (place_in step functions) (begun conc tree trace)) in omega (arith, le, is);
+  premises = λ step functions conc tree trace.
+      ended_premises (body (place_in step functions) (begun conc tree trace))
+      ∙ (h (place_in step functions) 0 (begun conc tree trace)).premises;
   same = λ n step functions conc tree trace.
       let q = body (place_in step functions) (begun conc tree trace) in
       ended_same n q _ (h (place_in step functions) n (begun conc tree trace)).same;

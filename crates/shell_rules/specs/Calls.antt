@@ -17,13 +17,14 @@ use Rattle.utility_calls.specs.declared.acts.Act.{Act}
 use Rattle.utility_calls.specs.declared.planned.Planned.{Planned}
 use Rattle.utility_calls.specs.declared.planned.Planned.TheVariants.{Known, Ask, Print, Change, Unspecified}
 use Rattle.utility_calls.specs.Acts.{row, tree_after}
-use Rattle.utility_calls.specs.Calls.{call}
 use Rattle.shell_rules.specs.declared.leave.TheConstants.{MAX_STATUS}
+use Rattle.shell_rules.specs.declared.spelled.Spelled.{Spelled}
 use Rattle.shell_rules.specs.State.{Text, State, Leave, Returned, Exited, Go, Left, then_do, closed_off}
 use Rattle.shell_rules.specs.State.{by_return, no_value, Place, at_command, site_of, stopped, Doing, Action, Funs}
 use Rattle.shell_rules.specs.State.{with_status, with_arguments}
 use Rattle.shell_rules.specs.Expansion.{do_short, do_fields}
 use Rattle.shell_rules.specs.Commands.{checked}
+use Rattle.shell_rules.specs.Planned.{spelled_by, planned}
 use Rattle.shell_rules.specs.Loops.{assign}
 
 -- ---- acts on the tree
@@ -76,12 +77,14 @@ do_planned (Print text) p s = Go tt (with_status true (printed text s))
 do_planned (Change lists) p s = then_do (do_operands true lists p s) (λ ok s. Go tt (with_status ok s))
 do_planned (Unspecified reason) p s = stopped reason p s
 
--- The fields of a command: the first is the name of a utility. A command without fields has the status of its last
--- command substitution, or success. A name that is no utility's stops the run: also one of `special_names` that was
--- computed, and in an accepted script that of a function, which has no utility's name there.
-abbrev pub do_call_of : List Text → Action
-do_call_of [] p s = Go tt (with_status s.substituted s)
-do_call_of (name ∷ words) p s = do_planned (call (name ∷ words)) p s
+-- The fields of a command, of whose words the first two are spelled out or not. A command without fields has the
+-- status of its last command substitution, or success. Another does what it comes to under the premises of the run: a
+-- name that is neither stated nor a utility's stops it, also one of `special_names` that was computed, and so does the
+-- name of a function that was computed.
+abbrev pub do_call_of : Spelled → List Text → Action
+do_call_of spelled [] p s = Go tt (with_status s.substituted s)
+do_call_of spelled (name ∷ words) p s =
+    do_planned (planned s.conc.premises p.functions spelled (name ∷ words)) p s
 
 -- the names of the utilities that change the shell itself: of the special built-ins all but `:`
 abbrev pub special_names : List Text
@@ -91,12 +94,13 @@ special_names = filter (λ name. not (bytes_eq name (codes ":"))) names.special_
 abbrev pub no_substitution : State → State
 no_substitution s = record s { substituted = true }
 
--- A simple command: its words are expanded to fields, these come to a call, and a failure counts.
-abbrev pub do_call : ℕ → List (Doing (List Text)) → Action
-do_call at words p s =
+-- A simple command, with each word whether it is static: its words are expanded to fields, these come to a call, and a
+-- failure counts.
+abbrev pub do_call : ℕ → List Bool → List (Doing (List Text)) → Action
+do_call at static words p s =
     let q : Place = at_command at p in
     then_do (do_fields words q (no_substitution s)) (λ fields s.
-    then_do (do_call_of fields q s) (λ _ s. checked q s))
+    then_do (do_call_of (spelled_by static) fields q s) (λ _ s. checked q s))
 
 -- ---- assignments (XCU 2.9.1 Simple Commands)
 

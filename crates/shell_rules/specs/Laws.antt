@@ -1,5 +1,5 @@
--- What every rule keeps: a run only adds to the trace; turns never rise; and a run that is not bound is, with more
--- turns, the same run but for the turns that are left.
+-- What every rule keeps: a run only adds to the trace; turns never rise; premises stay; and a run that is not bound is,
+-- with more turns, the same run but for the turns that are left.
 use Rattle.std.specs.Prelude.{◌≡◌, ◌≤◌, ◌+◌, ◌⊎◌, ℕ, Bool, true, false, IsTrue, List, ◌++◌}
 use Rattle.script_names.specs.declared.mark.Mark.{Mark}
 use Rattle.feature_trees.specs.declared.value.Value.{Value}
@@ -48,9 +48,10 @@ IsBound (Left how s) = IsTrue (is_bound how)
 pub record Keeps {A : Type 0} (n : ℕ) (s : State) (run with_more : Run A) : Type 0 where
   pub trace : Extends s.trace (state_of run).trace
   pub turns : (state_of run).conc.turns ≤ s.conc.turns
+  pub premises : (state_of run).conc.premises ≡ s.conc.premises
   pub same : IsBound run ⊎ (with_more ≡ run_with_more n run)
 
--- what is run keeps the three laws from every state
+-- what is run keeps the four laws from every state
 abbrev pub Lawful : {A : Type 0} → (State → Run A) → Type 0
 Lawful run = (n : ℕ) (s : State) → Keeps n s (run s) (run (more_turns n s))
 
@@ -79,13 +80,15 @@ is_bound_end (end.Stopped reason site) = false
 is_bound_end (end.Bound site) = true
 
 -- The runs of a body in a step, over functions of these names: they only add to the trace, they have no more turns
--- left than they began with, and one that is not bound is the same run with more turns, but for the turns that are
--- left.
+-- left than they began with, their premises stay, and one that is not bound is the same run with more turns, but for
+-- the turns that are left.
 pub record WholeKeeps (body : Action) : Type 0 where
   pub trace : (step : ℕ) (functions : List Text) (conc : Conc) (tree : Value) (trace : List Mark)
       → Extends trace (whole_run body step functions conc tree trace).trace
   pub turns : (step : ℕ) (functions : List Text) (conc : Conc) (tree : Value) (trace : List Mark)
       → (whole_run body step functions conc tree trace).conc.turns ≤ conc.turns
+  pub premises : (step : ℕ) (functions : List Text) (conc : Conc) (tree : Value) (trace : List Mark)
+      → (whole_run body step functions conc tree trace).conc.premises ≡ conc.premises
   pub same : (n step : ℕ) (functions : List Text) (conc : Conc) (tree : Value) (trace : List Mark)
       → IsTrue (is_bound_end (whole_run body step functions conc tree trace).end)
       ⊎ (whole_run body step functions (conc_with_more n conc) tree trace

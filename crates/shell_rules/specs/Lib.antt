@@ -4,6 +4,7 @@ pub mod Commands
 pub mod Examples
 pub mod Expansion
 pub mod Parts
+pub mod Planned
 pub mod Laws
 pub mod Loops
 pub mod OwnNames

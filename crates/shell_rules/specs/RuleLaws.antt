@@ -1,5 +1,5 @@
 -- A property that each rule keeps: it has it where its parts do. And what else holds of the rules.
-use Rattle.std.specs.Prelude.{◌≡◌, ◌↔◌, ℕ, Bool, true, List, Option, Some, is_none, IsTrue}
+use Rattle.std.specs.Prelude.{◌≡◌, ◌↔◌, ℕ, Bool, true, not, ◌||◌, List, Option, Some, is_none, IsTrue}
 use Rattle.std.specs.List.{list_all}
 use Rattle.script_names.specs.declared.reason.Reason.{Reason}
 use Rattle.script_names.specs.CommandNames.{utility_named}
@@ -7,12 +7,17 @@ use Rattle.shell_words.specs.declared.pattern.Item.{Item}
 use Rattle.shell_words.specs.Patterns.{Matches}
 use Rattle.shell_words.specs.Pieces.{PieceParts}
 use Rattle.shell_words.specs.Trimmed.{IsTrimmed}
+use Rattle.utility_calls.specs.Performed.{HasPerformedActs}
+use Rattle.utility_calls.specs.Calls.{call as call_of}
+use Rattle.shell_rules.specs.declared.premises.Premises.{Premises}
+use Rattle.shell_rules.specs.declared.spelled.Spelled.{Spelled}
 use Rattle.shell_rules.specs.State.{Text, Doing, Action}
 use Rattle.shell_rules.specs.Expansion as word
 use Rattle.shell_rules.specs.Commands as command
 use Rattle.shell_rules.specs.Loops as loops
 use Rattle.shell_rules.specs.Cases as cases
 use Rattle.shell_rules.specs.Calls as call
+use Rattle.shell_rules.specs.Planned.{planned, no_premises, is_functions}
 use Rattle.shell_rules.specs.Parts.{Property, Each, EachLink, EachArm, EachCaseArm, EachSet}
 use Rattle.shell_rules.specs.Laws.{IsLawful, WholeKeeps}
 
@@ -60,7 +65,8 @@ pub record LoopsKeep (Has : Property) : Type 0 where
 
 -- simple commands
 pub record CallsKeep (Has : Property) : Type 0 where
-  pub utility : (at : ℕ) (words : List (Doing (List Text))) → Each Has words → Has _ (call.do_call at words)
+  pub utility : (at : ℕ) (static : List Bool) (words : List (Doing (List Text))) → Each Has words
+      → Has _ (call.do_call at static words)
   pub assignments : (at : ℕ) (sets : List (Text × Doing Text)) → EachSet Has sets → Has _ (call.do_set at sets)
   pub function : (at : ℕ) (body : Option Action) (words : List (Doing (List Text)))
       → ((a : Action) → body ≡ Some a → Has _ a) → Each Has words → Has _ (call.do_function at body words)
@@ -87,3 +93,16 @@ MatchesDecides = (pattern : List Item) (text : Text) → IsTrue (cases.matches p
 -- stops the run
 abbrev pub SpecialNamesAreNoUtilities : Type 0
 SpecialNamesAreNoUtilities = list_all (λ name. is_none (utility_named name)) call.special_names ≡ true
+
+-- each act that a command comes to meets the conditions of acts, whatever is stated
+abbrev pub PlansHavePerformedActs : Type 0
+PlansHavePerformedActs =
+    (premises : Premises) (functions : List Text) (spelled : Spelled) (fields : List Text)
+    → HasPerformedActs (planned premises functions spelled fields)
+
+-- where nothing is stated a command comes to what its fields come to, unless its name was computed and is a function's
+abbrev pub NoPremisesNoChange : Type 0
+NoPremisesNoChange =
+    (functions : List Text) (spelled : Spelled) (fields : List Text)
+    → IsTrue (spelled.name || not (is_functions functions fields))
+    → planned no_premises functions spelled fields ≡ call_of fields

@@ -16,6 +16,7 @@ pub record IsBehindSubshell (before inner behind : State) : Type 0 where
   pub status : behind.conc.status ≡ inner.conc.status
   pub output : behind.conc.captured ≡ inner.conc.captured
   pub turns : behind.conc.turns ≡ inner.conc.turns
+  pub premises : behind.conc.premises ≡ inner.conc.premises
   pub tree : behind.tree ≡ inner.tree
   pub trace : behind.trace ≡ inner.trace
   pub acts : behind.acts ≡ inner.acts
@@ -29,6 +30,7 @@ pub record IsBehindOutput (before inner behind : State) : Type 0 where
   pub status : behind.conc.status ≡ before.conc.status
   pub output : behind.conc.captured ≡ before.conc.captured
   pub turns : behind.conc.turns ≡ inner.conc.turns
+  pub premises : behind.conc.premises ≡ before.conc.premises
   pub tree : behind.tree ≡ inner.tree
   pub trace : behind.trace ≡ inner.trace
   pub acts : behind.acts ≡ inner.acts
@@ -41,6 +43,7 @@ pub record IsBehindBody (before inner behind : State) : Type 0 where
   pub status : behind.conc.status ≡ inner.conc.status
   pub output : behind.conc.captured ≡ inner.conc.captured
   pub turns : behind.conc.turns ≡ inner.conc.turns
+  pub premises : behind.conc.premises ≡ inner.conc.premises
   pub tree : behind.tree ≡ inner.tree
   pub trace : behind.trace ≡ inner.trace
   pub acts : behind.acts ≡ inner.acts
@@ -53,6 +56,7 @@ pub record IsBehindQuiet (before inner behind : State) : Type 0 where
   pub flag : behind.conc.strict ≡ inner.conc.strict
   pub status : behind.conc.status ≡ inner.conc.status
   pub turns : behind.conc.turns ≡ inner.conc.turns
+  pub premises : behind.conc.premises ≡ inner.conc.premises
   pub tree : behind.tree ≡ inner.tree
   pub trace : behind.trace ≡ inner.trace
   pub acts : behind.acts ≡ inner.acts

@@ -1,4 +1,5 @@
-use script_names::{Bytes, Copied, List, Mark, Memory};
+use crate::premises::Premises;
+use script_names::{Bytes, Common, Copied, List, Mark, Memory};
 use shell_words::Env;
 use std::alloc::Global;
 
@@ -17,6 +18,8 @@ pub struct Conc {
     pub captured: Option<Bytes>,
     /// How many more turns of loops may be taken.
     pub turns: u32,
+    /// What is stated of the system beside its tree; no command changes it.
+    pub premises: Common<Premises>,
 }
 
 /// The acts that a run did, in order.
@@ -27,6 +30,7 @@ impl Copied for Conc {
         let vars = self.vars.copy(alloc)?;
         let args = self.args.copy(alloc)?;
         let captured = self.captured.copy(alloc)?;
+        let premises = self.premises.fork()?;
         Ok(Conc {
             vars,
             args,
@@ -34,6 +38,7 @@ impl Copied for Conc {
             status: self.status,
             captured,
             turns: self.turns,
+            premises,
         })
     }
 }

@@ -1,5 +1,5 @@
 -- A translated command does what the command does: by induction on the command.
-use Rattle.std.proofs.Common.{◌≡◌, ℕ, Bool, true, false, List, [], ◌∷◌, ◌++◌, map, Option, Some, None, is_some, refl, sym, ap, ◌∙◌, subst, if◌then◌else◌, codes}
+use Rattle.std.proofs.Common.{◌≡◌, ℕ, Bool, true, false, ◌&&◌, List, [], ◌∷◌, ◌++◌, map, Option, Some, None, is_some, refl, sym, ap, ◌∙◌, subst, if◌then◌else◌, codes}
 use Rattle.std.specs.List.{flat_map}
 use Rattle.std.specs.Str.{bytes_eq}
 use Rattle.script_names.specs.declared.reason.Reason.TheVariants as reason
@@ -26,7 +26,7 @@ use Rattle.colis_syntax.specs.declared.syntax.StmtArm.{StmtArm}
 use Rattle.colis_syntax.specs.declared.syntax.PatArm.{PatArm}
 use Rattle.colis_syntax.specs.declared.def.Def.{Def}
 use Rattle.colis_syntax.specs.WellFormed.{is_def}
-use Rattle.colis_meaning.specs.Meaning.{co_stmt, co_str, co_piece, co_fields, co_set, co_link, co_arm, co_case_arm}
+use Rattle.colis_meaning.specs.Meaning.{values_with, pieces_with, fields_with, all_static, are_static, co_stmt, co_str, co_piece, co_fields, co_set, co_link, co_arm, co_case_arm}
 use Rattle.shell_rules.specs.State.{Text, then_do, Doing, Action, Funs, Does, with}
 use Rattle.shell_rules.specs.Expansion as word
 use Rattle.shell_rules.specs.Commands as rule
@@ -40,7 +40,7 @@ use Rattle.shell_to_colis.specs.Translated.{To, PartTo, WordTo, each, static, pi
 use Rattle.shell_to_colis.specs.Translated as to
 use Rattle.shell_to_colis.specs.Shell.{PartDoes, WordDoes, AssignDoes, IfArmDoes, sh, sh_part, sh_assign, sh_case_arm, sh_if_arm, sh_link, sh_word}
 use Rattle.shell_to_colis.specs.Shell as shell
-use Rattle.shell_to_colis.proofs.Nodes.{co_at, str_at, fields_at, set_at, link_at, arm_at, case_arm_at, cong2, cong_cons, skip_same, seq_same, chain_same, if_same, assigned_same, redirected_same, loop_same, case_same, piece_same, expanded_same, parameter_same, default_same, field_same}
+use Rattle.shell_to_colis.proofs.Nodes.{co_at, str_at, str_static, fields_at, set_at, link_at, arm_at, case_arm_at, cong2, cong_cons, skip_same, seq_same, chain_same, if_same, assigned_same, redirected_same, loop_same, case_same, piece_same, expanded_same, parameter_same, default_same, field_same, plain_static, quoted_static, expansion_static, default_static, field_static}
 
 -- ---- what is shown of each type of the syntax
 
@@ -54,14 +54,18 @@ Same t d = (earlier : List Def) (f g : Funs) → Fits earlier f g → co_stmt (t
 record SamePart (t : PartTo) (d : PartDoes) : Type 0 where
   bytes : t.bytes ≡ d.bytes
   is_all : t.is_all ≡ d.is_all
-  value : (earlier : List Def) (f g : Funs) → Fits earlier f g → co_str (t.value earlier) g ≡ d.value f
-  piece : (earlier : List Def) (f g : Funs) → Fits earlier f g → co_piece (piece_of t.quoting (t.value earlier)) g ≡ d.piece f
+  expands : d.is_all ≡ true → d.bytes ≡ None
+  spelled : (earlier : List Def) → (co_piece (piece_of t.quoting (t.value earlier))).static ≡ is_some d.bytes
+  value : (earlier : List Def) (f g : Funs) → Fits earlier f g → (co_str (t.value earlier)).value g ≡ d.value f
+  piece : (earlier : List Def) (f g : Funs) → Fits earlier f g → (co_piece (piece_of t.quoting (t.value earlier))).piece g ≡ d.piece f
 
 record SameWord (t : WordTo) (d : WordDoes) : Type 0 where
   static : static t ≡ shell.static d
   alone : is_all_alone t ≡ shell.is_arguments d
-  values : (earlier : List Def) (f g : Funs) → Fits earlier f g → with g (map co_str (map (λ (part : PartTo). part.value earlier) t)) ≡ map (λ (part : PartDoes). part.value f) d
-  pieces : (earlier : List Def) (f g : Funs) → Fits earlier f g → with g (map co_piece (pieces_to t earlier)) ≡ shell.pieces d f
+  expands : shell.is_arguments d ≡ true → shell.static d ≡ None
+  spelled : (earlier : List Def) → all_static (map co_piece (pieces_to t earlier)) ≡ shell.is_static d
+  values : (earlier : List Def) (f g : Funs) → Fits earlier f g → values_with g (map co_str (map (λ (part : PartTo). part.value earlier) t)) ≡ map (λ (part : PartDoes). part.value f) d
+  pieces : (earlier : List Def) (f g : Funs) → Fits earlier f g → pieces_with g (map co_piece (pieces_to t earlier)) ≡ shell.pieces d f
 
 abbrev pub P : Command → Type 0
 P x = Same (translated x) (sh x)
@@ -101,31 +105,55 @@ parts_alone [] = refl
 parts_alone (y ∷ []) = y.1.is_all
 parts_alone (y ∷ z ∷ ys) = refl
 
+both_some : (x y : Option Text) → (is_some x && is_some y) ≡ is_some (both_bytes x y)
+both_some None y = refl
+both_some (Some x) None = refl
+both_some (Some x) (Some y) = refl
+
+parts_expand : (ys : List ((x : Part) × Pp x)) → shell.is_arguments (map sh_part (map (λ y. y.0) ys)) ≡ true → shell.static (map sh_part (map (λ y. y.0) ys)) ≡ None
+parts_expand [] e = absurd (cc e)
+parts_expand (y ∷ []) e = ap (λ b. both_bytes b (Some [])) (y.1.expands e)
+parts_expand (y ∷ z ∷ ys) e = absurd (cc e)
+
+-- a word is static where its pieces are
+parts_spelled : (earlier : List Def) (ys : List ((x : Part) × Pp x)) → all_static (map co_piece (pieces_to (map part_to (map (λ y. y.0) ys)) earlier)) ≡ shell.is_static (map sh_part (map (λ y. y.0) ys))
+parts_spelled earlier [] = refl
+parts_spelled earlier (y ∷ ys) =
+    cong2 (λ a b. a && b) (y.1.spelled earlier) (parts_spelled earlier ys) ∙ both_some (sh_part y.0).bytes (shell.static (map sh_part (map (λ y. y.0) ys)))
+
+word_spelled : (earlier : List Def) (t : WordTo) (d : WordDoes) → SameWord t d → (co_fields (field_to t earlier)).static ≡ shell.is_static d
+word_spelled earlier t d h =
+    field_static (is_all_alone t) (pieces_to t earlier) (shell.is_static d) (λ e. ap is_some (sym (h.expands (sym h.alone ∙ e)))) (h.spelled earlier)
+
+words_spelled : (earlier : List Def) (ys : List ((x : Word) × Pw x)) → are_static (map co_fields (fields_to (map word_to (map (λ y. y.0) ys)) earlier)) ≡ map shell.is_static (map sh_word (map (λ y. y.0) ys))
+words_spelled earlier [] = refl
+words_spelled earlier (y ∷ ys) = cong_cons (word_spelled earlier (word_to y.0) (sh_word y.0) y.1) (words_spelled earlier ys)
+
 module _ (earlier : List Def) (f g : Funs) (fits : Fits earlier f g) where
-  parts_values : (ys : List ((x : Part) × Pp x)) → with g (map co_str (map (λ (part : PartTo). part.value earlier) (map part_to (map (λ y. y.0) ys)))) ≡ map (λ (part : PartDoes). part.value f) (map sh_part (map (λ y. y.0) ys))
+  parts_values : (ys : List ((x : Part) × Pp x)) → values_with g (map co_str (map (λ (part : PartTo). part.value earlier) (map part_to (map (λ y. y.0) ys)))) ≡ map (λ (part : PartDoes). part.value f) (map sh_part (map (λ y. y.0) ys))
   parts_values [] = refl
   parts_values (y ∷ ys) = cong_cons (y.1.value earlier f g fits) (parts_values ys)
 
-  parts_pieces : (ys : List ((x : Part) × Pp x)) → with g (map co_piece (pieces_to (map part_to (map (λ y. y.0) ys)) earlier)) ≡ shell.pieces (map sh_part (map (λ y. y.0) ys)) f
+  parts_pieces : (ys : List ((x : Part) × Pp x)) → pieces_with g (map co_piece (pieces_to (map part_to (map (λ y. y.0) ys)) earlier)) ≡ shell.pieces (map sh_part (map (λ y. y.0) ys)) f
   parts_pieces [] = refl
   parts_pieces (y ∷ ys) = cong_cons (y.1.piece earlier f g fits) (parts_pieces ys)
 
-  joined_same : (t : WordTo) (d : WordDoes) → SameWord t d → co_str (joined_to t earlier) g ≡ shell.joined d f
+  joined_same : (t : WordTo) (d : WordDoes) → SameWord t d → (co_str (joined_to t earlier)).value g ≡ shell.joined d f
   joined_same t d h =
       let vs = map (λ (part : PartTo). part.value earlier) t in
       str_at (c.Join vs) (string.Join vs) g (string.rolls-Join vs) ∙ ap word.do_join (h.values earlier f g fits)
 
-  word_same : (t : WordTo) (d : WordDoes) → SameWord t d → co_fields (field_to t earlier) g ≡ shell.fields_of d f
+  word_same : (t : WordTo) (d : WordDoes) → SameWord t d → (co_fields (field_to t earlier)).fields g ≡ shell.fields_of d f
   word_same t d h =
       field_same g (is_all_alone t) (pieces_to t earlier) (shell.pieces d f) (h.pieces earlier f g fits)
       ∙ ap (λ b. if b then word.do_arguments else word.do_word (shell.pieces d f)) h.alone
 
-  words_same : (ys : List ((x : Word) × Pw x)) → with g (map co_fields (fields_to (map word_to (map (λ y. y.0) ys)) earlier)) ≡ shell.fields (map sh_word (map (λ y. y.0) ys)) f
+  words_same : (ys : List ((x : Word) × Pw x)) → fields_with g (map co_fields (fields_to (map word_to (map (λ y. y.0) ys)) earlier)) ≡ shell.fields (map sh_word (map (λ y. y.0) ys)) f
   words_same [] = refl
   words_same (y ∷ ys) = cong_cons (word_same (word_to y.0) (sh_word y.0) y.1) (words_same ys)
 
   patterns_same : (ys : List ((x : Word) × Pw x))
-      → map (with g) (map (map co_piece) (map (λ word. pieces_to word earlier) (map word_to (map (λ y. y.0) ys)))) ≡ map (λ pattern. shell.pieces pattern f) (map sh_word (map (λ y. y.0) ys))
+      → map (pieces_with g) (map (map co_piece) (map (λ word. pieces_to word earlier) (map word_to (map (λ y. y.0) ys)))) ≡ map (λ pattern. shell.pieces pattern f) (map sh_word (map (λ y. y.0) ys))
   patterns_same [] = refl
   patterns_same (y ∷ ys) = cong_cons (y.1.pieces earlier f g fits) (patterns_same ys)
 
@@ -187,14 +215,19 @@ module _ (earlier : List Def) (f g : Funs) (fits : Fits earlier f g) where
     flag_same words (y ∷ ys) = static_flag words (static (word_to y.0)) (map static (map word_to (map (λ y. y.0) ys))) ∙ ap shell.set_static y.1.static
 
     -- a name that no special built-in has
-    called_by : (b : Bool) (o : Option Action) (name : Text) (fs : List Fields) (gs : List Fields) (ds es : List (Doing (List Text)))
-        → b ≡ is_some o → (b ≡ true → calls.found name g ≡ o) → with g (map co_fields fs) ≡ ds → with g (map co_fields gs) ≡ es
-        → co_stmt (if b then stmt.Fun at name gs else stmt.Call at fs) g ≡ shell.called at o ds es
-    called_by true None name fs gs ds es e h d k = absurd (cc e)
-    called_by false (Some body) name fs gs ds es e h d k = absurd (cc e)
-    called_by false None name fs gs ds es e h d k = co_at (c.Call at fs) (stmt.Call at fs) g (stmt.rolls-Call at fs) ∙ ap (calls.do_call at) d
-    called_by true (Some body) name fs gs ds es e h d k =
+    called_by : (b : Bool) (o : Option Action) (name : Text) (fs gs : List Fields) (w : WordDoes) (ws : List WordDoes)
+        → b ≡ is_some o → (b ≡ true → calls.found name g ≡ o) → co_stmt (stmt.Call at fs) g ≡ shell.utility at (w ∷ ws) f → fields_with g (map co_fields gs) ≡ shell.fields ws f
+        → co_stmt (if b then stmt.Fun at name gs else stmt.Call at fs) g ≡ shell.called at o w ws f
+    called_by true None name fs gs w ws e h d k = absurd (cc e)
+    called_by false (Some body) name fs gs w ws e h d k = absurd (cc e)
+    called_by false None name fs gs w ws e h d k = d
+    called_by true (Some body) name fs gs w ws e h d k =
         co_at (c.Fun at name gs) (stmt.Fun at name gs) g (stmt.rolls-Fun at name gs) ∙ cong2 (calls.do_function at) (h refl) k
+
+    utility_same : (ys : List ((x : Word) × Pw x)) → co_stmt (stmt.Call at (fields_to (map word_to (map (λ y. y.0) ys)) earlier)) g ≡ shell.utility at (map sh_word (map (λ y. y.0) ys)) f
+    utility_same ys =
+        let fs = fields_to (map word_to (map (λ y. y.0) ys)) earlier in
+        co_at (c.Call at fs) (stmt.Call at fs) g (stmt.rolls-Call at fs) ∙ cong2 (calls.do_call at) (words_spelled earlier ys) (words_same ys)
 
     if_stmt : (b : Bool) (x y : Kind) (words : List WordTo) → at_kind at assigns words (if b then x else y) ≡ co_stmt (if b then simple_to at x assigns words earlier else simple_to at y assigns words earlier) g
     if_stmt true x y words = refl
@@ -207,9 +240,6 @@ module _ (earlier : List Def) (f g : Funs) (fits : Fits earlier f g) where
       abbrev operands : List Fields
       operands = fields_to (map word_to (map (λ y. y.0) ys)) earlier
 
-      abbrev ds : List (Doing (List Text))
-      ds = shell.fields (map sh_word (map (λ y. y.0) ys)) f
-
       named_same : (name : Text) → at_kind at assigns ts (named_kind name (map static (map word_to (map (λ y. y.0) ys))) earlier) ≡ shell.named at name (sh_word y.0) (map sh_word (map (λ y. y.0) ys)) f
       named_same name =
           let K : Kind → Action = at_kind at assigns ts in
@@ -221,13 +251,11 @@ module _ (earlier : List Def) (f g : Funs) (fits : Fits earlier f g) where
           (if_kind (bytes_eq name (codes "export")) K _ _ _ _ (co_at (c.Export at operands) (stmt.Export at operands) g (stmt.rolls-Export at operands) ∙ ap (calls.do_export at) (words_same ys))
           (if_kind (bytes_eq name (codes "unset")) K _ _ _ _ (co_at (c.Unset at operands) (stmt.Unset at operands) g (stmt.rolls-Unset at operands) ∙ ap (calls.do_unset at) (words_same ys))
           (if_stmt (is_def name earlier) (kind.Function name) kind.Utility ts
-          ∙ called_by (is_def name earlier) (calls.found name f) name (fields_to ts earlier) operands (shell.fields (map sh_word (map (λ y. y.0) (y ∷ ys))) f) ds
-          (fits name).0 (fits name).1 (words_same (y ∷ ys)) (words_same ys))))))))
+          ∙ called_by (is_def name earlier) (calls.found name f) name (fields_to ts earlier) operands (sh_word y.0) (map sh_word (map (λ y. y.0) ys))
+          (fits name).0 (fits name).1 (utility_same (y ∷ ys)) (words_same ys))))))))
 
       command_same : (name : Option Text) → at_kind at assigns ts (kind_of (name ∷ map static (map word_to (map (λ y. y.0) ys))) earlier) ≡ shell.command_named at name (sh_word y.0) (map sh_word (map (λ y. y.0) ys)) f
-      command_same None =
-          let fs = fields_to ts earlier in
-          co_at (c.Call at fs) (stmt.Call at fs) g (stmt.rolls-Call at fs) ∙ ap (calls.do_call at) (words_same (y ∷ ys))
+      command_same None = utility_same (y ∷ ys)
       command_same (Some name) = named_same name
 
     simple_same : (ws : List ((x : Word) × Pw x)) (as' : List ((x : Assign) × Pa x)) → map assign_to (map (λ y. y.0) as') ≡ assigns
@@ -296,30 +324,40 @@ part_layer_same : (y : o.Part-F ((x : Command) × P x) ((x : Part) × Pp x) ((x 
 part_layer_same (o.Plain bytes) = record {
   bytes = refl;
   is_all = refl;
+  expands = λ e. absurd (cc e);
+  spelled = λ earlier. plain_static bytes;
   value = λ earlier f g fits. str_at (c.Lit bytes) (string.Lit bytes) g (string.rolls-Lit bytes);
   piece = λ earlier f g fits. piece_same g quoting.Plain (string.Lit bytes) (word.do_literal bytes) (str_at (c.Lit bytes) (string.Lit bytes) g (string.rolls-Lit bytes));
 }
 part_layer_same (o.Quoted bytes) = record {
   bytes = refl;
   is_all = refl;
+  expands = λ e. absurd (cc e);
+  spelled = λ earlier. quoted_static bytes;
   value = λ earlier f g fits. str_at (c.Lit bytes) (string.Lit bytes) g (string.rolls-Lit bytes);
   piece = λ earlier f g fits. piece_same g quoting.Quoted (string.Lit bytes) (word.do_literal bytes) (str_at (c.Lit bytes) (string.Lit bytes) g (string.rolls-Lit bytes));
 }
 part_layer_same (o.Param key default quoted) = record {
   bytes = refl;
   is_all = refl;
+  expands = λ e. absurd (cc e);
+  spelled = λ earlier. expansion_static quoted (default_to default (parameter_to key)) (default_static default key);
   value = λ earlier f g fits. default_same g default (parameter_to key) (shell.parameter key) (parameter_same g key);
   piece = λ earlier f g fits. expanded_same g quoted (default_to default (parameter_to key)) (shell.or_default default (shell.parameter key)) (default_same g default (parameter_to key) (shell.parameter key) (parameter_same g key));
 }
 part_layer_same o.All = record {
   bytes = refl;
   is_all = refl;
+  expands = λ e. refl;
+  spelled = λ earlier. expansion_static true (string.Join []) (str_static (c.Join []) (string.Join []) (string.rolls-Join []));
   value = λ earlier f g fits. str_at (c.Join []) (string.Join []) g (string.rolls-Join []);
   piece = λ earlier f g fits. piece_same g quoting.Quoted (string.Join []) (word.do_join []) (str_at (c.Join []) (string.Join []) g (string.rolls-Join []));
 }
 part_layer_same (o.Run at y quoted) = record {
   bytes = refl;
   is_all = refl;
+  expands = λ e. absurd (cc e);
+  spelled = λ earlier. let q = translated y.0 earlier in expansion_static quoted (string.Output q) (str_static (c.Output q) (string.Output q) (string.rolls-Output q));
   value = λ earlier f g fits. let q = translated y.0 earlier in str_at (c.Output q) (string.Output q) g (string.rolls-Output q) ∙ ap word.do_output (y.1 earlier f g fits);
   piece = λ earlier f g fits. let q = translated y.0 earlier in
       expanded_same g quoted (string.Output q) (word.do_output (sh y.0 f)) (str_at (c.Output q) (string.Output q) g (string.rolls-Output q) ∙ ap word.do_output (y.1 earlier f g fits));
@@ -361,6 +399,8 @@ parts_word : (ys : List ((x : Part) × Pp x)) → SameWord (map part_to (map (λ
 parts_word ys = record {
   static = parts_static ys;
   alone = parts_alone ys;
+  expands = parts_expand ys;
+  spelled = λ earlier. parts_spelled earlier ys;
   values = λ earlier f g fits. parts_values earlier f g fits ys;
   pieces = λ earlier f g fits. parts_pieces earlier f g fits ys;
 }

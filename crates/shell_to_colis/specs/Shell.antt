@@ -1,7 +1,7 @@
 -- What a script does: of each construct of the shell, from what its parts do (POSIX.1-2017, XCU 2.9 Shell Commands).
 -- The rules are those of shell_rules, one for each construct.
 use Rattle.std.specs.Prelude.{ℕ, nat_le, Bool, true, false, ◌&&◌, List, [], ◌∷◌, ◌++◌, map, Option, Some, None, codes}
-use Rattle.std.specs.Prelude.{if◌then◌else◌}
+use Rattle.std.specs.Prelude.{is_some, if◌then◌else◌}
 use Rattle.std.specs.List.{list_any}
 use Rattle.std.specs.Str.{bytes_eq}
 use Rattle.script_names.specs.declared.mark.Mark.{Mark}
@@ -74,6 +74,10 @@ abbrev pub static : WordDoes → Option Text
 static [] = Some []
 static (part ∷ parts) = both_bytes part.bytes (static parts)
 
+-- whether a word is static: it is of plain and quoted parts alone
+abbrev pub is_static : WordDoes → Bool
+is_static parts = is_some (static parts)
+
 -- the pieces of a word; of a pattern too
 abbrev pub pieces : WordDoes → Funs → List (Doing PieceParts)
 pieces parts f = map (λ (part : PartDoes). part.piece f) parts
@@ -133,11 +137,16 @@ abbrev pub set_flag : List WordDoes → Action
 set_flag [] = rule.do_lax
 set_flag (operand ∷ operands) = set_static (static operand)
 
--- a function that is defined before the command is called with the operands; else the name is that of a utility
--- (XCU 2.9.1.1 Command Search and Execution)
-abbrev pub called : ℕ → Option Action → List (Doing (List Text)) → List (Doing (List Text)) → Action
-called at None words operands = calls.do_call at words
-called at (Some body) words operands = calls.do_function at (Some body) operands
+-- A command that calls no function of the script: its fields come to a call, and it matters to that which of its words
+-- are static.
+abbrev pub utility : ℕ → List WordDoes → Does
+utility at words f = calls.do_call at (map is_static words) (fields words f)
+
+-- a function that is defined before the command is called with the operands; else the name is that of a utility, where
+-- the script defines a function of it behind the command too (XCU 2.9.1.1 Command Search and Execution)
+abbrev pub called : ℕ → Option Action → WordDoes → List WordDoes → Does
+called at None first operands f = utility at (first ∷ operands) f
+called at (Some body) first operands f = calls.do_function at (Some body) (fields operands f)
 
 -- a command with a static name: a special built-in (XCU 2.14), a function, or a utility
 abbrev pub named : ℕ → Text → WordDoes → List WordDoes → Does
@@ -149,11 +158,12 @@ named at name first operands f =
     else (if bytes_eq name (codes "continue") then loops.do_continue
     else (if bytes_eq name (codes "export") then calls.do_export at (fields operands f)
     else (if bytes_eq name (codes "unset") then calls.do_unset at (fields operands f)
-    else called at (calls.found name f) (fields (first ∷ operands) f) (fields operands f)))))))
+    else called at (calls.found name f) first operands f))))))
 
--- a command by the static text of its first word; a computed name is never a function's
+-- a command by the static text of its first word; a computed name calls no function, and one that is a function's stops
+-- the run
 abbrev pub command_named : ℕ → Option Text → WordDoes → List WordDoes → Does
-command_named at None first operands f = calls.do_call at (fields (first ∷ operands) f)
+command_named at None first operands f = utility at (first ∷ operands) f
 command_named at (Some name) first operands f = named at name first operands f
 
 -- a simple command; assignments before a command's name are dropped

@@ -170,7 +170,7 @@ named_kind name operands defs =
 abbrev pub kind_of : List (Option Text) → List Def → Kind
 -- no word at all
 kind_of [] defs = kind.Assignments
--- a computed name is never a function's
+-- a computed name calls no function
 kind_of (None ∷ operands) defs = kind.Utility
 kind_of (Some name ∷ operands) defs = named_kind name operands defs
 

@@ -5,11 +5,12 @@ ghost use Rattle.feature_trees.specs.declared.kind.Kind.TheVariants.{Dir};
 ghost use Rattle.feature_trees.specs.Tree.{kind_of};
 
 use crate::pages::{Page, spelled};
+use crate::premises::premises_in;
 use colis_interp::run;
 use colis_syntax::Program;
 use feature_trees::{Value, print_tree, read_tree};
-use script_names::{Bytes, List, Mark, Memory, Reason, Site};
-use shell_rules::{Conc, End, Trace};
+use script_names::{Bytes, Common, List, Mark, Memory, Reason, Site};
+use shell_rules::{Conc, End, Premises, Trace};
 use shell_words::Env;
 use shown_texts::{push_mark, push_number, push_reason, push_shown, push_site};
 use std::alloc::Global;
@@ -212,8 +213,14 @@ pub(super) fn put_all(
     page.whole = page.whole && text.whole;
 }
 
-/// A state without variables and arguments, and with nothing captured.
-pub(super) fn empty_state(alloc: Global, strict: bool, status: bool, turns: u32) -> Conc {
+/// A state under these premises, without variables and arguments, and with nothing captured.
+pub(super) fn empty_state(
+    alloc: Global,
+    premises: Common<Premises>,
+    strict: bool,
+    status: bool,
+    turns: u32,
+) -> Conc {
     Conc {
         vars: Env::new(alloc),
         args: List::new(alloc),
@@ -221,6 +228,7 @@ pub(super) fn empty_state(alloc: Global, strict: bool, status: bool, turns: u32)
         status,
         captured: None,
         turns,
+        premises,
     }
 }
 
@@ -250,15 +258,35 @@ fn begin(alloc: Global, page: &mut Page, conc: &mut Conc) {
     page.note(second);
 }
 
-/// What a program comes to from the state in which the script is called: the end, the trace, the turns that are left,
-/// and the tree after.
-pub(super) fn answer(alloc: Global, turns: u32, tree: &str, program: &Program) -> Page {
+// What a program comes to, as `answer` has it, under these premises.
+fn answer_under(
+    alloc: Global,
+    premises: Common<Premises>,
+    turns: u32,
+    tree: &str,
+    program: &Program,
+) -> Page {
     let mut page = Page::new(alloc);
-    let mut conc = empty_state(alloc, program.strict(), true, turns);
+    let mut conc = empty_state(alloc, premises, program.strict(), true, turns);
     let mut trace = List::new(alloc);
     begin(alloc, &mut page, &mut conc);
     put_all(
         alloc, &mut page, tree, program, &mut conc, &mut trace, false,
     );
     page
+}
+
+/// What a program comes to from the state in which the script is called, under the premises of a row: the end, the
+/// trace, the turns that are left, and the tree after.
+pub(super) fn answer(
+    alloc: Global,
+    premises: &str,
+    turns: u32,
+    tree: &str,
+    program: &Program,
+) -> Page {
+    match premises_in(alloc, premises) {
+        Ok(premises) => answer_under(alloc, premises, turns, tree, program),
+        Err(_) => Page::lost(alloc),
+    }
 }

@@ -1,13 +1,15 @@
-//! Programs of written.rt, read from their text, and run from a given state, trace and tree, in step 3.
+//! Programs of written.rt, read from their text, and run from a given state, trace and tree, in step 3. Those of its
+//! last table are run under premises.
 
 use super::answers::{empty_state, put_all};
 use super::is_said;
-use super::written::TABLES;
+use super::written::{PREMISED, TABLES};
 use crate::pages::{Page, program_text};
+use crate::premises::premises_in;
 use crate::programs::program_in;
 use colis_syntax::Program;
-use script_names::{Bytes, List, Mark, Site};
-use shell_rules::{Conc, Trace};
+use script_names::{Bytes, Common, List, Mark, Site};
+use shell_rules::{Conc, Premises, Trace};
 use shell_words::Env;
 use shown_texts::read_shown;
 use std::alloc::Global;
@@ -86,12 +88,12 @@ fn turns_of(page: &mut Page, word: &str) -> u32 {
 }
 
 // A state as a row has it, without its words: the strict flag, the status, and the turns.
-fn state_of(alloc: Global, page: &mut Page, state: &str) -> Conc {
+fn state_of(alloc: Global, page: &mut Page, premises: Common<Premises>, state: &str) -> Conc {
     let mut words = state.split(" ");
     let strict = words.next() == Some("strict");
     let status = words.next() == Some("success");
     let turns = turns_of(page, words.next().unwrap_or(""));
-    empty_state(alloc, strict, status, turns)
+    empty_state(alloc, premises, strict, status, turns)
 }
 
 // The trace of an earlier act.
@@ -101,9 +103,15 @@ fn put_earlier(page: &mut Page, trace: &mut Trace) {
 }
 
 // What a program comes to: the end, the trace, the state, and the tree after.
-fn whole_answer(alloc: Global, state: &str, tree: &str, program: &Program) -> Page {
+fn whole_answer(
+    alloc: Global,
+    premises: Common<Premises>,
+    state: &str,
+    tree: &str,
+    program: &Program,
+) -> Page {
     let mut page = Page::new(alloc);
-    let mut conc = state_of(alloc, &mut page, state);
+    let mut conc = state_of(alloc, &mut page, premises, state);
     let mut trace = List::new(alloc);
     take_words(alloc, &mut page, state, &mut conc);
     put_earlier(&mut page, &mut trace);
@@ -111,29 +119,54 @@ fn whole_answer(alloc: Global, state: &str, tree: &str, program: &Program) -> Pa
     page
 }
 
+// What a program comes to under the premises of its row.
+fn premised_answer(
+    alloc: Global,
+    premises: &str,
+    state: &str,
+    tree: &str,
+    program: &Program,
+) -> Page {
+    match premises_in(alloc, premises) {
+        Ok(premises) => whole_answer(alloc, premises, state, tree, program),
+        Err(_) => Page::lost(alloc),
+    }
+}
+
 // Whether a program comes to what its row says.
-fn comes_to(alloc: Global, before: &str, program: &Program, said: &str) -> bool {
+fn comes_to(alloc: Global, premises: &str, before: &str, program: &Program, said: &str) -> bool {
     match before.split_once(" | ") {
-        Some((state, tree)) => is_said(&whole_answer(alloc, state, tree, program), said),
+        Some((state, tree)) => is_said(
+            &premised_answer(alloc, premises, state, tree, program),
+            said,
+        ),
         None => false,
     }
 }
 
 // Whether the program of a text comes to what its row says.
-fn text_comes_to(alloc: Global, before: &str, text: &str, said: &str) -> bool {
+fn text_comes_to(alloc: Global, premises: &str, before: &str, text: &str, said: &str) -> bool {
     let text = program_text(alloc, "(program lax ", text);
     let found = program_in(alloc, text.text.as_slice());
     match found.get() {
-        Some(program) => comes_to(alloc, before, program, said),
+        Some(program) => comes_to(alloc, premises, before, program, said),
         None => false,
     }
 }
 
 // Whether a program comes to what its row says, by the row's three lines.
-fn holds(alloc: Global, row: &str) -> bool {
+fn holds(alloc: Global, premises: &str, row: &str) -> bool {
     let (before, rest) = row.split_once("\n").unwrap_or(("", ""));
     match rest.split_once("\n") {
-        Some((text, said)) => text_comes_to(alloc, before, text, said),
+        Some((text, said)) => text_comes_to(alloc, premises, before, text, said),
+        None => false,
+    }
+}
+
+// The same, by the row's premises and its three lines.
+fn premised_holds(alloc: Global, row: &str) -> bool {
+    match row.split_once("\n") {
+        Some((premises, rest)) => holds(alloc, premises, rest),
         None => false,
     }
 }
@@ -142,7 +175,10 @@ fn holds(alloc: Global, row: &str) -> bool {
 fn programs_come_to_what_their_rows_say(rt: HostRuntime) {
     for table in TABLES {
         for row in table.split("\n\n") {
-            assert!(rt; holds(rt.alloc(), row), "{row}");
+            assert!(rt; holds(rt.alloc(), "", row), "{row}");
         }
+    }
+    for row in PREMISED.split("\n\n") {
+        assert!(rt; premised_holds(rt.alloc(), row), "{row}");
     }
 }

@@ -7,6 +7,88 @@
 // line `%` is a newline.
 pub const TABLES: &[&str] = &[STRINGS, FIELDS, COMMANDS, COMPOUNDS, STOPS];
 
+// Calls under premises, which stand in a line before the three: which words are static, by literals in plain and quoted
+// pieces alone.
+pub const PREMISED: &str = r"call stop ok%
+lax failure 9 | d /srv%
+(call 5 (word (p =st) (q =op)) (word (s (var x))))
+end success%trace 2:0:68%state lax success 9%after%d /srv%
+
+call stop ok%
+lax failure 9 | d /srv%
+(call 5 (word (s =stop)))
+end stopped call 3:5%trace 2:0:68%state lax failure 9%after%d /srv%
+
+call stop ok%
+lax failure 9 | d /srv%
+(call 5 (word (p =st) (p (join =op))))
+end stopped call 3:5%trace 2:0:68%state lax failure 9%after%d /srv%
+
+call stop ok%
+lax failure 9 x=stop | d /srv%
+(call 5 (word (q (var x))))
+end stopped call 3:5%trace 2:0:68%state lax failure 9 x=stop%after%d /srv%
+
+call stop ok%
+lax failure 9 | d /srv%
+(call 5 (word (q (or (var x) stop))))
+end stopped call 3:5%trace 2:0:68%state lax failure 9%after%d /srv%
+
+call stop ok%
+lax failure 9 | d /srv%
+(call 5 (word (q (output (call 6 (word (p =echo)) (word (p =stop)))))))
+end stopped call 3:5%trace 2:0:68%state lax failure 9%after%d /srv%
+
+call stop ok%
+lax failure 9 stop | d /srv%
+(call 5 (args))
+end stopped call 3:5%trace 2:0:68%state lax failure 9 stop%after%d /srv%
+
+call stop ok%
+lax failure 9 stop | d /srv%
+(call 5 (word (q (arg 1))))
+end stopped call 3:5%trace 2:0:68%state lax failure 9 stop%after%d /srv%
+
+call f ok%
+lax failure 9 | d /srv%
+(def f (skip)) (call 5 (word (p =f)))
+end stopped call 3:5%trace 2:0:68%state lax failure 9%after%d /srv%
+
+call f ok%
+lax failure 9 | d /srv%
+(def f (skip)) (call 5 (word (s =f)))
+end stopped call 3:5%trace 2:0:68%state lax failure 9%after%d /srv%
+
+call command fails%
+lax success 9 x=a | d /srv%
+(call 5 (word (p =command)) (word (q =-) (p =V)) (word (q (var x))))
+end failure%trace 2:0:68%state lax failure 9 x=a%after%d /srv%
+
+call command ok%
+lax failure 9 | d /srv%
+(call 5 (word (p =command)) (word (s =-v)) (word (p =a)))
+end stopped call 3:5%trace 2:0:68%state lax failure 9%after%d /srv%
+
+call a asks /srv/b%
+strict success 9 | d /srv%
+(seq (call 5 (word (p =a))) (set 6 (x =c)))
+end failure%trace 2:0:68 3:5:66%state strict failure 9%after%d /srv%
+
+versions%
+lax failure 9 | d /srv%
+(call 5 (word (q =dpkg)) (word (s =--compare-versions)) (word (s =1\x20lt\x202)))
+end success%trace 2:0:68%state lax success 9%after%d /srv%
+
+versions%
+lax failure 9 | d /srv%
+(call 5 (word (s =dpkg)) (word (p =--compare-versions)) (word (p =1)) (word (p =lt)) (word (p =2)))
+end stopped call 3:5%trace 2:0:68%state lax failure 9%after%d /srv%
+
+runs%link /x srv%
+lax failure 9 | d /srv%f /srv/a%l /x srv%
+(call 5 (word (s =test)) (word (p =-x)) (word (s =/x/a)))
+end success%trace 2:0:68 3:5:67%state lax success 9%after%d /srv%f /srv/a%l /x srv%";
+
 // strings, in assignments
 const STRINGS: &str = r"lax failure 9 | d /srv%
 (set 5 (x =a\x20b) (y =\e))

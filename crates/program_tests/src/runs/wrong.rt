@@ -5,7 +5,6 @@ use super::{is_said, script_program};
 use crate::pages::{Page, line};
 use crate::programs::program_in;
 use colis_syntax::Program;
-use script_names::Bytes;
 use std::alloc::Global;
 
 // A script behind `#!/bin/sh`, a program that it does not become, what the script comes to, and what that program
@@ -123,11 +122,8 @@ const WRONG: &[Wrong] = &[
 // What a program comes to, on a page that is not whole where there is none.
 fn by_program(alloc: Global, program: Option<&Program>) -> Page {
     match program {
-        Some(program) => answer(alloc, 100, "d /srv%", program),
-        None => Page {
-            text: Bytes::new(alloc),
-            whole: false,
-        },
+        Some(program) => answer(alloc, "", 100, "d /srv%", program),
+        None => Page::lost(alloc),
     }
 }
 

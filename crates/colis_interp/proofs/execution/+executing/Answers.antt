@@ -4,10 +4,10 @@ use Rattle.shell_rules.specs.State as st
 use Rattle.colis_meaning.specs.Meaning.{co_stmt, funs_of}
 use Rattle.colis_interp.specs.Places.{place_of}
 use Rattle.colis_interp.specs.Runs.{Runs, state_of}
-use Rattle.colis_interp.proofs.Lists.{same_of, other_of, all_rest, links_halt, links_on, links_passed, chain_halt, chain_on, arms_on, patterns_halt}
-use Rattle.colis_interp.specs.declared.halt.Behind.TheVariants.{Holds, Ends}
+use Rattle.colis_interp.proofs.Lists.{same_of, other_of, all_rest, links_halt, links_on, links_passed, chain_halt, chain_on, arms_halt, arms_met, arms_on, patterns_halt}
+use Rattle.colis_interp.specs.declared.halt.Behind.TheVariants.{Holds, Ends, Again}
 use Rattle.colis_interp.specs.Halts.{behind_body, behind_condition}
-use Rattle.colis_interp.proofs.Rounds.{answer_is, round_left, round_ends, round_body_left, round_next}
+use Rattle.colis_interp.proofs.Rounds.{answer_is, round_left, round_again_left, round_ends, round_body_left, round_next}
 use Rattle.colis_interp.proofs.Weight.{weight_take}
 use Rattle.colis_interp.proofs.execution.+executing.Goals as goal
 use Rattle.colis_interp.proofs.execution.+executing.Goals.{run_links-then-link-shell+else-left-eq0+in_ok-run_stmt, run_links-else-link-shell}
@@ -21,8 +21,19 @@ run_body-run_stmt-ran-requires t c = search (rules, weight_take c.args.defs.now 
 pub run_case-loop-arm-preserved : goal.run_case-loop-arm-preserved
 run_case-loop-arm-preserved t c = (
   omega (arith, c.run_patterns.ensures.turns, c.loop-arm.invariant.0),
-  c.loop-arm.invariant.1 ∙ arms_on (funs_of c.args.defs.now []) (place_of c.args.place) c.args.subject.now c.args.arms.now c.loop-arm.arm-index c.arm-item.result c.arm-item.result c.as_slice.result.now (state_of c.loop-arm.shell) (state_of c.run_patterns.new.shell) c.in_ok-run_patterns.field-0 c.loop-arm-test.true c.arm-item.is c.as_slice.ensures c.in_ok-run_patterns.ensures.runs c.if-branch.false,
+  c.loop-arm.invariant.1 ∙ arms_on (funs_of c.args.defs.now []) (place_of c.args.place) c.args.subject.now c.args.arms.now c.loop-arm.arm-index c.arm-item.result c.arm-item.result c.as_slice.result.now (state_of c.loop-arm.shell) c.loop-arm-test.true c.arm-item.is c.as_slice.ensures (state_of c.run_patterns.new.shell) c.in_ok-run_patterns.field-0 c.in_ok-run_patterns.ensures.runs c.if-branch.false,
 )
+
+pub run_case-returns-in_err-run_patterns-clause-runs : goal.run_case-returns-in_err-run_patterns-clause-runs
+run_case-returns-in_err-run_patterns-clause-runs t c =
+    let r = err_from_is_err_and c.from_residual.result c.from_residual.ensures.1 in
+    let h = arms_halt (funs_of c.args.defs.now []) (place_of c.args.place) c.args.subject.now c.args.arms.now c.loop-arm.arm-index c.arm-item.result c.arm-item.result c.as_slice.result.now (state_of c.loop-arm.shell) c.loop-arm-test.true c.arm-item.is c.as_slice.ensures c.in_err-run_patterns.field-0.0 c.run_patterns.new.shell c.in_err-run_patterns.ensures.runs in
+    rw (r.1, r.2) (subst (λ (q : st.Run (Unit {0})). Runs q (Err c.in_err-run_patterns.field-0.0) c.run_patterns.new.shell) (sym c.loop-arm.invariant.1) h)
+
+pub run_case-returns-then-branch-clause-runs : goal.run_case-returns-then-branch-clause-runs
+run_case-returns-then-branch-clause-runs t c =
+    subst (λ (q : st.Run (Unit {0})). Runs q c.run_stmt.result c.run_stmt.new.shell) (sym c.loop-arm.invariant.1)
+    (arms_met (funs_of c.args.defs.now []) (place_of c.args.place) c.args.subject.now c.args.arms.now c.loop-arm.arm-index c.arm-item.result c.arm-item.result c.as_slice.result.now (state_of c.loop-arm.shell) c.loop-arm-test.true c.arm-item.is c.as_slice.ensures (state_of c.run_patterns.new.shell) c.in_ok-run_patterns.field-0 c.run_stmt.result c.run_stmt.new.shell c.in_ok-run_patterns.ensures.runs c.if-branch.true c.run_stmt.ensures.runs)
 
 pub run_links-returns-in_err-run_stmt-clause-runs : goal.run_links-returns-in_err-run_stmt-clause-runs
 run_links-returns-in_err-run_stmt-clause-runs t c =
@@ -72,6 +83,14 @@ run_while-returns-in_err-behind_condition-clause-runs t c =
     let r = err_from_is_err_and c.from_residual.result c.from_residual.ensures.1 in
     rw (r.1, r.2) (subst (λ (q : st.Run (Unit {0})). Runs q (Err c.in_err-behind_condition.field-0.0) c.run_stmt-met.new.shell) (sym c.rounds.invariant.1.2)
     (round_left (co_stmt c.args.cond.now f) (co_stmt c.args.body.now f) (st.at_command c.args.at (place_of c.args.place)) c.rounds.invariant.1.0 c.rounds.last (state_of c.rounds.shell) c.run_stmt-met.result c.run_stmt-met.new.shell c.in_err-behind_condition.field-0.0 (sym c.in_err-behind_condition.ensures) c.run_stmt-met.ensures.runs))
+
+pub run_while-returns-in_err-take_turn-in-Again-clause-runs : goal.run_while-returns-in_err-take_turn-in-Again-clause-runs
+run_while-returns-in_err-take_turn-in-Again-clause-runs t c =
+    let f = funs_of c.args.defs.now [] in
+    let r = err_from_is_err_and c.from_residual-in_err-take_turn-in-Again.result c.from_residual-in_err-take_turn-in-Again.ensures.1 in
+    rw (r.1, r.2) (subst (λ (q : st.Run (Unit {0})). Runs q (Err c.in_err-take_turn-in-Again.field-0.0) c.take_turn.new.shell) (sym c.rounds.invariant.1.2)
+    (round_again_left (co_stmt c.args.cond.now f) (co_stmt c.args.body.now f) (st.at_command c.args.at (place_of c.args.place)) c.rounds.invariant.1.0 c.rounds.last (state_of c.rounds.shell) c.run_stmt-met.result c.run_stmt-met.new.shell c.in_err-take_turn-in-Again.field-0.0 c.take_turn.new.shell
+    (answer_is (behind_condition c.run_stmt-met.result c.run_stmt-met.new.shell.conc.status) c.in_ok-behind_condition.field-0 Again c.in_ok-behind_condition.ensures c.in-Again.is) c.run_stmt-met.ensures.runs c.in_err-take_turn-in-Again.ensures.runs))
 
 pub run_while-returns-in-Ends-clause-runs : goal.run_while-returns-in-Ends-clause-runs
 run_while-returns-in-Ends-clause-runs t c =

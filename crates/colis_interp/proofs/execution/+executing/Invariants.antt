@@ -6,7 +6,7 @@ use Rattle.shell_rules.specs.Commands.{do_all, do_rest, do_links, do_if}
 use Rattle.shell_rules.specs.Loops.{for_each, do_while, while_rounds}
 use Rattle.shell_rules.specs.Cases.{first_arm, some_pattern}
 use Rattle.shell_rules.specs.Calls.{do_assignments, no_substitution}
-use Rattle.colis_meaning.specs.Meaning.{co_stmt, co_str, co_piece, co_fields, co_set, co_link, co_arm, co_case_arm, funs_of}
+use Rattle.colis_meaning.specs.Meaning.{co_stmt, co_str, co_piece, co_fields, co_set, co_link, co_arm, co_case_arm, funs_of, values_with, pieces_with, fields_with}
 use Rattle.colis_interp.specs.Places.{place_of}
 use Rattle.colis_interp.specs.Runs.{state_of}
 use Rattle.colis_interp.proofs.Weight.{weight}
@@ -49,7 +49,7 @@ invariant-run_case-loop-arm l =
 abbrev pub invariant-run_patterns-loop-pattern : goal.invariant-run_patterns-loop-pattern
 invariant-run_patterns-loop-pattern l =
     (l.shell.conc.turns ≤ l.fn.shell.conc.turns) ×
-    (some_pattern l.subject (map (with (funs_of l.defs [])) (map (λ pieces. map co_piece pieces) l.patterns)) (place_of l.place) (state_of l.fn.shell) ≡ some_pattern l.subject (map (with (funs_of l.defs [])) (map (λ pieces. map co_piece pieces) (drop l.pattern-index l.patterns))) (place_of l.place) (state_of l.shell))
+    (some_pattern l.subject (map (pieces_with (funs_of l.defs [])) (map (λ pieces. map co_piece pieces) l.patterns)) (place_of l.place) (state_of l.fn.shell) ≡ some_pattern l.subject (map (pieces_with (funs_of l.defs [])) (map (λ pieces. map co_piece pieces) (drop l.pattern-index l.patterns))) (place_of l.place) (state_of l.shell))
 
 abbrev pub invariant-run_set-loop-set : goal.invariant-run_set-loop-set
 invariant-run_set-loop-set l =
@@ -59,17 +59,17 @@ invariant-run_set-loop-set l =
 abbrev pub invariant-run_fields-loop-one : goal.invariant-run_fields-loop-one
 invariant-run_fields-loop-one l =
     (l.shell.conc.turns ≤ l.fn.shell.conc.turns) ×
-    (do_fields (with (funs_of l.defs []) (map co_fields l.words)) (place_of l.place) (state_of l.fn.shell) ≡ fields_behind l.fields (with (funs_of l.defs []) (map co_fields (drop l.one-index l.words))) (place_of l.place) (state_of l.shell))
+    (do_fields (fields_with (funs_of l.defs []) (map co_fields l.words)) (place_of l.place) (state_of l.fn.shell) ≡ fields_behind l.fields (fields_with (funs_of l.defs []) (map co_fields (drop l.one-index l.words))) (place_of l.place) (state_of l.shell))
 
 abbrev pub invariant-run_pieces-loop-piece : goal.invariant-run_pieces-loop-piece
 invariant-run_pieces-loop-piece l =
     (l.shell.conc.turns ≤ l.fn.shell.conc.turns) ×
-    (do_pieces (with (funs_of l.defs []) (map co_piece l.pieces)) (place_of l.place) (state_of l.fn.shell) ≡ pieces_behind l.parts (with (funs_of l.defs []) (map co_piece (drop l.piece-index l.pieces))) (place_of l.place) (state_of l.shell))
+    (do_pieces (pieces_with (funs_of l.defs []) (map co_piece l.pieces)) (place_of l.place) (state_of l.fn.shell) ≡ pieces_behind l.parts (pieces_with (funs_of l.defs []) (map co_piece (drop l.piece-index l.pieces))) (place_of l.place) (state_of l.shell))
 
 abbrev pub invariant-run_join-loop-part : goal.invariant-run_join-loop-part
 invariant-run_join-loop-part l =
     (l.shell.conc.turns ≤ l.fn.shell.conc.turns) ×
-    (do_join (with (funs_of l.defs []) (map co_str l.parts)) (place_of l.place) (state_of l.fn.shell) ≡ join_behind l.text (with (funs_of l.defs []) (map co_str (drop l.part-index l.parts))) (place_of l.place) (state_of l.shell))
+    (do_join (values_with (funs_of l.defs []) (map co_str l.parts)) (place_of l.place) (state_of l.fn.shell) ≡ join_behind l.text (values_with (funs_of l.defs []) (map co_str (drop l.part-index l.parts))) (place_of l.place) (state_of l.shell))
 
 abbrev pub decreases-run_stmt : goal.decreases-run_stmt
 decreases-run_stmt l = 4 * (goal.size-run_stmt l + weight l.defs.now) + 1

@@ -14,6 +14,11 @@ returns-clause-turns c = λ program step conc tree trace.
     (whole_keeps (co_stmt program.body (funs_of program.defs [])) (program_lawful program.defs program.body)).turns
     step (names_of program.defs) conc tree trace
 
+pub returns-clause-premises : goal.returns-clause-premises
+returns-clause-premises c = λ program step conc tree trace.
+    (whole_keeps (co_stmt program.body (funs_of program.defs [])) (program_lawful program.defs program.body)).premises
+    step (names_of program.defs) conc tree trace
+
 pub returns-clause-more : goal.returns-clause-more
 returns-clause-more c = λ n program step conc tree trace.
     (whole_keeps (co_stmt program.body (funs_of program.defs [])) (program_lawful program.defs program.body)).same n

@@ -21,3 +21,12 @@ returns-clause-order c = refl
 
 pub returns-clause-cases : goal.returns-clause-cases
 returns-clause-cases c = refl
+
+pub returns-clause-versions : goal.returns-clause-versions
+returns-clause-versions c = refl
+
+pub returns-clause-stated : goal.returns-clause-stated
+returns-clause-stated c = refl
+
+pub returns-clause-plans : goal.returns-clause-plans
+returns-clause-plans c = refl

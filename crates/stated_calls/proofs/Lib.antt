@@ -1,9 +1,0 @@
-mod Counting
-mod StaticPieces
-mod Nodes
-mod Commutes
-mod WholeScript
-mod WellFormed
-mod FoldsKept
-mod Within
-mod NoForms
