@@ -133,6 +133,11 @@ const ROWS: &[(&str, &[File<'static>], Wanted<'static>)] = &[
     ),
     (
         RUN,
+        &[("b", b"link /a b\nlink /a /\n"), ("o/control", b"Version:")],
+        Wanted::Refused("b", FileFault::Line { line: 2, why: 2 }),
+    ),
+    (
+        RUN,
         &[
             ("b", b""),
             ("o/control", b"Version:"),

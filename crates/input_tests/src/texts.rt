@@ -2,11 +2,13 @@
 //! package has its version, a letter for each script and its entries. A script is `-` where there is none, `s` where it
 //! begins strict, and else `x`. In front of the path of an entry stands d for a directory, f for a file, c for a
 //! configuration file and l for a link; in front of a path that the base knows d for a directory, f for a file, a for
-//! nothing and n for no directory. Behind its paths stand `fits` and `own` where it says so, and the stated calls.
+//! nothing and n for no directory. Behind its paths stand the links with their targets, the words that it says, with the
+//! paths of `own`, and the stated calls.
 
 use checker_input::{Package, Packages, Task};
 use dpkg_scenarios::Scripts;
 use feature_trees::{Kind, Kinds, put_tree};
+use link_walks::KnownLink;
 use package_lists::{Entry, EntryKind};
 use script_names::{Bytes, Memory, Path, Slot};
 use shell_forms::Accepted;
@@ -94,10 +96,30 @@ fn put_said(text: &mut Bytes, said: bool, word: &[u8]) -> Result<(), Memory> {
     text.extend(word)
 }
 
+fn put_links(text: &mut Bytes, links: &[KnownLink]) -> Result<(), Memory> {
+    for link in links {
+        put_path(text, b" l", link.at())?;
+        text.push(b'>')?;
+        text.extend(link.target())?;
+    }
+    Ok(())
+}
+
+fn put_own(text: &mut Bytes, own: &[Path]) -> Result<(), Memory> {
+    for path in own {
+        put_path(text, b" own", path)?;
+    }
+    Ok(())
+}
+
 fn put_call(text: &mut Bytes, call: &StatedCall) -> Result<(), Memory> {
-    match call.end {
+    match &call.end {
         CallEnd::Succeeds => text.extend(b" ok/")?,
         CallEnd::Fails => text.extend(b" fails/")?,
+        CallEnd::Asks(path) => {
+            put_path(text, b" asks", path)?;
+            text.push(b'/')?;
+        }
     }
     text.extend(call.name.as_slice())
 }
@@ -112,8 +134,12 @@ fn put_calls(text: &mut Bytes, calls: &[StatedCall]) -> Result<(), Memory> {
 fn put_base(text: &mut Bytes, base: &Base) -> Result<(), Memory> {
     text.extend(b"base")?;
     put_known(text, base.known.as_slice())?;
+    put_links(text, base.links.as_slice())?;
     put_said(text, base.fits, b" fits")?;
-    put_said(text, base.own, b" own")?;
+    put_own(text, base.own.as_slice())?;
+    put_said(text, base.runs, b" runs")?;
+    put_said(text, base.removed, b" removed")?;
+    put_said(text, base.versions, b" versions")?;
     put_calls(text, base.calls.as_slice())?;
     text.extend(b"\n")
 }

@@ -17,6 +17,10 @@ const FILES: &[File<'static>] = &[
         b"dir /etc\n# x\nabsent /etc/a\nfile /f\n\nnodir /n\nfits\n",
     ),
     ("c", b"own\ncall x ok\nfits\ncall y fails\n"),
+    (
+        "e",
+        b"versions\nlink /bin usr/bin\nown /usr\ncall x asks /a b\nremoved\nown\nlink /a /b\nruns\n",
+    ),
     ("t", b"d /etc\nf /etc/a\n"),
     ("s", b"#!/bin/sh -e\n"),
     ("lax", b"#!/bin/sh\nset -e\n"),
@@ -44,6 +48,10 @@ const READ: &[(&str, &str)] = &[
     (
         "check o --base c",
         "new 0 -s-x d/usr\nbase fits own ok/x fails/y\n",
+    ),
+    (
+        "check o --base e",
+        "new 0 -s-x d/usr\nbase l/bin>usr/bin l/a>/b own/usr own runs removed versions asks/a b/x\n",
     ),
     ("translate s", "strict\n"),
     ("translate lax", "lax\n"),

@@ -87,15 +87,23 @@ fn put_names(text: &mut Bytes, names: &[Name]) -> Result<(), Memory> {
     text.push(b' ')
 }
 
+// The target that a link has.
+fn put_target(text: &mut Bytes, target: &[u8]) -> Result<(), Memory> {
+    text.push(b'>')?;
+    text.extend(target)?;
+    text.push(b' ')
+}
+
 fn put_wanted(text: &mut Bytes, wanted: &Wanted) -> Result<(), Memory> {
     match wanted {
         Wanted::Kinds(kinds) => put_kinds(text, *kinds),
         Wanted::Names(names) => put_names(text, names.as_slice()),
+        Wanted::Target(target) => put_target(text, target.as_slice()),
     }
 }
 
 // What is needed, as a text: the paths, each with a letter for each kind that may stand there, or the names that the
-// entries there may have.
+// entries there may have, or the target of the link there.
 fn needs_text(alloc: Global, needs: &[Need]) -> Result<Bytes, Memory> {
     let mut text = Bytes::new(alloc);
     for need in needs {

@@ -96,7 +96,9 @@ within : (b : Bool) (acts : List Act) → b ≡ true → (if b then Some acts el
 within true acts e none = cc
 within false acts e none = cc
 
-pub acts_numbered : (acts : List Act) (new old : List EntryParts) → length acts ≤ 2 * (length new + length old)
-    → length new ≤ MOST_ENTRIES → length old ≤ MOST_ENTRIES → numbered acts ≡ None → ⊥
-acts_numbered acts new old few n o none =
-    within (nat_le (length acts) 4294967295) acts (le-leb (length acts) 4294967295 (omega (arith, few, n, o))) none
+pub acts_few_enough : (acts : List Act) (new old : List EntryParts) → length acts ≤ 2 * (length new + length old)
+    → length new ≤ MOST_ENTRIES → length old ≤ MOST_ENTRIES → length acts ≤ 4294967295
+acts_few_enough acts new old few n o = omega (arith, few, n, o)
+
+pub acts_numbered : (acts : List Act) → length acts ≤ 4294967295 → numbered acts ≡ None → ⊥
+acts_numbered acts few none = within (nat_le (length acts) 4294967295) acts (le-leb (length acts) 4294967295 few) none

@@ -1,6 +1,6 @@
--- The acts on files of a step can be done on every tree, and their paths have names, where the path of each entry has
--- one.
-use Rattle.std.proofs.Common.{◌≢◌, ℕ, ◌-◌, ◌<◌, Bool, true, false, List, [], ◌∷◌, length, All, sym, subst, arith}
+-- The acts on files of a step can be done on every tree, are acts on files of a package, and their paths have names, where
+-- the path of each entry has one.
+use Rattle.std.proofs.Common.{◌≢◌, ℕ, ◌-◌, ◌<◌, Bool, true, false, List, [], ◌∷◌, length, All, refl, sym, subst, arith}
 use Rattle.std.specs.Prelude.{reverse, if◌then◌else◌}
 use Rattle.std.specs.List.{flat_map}
 use Rattle.std.proofs.lemmas.List.{length-reverse, get_or-reverse}
@@ -18,13 +18,13 @@ use Rattle.package_lists.specs.declared.kind.EntryKind.TheVariants.{Folder, File
 use Rattle.system_base.specs.Bases.{is_base}
 use Rattle.package_lists.specs.Entries.{EntryParts, HasName, is_any, is_conf, has_at, is_folder}
 use Rattle.package_lists.specs.EntrySets.{is_one_of}
-use Rattle.package_jobs.specs.FileActs.{placing, unpacked, folder_gone, removing, removed, removed_old, conf_gone, dir_gone, acts_of}
+use Rattle.package_jobs.specs.FileActs.{placing, unpacked, folder_gone, removing, removed, removed_old, conf_gone, dir_gone, acts_of, IsOfPackage}
 use Rattle.package_lists.specs.Paths.{Paths, path_text, plain_path}
 use Rattle.scenario_runs.specs.Acts.{HasName as IsNamed}
 
--- an act can be done on every tree, and its path has a name
+-- an act can be done on every tree, its path has a name, and it is one on a file of a package
 abbrev IsFine : Act → Type 0
-IsFine act = IsPerformed act × IsNamed act
+IsFine act = IsPerformed act × (IsNamed act × IsOfPackage act)
 
 abbrev Done : List Act → Type 0
 Done acts = All IsFine acts
@@ -44,24 +44,24 @@ module _ (names : List (List ℕ)) (lt : 0 < length names) where
   is_filled = filled names lt
 
   ensure_dir : Done (EnsureDir (plain_path names) ∷ [])
-  ensure_dir = one_done _ (((λ e. (is_filled, is_filled)), tt), is_filled)
+  ensure_dir = one_done _ (((λ e. (is_filled, is_filled)), tt), (is_filled, refl))
 
   place_file : Done (PlaceFile (plain_path names) ∷ [])
-  place_file = one_done _ (((λ e. (is_filled, is_filled)), tt), is_filled)
+  place_file = one_done _ (((λ e. (is_filled, is_filled)), tt), (is_filled, refl))
 
   place_link : (target : List ℕ) → Done (PlaceLink (plain_path names) target ∷ [])
-  place_link target = one_done _ (((λ e. (is_filled, is_filled)), tt), is_filled)
+  place_link target = one_done _ (((λ e. (is_filled, is_filled)), tt), (is_filled, refl))
 
   place_conf : (b : Bool) → Done (if b then PlaceConf (plain_path names) ∷ [] else [])
-  place_conf true = one_done _ (((λ e. (is_filled, is_filled)), tt), is_filled)
+  place_conf true = one_done _ (((λ e. (is_filled, is_filled)), tt), (is_filled, refl))
   place_conf false = none_done
 
   discard : Done (Discard (plain_path names) ∷ [])
-  discard = one_done _ (((λ e. (is_filled, is_filled)), tt), is_filled)
+  discard = one_done _ (((λ e. (is_filled, is_filled)), tt), (is_filled, refl))
 
   folder_done : (b : Bool) → Done (folder_gone b names)
   folder_done true = none_done
-  folder_done false = one_done _ (((λ e. (is_filled, is_filled)), tt), is_filled)
+  folder_done false = one_done _ (((λ e. (is_filled, is_filled)), tt), (is_filled, refl))
 
   placing_done : (kind : EntryKind) (conf : Bool) → Done (placing kind names conf)
   placing_done Folder conf = ensure_dir
@@ -125,4 +125,9 @@ acts_performed s work new old base n m =
 pub acts_named : (s : Scenario) (work : StepWork) (new old : List EntryParts) (base : Base)
     → All HasName new → All HasName old → All IsNamed (acts_of s work new old base)
 acts_named s work new old base n m =
-    All-weaker IsFine IsNamed (λ act h. h.1) (acts_of s work new old base) (acts_done s work new old base n m)
+    All-weaker IsFine IsNamed (λ act h. h.1.0) (acts_of s work new old base) (acts_done s work new old base n m)
+
+pub acts_of_package : (s : Scenario) (work : StepWork) (new old : List EntryParts) (base : Base)
+    → All HasName new → All HasName old → All IsOfPackage (acts_of s work new old base)
+acts_of_package s work new old base n m =
+    All-weaker IsFine IsOfPackage (λ act h. h.1.1) (acts_of s work new old base) (acts_done s work new old base n m)

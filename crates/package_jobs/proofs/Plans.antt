@@ -1,5 +1,5 @@
 -- The plan of a job is the written one.
-use Rattle.std.proofs.Common.{◌≡◌, ℕ, List, Option, sym, ap, subst}
+use Rattle.std.proofs.Common.{◌≡◌, ℕ, Option, sym, ap, subst}
 use Rattle.std.specs.Prelude.{option_map}
 use Rattle.feature_trees.specs.declared.value.Value.{Value}
 use Rattle.dpkg_scenarios.specs.declared.scenario.Scenario.{Scenario}
@@ -19,8 +19,7 @@ use Rattle.scenario_runs.specs.declared.job.Job.{Job}
 use Rattle.scenario_runs.specs.Runs.{Plan, plan_of, run_of, scenario_run, program_meaning, package_of}
 use Rattle.package_jobs.specs.Made.{DoTheSame, IsMade}
 use Rattle.package_jobs.specs.Sides.{old_of}
-use Rattle.utility_calls.specs.declared.stated_call.StatedCall.{StatedCall}
-use Rattle.package_jobs.specs.Written.{side_of, script_meaning, stated_meaning, is_plain, files_of, written_plan, written_run}
+use Rattle.package_jobs.specs.Written.{side_of, script_meaning, premises_of, is_plain, files_of, written_plan, written_run}
 
 -- a program that does what a script does has the script's meaning
 pub meaning_same : (s : Script) (p : ProgramParts) → p.strict ≡ s.strict → DoesTheSame s p → program_meaning p ≡ script_meaning s
@@ -30,42 +29,43 @@ meaning_same s p flag same = λ i. record {
 }
 
 -- programs of each kind that do what the scripts of that kind do
-pub kinds_same : (calls : List StatedCall) (scripts : Scripts Script) (preinst postinst prerm postrm : Option ProgramParts)
-    → option_map program_meaning preinst ≡ option_map (stated_meaning calls) scripts.preinst → option_map program_meaning postinst ≡ option_map (stated_meaning calls) scripts.postinst
-    → option_map program_meaning prerm ≡ option_map (stated_meaning calls) scripts.prerm → option_map program_meaning postrm ≡ option_map (stated_meaning calls) scripts.postrm
-    → DoTheSame calls scripts (record { preinst = preinst; postinst = postinst; prerm = prerm; postrm = postrm })
-kinds_same calls scripts a b c d e f g h Preinst = e
-kinds_same calls scripts a b c d e f g h Postinst = f
-kinds_same calls scripts a b c d e f g h Prerm = g
-kinds_same calls scripts a b c d e f g h Postrm = h
+pub kinds_same : (scripts : Scripts Script) (preinst postinst prerm postrm : Option ProgramParts)
+    → option_map program_meaning preinst ≡ option_map script_meaning scripts.preinst → option_map program_meaning postinst ≡ option_map script_meaning scripts.postinst
+    → option_map program_meaning prerm ≡ option_map script_meaning scripts.prerm → option_map program_meaning postrm ≡ option_map script_meaning scripts.postrm
+    → DoTheSame scripts (record { preinst = preinst; postinst = postinst; prerm = prerm; postrm = postrm })
+kinds_same scripts a b c d e f g h Preinst = e
+kinds_same scripts a b c d e f g h Postinst = f
+kinds_same scripts a b c d e f g h Prerm = g
+kinds_same scripts a b c d e f g h Postrm = h
 
 -- a package with these programs in place of its scripts
-pub made_with : (calls : List StatedCall) (written : Package) (made : PackagePrograms) (programs : Scripts ProgramParts)
-    → made.version ≡ written.version → made.scripts ≡ programs → DoTheSame calls written.scripts programs
-    → IsMade calls written made
-made_with calls written made programs version scripts same =
-    record { version = version; scripts = subst (DoTheSame calls written.scripts) (sym scripts) same }
+pub made_with : (written : Package) (made : PackagePrograms) (programs : Scripts ProgramParts)
+    → made.version ≡ written.version → made.scripts ≡ programs → DoTheSame written.scripts programs
+    → IsMade written made
+made_with written made programs version scripts same =
+    record { version = version; scripts = subst (DoTheSame written.scripts) (sym scripts) same }
 
 module _ (job : Job) (s : Scenario) (p : Packages) (turns : ℕ) where
-  scripts_same : IsMade p.base.calls p.new_package job.new_package → IsMade p.base.calls (old_of p) job.old_package → (side : Side) (kind : ScriptKind)
-      → option_map program_meaning (script_of kind (package_of job side).scripts) ≡ option_map (stated_meaning p.base.calls) (script_of kind (side_of p side).scripts)
+  scripts_same : IsMade p.new_package job.new_package → IsMade (old_of p) job.old_package → (side : Side) (kind : ScriptKind)
+      → option_map program_meaning (script_of kind (package_of job side).scripts) ≡ option_map script_meaning (script_of kind (side_of p side).scripts)
   scripts_same new old New kind = new.scripts kind
   scripts_same new old Old kind = old.scripts kind
 
-  plan_same : job.scenario ≡ s → job.plain ≡ is_plain p.new_package → IsMade p.base.calls p.new_package job.new_package → IsMade p.base.calls (old_of p) job.old_package
-      → job.files ≡ files_of s p.new_package.entries (old_of p).entries p.base → job.turns ≡ turns
+  plan_same : job.scenario ≡ s → job.plain ≡ is_plain p.new_package → IsMade p.new_package job.new_package → IsMade (old_of p) job.old_package
+      → job.files ≡ files_of s p.new_package.entries (old_of p).entries p.base → job.premises ≡ premises_of p.base → job.turns ≡ turns
       → plan_of job ≡ written_plan s p turns
-  plan_same scenario plain new old files left = λ i. record {
+  plan_same scenario plain new old files premises left = λ i. record {
     scenario = scenario i;
     plain = plain i;
     old_version = old.version i;
     new_version = new.version i;
     scripts = λ side kind. scripts_same new old side kind i;
     files = files i;
+    premises = premises i;
     turns = left i;
   }
 
-  pub runs_same : job.scenario ≡ s → job.plain ≡ is_plain p.new_package → IsMade p.base.calls p.new_package job.new_package → IsMade p.base.calls (old_of p) job.old_package
-      → job.files ≡ files_of s p.new_package.entries (old_of p).entries p.base → job.turns ≡ turns
+  pub runs_same : job.scenario ≡ s → job.plain ≡ is_plain p.new_package → IsMade p.new_package job.new_package → IsMade (old_of p) job.old_package
+      → job.files ≡ files_of s p.new_package.entries (old_of p).entries p.base → job.premises ≡ premises_of p.base → job.turns ≡ turns
       → (tree : Value) → scenario_run job tree ≡ written_run s p turns tree
-  runs_same scenario plain new old files left tree = ap (λ (plan : Plan). run_of plan tree) (plan_same scenario plain new old files left)
+  runs_same scenario plain new old files premises left tree = ap (λ (plan : Plan). run_of plan tree) (plan_same scenario plain new old files premises left)

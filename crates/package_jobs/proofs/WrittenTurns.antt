@@ -14,8 +14,7 @@ use Rattle.shell_to_colis.specs.Laws.{ProgramsDoTheSame}
 use Rattle.dpkg_scenarios.specs.Scripts.{script_of}
 use Rattle.scenario_runs.specs.Runs.{Meaning}
 use Rattle.scenario_runs.specs.Laws.{is_bound, IsSameWithMore, MoreTurnsOfPlans}
-use Rattle.stated_calls.specs.Scripts.{stated_script}
-use Rattle.package_jobs.specs.Written.{side_of, script_meaning, stated_meaning, written_plan}
+use Rattle.package_jobs.specs.Written.{side_of, script_meaning, written_plan}
 use Rattle.package_jobs.specs.Laws.{MoreTurnsSameRun}
 
 -- what a script does, and what else does the same
@@ -46,10 +45,8 @@ not_bound b (inr a) e = a
 
 pub written_same : programs.MoreTurnsSameRun → ProgramsDoTheSame → MoreTurnsOfPlans → MoreTurnsSameRun
 written_same law does plans scenario packages turns more tree run is_run free =
-    let calls = packages.base.calls in
-    let each : (script : Script) → IsSameWithMore (stated_meaning calls script) = λ script. script_same law does (stated_script calls script) in
     not_bound (is_bound run.ending)
     (plans (written_plan scenario packages turns)
-    (λ side script. scripts_same (stated_meaning calls) each (script_of script (side_of packages side).scripts))
+    (λ side script. scripts_same script_meaning (script_same law does) (script_of script (side_of packages side).scripts))
     more tree run is_run)
     free

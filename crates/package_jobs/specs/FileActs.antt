@@ -1,5 +1,5 @@
--- The acts of a step that places or takes away files (Debian Policy, 6.6 and 6.8).
-use Rattle.std.specs.Prelude.{ℕ, Bool, List, [], ◌∷◌, ◌++◌, reverse, if◌then◌else◌}
+-- The acts of a step that places or takes away files (Debian Policy, 6.6 and 6.8), at the paths that are listed.
+use Rattle.std.specs.Prelude.{◌≡◌, ◌<◌, ◌≤◌, ℕ, Bool, true, List, [], ◌∷◌, ◌++◌, length, reverse, All, if◌then◌else◌}
 use Rattle.std.specs.List.{flat_map}
 use Rattle.dpkg_scenarios.specs.declared.columns.NewEntries.{NewEntries}
 use Rattle.dpkg_scenarios.specs.declared.scenario.Scenario.{Scenario}
@@ -10,6 +10,9 @@ use Rattle.dpkg_scenarios.specs.Scenarios.{columns_of}
 use Rattle.utility_calls.specs.declared.acts.Act.{Act}
 use Rattle.utility_calls.specs.declared.acts.Act.TheVariants.{EnsureDir, PlaceFile, PlaceLink, PlaceConf, Discard}
 use Rattle.utility_calls.specs.declared.acts.Act.TheVariants.{DiscardDir}
+use Rattle.link_walks.specs.Links.{LinkParts}
+use Rattle.link_walks.specs.Performing.{is_of_package}
+use Rattle.scenario_runs.specs.Acts.{HasName}
 use Rattle.package_lists.specs.declared.kind.EntryKind.{EntryKind}
 use Rattle.package_lists.specs.declared.kind.EntryKind.TheVariants.{Folder, File, Conf, LinkTo}
 use Rattle.system_base.specs.Bases.{is_base}
@@ -71,3 +74,17 @@ acts_of scenario RemoveOld new before base =
 acts_of scenario RemoveConf new before base =
     flat_map conf_gone (reverse new) ++ flat_map (dir_gone (is_base base)) (reverse new)
 acts_of scenario Restore new before base = []
+
+-- an act by which a package manager makes, places or discards a file of a package
+abbrev pub IsOfPackage : Act → Type 0
+IsOfPackage act = is_of_package act ≡ true
+
+-- each is such an act at a path with a name, and there are no more of them than a site can number
+pub record AreListed (acts : List Act) : Type 0 where
+  pub of_package : All IsOfPackage acts
+  pub named : All HasName acts
+  pub few : length acts ≤ 4294967295
+
+-- the path of a known link has a name
+abbrev pub StandsSomewhere : LinkParts → Type 0
+StandsSomewhere link = 0 < length link.at.names

@@ -1,5 +1,5 @@
 -- What is made of a written package, between the steps of making a job.
-use Rattle.std.specs.Prelude.{◌≡◌, List, option_map}
+use Rattle.std.specs.Prelude.{◌≡◌, option_map}
 use Rattle.dpkg_scenarios.specs.declared.scenario.ScriptKind.{ScriptKind}
 use Rattle.dpkg_scenarios.specs.declared.scripts.Scripts.{Scripts}
 use Rattle.dpkg_scenarios.specs.Scripts.{script_of}
@@ -8,26 +8,23 @@ use Rattle.colis_syntax.specs.WellFormed.{ProgramParts}
 use Rattle.checker_input.specs.declared.package.Package.{Package}
 use Rattle.scenario_runs.specs.declared.job.PackagePrograms.{PackagePrograms}
 use Rattle.scenario_runs.specs.Runs.{program_meaning}
-use Rattle.utility_calls.specs.declared.stated_call.StatedCall.{StatedCall}
 use Rattle.checker_input.specs.declared.package.Packages.{Packages}
 use Rattle.package_jobs.specs.declared.programs.Programs.{Programs}
 use Rattle.package_jobs.specs.Sides.{old_of}
-use Rattle.package_jobs.specs.Written.{stated_meaning}
+use Rattle.package_jobs.specs.Written.{script_meaning}
 
--- each program does what the script of that kind does that is read under stated calls, and there is one exactly where
--- there is a script
-abbrev pub DoTheSame : List StatedCall → Scripts Script → Scripts ProgramParts → Type 0
-DoTheSame calls scripts programs =
+-- each program does what the script of that kind does, and there is one exactly where there is a script
+abbrev pub DoTheSame : Scripts Script → Scripts ProgramParts → Type 0
+DoTheSame scripts programs =
     (kind : ScriptKind)
-    → option_map program_meaning (script_of kind programs) ≡ option_map (stated_meaning calls) (script_of kind scripts)
+    → option_map program_meaning (script_of kind programs) ≡ option_map script_meaning (script_of kind scripts)
 
 -- a package with programs in place of its scripts
-pub record IsMade (calls : List StatedCall) (written : Package) (made : PackagePrograms) : Type 0 where
+pub record IsMade (written : Package) (made : PackagePrograms) : Type 0 where
   pub version : made.version ≡ written.version
-  pub scripts : DoTheSame calls written.scripts made.scripts
+  pub scripts : DoTheSame written.scripts made.scripts
 
--- the programs of packages: those of the new package's scripts, and of the old one's, under the calls that the base
--- states
+-- the programs of packages: those of the new package's scripts, and of the old one's
 pub record AreProgramsOf (packages : Packages) (programs : Programs) : Type 0 where
-  pub new_package : DoTheSame packages.base.calls packages.new_package.scripts programs.new_package
-  pub old_package : DoTheSame packages.base.calls (old_of packages).scripts programs.old_package
+  pub new_package : DoTheSame packages.new_package.scripts programs.new_package
+  pub old_package : DoTheSame (old_of packages).scripts programs.old_package

@@ -2,12 +2,13 @@ ghost use Rattle.std.specs.Prelude.{◌≡◌, ℕ, List as ListOf, IfOk};
 ghost use Rattle.std.specs.List.{list_any};
 ghost use Rattle.feature_trees.specs.declared.value.Value.{Value};
 ghost use Rattle.system_base.specs.Bases.{is_base};
-ghost use Rattle.package_jobs.specs.FileActs.{acts_of};
+ghost use Rattle.package_jobs.specs.FileActs.{AreListed, acts_of};
 ghost use Rattle.package_lists.specs.PathSets.{has};
 ghost use Rattle.scenario_runs.specs.Runs.{scenario_run};
 ghost use Rattle.package_jobs.specs.Made.{AreProgramsOf};
-ghost use Rattle.package_jobs.specs.Written.{is_conffile, is_plain, files_of, written_run};
+ghost use Rattle.package_jobs.specs.Written.{is_conffile, is_plain, premises_of, done_acts, files_of, written_run};
 
+use crate::followed::followed;
 use crate::programs::{Programs, programs_of};
 use crate::sides::old_package;
 use crate::step_acts::file_acts;
@@ -15,10 +16,12 @@ use checker_input::{Package, Packages};
 use colis_syntax::Program;
 use dpkg_scenarios::{Scenario, Scripts, StepWork};
 use package_lists::{Entry, FileList, PathSet};
-use scenario_runs::{FileActs, Files, Job, PackagePrograms};
-use script_names::{Copied, Memory};
+use scenario_runs::{FileActs, FileBacks, Files, Job, PackagePrograms};
+use script_names::{Common, Copied, List, Memory};
+use shell_rules::Premises;
 use std::alloc::Global;
 use system_base::{Base, base_paths};
+use utility_calls::acts::Act;
 
 // A package with programs in place of its scripts.
 fn package_of(
@@ -53,8 +56,26 @@ fn has_conffile(entries: &[Entry]) -> bool
     false
 }
 
-// The acts on files of a step, where `kept` has the directories of the base. A site can number them, since there are at
-// most two for each entry.
+// The acts of a step as they are listed, where `kept` has the directories of the base. A site can number them, since
+// there are at most two for each entry.
+fn listed_acts(
+    alloc: Global,
+    scenario: Scenario,
+    work: StepWork,
+    new: &FileList,
+    old: &FileList,
+    base: &Base,
+    kept: &PathSet,
+) -> Result<List<Act>, Memory>
+    requires { (path : ListOf ℕ) → has kept.now path ≡ is_base base.now path }
+    ensures acts { IfOk result (λ acts. acts ≡ acts_of scenario work new.now old.now base.now) }
+    ensures listed { IfOk result AreListed }
+{
+    let acts = file_acts(alloc, scenario, work, new.list(), old.list(), base, kept)?;
+    Ok(acts)
+}
+
+// The acts of a step as they are done.
 fn step_acts(
     alloc: Global,
     scenario: Scenario,
@@ -65,13 +86,11 @@ fn step_acts(
     kept: &PathSet,
 ) -> Result<FileActs, Memory>
     requires { (path : ListOf ℕ) → has kept.now path ≡ is_base base.now path }
-    ensures { IfOk result (λ acts. acts ≡ acts_of scenario work new.now old.now base.now) }
+    ensures { IfOk result (λ acts. acts ≡ done_acts base.now (acts_of scenario work new.now old.now base.now)) }
 {
-    let acts = file_acts(alloc, scenario, work, new.list(), old.list(), base, kept)?;
-    match FileActs::new(acts) {
-        Some(acts) => Ok(acts),
-        None => unreachable!(),
-    }
+    let listed = listed_acts(alloc, scenario, work, new, old, base, kept)?;
+    let acts = followed(alloc, base, listed.as_slice())?;
+    Ok(acts)
 }
 
 // What is done with files in the steps of a scenario.
@@ -85,7 +104,9 @@ fn files_of(
     ensures { IfOk result (λ files. files ≡ files_of scenario new.now old.now base.now) }
 {
     let kept = base_paths(alloc, base)?;
-    let unpack = step_acts(alloc, scenario, StepWork::Unpack, new, old, base, &kept)?;
+    let listed = listed_acts(alloc, scenario, StepWork::Unpack, new, old, base, &kept)?;
+    let unpack = followed(alloc, base, listed.as_slice())?;
+    let backs = FileBacks::of(alloc, listed.as_slice(), &unpack)?;
     let remove_files = step_acts(
         alloc,
         scenario,
@@ -99,14 +120,29 @@ fn files_of(
     let remove_conf = step_acts(alloc, scenario, StepWork::RemoveConf, new, old, base, &kept)?;
     Ok(Files {
         unpack,
+        backs,
         remove_files,
         remove_old,
         remove_conf,
     })
 }
 
+// What is stated of the system that the scripts run on.
+fn premises_of(alloc: Global, base: &Base) -> Result<Premises, Memory>
+    ensures { IfOk result (λ premises. premises ≡ premises_of base.now) }
+{
+    let links = base.links.copy(alloc)?;
+    let calls = base.calls.copy(alloc)?;
+    Ok(Premises {
+        links,
+        calls,
+        runs: base.runs,
+        versions: base.versions,
+    })
+}
+
 /// The job of a scenario, with so many turns of loops, where the packages' scripts have these programs: its run, from
-/// each tree, is the run of the packages as they are written, by the shell's own rules, with the calls that the base
+/// each tree, is the run of the packages as they are written, by the shell's own rules, under the premises that the base
 /// states. The one fault is want of memory.
 pub fn job_with(
     alloc: Global,
@@ -125,18 +161,21 @@ pub fn job_with(
     let new_package = package_of(alloc, new, &programs.new_package)?;
     let old_package = package_of(alloc, old, &programs.old_package)?;
     let files = files_of(alloc, scenario, &new.entries, &old.entries, &packages.base)?;
+    let stated = premises_of(alloc, &packages.base)?;
+    let premises = Common::new(alloc, stated)?;
     Ok(Job {
         scenario,
         plain: is_plain(new),
         new_package,
         old_package,
         files,
+        premises,
         turns,
     })
 }
 
 /// The job of a scenario, with so many turns of loops: its run, from each tree, is the run of the packages as they are
-/// written, by the shell's own rules, with the calls that the base states. The one fault is want of memory.
+/// written, by the shell's own rules, under the premises that the base states. The one fault is want of memory.
 pub fn job_of(
     alloc: Global,
     scenario: Scenario,

@@ -4,8 +4,11 @@
 //! `needs_of`; `theorems` has what holds of the run.
 #![tactic(auto)]
 
+mod followed;
+mod gone_needs;
 mod job;
 mod needs;
+mod own_needs;
 mod programs;
 mod sides;
 mod step_acts;

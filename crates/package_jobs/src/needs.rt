@@ -1,36 +1,32 @@
-ghost use Rattle.std.specs.Prelude.{◌≡◌, ◌↔◌, ◌++◌, ◌∷◌, ℕ, List as ListOf, [], map, IfOk, OnOk};
+ghost use Rattle.std.specs.Prelude.{◌≡◌, ◌↔◌, ◌++◌, ◌∷◌, [], map, IfOk, OnOk};
 ghost use Rattle.std.specs.List.{flat_map};
 ghost use Rattle.feature_trees.specs.declared.value.Value.{Value};
 ghost use Rattle.feature_trees.specs.Kinds.{but, two};
 ghost use Rattle.start_trees.specs.Needs.{IsStart};
 ghost use Rattle.package_lists.specs.PathSets.{has};
-ghost use Rattle.package_jobs.specs.Needed.{kinds_asked, entry_needs, known_need};
+ghost use Rattle.package_jobs.specs.Needed.{kinds_asked, need_at, entry_need, known_need, link_needs, kept_needs};
 ghost use Rattle.package_jobs.specs.Needed.{needs_before, fit_needs, needs_to_fit};
-ghost use Rattle.package_jobs.specs.Needed.{kinds_owned, needed_at, names_needed, folder_needs, own_needs};
-ghost use Rattle.package_jobs.specs.Needed.{needs_to_own};
-ghost use Rattle.package_jobs.specs.StartTrees.{owner, is_owned_folder, is_to_own};
-ghost use Rattle.package_jobs.specs.StartTrees.{IsStartTree};
-ghost use Rattle.package_lists.specs.FolderNames.{names_at};
+ghost use Rattle.package_jobs.specs.StartTrees.{place_of, IsStartTree};
 ghost use Rattle.start_trees.specs.declared.need.Wanted.TheVariants as Wanted;
 
+use crate::gone_needs::add_gone;
+use crate::own_needs::add_owns;
 use crate::sides::old_package;
 use checker_input::Packages;
-use dpkg_scenarios::{Before, NewEntries, OwnFolders, Scenario, columns_of};
+use dpkg_scenarios::{Before, NewEntries, Scenario, columns_of};
 use feature_trees::{Kind, Kinds};
-use package_lists::{
-    Entry, EntryKind, FolderNames, PathSet, Which, has_entry, is_one_of, paths_of,
-};
-use script_names::{Copied, List, Memory, Name, Path};
+use link_walks::{KnownLink, Reached, reach};
+use package_lists::{Entry, EntryKind, PathSet, Which, is_one_of, paths_of};
+use script_names::{Bytes, Copied, List, Memory, Path};
 use start_trees::{Need, Wanted};
 use std::alloc::Global;
-use system_base::{Base, KnownPath, base_paths};
+use system_base::{Base, KnownPath};
 
-// What is asked of what stands at the path of an entry: what stands there where the package is in place, what stands
-// there where its configuration files stayed, or what the entry fits.
+// What is asked of what stands where an entry is: what stands there where the package is in place, or what the entry
+// fits.
 #[derive(Clone, Copy)]
 pub enum Asked {
     Placed,
-    KeptConf,
     Fit,
 }
 
@@ -41,30 +37,50 @@ fn no_folder() -> Kinds
     Kinds::but(Kind::Dir)
 }
 
-// Nothing, or something of this kind.
-fn absent_or(kind: Kind) -> Kinds
+/// Nothing, or something of this kind.
+pub fn absent_or(kind: Kind) -> Kinds
     ensures { result ≡ two Kind.Absent kind }
 {
     Kinds::either(Kinds::of(Kind::Absent), Kinds::of(kind))
 }
 
-// The kinds that an entry of this kind is to have at its path, if anything is asked of it.
-fn kinds_asked(asked: Asked, kind: &EntryKind) -> Option<Kinds>
+// The kinds that may stand where an entry of this kind is.
+fn kinds_asked(asked: Asked, kind: &EntryKind) -> Kinds
     ensures { result ≡ kinds_asked asked kind.now }
 {
     match asked {
         Asked::Placed => match kind {
-            EntryKind::Folder => Some(Kinds::of(Kind::Dir)),
-            EntryKind::File | EntryKind::Conf | EntryKind::LinkTo(_) => Some(no_folder()),
-        },
-        Asked::KeptConf => match kind {
-            EntryKind::Conf => Some(no_folder()),
-            EntryKind::Folder | EntryKind::File | EntryKind::LinkTo(_) => None,
+            EntryKind::Folder => Kinds::of(Kind::Dir),
+            EntryKind::File | EntryKind::Conf | EntryKind::LinkTo(_) => no_folder(),
         },
         Asked::Fit => match kind {
-            EntryKind::Folder => Some(absent_or(Kind::Dir)),
-            EntryKind::Conf => Some(absent_or(Kind::Reg)),
-            EntryKind::File | EntryKind::LinkTo(_) => Some(no_folder()),
+            EntryKind::Folder => absent_or(Kind::Dir),
+            EntryKind::Conf => absent_or(Kind::Reg),
+            EntryKind::File | EntryKind::LinkTo(_) => no_folder(),
+        },
+    }
+}
+
+/// Where the path of an entry leads: that of a folder along a link at its last name too, any other not.
+pub fn place_of(alloc: Global, links: &[KnownLink], entry: &Entry) -> Result<Reached, Memory>
+    ensures { IfOk result (λ place. place ≡ place_of links.now entry.now) }
+{
+    let is_folder = entry.kind().is_folder();
+    reach(alloc, links, entry.path(), is_folder)
+}
+
+/// The need of these kinds where a path leads; where it is blocked, of no kind at the link that blocks it.
+pub fn need_at(reached: Reached, kinds: Kinds) -> Need
+    ensures { result ≡ need_at reached kinds }
+{
+    match reached {
+        Reached::At(path) => Need {
+            path,
+            wanted: Wanted::Kinds(kinds),
+        },
+        Reached::Blocked(path) => Need {
+            path,
+            wanted: Wanted::Kinds(Kinds::NONE),
         },
     }
 }
@@ -74,20 +90,14 @@ fn add_entry(
     alloc: Global,
     needs: &mut List<Need>,
     asked: Asked,
+    links: &[KnownLink],
     entry: &Entry,
 ) -> Result<(), Memory>
-    ensures { OnOk result (needs.new ≡ needs.old ++ entry_needs asked entry.now) }
+    ensures { OnOk result (needs.new ≡ needs.old ++ entry_need asked links.now entry.now ∷ []) }
 {
-    match kinds_asked(asked, entry.kind()) {
-        None => Ok(()),
-        Some(kinds) => {
-            let path = entry.path().copy(alloc)?;
-            needs.add(Need {
-                path,
-                wanted: Wanted::Kinds(kinds),
-            })
-        }
-    }
+    let kinds = kinds_asked(asked, entry.kind());
+    let place = place_of(alloc, links, entry)?;
+    needs.add(need_at(place, kinds))
 }
 
 // Adds what each of these entries needs.
@@ -95,18 +105,24 @@ fn add_entries(
     alloc: Global,
     needs: &mut List<Need>,
     asked: Asked,
+    links: &[KnownLink],
     entries: &[Entry],
 ) -> Result<(), Memory>
-    ensures { OnOk result (needs.new ≡ needs.old ++ flat_map (entry_needs asked) entries.now) }
+    ensures { OnOk result (needs.new ≡ needs.old ++ map (entry_need asked links.now) entries.now) }
 {
     for entry in entries {
-        add_entry(alloc, needs, asked, entry)?;
+        add_entry(alloc, needs, asked, links, entry)?;
     }
     Ok(())
 }
 
-// Adds what is needed at a path.
-fn add_need(alloc: Global, needs: &mut List<Need>, path: &Path, kinds: Kinds) -> Result<(), Memory>
+/// Adds the need of these kinds at a path.
+pub fn add_kinds(
+    alloc: Global,
+    needs: &mut List<Need>,
+    path: &Path,
+    kinds: Kinds,
+) -> Result<(), Memory>
     ensures { OnOk result (needs.new
         ≡ needs.old ++ record { path = path.now; wanted = Wanted.Kinds kinds } ∷ []) }
 {
@@ -122,7 +138,88 @@ fn add_known(alloc: Global, needs: &mut List<Need>, known: &[KnownPath]) -> Resu
     ensures { OnOk result (needs.new ≡ needs.old ++ map known_need known.now) }
 {
     for one in known {
-        add_need(alloc, needs, &one.path, one.kinds)?;
+        add_kinds(alloc, needs, &one.path, one.kinds)?;
+    }
+    Ok(())
+}
+
+// Adds the need of a link to a target at a path.
+fn add_target(
+    alloc: Global,
+    needs: &mut List<Need>,
+    path: &Path,
+    target: &[u8],
+) -> Result<(), Memory>
+    ensures { OnOk result (needs.new
+        ≡ needs.old ++ record { path = path.now; wanted = Wanted.Target target.now } ∷ []) }
+{
+    let path = path.copy(alloc)?;
+    let target = Bytes::from_slice(alloc, target)?;
+    needs.add(Need {
+        path,
+        wanted: Wanted::Target(target),
+    })
+}
+
+// Adds what is needed of a known link.
+fn add_link(
+    alloc: Global,
+    needs: &mut List<Need>,
+    links: &[KnownLink],
+    link: &KnownLink,
+) -> Result<(), Memory>
+    ensures { OnOk result (needs.new ≡ needs.old ++ link_needs links.now link.now) }
+{
+    add_target(alloc, needs, link.at(), link.target())?;
+    let end = reach(alloc, links, link.at(), true)?;
+    needs.add(need_at(end, Kinds::of(Kind::Dir)))
+}
+
+// Adds what is needed of the known links.
+fn add_links(alloc: Global, needs: &mut List<Need>, links: &[KnownLink]) -> Result<(), Memory>
+    ensures { OnOk result (needs.new ≡ needs.old ++ flat_map (link_needs links.now) links.now) }
+{
+    for link in links {
+        add_link(alloc, needs, links, link)?;
+    }
+    Ok(())
+}
+
+// Adds what is needed of the base's paths and links.
+fn add_base(alloc: Global, needs: &mut List<Need>, base: &Base) -> Result<(), Memory>
+    ensures { OnOk result (needs.new ≡ needs.old
+        ++ (map known_need base.now.known ++ flat_map (link_needs base.now.links) base.now.links)) }
+{
+    add_known(alloc, needs, base.known.as_slice())?;
+    add_links(alloc, needs, base.links.as_slice())
+}
+
+// Adds what an entry needs to be placed, if it is a configuration file.
+fn add_kept(
+    alloc: Global,
+    needs: &mut List<Need>,
+    links: &[KnownLink],
+    entry: &Entry,
+) -> Result<(), Memory>
+    ensures { OnOk result (needs.new ≡ needs.old ++ kept_needs links.now entry.now) }
+{
+    if !entry.kind().is_conf() {
+        return Ok(());
+    }
+    add_entry(alloc, needs, Asked::Placed, links, entry)
+}
+
+// Adds what the configuration files among these entries need to be placed.
+fn add_kept_entries(
+    alloc: Global,
+    needs: &mut List<Need>,
+    links: &[KnownLink],
+    entries: &[Entry],
+) -> Result<(), Memory>
+    ensures { OnOk result (needs.new ≡ needs.old ++ flat_map (kept_needs links.now) entries.now) }
+{
+    for entry in entries {
+        add_kept(alloc, needs, links, entry)?;
     }
     Ok(())
 }
@@ -132,16 +229,17 @@ fn add_before(
     alloc: Global,
     needs: &mut List<Need>,
     before: Before,
+    links: &[KnownLink],
     new: &[Entry],
     old: &[Entry],
 ) -> Result<(), Memory>
-    ensures { OnOk result (needs.new ≡ needs.old ++ needs_before before new.now old.now) }
+    ensures { OnOk result (needs.new ≡ needs.old ++ needs_before before links.now new.now old.now) }
 {
     match before {
         Before::NotInstalled => Ok(()),
-        Before::ConfigFiles => add_entries(alloc, needs, Asked::KeptConf, new),
-        Before::Installed => add_entries(alloc, needs, Asked::Placed, new),
-        Before::OldInstalled => add_entries(alloc, needs, Asked::Placed, old),
+        Before::ConfigFiles => add_kept_entries(alloc, needs, links, new),
+        Before::Installed => add_entries(alloc, needs, Asked::Placed, links, new),
+        Before::OldInstalled => add_entries(alloc, needs, Asked::Placed, links, old),
     }
 }
 
@@ -151,15 +249,16 @@ fn add_fit(
     needs: &mut List<Need>,
     which: NewEntries,
     listed: &PathSet,
+    links: &[KnownLink],
     entry: &Entry,
 ) -> Result<(), Memory>
-    ensures { OnOk result (needs.new ≡ needs.old ++ fit_needs which (has listed.now) entry.now) }
+    ensures { OnOk result (needs.new ≡ needs.old ++ fit_needs which (has listed.now) links.now entry.now) }
 {
     let has_to = is_one_of(alloc, which, listed, entry)?;
     if !has_to {
         return Ok(());
     }
-    add_entry(alloc, needs, Asked::Fit, entry)
+    add_entry(alloc, needs, Asked::Fit, links, entry)
 }
 
 // Adds what the new package's entries need to fit, where the base says `fits`.
@@ -167,176 +266,21 @@ fn add_fits(
     alloc: Global,
     needs: &mut List<Need>,
     which: NewEntries,
-    fits: bool,
-    new: &[Entry],
-    old: &[Entry],
-) -> Result<(), Memory>
-    ensures { OnOk result (needs.new ≡ needs.old ++ needs_to_fit which fits new.now old.now) }
-{
-    if !fits {
-        return Ok(());
-    }
-    let listed = paths_of(alloc, Which::All, old)?;
-    for entry in new {
-        add_fit(alloc, needs, which, &listed, entry)?;
-    }
-    Ok(())
-}
-
-// The entries of the package that `own` speaks of.
-fn owner<'a>(own: OwnFolders, new: &'a [Entry], old: &'a [Entry]) -> &'a [Entry]
-    ensures { result.now ≡ owner own new.now old.now }
-{
-    match own {
-        OwnFolders::Dropped => old,
-        OwnFolders::NoFolder | OwnFolders::Standing | OwnFolders::Left => new,
-    }
-}
-
-// Whether an entry is a folder, and no directory of the base.
-fn is_owned_folder(alloc: Global, based: &PathSet, entry: &Entry) -> Result<bool, Memory>
-    ensures { IfOk result (λ answer. answer ≡ is_owned_folder (has based.now) entry.now) }
-{
-    if !entry.kind().is_folder() {
-        return Ok(false);
-    }
-    let is_based = has_entry(alloc, based, entry)?;
-    Ok(!is_based)
-}
-
-// Whether `own` speaks of an entry, from the directories of the base and the paths that the new package lists.
-fn is_to_own(
-    alloc: Global,
-    own: OwnFolders,
-    based: &PathSet,
-    listed: &PathSet,
-    entry: &Entry,
-) -> Result<bool, Memory>
-    ensures { IfOk result (λ answer. answer ≡ is_to_own own (has based.now) (has listed.now) entry.now) }
-{
-    match own {
-        OwnFolders::NoFolder => Ok(false),
-        OwnFolders::Dropped => {
-            let is_folder = is_owned_folder(alloc, based, entry)?;
-            let is_listed = has_entry(alloc, listed, entry)?;
-            Ok(is_folder & !is_listed)
-        }
-        OwnFolders::Standing | OwnFolders::Left => is_owned_folder(alloc, based, entry),
-    }
-}
-
-// The kinds that may stand where a folder is that holds no foreign entry, if any are asked for.
-fn kinds_owned(own: OwnFolders) -> Option<Kinds>
-    ensures { result ≡ kinds_owned own }
-{
-    match own {
-        OwnFolders::Left => Some(absent_or(Kind::Dir)),
-        OwnFolders::NoFolder | OwnFolders::Dropped | OwnFolders::Standing => None,
-    }
-}
-
-// Adds the need of these kinds at the path of an entry, where there are some.
-fn add_kinds(
-    alloc: Global,
-    needs: &mut List<Need>,
-    kinds: Option<Kinds>,
-    entry: &Entry,
-) -> Result<(), Memory>
-    ensures { OnOk result (needs.new ≡ needs.old ++ needed_at entry.now.names kinds) }
-{
-    match kinds {
-        None => Ok(()),
-        Some(kinds) => add_need(alloc, needs, entry.path(), kinds),
-    }
-}
-
-// Adds what a folder needs that holds no entry under another name than these.
-fn add_folder(
-    alloc: Global,
-    needs: &mut List<Need>,
-    own: OwnFolders,
-    names: List<Name>,
-    folder: &Entry,
-) -> Result<(), Memory>
-    ensures { OnOk result (needs.new ≡ needs.old
-        ++ (needed_at folder.now.names (kinds_owned own) ++ names_needed folder.now.names names)) }
-{
-    add_kinds(alloc, needs, kinds_owned(own), folder)?;
-    let path = folder.path().copy(alloc)?;
-    needs.add(Need {
-        path,
-        wanted: Wanted::Names(names),
-    })
-}
-
-// What `own` goes by: the directories of the base, the paths that the new package lists, and the names below each path.
-#[derive(Drop)]
-pub struct Owning {
-    based: PathSet,
-    listed: PathSet,
-    names: FolderNames,
-}
-
-// Adds what an entry needs by `own`, if it speaks of it.
-fn add_own(
-    alloc: Global,
-    needs: &mut List<Need>,
-    own: OwnFolders,
-    owning: &Owning,
-    entry: &Entry,
-) -> Result<(), Memory>
-    ensures { let by = owning.now in OnOk result (needs.new
-        ≡ needs.old ++ own_needs own (has by.based) (has by.listed) (names_at by.names) entry.now) }
-{
-    let is_owned = is_to_own(alloc, own, &owning.based, &owning.listed, entry)?;
-    if !is_owned {
-        return Ok(());
-    }
-    let names = owning.names.below(entry)?;
-    add_folder(alloc, needs, own, names, entry)
-}
-
-// Adds what these entries need by `own`.
-fn add_own_entries(
-    alloc: Global,
-    needs: &mut List<Need>,
-    own: OwnFolders,
-    owning: &Owning,
-    entries: &[Entry],
-) -> Result<(), Memory>
-    ensures { let by = owning.now in OnOk result (needs.new ≡ needs.old
-        ++ flat_map (own_needs own (has by.based) (has by.listed) (names_at by.names)) entries.now) }
-{
-    for entry in entries {
-        add_own(alloc, needs, own, owning, entry)?;
-    }
-    Ok(())
-}
-
-// Adds what the package's folders need to hold no foreign entry, where the base says `own`.
-fn add_owns(
-    alloc: Global,
-    needs: &mut List<Need>,
-    own: OwnFolders,
     base: &Base,
     new: &[Entry],
     old: &[Entry],
 ) -> Result<(), Memory>
-    ensures { OnOk result (needs.new ≡ needs.old ++ needs_to_own own base.now new.now old.now) }
+    ensures { OnOk result (needs.new ≡ needs.old ++ needs_to_fit which base.now new.now old.now) }
 {
-    if !base.own {
+    if !base.fits {
         return Ok(());
     }
-    let entries = owner(own, new, old);
-    let based = base_paths(alloc, base)?;
-    let listed = paths_of(alloc, Which::All, new)?;
-    let names = FolderNames::of(alloc, entries)?;
-    let owning = Owning {
-        based,
-        listed,
-        names,
-    };
-    add_own_entries(alloc, needs, own, &owning, entries)
+    let listed = paths_of(alloc, Which::All, old)?;
+    let links = base.links.as_slice();
+    for entry in new {
+        add_fit(alloc, needs, which, &listed, links, entry)?;
+    }
+    Ok(())
 }
 
 /// What is needed of a tree that a scenario may begin from, a need for each path that something is known of. The trees
@@ -353,9 +297,17 @@ pub fn needs_of(
     let old = old_package(packages).entries.as_slice();
     let columns = columns_of(scenario);
     let mut needs = List::new(alloc);
-    add_known(alloc, &mut needs, base.known.as_slice())?;
-    add_before(alloc, &mut needs, columns.before, new, old)?;
-    add_fits(alloc, &mut needs, columns.fits, base.fits, new, old)?;
+    add_base(alloc, &mut needs, base)?;
+    add_before(
+        alloc,
+        &mut needs,
+        columns.before,
+        base.links.as_slice(),
+        new,
+        old,
+    )?;
+    add_fits(alloc, &mut needs, columns.fits, base, new, old)?;
     add_owns(alloc, &mut needs, columns.own, base, new, old)?;
+    add_gone(alloc, &mut needs, columns.own, base, new)?;
     Ok(needs)
 }

@@ -5,7 +5,7 @@ ghost use Rattle.utility_calls.specs.Acts.{IsPerformed};
 ghost use Rattle.scenario_runs.specs.Acts.{HasName};
 ghost use Rattle.system_base.specs.Bases.{is_base};
 ghost use Rattle.package_jobs.specs.FileActs.{unpacked, folder_gone, removed};
-ghost use Rattle.package_jobs.specs.FileActs.{removed_old, conf_gone, dir_gone, acts_of};
+ghost use Rattle.package_jobs.specs.FileActs.{removed_old, conf_gone, dir_gone, acts_of, IsOfPackage};
 ghost use Rattle.package_lists.specs.Paths.{path_text as path_text_of};
 ghost use Rattle.package_lists.specs.PathSets.{has};
 
@@ -19,7 +19,8 @@ use system_base::Base;
 use utility_calls::acts::Act;
 
 /// The acts of a step of a scenario that places or takes away files, in order, from the entries of the new and of the
-/// old package and from the base, of which `kept` has the directories (Debian Policy, 6.6 and 6.8). Entries are placed
+/// old package and from the base, of which `kept` has the directories (Debian Policy, 6.6 and 6.8); their paths are
+/// those that are listed, and no known link is followed. Entries are placed
 /// in the order of the list, and taken away from the last one to the first; a directory of the base is not taken away.
 /// A step that calls a script has no acts, nor has one that puts back what was placed. Each act can be done on every
 /// tree, and its path has a name; there are at most two for each entry.
@@ -36,6 +37,7 @@ pub fn file_acts(
     ensures acts { IfOk result (λ acts. acts ≡ acts_of scenario work new.now old.now base.now) }
     ensures performed { IfOk result (λ acts. All IsPerformed acts) }
     ensures named { IfOk result (λ acts. All HasName acts) }
+    ensures of_package { IfOk result (λ acts. All IsOfPackage acts) }
     ensures few { IfOk result (λ acts. length acts ≤ 2 * (length new.now + length old.now)) }
 {
     entries_are_named(new.as_slice());

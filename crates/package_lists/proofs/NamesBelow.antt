@@ -1,10 +1,10 @@
 -- The names below folders after one more, and after some were taken out.
-use Rattle.std.proofs.Common.{◌≡◌, ℕ, zero, suc, ◌+◌, false, List, [], ◌∷◌, ◌++◌, length, drop, get_or, Vec, Option, Some, sym, ap, subst, ◌∙◌, arith}
+use Rattle.std.proofs.Common.{◌≡◌, ℕ, false, List, [], ◌∷◌, Vec, Option, Some, ap, subst, ◌∙◌}
 use Rattle.std.specs.Prelude.{if◌then◌else◌}
 use Rattle.std.specs.BTreeMap.{BTreeMap, UpdatesBy, get_by}
 use Rattle.std.specs.Map.{KeepsOthers}
 use Rattle.std.specs.Str.{bytes_eq}
-use Rattle.std.proofs.lemmas.List.{append-nil}
+use Rattle.package_lists.specs.Below.{with_name, with_names}
 use Rattle.package_lists.specs.FolderNames.{or_none}
 use Rattle.script_names.proofs.TextSets.{texts, key_cmp, is_key, same_key, apart, by_text}
 
@@ -21,16 +21,9 @@ module _ {A : Type 0} where
   -- one more name below a path
   pub adds_name : (m mid n : BTreeMap (Vec ℕ A) (List (List ℕ))) (path : List ℕ) (name : List ℕ)
       → ((q : List ℕ) → bytes_eq path q ≡ false → kept mid q ≡ kept m q)
-      → UpdatesBy key_cmp (λ k. texts path k.items) mid n (Some (kept m path ++ name ∷ []))
-      → (q : List ℕ) → kept n q ≡ kept m q ++ (if bytes_eq path q then name ∷ [] else [])
+      → UpdatesBy key_cmp (λ k. texts path k.items) mid n (Some (with_name (kept m path) name))
+      → (q : List ℕ) → kept n q ≡ with_names (kept m q) (if bytes_eq path q then name ∷ [] else [])
   adds_name m mid n path name first second q =
-      by_text path q (λ b. kept n q ≡ kept m q ++ (if b then name ∷ [] else []))
-      (λ same. subst (λ x. kept n x ≡ kept m x ++ name ∷ []) same (ap or_none second.1))
-      (λ other. others mid n path q _ second other ∙ first q other ∙ sym (append-nil (kept m q)))
-
--- the last of names, by its place
-pub last_at : (names : List (List ℕ)) (k : ℕ) (x : List ℕ) → length names ≡ k + 1 → x ≡ get_or names k x → drop k names ≡ x ∷ []
-last_at [] k x e is = absurd (omega (arith, e))
-last_at (n ∷ []) zero x e is = ap (λ (y : List ℕ). y ∷ []) (sym is)
-last_at (n ∷ m ∷ ns) zero x e is = absurd (omega (arith, e))
-last_at (n ∷ ns) (suc k) x e is = last_at ns k x (omega (arith, e)) is
+      by_text path q (λ b. kept n q ≡ with_names (kept m q) (if b then name ∷ [] else []))
+      (λ same. subst (λ x. kept n x ≡ with_name (kept m x) name) same (ap or_none second.1))
+      (λ other. others mid n path q _ second other ∙ first q other)

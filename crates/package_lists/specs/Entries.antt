@@ -1,7 +1,6 @@
 -- What a package lists: a path and what is to stand there.
-use Rattle.std.specs.Prelude.{ℕ, ◌<◌, ◌-◌, Bool, true, false, ◌&&◌, List, [], length, take, drop, Option, Some, None}
-use Rattle.std.specs.Prelude.{if◌then◌else◌}
-use Rattle.std.specs.List.{flat_map, list_any}
+use Rattle.std.specs.Prelude.{ℕ, ◌<◌, Bool, true, false, ◌&&◌, List, length, Option, Some, None}
+use Rattle.std.specs.List.{list_any}
 use Rattle.std.specs.Str.{bytes_eq}
 use Rattle.package_lists.specs.declared.kind.EntryKind.{EntryKind}
 use Rattle.package_lists.specs.declared.kind.EntryKind.TheVariants.{Folder, File, Conf, LinkTo}
@@ -61,22 +60,6 @@ is_such_at such path entry = such entry.kind && is_at path entry
 abbrev pub is_below : List ℕ → EntryParts → Bool
 is_below path entry = list_any (λ folder. bytes_eq folder path) (folders entry.names)
 
--- the names on the way to an entry, all but its last
-abbrev pub front : List (List ℕ) → List (List ℕ)
-front names = take (length names - 1) names
-
--- the last of names, where there is one
-abbrev pub last : List (List ℕ) → List (List ℕ)
-last names = drop (length names - 1) names
-
--- the last name of an entry that stands directly below a path
-abbrev pub name_below : List ℕ → EntryParts → List (List ℕ)
-name_below path entry = if bytes_eq (path_text (front entry.names)) path then last entry.names else []
-
--- the last names of the entries that stand directly below a path
-abbrev pub names_below : List EntryParts → List ℕ → List (List ℕ)
-names_below entries path = flat_map (name_below path) entries
-
 -- whether there is such an entry at a path
 abbrev pub has_at : (EntryKind → Bool) → List EntryParts → List ℕ → Bool
 has_at such entries path = list_any (is_such_at such path) entries
@@ -84,3 +67,11 @@ has_at such entries path = list_any (is_such_at such path) entries
 -- whether there is an entry below a path
 abbrev pub has_below : List EntryParts → List ℕ → Bool
 has_below entries path = list_any (is_below path) entries
+
+-- whether an entry is a configuration file below a path
+abbrev pub is_conf_below : List ℕ → EntryParts → Bool
+is_conf_below path entry = is_conf entry.kind && is_below path entry
+
+-- whether there is a configuration file below a path
+abbrev pub has_conf_below : List EntryParts → List ℕ → Bool
+has_conf_below entries path = list_any (is_conf_below path) entries

@@ -1,6 +1,7 @@
 pub mod Paths
 pub mod Laws
 pub mod Entries
+pub mod Below
 pub mod PathSets
 pub mod FolderNames
 pub mod EntrySets

@@ -1,6 +1,6 @@
 -- A path in a package's files, `/` and its names joined by `/`, and the folders on the way to it.
-use Rattle.std.specs.Prelude.{ℕ, zero, suc, ◌-◌, Bool, false, ◌&&◌, ◌==◌, nat_lt, nat_le, List, [], ◌∷◌, ◌++◌, length}
-use Rattle.std.specs.Prelude.{take, Option, Some, None, if◌then◌else◌}
+use Rattle.std.specs.Prelude.{ℕ, zero, suc, ◌-◌, Bool, false, ◌&&◌, ◌||◌, ◌==◌, nat_lt, nat_le, List, [], ◌∷◌, ◌++◌}
+use Rattle.std.specs.Prelude.{length, map, take, Option, Some, None, if◌then◌else◌}
 use Rattle.std.specs.List.{flat_map, list_all, list_any}
 use Rattle.std.specs.Option.{option_map}
 use Rattle.std.specs.Str.{bytes_eq}
@@ -48,3 +48,11 @@ Paths = List ℕ → Bool
 -- whether a path is among others
 abbrev pub is_among : List (List ℕ) → Paths
 is_among paths path = list_any (λ other. bytes_eq other path) paths
+
+-- these paths, as they are written
+abbrev pub path_texts : List PathParts → List (List ℕ)
+path_texts paths = map (λ path. path_text path.names) paths
+
+-- whether a path is one of these or lies below one, name by name: the root, a folder on the way to it, or itself is one
+abbrev pub is_within : Paths → List (List ℕ) → Bool
+is_within paths names = paths (path_text []) || (list_any paths (folders names) || paths (path_text names))

@@ -1,15 +1,15 @@
 // The paths of a package's entries of some kind.
 ghost use Rattle.std.specs.Prelude.{◌≡◌, ◌&&◌, ◌||◌, ℕ, List as ListOf, true, IfOk, OnOk};
 ghost use Rattle.std.specs.Str.{bytes_eq};
-ghost use Rattle.package_lists.specs.Entries.{has_at, is_file};
+ghost use Rattle.package_lists.specs.Entries.{has_at, has_conf_below, is_conf_below, is_file};
 ghost use Rattle.package_lists.specs.EntrySets.{is_which, is_one_of};
 ghost use Rattle.package_lists.specs.Paths.{path_text as path_text_of};
 ghost use Rattle.package_lists.specs.PathSets.{has};
 
 use crate::entry::Entry;
 use crate::kind::EntryKind;
-use crate::path_set::PathSet;
-use crate::paths::path_text;
+use crate::path_set::{PathSet, add_each};
+use crate::paths::{folders, path_text};
 use dpkg_scenarios::NewEntries;
 use script_names::Memory;
 use std::alloc::Global;
@@ -70,6 +70,28 @@ pub fn has_entry(alloc: Global, set: &PathSet, entry: &Entry) -> Result<bool, Me
     let path = path_text(alloc, entry.path().names())?;
     let answer = set.has(path.as_slice());
     Ok(answer)
+}
+
+/// The paths that have a configuration file below them.
+pub fn conf_folders(alloc: Global, entries: &[Entry]) -> Result<PathSet, Memory>
+    ensures { IfOk result (λ set. (path : ListOf ℕ) → has set path ≡ has_conf_below entries.now path) }
+{
+    let mut set = PathSet::new(alloc);
+    for entry in entries {
+        add_above_conf(alloc, &mut set, entry)?;
+    }
+    Ok(set)
+}
+
+// Adds the folders on the way to an entry, if that is a configuration file.
+fn add_above_conf(alloc: Global, set: &mut PathSet, entry: &Entry) -> Result<(), Memory>
+    ensures { OnOk result ((path : ListOf ℕ) → has set.new path ≡ (is_conf_below path entry.now || has set.old path)) }
+{
+    if !entry.kind().is_conf() {
+        return Ok(());
+    }
+    let above = folders(alloc, entry.path().names())?;
+    add_each(set, above.as_slice())
 }
 
 // Whether an entry is a file whose path is in a set.

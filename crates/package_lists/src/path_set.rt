@@ -1,9 +1,11 @@
-ghost use Rattle.std.specs.Prelude.{◌≡◌, ◌||◌, ℕ, List as ListOf, false, OnOk, OnErr};
+ghost use Rattle.std.specs.Prelude.{◌≡◌, ◌||◌, ℕ, List as ListOf, false, IfOk, OnOk, OnErr};
 ghost use Rattle.std.specs.List.{list_any};
 ghost use Rattle.std.specs.Str.{bytes_eq};
+ghost use Rattle.package_lists.specs.Paths.{is_among, is_within, path_texts};
 ghost use Rattle.package_lists.specs.PathSets.{has};
 
-use script_names::{Bytes, Memory};
+use crate::paths::{folders, path_text};
+use script_names::{Bytes, Memory, Name, Path};
 use std::alloc::Global;
 use std::collections::BTreeSet;
 
@@ -23,6 +25,18 @@ impl PathSet {
             alloc,
             paths: BTreeSet::new(alloc),
         }
+    }
+
+    /// These paths.
+    pub fn of(alloc: Global, paths: &[Path]) -> Result<PathSet, Memory>
+        ensures { IfOk result (λ set. (path : ListOf ℕ) → has set path ≡ is_among (path_texts paths.now) path) }
+    {
+        let mut set = PathSet::new(alloc);
+        for path in paths {
+            let text = path_text(alloc, path.names())?;
+            set.add(text.as_slice())?;
+        }
+        Ok(set)
     }
 
     /// Whether a path is in the set.
@@ -65,4 +79,16 @@ pub fn has_any(set: &PathSet, paths: &[Bytes]) -> bool
         }
     }
     false
+}
+
+/// Whether the path of these names is in a set, or lies below one that is.
+pub fn is_within(alloc: Global, set: &PathSet, names: &[Name]) -> Result<bool, Memory>
+    ensures { IfOk result (λ answer. answer ≡ is_within (has set.now) names.now) }
+{
+    let of_root = set.has(b"".as_slice());
+    let above = folders(alloc, names)?;
+    let of_folder = has_any(set, above.as_slice());
+    let text = path_text(alloc, names)?;
+    let of_path = set.has(text.as_slice());
+    Ok(of_root || of_folder || of_path)
 }

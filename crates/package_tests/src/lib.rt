@@ -3,6 +3,10 @@
 #![tactic(auto)]
 
 #[cfg(test)]
+mod bases;
+#[cfg(test)]
 mod lists;
+#[cfg(test)]
+mod told_bases;
 #[cfg(test)]
 mod walks;

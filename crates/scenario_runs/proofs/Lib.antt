@@ -1,6 +1,6 @@
 mod Lines
 mod Walking
 mod Taking
-mod Backwards
+mod Undoing
 mod Deciding
 pub mod Turning

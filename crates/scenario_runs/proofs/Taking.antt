@@ -24,14 +24,14 @@ use Rattle.scenario_runs.proofs.Walking.{Comes, goes_on, ends}
 pub script_works : (plan : Plan) (n : ℕ) (c : Course) (side : Side) (script : ScriptKind) (r : Result Worked Memory) (what : StepWork)
     → work_of plan.scenario n ≡ Some what → what ≡ work.Script side script
     → ((words : List (List ℕ)) → words_of plan.scenario n plan.old_version plan.new_version ≡ Some words
-    → IfOk r (λ worked. worked ≡ call_script n side script words (plan.scripts side script) c))
+    → IfOk r (λ worked. worked ≡ call_script plan.premises n side script words (plan.scripts side script) c))
     → IfOk r (λ worked. Works plan n c worked)
 script_works plan n c side script r what told is calls =
     let t : IsTold (λ step. step.work) (line plan.scenario n) what = is_told (λ step. step.work) (line plan.scenario n) what told in
     let words : List (List ℕ) = words_in plan t.step in
     let spoken : words_of plan.scenario n plan.old_version plan.new_version ≡ Some words =
     ap (option_map (λ step. step.words plan.old_version plan.new_version)) t.is_line in
-    IfOk-weaker r (λ worked. worked ≡ call_script n side script words (plan.scripts side script) c) (λ worked. Works plan n c worked)
+    IfOk-weaker r (λ worked. worked ≡ call_script plan.premises n side script words (plan.scripts side script) c) (λ worked. Works plan n c worked)
     (λ worked e. record {
       step = t.step;
       is_line = t.is_line;

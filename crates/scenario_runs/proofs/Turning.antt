@@ -6,6 +6,7 @@ use Rattle.utility_calls.specs.declared.acts.Act.{Act}
 use Rattle.utility_calls.specs.declared.backs.Back.{Back}
 use Rattle.utility_calls.specs.Acts.{row}
 use Rattle.utility_calls.specs.Backs.{back_row}
+use Rattle.shell_rules.specs.declared.premises.Premises.{Premises}
 use Rattle.shell_rules.specs.declared.state.Conc.{Conc}
 use Rattle.shell_rules.specs.declared.run.End.{End}
 use Rattle.shell_rules.specs.declared.run.End.TheVariants as end
@@ -110,25 +111,26 @@ call_told : (n : ℕ) (side : Side) (script : ScriptKind) (words : List (List �
 call_told n side script words c e more (inl b) = inl (bound_script e.end b)
 call_told n side script words c e more (inr is) = inr (ap (called side script words (course_more n c)) is)
 
-call_more : (n k : ℕ) (side : Side) (script : ScriptKind) (words : List (List ℕ)) (o : Option Meaning) (c : Course)
+call_more : (n : ℕ) (premises : Premises) (k : ℕ) (side : Side) (script : ScriptKind) (words : List (List ℕ)) (o : Option Meaning) (c : Course)
     → ((meaning : Meaning) → o ≡ Some meaning → IsSameWithMore meaning)
-    → SameWork n (call_script k side script words o c) (call_script k side script words o (course_more n c))
-call_more n k side script words None c same = inr refl
-call_more n k side script words (Some meaning) c same =
-    let shell : Conc = begun_shell script words meaning.strict c.turns in
-    let more : Conc = begun_shell script words meaning.strict (c.turns + n) in
+    → SameWork n (call_script premises k side script words o c) (call_script premises k side script words o (course_more n c))
+call_more n premises k side script words None c same = inr refl
+call_more n premises k side script words (Some meaning) c same =
+    let shell : Conc = begun_shell premises script words meaning.strict c.turns in
+    let more : Conc = begun_shell premises script words meaning.strict (c.turns + n) in
     call_told n side script words c (meaning.ends k shell c.tree c.trace) (meaning.ends k more c.tree c.trace)
     (same meaning refl n k shell c.tree c.trace)
 
 module _ (n : ℕ) (plan : Plan) (same : AreSameWithMore plan) where
   work_more : (k : ℕ) (what : StepWork) (words : List (List ℕ)) (c : Course)
       → SameWork n (do_work plan k what words c) (do_work (plan_with_more n plan) k what words (course_more n c))
-  work_more k (work.Script side script) words c = call_more n k side script words (plan.scripts side script) c (same side script)
+  work_more k (work.Script side script) words c =
+      call_more n plan.premises k side script words (plan.scripts side script) c (same side script)
   work_more k work.Unpack words c = inr (ap (counted (length plan.files.unpack)) (files_more n true k 0 plan.files.unpack (keeping_tree c)))
   work_more k work.RemoveFiles words c = inr (files_more n false k 0 plan.files.remove_files c)
   work_more k work.RemoveOld words c = inr (files_more n false k 0 plan.files.remove_old c)
   work_more k work.RemoveConf words c = inr (files_more n false k 0 plan.files.remove_conf c)
-  work_more k work.Restore words c = inr (backs_more n k 0 (restored plan.files.unpack c.unpacked) c)
+  work_more k work.Restore words c = inr (backs_more n k 0 (restored plan.files.backs c.unpacked) c)
 
   step_told : (step : Step) (w more : Worked) → SameWork n w more
       → SameReached n (followed plan.plain step w) (followed plan.plain step more)

@@ -15,6 +15,7 @@ use Rattle.utility_calls.specs.Decisions.{mark_at}
 use Rattle.utility_calls.specs.Walks.{Walk, Ends, Acts, PutsBack, Keeping, Walked, AllDone, then_walk, walk_of}
 use Rattle.utility_calls.specs.Walks.{back_mark, after_act, after_back, after_keep}
 use Rattle.utility_calls.proofs.Walking.{then_done, walks_follow, decisions_done, decisions_walk}
+use Rattle.shell_rules.specs.declared.premises.Premises.{Premises}
 use Rattle.shell_rules.specs.declared.state.Conc.{Conc}
 use Rattle.shell_rules.specs.declared.run.End.{End}
 use Rattle.colis_syntax.specs.WellFormed.{ProgramParts}
@@ -37,7 +38,6 @@ use Rattle.scenario_runs.specs.declared.course.WorkEnd.{WorkEnd}
 use Rattle.scenario_runs.specs.declared.course.WorkEnd.TheVariants.{Succeeded}
 use Rattle.scenario_runs.specs.declared.course.Worked.{Worked}
 use Rattle.scenario_runs.specs.declared.course.Reached.{Reached}
-use Rattle.scenario_runs.specs.Acts.{HasName}
 use Rattle.scenario_runs.specs.Runs as r
 use Rattle.scenario_runs.specs.Performed.{ArePerformed}
 use Rattle.scenario_runs.specs.Playing.{Came, course_at, came, made, Plays, knows, handle}
@@ -126,9 +126,9 @@ module _ (calls : List ScriptCall) (turns unpacked : ℕ) where
       (r.counted (length acts)) (kept_play n acts performed)
       (λ v. knows worked (record v { unpacked = r.done_by (length acts) v.value }))
 
-  restore_plays : (n : ℕ) (acts : List Act) → All HasName acts
-      → Plays worked (λ w trace deeds. r.restore n acts (course_at calls turns unpacked w trace deeds))
-  restore_plays n acts named = backs_play n 0 (r.restored acts unpacked) (restored_named acts unpacked named)
+  restore_plays : (n : ℕ) (backs : List Back) → All IsNamed backs
+      → Plays worked (λ w trace deeds. r.restore n backs (course_at calls turns unpacked w trace deeds))
+  restore_plays n backs named = backs_play n 0 (r.restored backs unpacked) (restored_named backs unpacked named)
 
 -- ---- scripts
 
@@ -138,13 +138,13 @@ after side script words calls unpacked v =
     let call : ScriptCall = record { side = side; script = script; words = words; how = r.call_end v.0 } in
     record { value = r.script_end v.0; calls = calls ++ call ∷ []; turns = v.1.turns; unpacked = unpacked }
 
-module _ (n : ℕ) (side : Side) (script : ScriptKind) (words : List (List ℕ)) (calls : List ScriptCall)
-    (turns unpacked : ℕ) where
+module _ (premises : Premises) (n : ℕ) (side : Side) (script : ScriptKind) (words : List (List ℕ))
+    (calls : List ScriptCall) (turns unpacked : ℕ) where
   program_plays : (program : ProgramParts)
-      → Plays worked (λ w trace deeds. r.call_script n side script words (Some (r.program_meaning program))
+      → Plays worked (λ w trace deeds. r.call_script premises n side script words (Some (r.program_meaning program))
       (course_at calls turns unpacked w trace deeds))
   program_plays program =
-      let shell : Conc = r.begun_shell script words program.strict turns in
+      let shell : Conc = r.begun_shell premises script words program.strict turns in
       let d : IsDecided program n shell = runs_decided program n shell in
       let next : End × Conc → Walk (Came WorkEnd) = λ v. Ends (after side script words calls unpacked v) in
       let over : Walked (End × Conc) → Worked =
@@ -159,7 +159,8 @@ module _ (n : ℕ) (side : Side) (script : ScriptKind) (words : List (List ℕ))
       }
 
   script_plays : (o : Option ProgramParts)
-      → Plays worked (λ w trace deeds. r.call_script n side script words (option_map r.program_meaning o)
+      → Plays worked
+      (λ w trace deeds. r.call_script premises n side script words (option_map r.program_meaning o)
       (course_at calls turns unpacked w trace deeds))
   script_plays None =
       knows worked (record { value = Succeeded; calls = calls; turns = turns; unpacked = unpacked })
@@ -172,7 +173,8 @@ module _ (job : Job) (files : ArePerformed job.files) where
       → Plays worked
       (λ w trace deeds. r.do_work (r.plan_of job) n what words (course_at calls turns unpacked w trace deeds))
   work_plays n (work.Script side script) words calls turns unpacked =
-      script_plays n side script words calls turns unpacked (script_of script (r.package_of job side).scripts)
+      script_plays job.premises n side script words calls turns unpacked
+      (script_of script (r.package_of job side).scripts)
   work_plays n work.Unpack words calls turns unpacked =
       unpack_plays calls turns unpacked n job.files.unpack files.unpack
   work_plays n work.RemoveFiles words calls turns unpacked =
@@ -182,7 +184,7 @@ module _ (job : Job) (files : ArePerformed job.files) where
   work_plays n work.RemoveConf words calls turns unpacked =
       files_play calls turns unpacked false n 0 job.files.remove_conf files.remove_conf
   work_plays n work.Restore words calls turns unpacked =
-      restore_plays calls turns unpacked n job.files.unpack files.named
+      restore_plays calls turns unpacked n job.files.backs files.named
 
   step_plays : (n : ℕ) (o : Option Step) (calls : List ScriptCall) (turns unpacked : ℕ)
       → Plays reached

@@ -13,9 +13,10 @@ use Rattle.utility_calls.specs.declared.acts.Act.{Act}
 use Rattle.utility_calls.specs.declared.backs.Back.{Back}
 use Rattle.utility_calls.specs.declared.deeds.Deed.TheVariants.{Does, Returns, Keeps}
 use Rattle.utility_calls.specs.Acts.{row, tree_after}
-use Rattle.utility_calls.specs.Backs.{back_of, back_row, back_after}
+use Rattle.utility_calls.specs.Backs.{back_row, back_after}
 use Rattle.utility_calls.specs.Decisions.{mark_at}
 use Rattle.utility_calls.specs.Walks.{world, back_mark}
+use Rattle.shell_rules.specs.declared.premises.Premises.{Premises}
 use Rattle.shell_rules.specs.declared.state.Conc.{Conc}
 use Rattle.shell_rules.specs.declared.run.End.{End}
 use Rattle.shell_rules.specs.declared.run.End.TheVariants as end
@@ -58,7 +59,7 @@ pub record Meaning : Type 0 where
 
 -- What the run of a scenario needs: the scenario, whether the new package has neither a configuration file nor a
 -- postrm, the versions of both packages, what each script of either package does, where it has that one, what is done
--- with files, and how many turns of loops the scripts have, together.
+-- with files, what is known of the system, and how many turns of loops the scripts have, together.
 pub record Plan : Type 0 where
   pub scenario : Scenario
   pub plain : Bool
@@ -66,20 +67,22 @@ pub record Plan : Type 0 where
   pub new_version : List ℕ
   pub scripts : Side → ScriptKind → Option Meaning
   pub files : Files
+  pub premises : Premises
   pub turns : ℕ
 
 -- ---- a step that calls a script
 
--- the shell in which a script is called: its name is the one variable, the words are the arguments, and as many turns
--- are left as the run has left
-abbrev pub begun_shell : ScriptKind → List (List ℕ) → Bool → ℕ → Conc
-begun_shell script words strict turns = record {
+-- the shell in which a script is called: its name is the one variable, the words are the arguments, the premises are
+-- those of the run, and as many turns are left as the run has left
+abbrev pub begun_shell : Premises → ScriptKind → List (List ℕ) → Bool → ℕ → Conc
+begun_shell premises script words strict turns = record {
   vars = env.insert env.empty (codes "DPKG_MAINTSCRIPT_NAME") (script_name script);
   args = words;
   strict = strict;
   status = true;
   captured = None;
   turns = turns;
+  premises = premises;
 }
 
 -- how the call of a script is told that ended so
@@ -109,10 +112,10 @@ called side script words c e =
     } in record { end = script_end e.end; course = course }
 
 -- a script is called in step n; a missing one is a success, and no call
-abbrev pub call_script : ℕ → Side → ScriptKind → List (List ℕ) → Option Meaning → Course → Worked
-call_script n side script words None c = record { end = Succeeded; course = c }
-call_script n side script words (Some meaning) c =
-    let shell : Conc = begun_shell script words meaning.strict c.turns in
+abbrev pub call_script : Premises → ℕ → Side → ScriptKind → List (List ℕ) → Option Meaning → Course → Worked
+call_script premises n side script words None c = record { end = Succeeded; course = c }
+call_script premises n side script words (Some meaning) c =
+    let shell : Conc = begun_shell premises script words meaning.strict c.turns in
     called side script words c (meaning.ends n shell c.tree c.trace)
 
 -- ---- a step that places files, or takes them away
@@ -186,24 +189,25 @@ do_backs n at (back ∷ backs) c =
     or_more (ended_behind false (site_at n at) (back_row back c.kept c.tree).answer) (returned (site_at n at) back c)
     (do_backs n (at + 1) backs)
 
--- what is put back where the first so many of these acts were done: from the last of them to the first
-abbrev pub restored : List Act → ℕ → List Back
-restored acts n = reverse (map back_of (take n acts))
+-- what is put back where so many acts of an unpacking were done that these undo: from the last of them to the first
+abbrev pub restored : List Back → ℕ → List Back
+restored backs n = reverse (take n backs)
 
--- step n puts back what was unpacked by these acts
-abbrev pub restore : ℕ → List Act → Course → Worked
-restore n acts c = do_backs n 0 (restored acts c.unpacked) c
+-- step n puts back what was unpacked, by what undoes each act of the unpacking
+abbrev pub restore : ℕ → List Back → Course → Worked
+restore n backs c = do_backs n 0 (restored backs c.unpacked) c
 
 -- ---- steps
 
 -- the work of step n, whose call has these words; of the steps on files, the one that places them can fail
 abbrev pub do_work : Plan → ℕ → StepWork → List (List ℕ) → Course → Worked
-do_work plan n (work.Script side script) words c = call_script n side script words (plan.scripts side script) c
+do_work plan n (work.Script side script) words c =
+    call_script plan.premises n side script words (plan.scripts side script) c
 do_work plan n work.Unpack words c = unpack n plan.files.unpack c
 do_work plan n work.RemoveFiles words c = do_files false n 0 plan.files.remove_files c
 do_work plan n work.RemoveOld words c = do_files false n 0 plan.files.remove_old c
 do_work plan n work.RemoveConf words c = do_files false n 0 plan.files.remove_conf c
-do_work plan n work.Restore words c = restore n plan.files.unpack c
+do_work plan n work.Restore words c = restore n plan.files.backs c
 
 -- the words of a step's call
 abbrev pub words_in : Plan → Step → List (List ℕ)
@@ -279,6 +283,7 @@ plan_of job = record {
   new_version = job.new_package.version;
   scripts = λ side script. option_map program_meaning (script_of script (package_of job side).scripts);
   files = job.files;
+  premises = job.premises;
   turns = job.turns;
 }
 

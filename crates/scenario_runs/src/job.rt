@@ -3,9 +3,11 @@ ghost use Rattle.scenario_runs.specs.Performed.{ArePerformed};
 ghost use Rattle.scenario_runs.specs.Runs.{package_of};
 
 use crate::file_acts::FileActs;
+use crate::file_backs::FileBacks;
 use colis_syntax::Program;
 use dpkg_scenarios::{Scenario, Scripts, Side};
-use script_names::{Bytes, Copied, Memory};
+use script_names::{Bytes, Common, Copied, Memory};
+use shell_rules::Premises;
 use std::alloc::Global;
 
 /// What the run of a scenario needs of a package: its version, which scripts are told, and its scripts as programs.
@@ -23,10 +25,12 @@ impl Copied for PackagePrograms {
     }
 }
 
-/// What is done with files in the steps of a scenario, for each work of a step that is no script.
+/// What is done with files in the steps of a scenario, for each work of a step that is no script: the acts, and for
+/// each act that unpacks what undoes it, in the same order.
 #[derive(Drop)]
 pub struct Files {
     pub unpack: FileActs,
+    pub backs: FileBacks,
     pub remove_files: FileActs,
     pub remove_old: FileActs,
     pub remove_conf: FileActs,
@@ -35,11 +39,13 @@ pub struct Files {
 impl Copied for Files {
     fn copy(&self, alloc: Global) -> Result<Files, Memory> {
         let unpack = self.unpack.copy(alloc)?;
+        let backs = self.backs.copy(alloc)?;
         let remove_files = self.remove_files.copy(alloc)?;
         let remove_old = self.remove_old.copy(alloc)?;
         let remove_conf = self.remove_conf.copy(alloc)?;
         Ok(Files {
             unpack,
+            backs,
             remove_files,
             remove_old,
             remove_conf,
@@ -48,7 +54,8 @@ impl Copied for Files {
 }
 
 /// What the run of a scenario needs: the scenario, whether the new package has neither a configuration file nor a
-/// postrm, both packages, what is done with files, and how many turns of loops its scripts have, together.
+/// postrm, both packages, what is done with files, what is known of the system, and how many turns of loops its scripts
+/// have, together.
 #[derive(Drop)]
 pub struct Job {
     pub scenario: Scenario,
@@ -56,6 +63,7 @@ pub struct Job {
     pub new_package: PackagePrograms,
     pub old_package: PackagePrograms,
     pub files: Files,
+    pub premises: Common<Premises>,
     pub turns: u32,
 }
 
@@ -64,12 +72,14 @@ impl Copied for Job {
         let new_package = self.new_package.copy(alloc)?;
         let old_package = self.old_package.copy(alloc)?;
         let files = self.files.copy(alloc)?;
+        let premises = self.premises.fork()?;
         Ok(Job {
             scenario: self.scenario,
             plain: self.plain,
             new_package,
             old_package,
             files,
+            premises,
             turns: self.turns,
         })
     }
@@ -86,11 +96,13 @@ impl Job {
         }
     }
 
-    /// Says of the acts on files that each can be done on every tree, and that what unpacks can be put back.
+    /// Says of the acts on files that each can be done on every tree, and that what undoes an unpacking has a path with
+    /// a name.
     pub fn acts_are_performed(&self)
         ensures { ArePerformed self.now.files }
     {
         let _unpack = self.files.unpack.as_slice();
+        let _backs = self.files.backs.as_slice();
         let _remove_files = self.files.remove_files.as_slice();
         let _remove_old = self.files.remove_old.as_slice();
         let _remove_conf = self.files.remove_conf.as_slice();

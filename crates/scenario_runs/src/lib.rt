@@ -7,6 +7,7 @@
 mod call;
 mod course;
 mod file_acts;
+mod file_backs;
 mod files;
 mod job;
 mod replayed;
@@ -19,6 +20,7 @@ pub mod theorems;
 pub use call::{CallEnd, ScriptCall};
 pub use course::{Course, Reached, WorkEnd, Worked};
 pub use file_acts::FileActs;
+pub use file_backs::FileBacks;
 pub use job::{Files, Job, PackagePrograms};
 pub use replayed::Replayed;
 pub use restoring::restored;

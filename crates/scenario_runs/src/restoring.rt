@@ -6,11 +6,11 @@ ghost use Rattle.scenario_runs.specs.Runs.{keeping_tree, done_by, unpack, restor
 
 use crate::course::{Course, WorkEnd, Worked};
 use crate::file_acts::FileActs;
+use crate::file_backs::FileBacks;
 use crate::files::{do_backs, do_files};
 use script_names::{Copied, List, Memory};
 use std::alloc::Global;
-use utility_calls::acts::Act;
-use utility_calls::backs::{Back, back_of};
+use utility_calls::backs::Back;
 use utility_calls::deeds::Deed;
 
 // Keeps the tree as it is.
@@ -51,32 +51,31 @@ pub(crate) fn unpack(
     Ok(Worked { end, course })
 }
 
-/// What is put back where the first so many of these acts were done, from the last of them to the first: each act as
-/// `back_of` has it.
-pub fn restored(alloc: Global, acts: &[Act], unpacked: u32) -> Result<List<Back>, Memory>
-    ensures { IfOk result (λ backs. backs ≡ restored acts.now unpacked) }
+/// What is put back where so many acts of an unpacking were done that these undo, from the last of them to the first.
+pub fn restored(alloc: Global, backs: &[Back], unpacked: u32) -> Result<List<Back>, Memory>
+    ensures { IfOk result (λ put. put ≡ restored backs.now unpacked) }
 {
-    let mut backs = List::new(alloc);
-    let count = (unpacked as usize).min(acts.len());
+    let mut put = List::new(alloc);
+    let count = (unpacked as usize).min(backs.len());
     let mut left = count;
     while left > 0 {
         left -= 1;
-        backs.add(back_of(alloc, &acts[left])?)?;
+        put.add(backs[left].copy(alloc)?)?;
     }
-    Ok(backs)
+    Ok(put)
 }
 
-/// Puts back in a step what was unpacked by these acts.
+/// Puts back in a step what was unpacked, by what undoes each act of the unpacking.
 pub(crate) fn restore(
     alloc: Global,
     step: u16,
-    acts: &FileActs,
+    backs: &FileBacks,
     course: Course,
 ) -> Result<Worked, Memory>
     requires { kind_of course.tree ≡ Dir }
-    ensures work { IfOk result (λ worked. worked ≡ restore step acts.now course) }
+    ensures work { IfOk result (λ worked. worked ≡ restore step backs.now course) }
     ensures dir { IfOk result (λ worked. kind_of worked.course.tree ≡ Dir) }
 {
-    let backs = restored(alloc, acts.as_slice(), course.unpacked)?;
-    do_backs(alloc, step, &backs, course)
+    let put = restored(alloc, backs.as_slice(), course.unpacked)?;
+    do_backs(alloc, step, &put, course)
 }

@@ -9,27 +9,29 @@ use crate::course::{Course, WorkEnd, Worked};
 use colis_interp::{Ran, run};
 use colis_syntax::Program;
 use dpkg_scenarios::{Ending, ScriptKind, Side, script_name};
-use script_names::{Bytes, Copied, List, Memory};
-use shell_rules::{Conc, End};
+use script_names::{Bytes, Common, Copied, List, Memory};
+use shell_rules::{Conc, End, Premises};
 use shell_words::Env;
 use std::alloc::Global;
 use utility_calls::acts::Act;
 use utility_calls::deeds::Deed;
 
-// The shell in which a script is called with these words.
+// The shell in which a script is called with these words, under these premises.
 fn begun_shell(
     alloc: Global,
+    premises: &Common<Premises>,
     script: ScriptKind,
     words: &List<Bytes>,
     strict: bool,
     turns: u32,
 ) -> Result<Conc, Memory>
-    ensures { IfOk result (λ shell. shell ≡ begun_shell script words.now strict turns) }
+    ensures { IfOk result (λ shell. shell ≡ begun_shell premises.now script words.now strict turns) }
 {
     let mut vars = Env::new(alloc);
     let name = Bytes::from_slice(alloc, script_name(script).as_bytes())?;
     vars.set(b"DPKG_MAINTSCRIPT_NAME", name)?;
     let args = words.copy(alloc)?;
+    let premises = premises.fork()?;
     Ok(Conc {
         vars,
         args,
@@ -37,6 +39,7 @@ fn begun_shell(
         status: true,
         captured: None,
         turns,
+        premises,
     })
 }
 
@@ -62,9 +65,10 @@ fn append(deeds: &mut List<Deed>, acts: List<Act>) -> Result<(), Memory>
     Ok(())
 }
 
-/// Calls a script of the old or of the new package with these words, in a step.
+/// Calls a script of the old or of the new package with these words, in a step, under these premises.
 pub(crate) fn call_script(
     alloc: Global,
+    premises: &Common<Premises>,
     step: u16,
     side: Side,
     script: ScriptKind,
@@ -74,7 +78,7 @@ pub(crate) fn call_script(
 ) -> Result<Worked, Memory>
     requires { kind_of course.tree ≡ Dir }
     ensures call { let meaning = program_meaning program.now in
-        IfOk result (λ worked. worked ≡ call_script step side script words (Some meaning) course) }
+        IfOk result (λ worked. worked ≡ call_script premises.now step side script words (Some meaning) course) }
     ensures dir { IfOk result (λ worked. kind_of worked.course.tree ≡ Dir) }
 {
     let Course {
@@ -86,7 +90,7 @@ pub(crate) fn call_script(
         turns,
         unpacked,
     } = course;
-    let mut shell = begun_shell(alloc, script, &words, program.strict(), turns)?;
+    let mut shell = begun_shell(alloc, premises, script, &words, program.strict(), turns)?;
     let Ran { end, acts } = run(alloc, program, step, &mut shell, &mut tree, &mut trace)?;
     append(&mut deeds, acts)?;
     calls.add(ScriptCall {

@@ -33,7 +33,7 @@ fn call_step(
         let n = job.now.new_package.version in
         let meaning = (plan_of job.now).scripts side script in
         words_of job.now.scenario step o n ≡ Some words
-        → IfOk result (λ worked. worked ≡ call_script step side script words meaning course) }
+        → IfOk result (λ worked. worked ≡ call_script job.now.premises step side script words meaning course) }
     ensures dir { IfOk result (λ worked. kind_of worked.course.tree ≡ Dir) }
 {
     match job.package(side).scripts.get(script) {
@@ -45,7 +45,8 @@ fn call_step(
             let before = &job.old_package.version;
             let now = &job.new_package.version;
             let words = call_words(alloc, job.scenario, step, before, now)?;
-            call_script(alloc, step, side, script, words, program, course)
+            let premises = &job.premises;
+            call_script(alloc, premises, step, side, script, words, program, course)
         }
     }
 }
@@ -63,7 +64,7 @@ fn do_work(alloc: Global, job: &Job, step: u16, course: Course) -> Result<Worked
         StepWork::RemoveFiles => do_files(alloc, false, step, &job.files.remove_files, course),
         StepWork::RemoveOld => do_files(alloc, false, step, &job.files.remove_old, course),
         StepWork::RemoveConf => do_files(alloc, false, step, &job.files.remove_conf, course),
-        StepWork::Restore => restore(alloc, step, &job.files.unpack, course),
+        StepWork::Restore => restore(alloc, step, &job.files.backs, course),
     }
 }
 

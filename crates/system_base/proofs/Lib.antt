@@ -1,1 +1,2 @@
 mod Usual
+mod Keeping

@@ -1,31 +1,44 @@
 -- What is known of the system on which a package is handled: the base, and the usual one.
-use Rattle.std.specs.Prelude.{ℕ, ◌+◌, Bool, true, false, not, ◌&&◌, ◌||◌, ◌==◌, nat_eq, List, [], ◌∷◌, ◌++◌, drop}
-use Rattle.std.specs.Prelude.{codes, Option, Some, None, Result, Ok, Err, if◌then◌else◌}
-use Rattle.std.specs.List.{starts_with, list_any}
+use Rattle.std.specs.Prelude.{ℕ, ◌+◌, Bool, true, false, not, ◌&&◌, ◌||◌, ◌==◌, nat_eq, List, [], ◌∷◌, ◌++◌}
+use Rattle.std.specs.Prelude.{take, drop, codes, Option, Some, None, Result, Ok, Err, if◌then◌else◌}
+use Rattle.std.specs.List.{starts_with, list_any, position}
+use Rattle.std.specs.Option.{option_map}
 use Rattle.std.specs.Str.{bytes_eq}
 use Rattle.script_names.specs.Ascii.{hash, space}
 use Rattle.script_names.specs.Paths.{PathParts}
-use Rattle.shown_texts.specs.Parts.{parts}
 use Rattle.feature_trees.specs.declared.kind.Kind.TheVariants.{Absent, Reg, Dir}
 use Rattle.feature_trees.specs.declared.kind.Kinds.{Kinds}
 use Rattle.feature_trees.specs.Kinds.{of, but}
 use Rattle.feature_trees.specs.TreeLines.{text_lines}
 use Rattle.utility_calls.specs.declared.stated_call.CallEnd.{CallEnd}
-use Rattle.utility_calls.specs.declared.stated_call.CallEnd.TheVariants.{Succeeds, Fails}
+use Rattle.utility_calls.specs.declared.stated_call.CallEnd.TheVariants.{Succeeds, Fails, Asks}
 use Rattle.utility_calls.specs.StatedCalls.{is_stated}
 use Rattle.utility_calls.specs.StatedNames.{can_be_stated}
+use Rattle.link_walks.specs.Links.{LinkParts, known_link}
+use Rattle.link_walks.specs.Reaching.{reach}
+use Rattle.link_walks.specs.declared.walks.Reached.{Reached}
+use Rattle.link_walks.specs.declared.walks.Reached.TheVariants.{At, Blocked}
 use Rattle.package_lists.specs.declared.fault.LineFault.{LineFault}
 use Rattle.package_lists.specs.declared.fault.LineFault.TheVariants.{Line}
 use Rattle.system_base.specs.declared.base.Base.{Base}
 use Rattle.system_base.specs.declared.base.KnownPath.{KnownPath}
 use Rattle.package_lists.specs.Faults.{and_then}
-use Rattle.package_lists.specs.Paths.{path_of, path_text, folders}
+use Rattle.package_lists.specs.Paths.{path_of, plain_path, path_text, folders}
 
 -- ---- what a line says
 
 -- nothing is known
 abbrev pub nothing_known : Base
-nothing_known = record { known = []; fits = false; own = false; calls = [] }
+nothing_known = record {
+  known = [];
+  links = [];
+  fits = false;
+  own = [];
+  calls = [];
+  runs = false;
+  removed = false;
+  versions = false;
+}
 
 -- a line that is passed over: an empty one, and one that begins with `#`
 abbrev pub is_passed : List ℕ → Bool
@@ -47,37 +60,93 @@ with_path_line n base line =
     else (if starts_with nat_eq line (codes "nodir ") then with_path n base (but Dir) (path_of (drop 6 line))
     else Err (Line n 1))))
 
--- how a call ends, by the word for it
+-- a text in two: what stands before its first space, and behind it
+abbrev pub Halves : Type 0
+Halves = List ℕ × List ℕ
+
+-- the halves of a text of which a space stands here
+abbrev pub halves_at : List ℕ → Option ℕ → Option Halves
+halves_at text None = None
+halves_at text (Some at) = Some (take at text, drop (at + 1) text)
+
+-- where the first space of a text stands
+abbrev pub first_space : List ℕ → Option ℕ
+first_space text = position (λ b. b == space) text
+
+-- the halves of a text, where it has a space
+abbrev pub halves : List ℕ → Option Halves
+halves text = halves_at text (first_space text)
+
+-- the base in which the package's folders at the path that line n names, and below it, hold nothing foreign; it is at
+-- fault where the line names none
+abbrev pub with_own : ℕ → Base → Option PathParts → Result Base LineFault
+with_own n base None = Err (Line n 1)
+with_own n base (Some path) = Ok (record base { own = base.own ++ path ∷ [] })
+
+-- the base with a known link that line n states; it is at fault where its target is none
+abbrev pub with_known_link : ℕ → Base → Option LinkParts → Result Base LineFault
+with_known_link n base None = Err (Line n 2)
+with_known_link n base (Some link) = Ok (record base { links = base.links ++ link ∷ [] })
+
+-- the base with the link from a path to a target, as line n states; it is at fault where there is no path
+abbrev pub with_link_to : ℕ → Base → Option PathParts → List ℕ → Result Base LineFault
+with_link_to n base None target = Err (Line n 1)
+with_link_to n base (Some path) target = with_known_link n base (known_link path target)
+
+-- the base with what stands behind `link` in line n: a path, and behind a space the target of the link there
+abbrev pub with_link : ℕ → Base → Option Halves → Result Base LineFault
+with_link n base None = Err (Line n 1)
+with_link n base (Some two) = with_link_to n base (path_of two.0) two.1
+
+-- how a call ends, as the words for it say: with success, with a failure, or as the question whether something stands
+-- at a path
 abbrev pub call_end : List ℕ → Option CallEnd
-call_end word =
-    if bytes_eq word (codes "ok") then Some Succeeds
-    else (if bytes_eq word (codes "fails") then Some Fails else None)
+call_end words =
+    if bytes_eq words (codes "ok") then Some Succeeds
+    else (if bytes_eq words (codes "fails") then Some Fails
+    else (if starts_with nat_eq words (codes "asks ") then option_map Asks (path_of (drop 5 words)) else None))
 
 -- the base in which the calls of a name end so, as line n states; it is at fault where there is no such end, where the
 -- name cannot be stated, and where the base states already how the calls of that name end
-abbrev pub with_call : ℕ → Base → List ℕ → Option CallEnd → Result Base LineFault
-with_call n base name None = Err (Line n 1)
-with_call n base name (Some end) =
+abbrev pub with_call_end : ℕ → Base → List ℕ → Option CallEnd → Result Base LineFault
+with_call_end n base name None = Err (Line n 1)
+with_call_end n base name (Some end) =
     if not (can_be_stated name) then Err (Line n 1)
     else (if is_stated base.calls name then Err (Line n 2)
     else Ok (record base { calls = base.calls ++ record { name = name; end = end } ∷ [] }))
 
--- the base with what the words behind `call` in line n say: a name, and how its calls end
-abbrev pub with_call_words : ℕ → Base → List (List ℕ) → Result Base LineFault
-with_call_words n base [] = Err (Line n 1)
-with_call_words n base (name ∷ []) = Err (Line n 1)
-with_call_words n base (name ∷ end ∷ []) = with_call n base name (call_end end)
-with_call_words n base (name ∷ end ∷ word ∷ words) = Err (Line n 1)
+-- the base with what stands behind `call` in line n: a name, and behind a space how its calls end
+abbrev pub with_call : ℕ → Base → Option Halves → Result Base LineFault
+with_call n base None = Err (Line n 1)
+with_call n base (Some two) = with_call_end n base two.0 (call_end two.1)
+
+-- the base with what a line of one word says, where it is one of these
+abbrev pub with_word : Base → List ℕ → Option Base
+with_word base line =
+    if bytes_eq line (codes "fits") then Some (record base { fits = true })
+    else (if bytes_eq line (codes "own") then Some (record base { own = base.own ++ plain_path [] ∷ [] })
+    else (if bytes_eq line (codes "runs") then Some (record base { runs = true })
+    else (if bytes_eq line (codes "removed") then Some (record base { removed = true })
+    else (if bytes_eq line (codes "versions") then Some (record base { versions = true }) else None))))
+
+-- the base with what line n says, whose first word stands before a space
+abbrev pub with_words : ℕ → Base → List ℕ → Result Base LineFault
+with_words n base line =
+    if starts_with nat_eq line (codes "call ") then with_call n base (halves (drop 5 line))
+    else (if starts_with nat_eq line (codes "link ") then with_link n base (halves (drop 5 line))
+    else (if starts_with nat_eq line (codes "own ") then with_own n base (path_of (drop 4 line))
+    else with_path_line n base line))
+
+-- the base that a line of one word gave; where it was none, that with what line n says otherwise
+abbrev pub word_or : ℕ → Base → List ℕ → Option Base → Result Base LineFault
+word_or n base line (Some more) = Ok more
+word_or n base line None = with_words n base line
 
 -- The base of the lines before line n with what that line says, or why it cannot stand there: 1, it is not of the form;
--- 2, an earlier line states how the calls of its name end.
+-- 2, an earlier line states how the calls of its name end, or it states a link whose target is not of the form or leads
+-- to a path of too many names.
 abbrev pub with_line : ℕ → Base → List ℕ → Result Base LineFault
-with_line n base line =
-    if is_passed line then Ok base
-    else (if bytes_eq line (codes "fits") then Ok (record base { fits = true })
-    else (if bytes_eq line (codes "own") then Ok (record base { own = true })
-    else (if starts_with nat_eq line (codes "call ") then with_call_words n base (parts space (drop 5 line))
-    else with_path_line n base line)))
+with_line n base line = if is_passed line then Ok base else word_or n base line (with_word base line)
 
 -- ---- what a text says
 
@@ -124,6 +193,16 @@ is_on_way path end =
 abbrev pub is_base_at : List ℕ → KnownPath → Bool
 is_base_at path known = is_directory known.kinds && is_on_way path known.path
 
--- a path is a base directory: it is known that a directory stands there, or below it
+-- a path is that where a known link ends, or that of a folder on the way there
+abbrev pub is_on_way_to : List ℕ → Reached → Bool
+is_on_way_to path (At end) = is_on_way path end
+is_on_way_to path (Blocked link) = false
+
+-- among these links one leads to a path, or to a path below it
+abbrev pub is_end_at : List LinkParts → List ℕ → LinkParts → Bool
+is_end_at links path link = is_on_way_to path (reach links true link.at)
+
+-- a path is a base directory: it is known that a directory stands there, or below it, since a line says so or since a
+-- known link leads there
 abbrev pub is_base : Base → List ℕ → Bool
-is_base base path = list_any (is_base_at path) base.known
+is_base base path = list_any (is_base_at path) base.known || list_any (is_end_at base.links path) base.links

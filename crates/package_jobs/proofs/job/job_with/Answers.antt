@@ -14,17 +14,18 @@ returns-clause-run c =
       new_package = c.in_ok-new_package.new_package;
       old_package = c.in_ok-old_package.old_package;
       files = c.in_ok-files.files;
+      premises = c.in_ok-premises.premises;
       turns = c.args.turns;
     } in
     let packages = c.args.packages.now in
     let programs = c.args.programs.now in
-    let calls = packages.base.calls in
     let new = c.in_ok-new_package.ensures in
     let old = c.in_ok-old_package.ensures in
     runs_same job c.args.scenario packages c.args.turns refl c.is_plain.ensures
-    (made_with calls packages.new_package job.new_package programs.new_package new.version new.scripts c.requires.new_package)
-    (made_with calls (old_of packages) job.old_package programs.old_package
+    (made_with packages.new_package job.new_package programs.new_package new.version new.scripts c.requires.new_package)
+    (made_with (old_of packages) job.old_package programs.old_package
     (old.version ∙ ap (λ (it : Package). it.version) c.old_package-old.ensures) old.scripts c.requires.old_package)
     (c.in_ok-files.ensures
     ∙ ap (λ (it : Package). files_of c.args.scenario packages.new_package.entries it.entries packages.base) c.old_package-old.ensures)
+    (c.in_ok-premises.ensures ∙ c.in_ok-stated.ensures)
     refl

@@ -3,7 +3,8 @@ use Rattle.utility_calls.specs.Acts.{IsPerformed}
 use Rattle.utility_calls.specs.declared.acts.Act.{Act}
 use Rattle.package_lists.specs.Entries.{HasName}
 use Rattle.package_jobs.proofs.FilesFew.{acts_few}
-use Rattle.package_jobs.proofs.FilesPerformed.{acts_performed, acts_named}
+use Rattle.package_jobs.specs.FileActs.{IsOfPackage}
+use Rattle.package_jobs.proofs.FilesPerformed.{acts_performed, acts_named, acts_of_package}
 use Rattle.scenario_runs.specs.Acts.{HasName as IsNamed}
 use Rattle.package_jobs.proofs.step_acts.file_acts.Goals as goal
 
@@ -18,6 +19,13 @@ pub returns-clause-named : goal.returns-clause-named
 returns-clause-named c =
     subst (All IsNamed) (sym c.in_ok-acts.ensures)
     (acts_named c.args.scenario c.args.work c.args.new.now c.args.old.now c.args.base.now
+    (subst (All HasName) c.as_slice.ensures c.entries_are_named.ensures)
+    (subst (All HasName) c.as_slice-2.ensures c.entries_are_named-2.ensures))
+
+pub returns-clause-of_package : goal.returns-clause-of_package
+returns-clause-of_package c =
+    subst (All IsOfPackage) (sym c.in_ok-acts.ensures)
+    (acts_of_package c.args.scenario c.args.work c.args.new.now c.args.old.now c.args.base.now
     (subst (All HasName) c.as_slice.ensures c.entries_are_named.ensures)
     (subst (All HasName) c.as_slice-2.ensures c.entries_are_named-2.ensures))
 

@@ -1,5 +1,5 @@
 use Rattle.std.proofs.Common.{List, All, sym, subst}
-use Rattle.utility_calls.specs.declared.acts.Act.{Act}
+use Rattle.utility_calls.specs.declared.backs.Back.{Back}
 use Rattle.utility_calls.specs.Backs.{IsNamed}
 use Rattle.scenario_runs.specs.Naming.{restored_named}
 use Rattle.scenario_runs.specs.Runs.{restored}
@@ -8,6 +8,6 @@ use Rattle.scenario_runs.proofs.restoring.restore.Goals as goal
 pub do_backs-requires-clause-named : goal.do_backs-requires-clause-named
 do_backs-requires-clause-named c =
     let unpacked = c.args.course.unpacked in
-    subst (All IsNamed) (sym c.in_ok-backs.ensures)
-    (subst (λ (acts : List Act). All IsNamed (restored acts unpacked)) (sym c.as_slice.ensures.acts)
-    (restored_named c.args.acts.now unpacked c.as_slice.ensures.sound.named))
+    subst (All IsNamed) (sym c.in_ok-put.ensures)
+    (subst (λ (backs : List Back). All IsNamed (restored backs unpacked)) (sym c.as_slice.ensures.backs)
+    (restored_named c.args.backs.now unpacked c.as_slice.ensures.sound.named))

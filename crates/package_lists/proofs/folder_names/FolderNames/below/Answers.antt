@@ -1,5 +1,4 @@
 use Rattle.std.proofs.Common.{ap, ◌∙◌}
-use Rattle.script_names.specs.Paths.{PathParts}
 use Rattle.package_lists.specs.FolderNames.{names_at}
 use Rattle.package_lists.specs.Paths.{path_text}
 use Rattle.package_lists.proofs.folder_names.FolderNames.below.Goals as goal
@@ -7,4 +6,4 @@ use Rattle.package_lists.proofs.folder_names.FolderNames.below.Goals as goal
 pub returns : goal.returns
 returns c =
     c.in_ok-names.ensures
-    ∙ ap (names_at c.args.self.now) (c.as_slice.ensures ∙ c.in_ok-path.ensures ∙ ap path_text (c.names.ensures.names ∙ ap (λ (p : PathParts). p.names) c.path.ensures.path))
+    ∙ ap (names_at c.args.self.now) (c.as_slice.ensures ∙ c.in_ok-text.ensures ∙ ap path_text c.names.ensures.names)
