@@ -133,8 +133,11 @@ rm p/conffiles
 printf 'dir /etc\ncall foo okay\n' >mine
 for words in '--base mine' '--base=mine'; do
     refused "colis check p $words" 3 'colis: mine: line 2: fault 1' \
-        'mine:2: call foo okay   (a line is dir, file, absent or nodir and a path, fits, own, or call NAME ok or fails)'
+        'mine:2: call foo okay   (a base has no such line, or the command cannot be stated: see docs/FORMATS.md)'
 done
+echo 'link /bin usr//bin' >mine
+refused 'colis check p --base mine' 3 'colis: mine: line 1: fault 2' \
+    'mine:1: link /bin usr//bin   (an earlier line states this command, or the target is not names with one / between them)'
 echo 'd /srv/a' >mine
 refused 'colis run p --scenario install --tree mine' 3 'colis: mine: line 1: fault 3' \
     'mine:1: d /srv/a   (no earlier line says that its parent is a directory)'

@@ -138,8 +138,8 @@ fault() {
     conffiles:1) echo 'a line is a path of 64 names at most, as /etc/foo' ;;
     conffiles:3) echo 'the list has no file of this name' ;;
     conffiles:4) echo 'flags are not supported' ;;
-    base:1) echo 'a line is dir, file, absent or nodir and a path, fits, own, or call NAME ok or fails' ;;
-    base:2) echo 'an earlier line states how this command ends' ;;
+    base:1) echo 'a base has no such line, or the command cannot be stated: see docs/FORMATS.md' ;;
+    base:2) echo 'an earlier line states this command, or the target is not names with one / between them' ;;
     tree:1) echo 'a line is d, f, p, s, b or c PATH, or l PATH TARGET' ;;
     tree:3) echo 'no earlier line says that its parent is a directory' ;;
     *) echo 'the line is not of the form' ;;
