@@ -43,8 +43,8 @@ const LINKED: &[Row] = &[
         Scenario::Install,
         b"",
         b"",
-        b"link /a b/c\nlink /b ../d\nlink /d/e f\n",
-        "",
+        b"link /a b/c\nlink /d/e f\n",
+        "/a>b/c /b/c:D /d/e>f /d/f:D ",
     ),
     // Links lead along links; the line of a directory does not.
     (
@@ -73,11 +73,11 @@ const LINKED: &[Row] = &[
     // Any other path does not.
     (
         Scenario::Remove,
-        b"/bin -> usr/bin\n/bin/l -> y\n/sbin\n",
+        b"/lib -> usr/lib\n/bin/l -> y\n/sbin\n",
         b"",
-        b"link /bin usr/bin\nlink /sbin usr/sbin\nlink /usr/bin/l m\n",
-        "/bin>usr/bin /usr/bin:D /sbin>usr/sbin /usr/sbin:D /usr/bin/l>m /usr/bin/m:D \
-        /bin:ARLFSBC /usr/bin/l:ARLFSBC /sbin:ARLFSBC ",
+        b"link /bin usr/bin\nlink /sbin usr/sbin\nlink /usr/bin/l m\nlink /lib usr/lib\n",
+        "/bin>usr/bin /usr/bin:D /sbin>usr/sbin /usr/sbin:D /usr/bin/l>m /usr/bin/m:D /lib>usr/lib /usr/lib:D \
+        /lib:ARLFSBC /usr/bin/l:ARLFSBC /sbin:ARLFSBC ",
     ),
     (
         Scenario::InstallAgain,
@@ -218,10 +218,11 @@ const REMOVED: &[Row] = &[
     ),
     (
         Scenario::PurgeLater,
-        b"/bin -> usr/bin\n/bin/l -> y\n/sbin\n/lib/\n",
+        b"/sbin -> usr/sbin\n/run\n/bin/l -> y\n/lib/\n",
         b"",
-        b"link /bin usr/bin\nlink /sbin usr/sbin\nlink /lib usr/lib\nremoved\n",
-        "/bin>usr/bin /usr/bin:D /sbin>usr/sbin /usr/sbin:D /lib>usr/lib /usr/lib:D /usr/bin/l:A ",
+        b"link /bin usr/bin\nlink /sbin usr/sbin\nlink /lib usr/lib\nlink /run var/run\nremoved\n",
+        "/bin>usr/bin /usr/bin:D /sbin>usr/sbin /usr/sbin:D /lib>usr/lib /usr/lib:D /run>var/run /var/run:D \
+        /usr/bin/l:A ",
     ),
     // A configuration file below is one by the list.
     (

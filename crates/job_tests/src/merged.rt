@@ -335,7 +335,7 @@ outcome 6 done Installed
 trace 2:0:68 3:10:79
 outcome 7 incomplete same 3:10
 trace 2:0:68 3:10:81
-verdict 2
+verdict 1
 ",
     ),
 ];
