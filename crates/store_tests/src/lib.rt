@@ -20,5 +20,3 @@ mod starts;
 mod stores;
 #[cfg(test)]
 mod taken;
-#[cfg(test)]
-mod targets;
