@@ -85,6 +85,10 @@ digit_one = 49
 abbrev pub digit_two : ℕ
 digit_two = 50
 
+-- `7`
+abbrev pub digit_seven : ℕ
+digit_seven = 55
+
 -- `9`
 abbrev pub digit_nine : ℕ
 digit_nine = 57

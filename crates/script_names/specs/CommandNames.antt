@@ -1,6 +1,6 @@
 -- The names of commands that have a meaning: those of utilities (POSIX.1-2017, XCU 4 Utilities), and those of special
 -- built-in utilities, which change the shell itself (XCU 2.14 Special Built-In Utilities).
-use Rattle.std.specs.Prelude.{ℕ, Bool, true, false, ◌||◌, List, [], ◌∷◌, map, Option, Some, None, codes}
+use Rattle.std.specs.Prelude.{ℕ, Bool, true, false, ◌||◌, List, [], ◌∷◌, ◌++◌, map, Option, Some, None, codes}
 use Rattle.std.specs.Prelude.{if◌then◌else◌}
 use Rattle.std.specs.List.{list_any}
 use Rattle.std.specs.Option.{option_map_or}
@@ -27,13 +27,24 @@ names_of names = map (λ row. row.0) names
 abbrev pub is_one_of : List ℕ → List (List ℕ) → Bool
 is_one_of name names = list_any (bytes_eq name) names
 
--- the utilities that have a meaning; `:` does what `true` does
-abbrev pub utilities : Names Utility
-utilities =
+-- the utilities whose names no function may have; `:` does what `true` does
+abbrev pub kept_utilities : Names Utility
+kept_utilities =
     (codes "true", utility.True) ∷ (codes ":", utility.True) ∷ (codes "false", utility.False)
     ∷ (codes "echo", utility.Echo) ∷ (codes "mkdir", utility.MakeDir) ∷ (codes "rmdir", utility.RemoveDir)
     ∷ (codes "rm", utility.Remove) ∷ (codes "touch", utility.Touch) ∷ (codes "ln", utility.Link)
     ∷ (codes "mv", utility.Move) ∷ (codes "test", utility.Test) ∷ (codes "[", utility.Bracket) ∷ []
+
+-- those whose names a function may have
+abbrev pub free_utilities : Names Utility
+free_utilities =
+    (codes "unlink", utility.Unlink) ∷ (codes "install", utility.Install) ∷ (codes "chmod", utility.ChangeMode)
+    ∷ (codes "chown", utility.ChangeOwner) ∷ (codes "chgrp", utility.ChangeGroup) ∷ (codes "cp", utility.Copy)
+    ∷ (codes "basename", utility.BaseName) ∷ (codes "dirname", utility.DirName) ∷ []
+
+-- the utilities that have a meaning
+abbrev pub utilities : Names Utility
+utilities = kept_utilities ++ free_utilities
 
 -- the special built-ins that have a meaning
 abbrev pub special_built_ins : Names SpecialBuiltIn
@@ -67,6 +78,14 @@ keeps_name utility.Link = true
 keeps_name utility.Move = true
 keeps_name utility.Test = true
 keeps_name utility.Bracket = true
+keeps_name utility.Unlink = false
+keeps_name utility.Install = false
+keeps_name utility.ChangeMode = false
+keeps_name utility.ChangeOwner = false
+keeps_name utility.ChangeGroup = false
+keeps_name utility.Copy = false
+keeps_name utility.BaseName = false
+keeps_name utility.DirName = false
 
 -- no function may have a name that its utility keeps, or that of a special built-in
 abbrev pub is_kept_name : List ℕ → Bool

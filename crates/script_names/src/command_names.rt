@@ -1,6 +1,6 @@
 ghost use Rattle.std.specs.Prelude.{◌≡◌};
-ghost use Rattle.script_names.specs.CommandNames.{is_one_of, special_names, utility_named, special_named};
-ghost use Rattle.script_names.specs.CommandNames.{keeps_name, is_kept_name};
+ghost use Rattle.script_names.specs.CommandNames.{is_one_of, special_names, utility_named, special_named, named};
+ghost use Rattle.script_names.specs.CommandNames.{free_utilities, keeps_name, is_kept_name};
 
 use crate::copied::Copied;
 use crate::memory::Memory;
@@ -24,6 +24,22 @@ pub enum Utility {
     Test,
     /// `[`
     Bracket,
+    /// `unlink`
+    Unlink,
+    /// `install`
+    Install,
+    /// `chmod`
+    ChangeMode,
+    /// `chown`
+    ChangeOwner,
+    /// `chgrp`
+    ChangeGroup,
+    /// `cp`
+    Copy,
+    /// `basename`
+    BaseName,
+    /// `dirname`
+    DirName,
 }
 
 impl Copied for Utility {
@@ -61,6 +77,9 @@ impl Utility {
             Utility::True | Utility::False | Utility::Echo | Utility::MakeDir => true,
             Utility::RemoveDir | Utility::Remove | Utility::Touch | Utility::Link => true,
             Utility::Move | Utility::Test | Utility::Bracket => true,
+            Utility::Unlink | Utility::Install | Utility::ChangeMode | Utility::ChangeOwner =>
+                false,
+            Utility::ChangeGroup | Utility::Copy | Utility::BaseName | Utility::DirName => false,
         }
     }
 }
@@ -101,6 +120,37 @@ pub fn utility_named(name: &[u8]) -> Option<Utility>
     }
     if name == b"[".as_slice() {
         return Some(Utility::Bracket);
+    }
+    free_utility_named(name)
+}
+
+// The utility of a name, of those whose names functions may have.
+fn free_utility_named(name: &[u8]) -> Option<Utility>
+    ensures { result ≡ named free_utilities name.now }
+{
+    if name == b"unlink".as_slice() {
+        return Some(Utility::Unlink);
+    }
+    if name == b"install".as_slice() {
+        return Some(Utility::Install);
+    }
+    if name == b"chmod".as_slice() {
+        return Some(Utility::ChangeMode);
+    }
+    if name == b"chown".as_slice() {
+        return Some(Utility::ChangeOwner);
+    }
+    if name == b"chgrp".as_slice() {
+        return Some(Utility::ChangeGroup);
+    }
+    if name == b"cp".as_slice() {
+        return Some(Utility::Copy);
+    }
+    if name == b"basename".as_slice() {
+        return Some(Utility::BaseName);
+    }
+    if name == b"dirname".as_slice() {
+        return Some(Utility::DirName);
     }
     None
 }

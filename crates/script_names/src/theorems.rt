@@ -4,7 +4,8 @@ ghost use Rattle.script_names.specs.Laws.{JoinsAgain, HasNoSlash, SpellsNames, P
 ghost use Rattle.script_names.specs.Laws.{JoinIsLonger};
 ghost use Rattle.script_names.specs.CommandNames.{utilities, special_built_ins};
 ghost use Rattle.script_names.specs.CommandLaws.{NamesAreFound, EachRowCounts, UtilitiesHaveNames, SpecialsHaveNames};
-ghost use Rattle.script_names.specs.CommandLaws.{OnlyColonIsBoth, KeptNamesHaveMeaning};
+ghost use Rattle.script_names.specs.CommandLaws.{OnlyColonIsBoth, MeaningsAreKeptOrFree};
+ghost use Rattle.script_names.specs.CommandLaws.{FreeNamesAreNotKept};
 
 /// The components of a word are its cut at the slashes: joined they are the word again, and none has a slash.
 pub fn components_are_the_cut()
@@ -32,10 +33,12 @@ pub fn names_are_found()
     ensures special_rows { EachRowCounts special_built_ins }
 {}
 
-/// Each utility and each special built-in has a name, only `:` is that of both, and no function may have any of them.
+/// Each utility and each special built-in has a name, only `:` is that of both, and no function may have any of them but
+/// the names of `unlink`, `install`, `chmod`, `chown`, `chgrp`, `cp`, `basename` and `dirname`.
 pub fn commands_have_names()
     ensures utilities { UtilitiesHaveNames }
     ensures specials { SpecialsHaveNames }
     ensures both { OnlyColonIsBoth }
-    ensures kept { KeptNamesHaveMeaning }
+    ensures sorts { MeaningsAreKeptOrFree }
+    ensures free { FreeNamesAreNotKept }
 {}
