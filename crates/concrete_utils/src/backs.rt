@@ -61,6 +61,7 @@ fn change(
     match effect {
         Effect::Nothing | Effect::MakesDir | Effect::KeepsDir | Effect::MakesFile => Ok(()),
         Effect::MakesLink | Effect::LinksInside | Effect::MovesInside => Ok(()),
+        Effect::Copies | Effect::CopiesInside => Ok(()),
         Effect::TakesAway => put_at(b.path(), Value::Absent, tree),
         Effect::Moves => put_kept(alloc, b, tree, kept),
     }

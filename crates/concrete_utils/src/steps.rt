@@ -2,16 +2,17 @@ ghost use Rattle.std.specs.Prelude.{◌≡◌, ◌≢◌, ◌||◌, if◌then◌
 ghost use Rattle.feature_trees.specs.declared.value.Value.{Value};
 ghost use Rattle.feature_trees.specs.declared.value.Value.TheVariants.{Absent, Dir, Link};
 ghost use Rattle.feature_trees.specs.Tree.{at, is_dir, kind_of, put, update, entries_of, has_parents};
-ghost use Rattle.utility_calls.specs.declared.sights.Effect.TheVariants.{Nothing, Moves, MovesInside};
+ghost use Rattle.utility_calls.specs.declared.sights.Effect.TheVariants.{Nothing, Moves, MovesInside, Copies};
+ghost use Rattle.utility_calls.specs.declared.sights.Effect.TheVariants.{CopiesInside};
 ghost use Rattle.utility_calls.specs.Acts.{path_of, place_of, target_of, source_of, inner_name, inner_at, second_link};
-ghost use Rattle.utility_calls.specs.Acts.{own_row, by_way, by_slash, is_there, row as row_of, effect_on};
+ghost use Rattle.utility_calls.specs.Acts.{own_row, by_way, by_slash, takes, row as row_of, effect_on};
 ghost use Rattle.utility_calls.specs.Acts.{tree_after, with_name, IsPerformed};
 ghost use Rattle.utility_calls.specs.ActChanges.{IsInDirectory};
 ghost use Rattle.utility_calls.specs.Sights.{sight_of};
 ghost use Rattle.utility_calls.specs.Ways.{in_dir};
 
 use crate::walks::{Seen, entry_or, has_entry, walk};
-use feature_trees::{Entries, Kind, Kinds, PutFault, Value};
+use feature_trees::{Entries, Kind, PutFault, Value};
 use script_names::{Copied, Done, Memory, Name, Path};
 use std::alloc::Global;
 use utility_calls::acts::Act;
@@ -34,18 +35,11 @@ fn by_slash(slash: bool, kind: Kind, later: Row) -> Row
     }
 }
 
-// Whether something is there.
-fn is_there(kind: Kind) -> bool
-    ensures { result ≡ is_there kind }
-{
-    Kinds::but(Kind::Absent).has(kind)
-}
-
-// The kind of what is moved, which stands at the end of the walk along the act's path.
+// The kind of what is moved or copied, which stands at the end of the walk along the act's path.
 fn source(a: &Act, first: Kind) -> Kind
     ensures { (tree : Value) → first ≡ kind_of (at tree (path_of a.now).names) → result ≡ source_of a.now tree }
 {
-    match a.moved() {
+    match a.source() {
         Some(_) => first,
         None => Kind::Absent,
     }
@@ -75,29 +69,29 @@ fn inner<'a>(a: &Act, here: &'a Value, nothing: &'a Value) -> &'a Value
     }
 }
 
-// Whether a move looks at the way of its second path.
-fn looks_at_way(below: bool, source: Kind) -> bool
-    ensures { result ≡ (below || is_there source) }
+// Whether an act looks at the way of its second path.
+fn looks_at_way(a: &Act, below: bool, source: Kind) -> bool
+    ensures { result ≡ (below || takes a.now source) }
 {
-    below || is_there(source)
+    below || a.takes(source)
 }
 
-// The link on the way of a move's second path, if it is looked at.
+// The link on the way of an act's second path, if it is looked at.
 fn second_link(looks: bool, link: Option<u8>) -> Option<u8>
     ensures { result ≡ (if looks then link else None) }
 {
     if looks { link } else { None }
 }
 
-// The row of a move's own, or of a link on the way of its second path.
-fn move_row(a: &Act, tree: &Value, source: Kind, nothing: &Value) -> Row
+// The row of the own of an act with a second path, or of a link on the way of that path.
+fn second_row(a: &Act, tree: &Value, source: Kind, nothing: &Value) -> Row
     requires nothing { nothing.now ≡ Absent }
     requires source { source ≡ source_of a.now tree.now }
     ensures { result ≡ by_way (second_link a.now tree.now) (own_row a.now tree.now) }
 {
     let below = a.is_below();
     let seen = walk(128, tree, a.place().names(), nothing);
-    match second_link(looks_at_way(below, source), seen.link) {
+    match second_link(looks_at_way(a, below, source), seen.link) {
         Some(number) => Row::of_link(number),
         None => {
             let inner = inner(a, seen.here, nothing);
@@ -106,16 +100,16 @@ fn move_row(a: &Act, tree: &Value, source: Kind, nothing: &Value) -> Row
     }
 }
 
-// The row of the act's own, or of a link on the way of a move's second path. Where nothing is moved, what is seen at
-// the end of the act's own path is all that it looks at.
+// The row of the act's own, or of a link on the way of its second path. Where nothing is moved or copied, what is seen
+// at the end of the act's own path is all that it looks at.
 fn later_row(a: &Act, tree: &Value, first: &Seen, nothing: &Value) -> Row
     requires nothing { nothing.now ≡ Absent }
     requires in_dir { first.now.in_dir ≡ in_dir tree.now (path_of a.now).names }
     requires here { first.now.here.now ≡ at tree.now (path_of a.now).names }
     ensures { result ≡ by_way (second_link a.now tree.now) (own_row a.now tree.now) }
 {
-    match a.moved() {
-        Some(_) => move_row(a, tree, source(a, first.here.kind()), nothing),
+    match a.source() {
+        Some(_) => second_row(a, tree, source(a, first.here.kind()), nothing),
         None => {
             let inner = inner(a, first.here, nothing);
             a.own_row(false, Kind::Absent, &sight_of(first, inner))
@@ -290,6 +284,28 @@ fn move_inside(alloc: Global, a: &Act, tree: &mut Value) -> Result<(), Memory>
     Ok(())
 }
 
+// Puts what stands at the act's path at its place too.
+fn copy_to(alloc: Global, a: &Act, tree: &mut Value) -> Result<(), Memory>
+    requires place { place_of a.now ≢ [] }
+    requires parents { IsInDirectory Copies a.now tree.old }
+    ensures ok { OnOk result (tree.new ≡ effect_on Copies a.now tree.old) }
+    ensures kept { OnErr result (tree.new ≡ tree.old) }
+{
+    let value = copy_at(alloc, tree, a.path())?;
+    put_at(a.place(), value, tree)
+}
+
+// Puts what stands at the act's path below its place too, under the act's inner name.
+fn copy_inside(alloc: Global, a: &Act, tree: &mut Value) -> Result<(), Memory>
+    requires place { place_of a.now ≢ [] }
+    requires parents { IsInDirectory CopiesInside a.now tree.old }
+    ensures ok { OnOk result (tree.new ≡ effect_on CopiesInside a.now tree.old) }
+    ensures kept { OnErr result (tree.new ≡ tree.old) }
+{
+    let value = copy_at(alloc, tree, a.path())?;
+    put_inside(alloc, a, a.place(), value, tree)
+}
+
 // The link of an act, to its target.
 fn link(alloc: Global, a: &Act) -> Result<Value, Memory>
     ensures { IfOk result (λ value. value ≡ Link (target_of a.now)) }
@@ -321,6 +337,8 @@ fn change(alloc: Global, a: &Act, effect: Effect, tree: &mut Value) -> Result<()
         Effect::TakesAway => put_at(path, Value::Absent, tree),
         Effect::Moves => move_to(alloc, a, tree),
         Effect::MovesInside => move_inside(alloc, a, tree),
+        Effect::Copies => copy_to(alloc, a, tree),
+        Effect::CopiesInside => copy_inside(alloc, a, tree),
     }
 }
 

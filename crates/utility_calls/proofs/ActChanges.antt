@@ -1,5 +1,5 @@
 -- The effects of the rows of acts, and the paths that acts look along.
-use Rattle.std.proofs.Common.{◌≡◌, ◌≢◌, ℕ, zero, suc, IsTrue, IfSome, arith, Bool, true, false, ◌&&◌, ◌||◌, if◌then◌else◌, Option, Some, None, List, [], ◌∷◌, ◌++◌, refl, subst}
+use Rattle.std.proofs.Common.{◌≡◌, ◌≢◌, ℕ, zero, suc, IsTrue, IfSome, arith, ◌⊎◌, inl, inr, Bool, true, false, ◌&&◌, ◌||◌, if◌then◌else◌, Option, Some, None, List, [], ◌∷◌, ◌++◌, refl, ap, subst, ◌∙◌}
 use Rattle.script_names.specs.Names.{is_name}
 use Rattle.script_names.specs.Paths.{PathParts}
 use Rattle.script_names.specs.declared.reason.Done.{Done}
@@ -13,15 +13,15 @@ use Rattle.feature_trees.specs.Tree.{entry, at, entries_of, kind_of, put}
 use Rattle.feature_trees.specs.Laws.{PutsStaySound}
 use Rattle.feature_trees.proofs.Laws.{sound-entry}
 use Rattle.utility_calls.specs.declared.acts.Act.{Act}
-use Rattle.utility_calls.specs.declared.acts.Act.TheVariants.{Exists, IsReg, IsDir, IsLink, CanRun, IsSpecial, MakeDir, EnsureDir, RemoveDir, Remove, Touch, Symlink, Move, PlaceFile, PlaceLink, PlaceConf, Discard, DiscardDir}
+use Rattle.utility_calls.specs.declared.acts.Act.TheVariants.{Exists, IsReg, IsDir, IsLink, CanRun, IsSpecial, MakeDir, EnsureDir, RemoveDir, Remove, Touch, Symlink, Move, Attr, Copy, PlaceFile, PlaceLink, PlaceConf, Discard, DiscardDir}
 use Rattle.utility_calls.specs.declared.sights.Sight.{Sight}
 use Rattle.utility_calls.specs.declared.sights.Row.{Row}
 use Rattle.utility_calls.specs.declared.sights.Effect.{Effect}
-use Rattle.utility_calls.specs.declared.sights.Effect.TheVariants.{Nothing, MakesDir, KeepsDir, MakesFile, MakesLink, LinksInside, TakesAway, Moves, MovesInside}
+use Rattle.utility_calls.specs.declared.sights.Effect.TheVariants.{Nothing, MakesDir, KeepsDir, MakesFile, MakesLink, LinksInside, TakesAway, Moves, MovesInside, Copies, CopiesInside}
 use Rattle.utility_calls.specs.Ways.{link_on_way}
 use Rattle.utility_calls.specs.declared.sights.Rule.{Rule}
-use Rattle.utility_calls.specs.Table.{rules, rule_holds, row_of, first_row, stop, can_run_by, remove_by, symlink_by, move_by}
-use Rattle.utility_calls.specs.Acts.{path_of, place_of, moved, inner_name, target_of, with_name, source_of, is_below, second_link, by_way, by_slash, slash_row, sight_on, own_row, row, effect_on, is_question, tree_after, IsPerformed}
+use Rattle.utility_calls.specs.Table.{rules, rule_holds, row_of, first_row, stop, can_run_by, remove_by, symlink_by, move_by, copy_by}
+use Rattle.utility_calls.specs.Acts.{path_of, place_of, source, inner_name, target_of, with_name, kind_at_path, source_of, is_below, takes, looks_at_way, second_link, by_way, by_slash, slash_row, sight_on, own_row, row, effect_on, is_question, tree_after, IsPerformed}
 use Rattle.utility_calls.specs.ActChanges.{AreNames, HasNames}
 
 -- ---- what holds of all rows of a table holds of the one that applies
@@ -77,6 +77,8 @@ is_nothing LinksInside = false
 is_nothing TakesAway = false
 is_nothing Moves = false
 is_nothing MovesInside = false
+is_nothing Copies = false
+is_nothing CopiesInside = false
 
 nothing_is : (e : Effect) → is_nothing e ≡ true → e ≡ Nothing
 nothing_is Nothing h = refl
@@ -88,6 +90,8 @@ nothing_is LinksInside h = cc
 nothing_is TakesAway h = cc
 nothing_is Moves h = cc
 nothing_is MovesInside h = cc
+nothing_is Copies h = cc
+nothing_is CopiesInside h = cc
 
 abbrev is_ok : Done → Bool
 is_ok done.Ok = true
@@ -123,6 +127,8 @@ question_leaves (Remove p force deep) h = cc
 question_leaves (Touch p) h = cc
 question_leaves (Symlink p target last force) h = cc
 question_leaves (Move a b) h = cc
+question_leaves (Attr p) h = refl
+question_leaves (Copy a b deep) h = cc
 question_leaves (PlaceFile p) h = cc
 question_leaves (PlaceLink p target) h = cc
 question_leaves (PlaceConf p) h = cc
@@ -147,6 +153,10 @@ moves_succeed : (below : Bool) → all_rules succeeds (move_by below) ≡ true
 moves_succeed false = refl
 moves_succeed true = refl
 
+copies_succeed : (deep : Bool) → all_rules succeeds (copy_by deep) ≡ true
+copies_succeed false = refl
+copies_succeed true = refl
+
 all_succeed : (act : Act) → all_rules succeeds (rules (is_below act) act) ≡ true
 all_succeed (Exists p) = refl
 all_succeed (IsReg p) = refl
@@ -161,6 +171,8 @@ all_succeed (Remove p force deep) = removes_succeed force deep
 all_succeed (Touch p) = refl
 all_succeed (Symlink p target last force) = links_succeed force
 all_succeed (Move a b) = moves_succeed (is_below (Move a b))
+all_succeed (Attr p) = refl
+all_succeed (Copy a b deep) = copies_succeed deep
 all_succeed (PlaceFile p) = refl
 all_succeed (PlaceLink p target) = refl
 all_succeed (PlaceConf p) = refl
@@ -203,6 +215,8 @@ effect_dir Moves act tree h t =
     put_dir (put tree (path_of act).names value.Absent) (at tree (path_of act).names) (place_of act) (h (λ e. cc)).1
 effect_dir MovesInside act tree h t =
     put_dir_with (put tree (path_of act).names value.Absent) (at tree (path_of act).names) (place_of act) (inner_name act) (h (λ e. cc)).1
+effect_dir Copies act tree h t = put_dir tree (at tree (path_of act).names) (place_of act) (h (λ e. cc)).1
+effect_dir CopiesInside act tree h t = put_dir_with tree (at tree (path_of act).names) (place_of act) (inner_name act) (h (λ e. cc)).1
 
 -- the paths of an act that has an effect have names
 pub named : (act : Act) (tree : Value) → IsPerformed act → (row act tree).effect ≢ Nothing → ((path_of act).names ≢ []) × (place_of act ≢ [])
@@ -260,36 +274,58 @@ effect_sound puts Moves act tree n s =
 effect_sound puts MovesInside act tree n s =
     puts (put tree (path_of act).names value.Absent) (at tree (path_of act).names) (with_name (place_of act) (inner_name act))
     (puts tree value.Absent (path_of act).names s refl n.path) (at_sound (path_of act).names tree s) (with_names (place_of act) (inner_name act) n.place n.inner)
+effect_sound puts Copies act tree n s = puts tree (at tree (path_of act).names) (place_of act) s (at_sound (path_of act).names tree s) n.place
+effect_sound puts CopiesInside act tree n s =
+    puts tree (at tree (path_of act).names) (with_name (place_of act) (inner_name act)) s (at_sound (path_of act).names tree s)
+    (with_names (place_of act) (inner_name act) n.place n.inner)
 
 pub sound_stays : PutsStaySound → (act : Act) (tree : Value) → HasNames act → IsTrue (sound tree) → IsTrue (sound (tree_after act tree))
 sound_stays puts act tree n s = effect_sound puts (row act tree).effect act tree n s
 
--- ---- every act but a move looks along one path alone
+-- ---- every act but a move and a copy looks along one path alone
 
--- an act that moves nothing looks at its own path, and one that moves something is a move
-abbrev pub IsStillOrMove : Act → Option PathParts → Type 0
-IsStillOrMove act None = place_of act ≡ (path_of act).names
-IsStillOrMove act (Some a) = (b : PathParts) × (act ≡ Move a b)
+-- an act without a source looks at its own path, is not below it, and takes nothing; one with a source is a move or
+-- a copy
+abbrev pub IsStillOrTakes : Act → Option PathParts → Type 0
+IsStillOrTakes act None = (place_of act ≡ (path_of act).names) × (is_below act ≡ false) × (takes act Absent ≡ false)
+IsStillOrTakes act (Some a) = (b : PathParts) × ((act ≡ Move a b) ⊎ ((deep : Bool) × (act ≡ Copy a b deep)))
 
-pub still_or_move : (act : Act) → IsStillOrMove act (moved act)
-still_or_move (Exists p) = refl
-still_or_move (IsReg p) = refl
-still_or_move (IsDir p) = refl
-still_or_move (IsLink p) = refl
-still_or_move (CanRun p runs) = refl
-still_or_move (IsSpecial p kind) = refl
-still_or_move (MakeDir p) = refl
-still_or_move (EnsureDir p) = refl
-still_or_move (RemoveDir p) = refl
-still_or_move (Remove p force deep) = refl
-still_or_move (Touch p) = refl
-still_or_move (Symlink p target last force) = refl
-still_or_move (Move a b) = (b, refl)
-still_or_move (PlaceFile p) = refl
-still_or_move (PlaceLink p target) = refl
-still_or_move (PlaceConf p) = refl
-still_or_move (Discard p) = refl
-still_or_move (DiscardDir p) = refl
+pub still_or_takes : (act : Act) → IsStillOrTakes act (source act)
+still_or_takes (Exists p) = (refl, refl, refl)
+still_or_takes (IsReg p) = (refl, refl, refl)
+still_or_takes (IsDir p) = (refl, refl, refl)
+still_or_takes (IsLink p) = (refl, refl, refl)
+still_or_takes (CanRun p runs) = (refl, refl, refl)
+still_or_takes (IsSpecial p kind) = (refl, refl, refl)
+still_or_takes (MakeDir p) = (refl, refl, refl)
+still_or_takes (EnsureDir p) = (refl, refl, refl)
+still_or_takes (RemoveDir p) = (refl, refl, refl)
+still_or_takes (Remove p force deep) = (refl, refl, refl)
+still_or_takes (Touch p) = (refl, refl, refl)
+still_or_takes (Symlink p target last force) = (refl, refl, refl)
+still_or_takes (Move a b) = (b, inl refl)
+still_or_takes (Attr p) = (refl, refl, refl)
+still_or_takes (Copy a b deep) = (b, inr (deep, refl))
+still_or_takes (PlaceFile p) = (refl, refl, refl)
+still_or_takes (PlaceLink p target) = (refl, refl, refl)
+still_or_takes (PlaceConf p) = (refl, refl, refl)
+still_or_takes (Discard p) = (refl, refl, refl)
+still_or_takes (DiscardDir p) = (refl, refl, refl)
 
-pub place_is : (act : Act) → moved act ≡ None → place_of act ≡ (path_of act).names
-place_is act still = subst (IsStillOrMove act) still (still_or_move act)
+still_is : (act : Act) → source act ≡ None → IsStillOrTakes act None
+still_is act still = subst (IsStillOrTakes act) still (still_or_takes act)
+
+pub place_is : (act : Act) → source act ≡ None → place_of act ≡ (path_of act).names
+place_is act still = (still_is act still).0
+
+pub beside : (act : Act) → source act ≡ None → is_below act ≡ false
+beside act still = (still_is act still).1
+
+pub no_source : (act : Act) (tree : Value) → source act ≡ None → source_of act tree ≡ Absent
+no_source act tree still = ap (λ o. kind_at_path o tree) still
+
+-- and it looks at no second way
+pub no_second : (act : Act) (tree : Value) → source act ≡ None → looks_at_way act tree ≡ false
+no_second act tree still =
+    ap (λ (b : Bool). b || takes act (source_of act tree)) (beside act still)
+    ∙ ap (takes act) (no_source act tree still) ∙ (still_is act still).2

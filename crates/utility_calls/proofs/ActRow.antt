@@ -10,14 +10,14 @@ use Rattle.feature_trees.specs.declared.kind.Special.TheVariants.{Fifo, Socket, 
 use Rattle.feature_trees.specs.Kinds.{has, of}
 use Rattle.feature_trees.specs.Tree.{entry, at, kind_of, is_dir}
 use Rattle.utility_calls.specs.declared.acts.Act.{Act}
-use Rattle.utility_calls.specs.declared.acts.Act.TheVariants.{Exists, IsReg, IsDir, IsLink, CanRun, IsSpecial, MakeDir, EnsureDir, RemoveDir, Remove, Touch, Symlink, Move, PlaceFile, PlaceLink, PlaceConf, Discard, DiscardDir}
+use Rattle.utility_calls.specs.declared.acts.Act.TheVariants.{Exists, IsReg, IsDir, IsLink, CanRun, IsSpecial, MakeDir, EnsureDir, RemoveDir, Remove, Touch, Symlink, Move, Attr, Copy, PlaceFile, PlaceLink, PlaceConf, Discard, DiscardDir}
 use Rattle.utility_calls.specs.declared.sights.Sight.{Sight}
 use Rattle.utility_calls.specs.declared.sights.Row.{Row}
 use Rattle.utility_calls.specs.Ways.{link_on_way, in_dir, kind_at, NoLinkOnWay}
 use Rattle.utility_calls.specs.Sights.{sight, sight_of}
 use Rattle.utility_calls.specs.declared.sights.Rule.{Rule}
-use Rattle.utility_calls.specs.Table.{rules, rule_holds, row_of, first_row, exists_rules, is_reg_rules, is_dir_rules, is_link_rules, can_run_rules, can_run_file_rules, can_run_by, is_special_rules, make_dir_rules, ensure_dir_rules, remove_dir_rules, remove_rules, remove_deep_rules, remove_force_rules, remove_force_deep_rules, remove_by, touch_rules, place_file_rules, place_link_rules, place_conf_rules, discard_rules, discard_dir_rules, symlink_rules, symlink_force_rules, symlink_by, move_below_rules, move_rules, move_by}
-use Rattle.utility_calls.specs.Acts.{path_of, place_of, inner_of, source_of, is_prefix, is_below, is_there, second_link, by_way, by_slash, slash_row, sight_on, own_row, row, IsPerformed}
+use Rattle.utility_calls.specs.Table.{rules, rule_holds, row_of, first_row, exists_rules, is_reg_rules, is_dir_rules, is_link_rules, can_run_rules, can_run_file_rules, can_run_by, is_special_rules, make_dir_rules, ensure_dir_rules, remove_dir_rules, remove_rules, remove_deep_rules, remove_force_rules, remove_force_deep_rules, remove_by, touch_rules, place_file_rules, place_link_rules, place_conf_rules, discard_rules, discard_dir_rules, symlink_rules, symlink_force_rules, symlink_by, move_below_rules, move_rules, move_by, attr_rules, copy_rules, copy_deep_rules, copy_by}
+use Rattle.utility_calls.specs.Acts.{path_of, place_of, inner_of, source_of, is_prefix, is_below, looks_at_way, second_link, by_way, by_slash, slash_row, sight_on, own_row, row, IsPerformed}
 use Rattle.utility_calls.specs.ActRows.{IsAmong, FitsSlash, Reaches, LooksAtWay, Applies, on_way, at_slash, on_second_way, own}
 use Rattle.utility_calls.proofs.Ways.{Found, IsFirstLink, found, counted}
 use Rattle.utility_calls.proofs.ActChanges.{both_true}
@@ -174,6 +174,25 @@ moves_one false (Special Block) = does_one move_rules (Special Block) refl
 moves_one false (Special Char) = does_one move_rules (Special Char) refl
 moves_one false Dir = does_one move_rules Dir refl
 
+-- what is copied: of every kind but a regular file and a directory the first row for it holds, whatever is seen
+copies_one : (deep : Bool) (k : Kind) (s : Sight) → possible s ≡ true → count k s (copy_by deep) ≡ 1
+copies_one false Absent s p = refl
+copies_one false Reg s p = does_one copy_rules Reg refl s p
+copies_one false Link s p = refl
+copies_one false (Special Fifo) s p = refl
+copies_one false (Special Socket) s p = refl
+copies_one false (Special Block) s p = refl
+copies_one false (Special Char) s p = refl
+copies_one false Dir s p = refl
+copies_one true Absent s p = refl
+copies_one true Reg s p = does_one copy_deep_rules Reg refl s p
+copies_one true Link s p = refl
+copies_one true (Special Fifo) s p = refl
+copies_one true (Special Socket) s p = refl
+copies_one true (Special Block) s p = refl
+copies_one true (Special Char) s p = refl
+copies_one true Dir s p = does_one copy_deep_rules Dir refl s p
+
 -- ---- what is seen on a tree is possible
 
 nothing_in : (v : Value) (f : List ℕ) → is_dir v ≡ false → entry v f ≡ value.Absent
@@ -220,6 +239,10 @@ one_holds (Symlink p target last force) tree h =
 one_holds (Move a b) tree h =
     moves_one (is_prefix a.names b.names) (source_of (Move a b) tree) (sight_on (Move a b) tree)
     (seen_possible tree (inner_of (Move a b) tree) b.names (h.0 refl).1)
+one_holds (Attr p) tree h = asks_one attr_rules Absent refl (sight_on (Attr p) tree)
+one_holds (Copy a b deep) tree h =
+    copies_one deep (source_of (Copy a b deep) tree) (sight_on (Copy a b deep) tree)
+    (seen_possible tree (inner_of (Copy a b deep) tree) b.names (h.0 refl).1)
 
 -- ---- the ways
 
@@ -234,7 +257,7 @@ none_found tree names c (Some n) clear f = absurd (clear f.k f.high f.link)
 pub none_on : (tree : Value) (names : List (List ℕ)) (c : ℕ) → NoLinkOnWay tree names → link_on_way c tree names ≡ None
 none_on tree names c clear = none_found tree names c (link_on_way c tree names) clear (found names tree c)
 
--- what is found on the way of a move's second path
+-- what is found on the way of a second path
 abbrev SecondFound : Act → Value → Option ℕ → Type 0
 SecondFound act tree None = LooksAtWay act tree → NoLinkOnWay tree (place_of act)
 SecondFound act tree (Some n) = LooksAtWay act tree × IsFirstLink (place_of act) tree 128 n
@@ -243,13 +266,13 @@ way_found : (act : Act) (tree : Value) → kind_of tree ≡ Dir → LooksAtWay a
 way_found act tree t looks None f = λ l. clear_way tree (place_of act) 128 t f
 way_found act tree t looks (Some n) f = (looks, f)
 
-second_by : (act : Act) (tree : Value) → kind_of tree ≡ Dir → (c : Bool) → (is_below act || is_there (source_of act tree)) ≡ c
+second_by : (act : Act) (tree : Value) → kind_of tree ≡ Dir → (c : Bool) → looks_at_way act tree ≡ c
     → SecondFound act tree (if c then link_on_way 128 tree (place_of act) else None)
 second_by act tree t true e = way_found act tree t e (link_on_way 128 tree (place_of act)) (found (place_of act) tree 128)
 second_by act tree t false e = λ looks. let x : true ≡ false = sym looks ∙ e in absurd (cc)
 
 second_found : (act : Act) (tree : Value) → kind_of tree ≡ Dir → SecondFound act tree (second_link act tree)
-second_found act tree t = second_by act tree t (is_below act || is_there (source_of act tree)) refl
+second_found act tree t = second_by act tree t (looks_at_way act tree) refl
 
 none_second : (act : Act) (tree : Value) (o : Option ℕ) → SecondFound act tree o → (LooksAtWay act tree → NoLinkOnWay tree (place_of act)) → o ≡ None
 none_second act tree None f clear = refl

@@ -14,7 +14,8 @@ use Rattle.utility_calls.specs.declared.backs.Back.{Back}
 use Rattle.utility_calls.specs.declared.backs.Back.TheVariants.{Folder, File}
 use Rattle.utility_calls.specs.declared.sights.Effect.{Effect}
 use Rattle.utility_calls.specs.declared.sights.Effect.TheVariants.{Nothing, MakesDir, KeepsDir, MakesFile, MakesLink}
-use Rattle.utility_calls.specs.declared.sights.Effect.TheVariants.{LinksInside, TakesAway, Moves, MovesInside}
+use Rattle.utility_calls.specs.declared.sights.Effect.TheVariants.{LinksInside, TakesAway, Moves, MovesInside, Copies}
+use Rattle.utility_calls.specs.declared.sights.Effect.TheVariants.{CopiesInside}
 use Rattle.utility_calls.specs.declared.sights.Row.{Row}
 use Rattle.utility_calls.specs.declared.sights.Rule.{Rule}
 use Rattle.utility_calls.specs.declared.sights.Sight.{Sight}
@@ -107,6 +108,8 @@ dir_behind LinksInside names kept tree ne d = d
 dir_behind TakesAway names kept tree ne d = put_dir tree value.Absent names ne
 dir_behind Moves names kept tree ne d = put_dir tree (at kept names) names ne
 dir_behind MovesInside names kept tree ne d = d
+dir_behind Copies names kept tree ne d = d
+dir_behind CopiesInside names kept tree ne d = d
 
 pub keep_dirs : BacksKeepDirs
 keep_dirs b kept tree named d = dir_behind (back_row b kept tree).effect (names_of b) kept tree named d
@@ -124,6 +127,8 @@ sound_behind puts LinksInside names kept tree n k s = s
 sound_behind puts TakesAway names kept tree n k s = puts tree value.Absent names s refl n
 sound_behind puts Moves names kept tree n k s = puts tree (at kept names) names s (at_sound names kept k) n
 sound_behind puts MovesInside names kept tree n k s = s
+sound_behind puts Copies names kept tree n k s = s
+sound_behind puts CopiesInside names kept tree n k s = s
 
 pub keep_sound : PutsStaySound → BacksKeepSound
 keep_sound puts b kept tree n k s = sound_behind puts (back_row b kept tree).effect (names_of b) kept tree n k s
@@ -141,6 +146,8 @@ needs LinksInside s = true
 needs TakesAway s = s.in_dir
 needs Moves s = s.in_dir
 needs MovesInside s = true
+needs Copies s = true
+needs CopiesInside s = true
 
 abbrev fits : List Rule → Kind → Sight → Bool
 fits rs k s = not (possible s) || needs (first_row rs k s).effect s
@@ -191,6 +198,8 @@ module _ (b : Back) (kept tree : Value) (named : IsNamed b) where
   in_place TakesAway h = some_in tree (names_of b) named h
   in_place Moves h = some_in tree (names_of b) named h
   in_place MovesInside h = tt
+  in_place Copies h = tt
+  in_place CopiesInside h = tt
 
   by_link : (o : Option ℕ) → IsBackInDirectory (by_way o (first_row (back_rules b) k seen)).effect (names_of b) tree
   by_link None = in_place (first_row (back_rules b) k seen).effect needed

@@ -15,17 +15,18 @@ use Rattle.feature_trees.proofs.Laws.{and_parts}
 use Rattle.script_names.specs.Paths.{PathParts}
 use Rattle.utility_calls.specs.declared.acts.Act.{Act}
 use Rattle.utility_calls.specs.declared.acts.Act.TheVariants.{Exists, IsReg, IsDir, IsLink, CanRun, IsSpecial, MakeDir, EnsureDir}
-use Rattle.utility_calls.specs.declared.acts.Act.TheVariants.{RemoveDir, Remove, Touch, Symlink, Move, PlaceFile}
+use Rattle.utility_calls.specs.declared.acts.Act.TheVariants.{RemoveDir, Remove, Touch, Symlink, Move, Attr, Copy, PlaceFile}
 use Rattle.utility_calls.specs.declared.acts.Act.TheVariants.{PlaceLink, PlaceConf, Discard, DiscardDir}
 use Rattle.utility_calls.specs.declared.sights.Sight.{Sight}
 use Rattle.utility_calls.specs.declared.sights.Row.{Row}
 use Rattle.utility_calls.specs.declared.sights.Effect.{Effect}
 use Rattle.utility_calls.specs.declared.sights.Effect.TheVariants.{Nothing, MakesDir, KeepsDir, MakesFile, MakesLink}
-use Rattle.utility_calls.specs.declared.sights.Effect.TheVariants.{LinksInside, TakesAway, Moves, MovesInside}
+use Rattle.utility_calls.specs.declared.sights.Effect.TheVariants.{LinksInside, TakesAway, Moves, MovesInside, Copies}
+use Rattle.utility_calls.specs.declared.sights.Effect.TheVariants.{CopiesInside}
 use Rattle.utility_calls.specs.Ways.{link_on_way}
 use Rattle.utility_calls.specs.declared.sights.Rule.{Rule}
 use Rattle.utility_calls.specs.Table.{rules, first_row, can_run_by, is_special_rules, remove_by, symlink_by}
-use Rattle.utility_calls.specs.Table.{move_by}
+use Rattle.utility_calls.specs.Table.{move_by, copy_by}
 use Rattle.utility_calls.specs.Acts.{path_of, place_of, inner_name, inner_of, with_name, source_of, is_prefix, is_below}
 use Rattle.utility_calls.specs.Acts.{is_there, second_link, by_way, by_slash, sight_on, own_row, row, is_question}
 use Rattle.utility_calls.specs.Acts.{IsPerformed}
@@ -34,7 +35,7 @@ use Rattle.utility_calls.proofs.ActRow.{all_sights, each_sight, possible, given_
 use Rattle.utility_calls.proofs.Above.{some_in, there_parents, inside_parents, kept_parents, clear_place, clear_inside}
 use Rattle.utility_calls.proofs.ActChanges.{question_row}
 
--- ---- what each effect needs to see: of an act that moves nothing, and of a move of what is of kind k
+-- ---- what each effect needs to see: of an act without a source, of a move of what is of kind k, and of a copy
 
 abbrev seen_by : Effect → Sight → Bool
 seen_by Nothing s = true
@@ -46,6 +47,8 @@ seen_by LinksInside s = has (of Dir) s.kind
 seen_by TakesAway s = s.in_dir
 seen_by Moves s = false
 seen_by MovesInside s = false
+seen_by Copies s = false
+seen_by CopiesInside s = false
 
 abbrev seen_by_move : Bool → Effect → Kind → Sight → Bool
 seen_by_move below Nothing k s = true
@@ -57,6 +60,21 @@ seen_by_move below LinksInside k s = false
 seen_by_move below TakesAway k s = false
 seen_by_move below Moves k s = not below && (is_there k && s.in_dir)
 seen_by_move below MovesInside k s = not below && (is_there k && has (of Dir) s.kind)
+seen_by_move below Copies k s = false
+seen_by_move below CopiesInside k s = false
+
+abbrev seen_by_copy : Effect → Sight → Bool
+seen_by_copy Nothing s = true
+seen_by_copy MakesDir s = false
+seen_by_copy KeepsDir s = false
+seen_by_copy MakesFile s = false
+seen_by_copy MakesLink s = false
+seen_by_copy LinksInside s = false
+seen_by_copy TakesAway s = false
+seen_by_copy Moves s = false
+seen_by_copy MovesInside s = false
+seen_by_copy Copies s = s.in_dir
+seen_by_copy CopiesInside s = has (of Dir) s.kind
 
 -- ---- the rows of each table
 
@@ -115,7 +133,36 @@ move_fitting below k s p =
     given_possible (possible s) (seen_by_move below (first_row (move_by below) k s).effect k s) p
     (each_sight (move_fits below k) (moves_fit below k) s)
 
--- ---- an act that moves nothing
+abbrev copy_fits : Bool → Kind → Sight → Bool
+copy_fits deep k s = not (possible s) || seen_by_copy (first_row (copy_by deep) k s).effect s
+
+copy_seen : (deep : Bool) (k : Kind) → all_sights (copy_fits deep k) ≡ true → (s : Sight) → possible s ≡ true
+    → seen_by_copy (first_row (copy_by deep) k s).effect s ≡ true
+copy_seen deep k h s p =
+    given_possible (possible s) (seen_by_copy (first_row (copy_by deep) k s).effect s) p
+    (each_sight (copy_fits deep k) h s)
+
+-- of every kind but a regular file and a directory the row has no effect, whatever is seen
+copy_fitting : (deep : Bool) (k : Kind) (s : Sight) → possible s ≡ true
+    → seen_by_copy (first_row (copy_by deep) k s).effect s ≡ true
+copy_fitting false Absent s p = refl
+copy_fitting false Reg s p = copy_seen false Reg refl s p
+copy_fitting false Link s p = refl
+copy_fitting false (Special Fifo) s p = refl
+copy_fitting false (Special Socket) s p = refl
+copy_fitting false (Special Block) s p = refl
+copy_fitting false (Special Char) s p = refl
+copy_fitting false Dir s p = refl
+copy_fitting true Absent s p = refl
+copy_fitting true Reg s p = copy_seen true Reg refl s p
+copy_fitting true Link s p = refl
+copy_fitting true (Special Fifo) s p = refl
+copy_fitting true (Special Socket) s p = refl
+copy_fitting true (Special Block) s p = refl
+copy_fitting true (Special Char) s p = refl
+copy_fitting true Dir s p = copy_seen true Dir refl s p
+
+-- ---- an act without a source
 
 module _ (act : Act) (tree : Value) (ne : place_of act ≢ []) (place : place_of act ≡ (path_of act).names)
     (nothing : source_of act tree ≡ Absent) (rows : all_sights (fits (rules (is_below act) act)) ≡ true) where
@@ -137,6 +184,8 @@ module _ (act : Act) (tree : Value) (ne : place_of act ≢ []) (place : place_of
   in_place TakesAway h = at_path h
   in_place Moves h = absurd (cc)
   in_place MovesInside h = absurd (cc)
+  in_place Copies h = absurd (cc)
+  in_place CopiesInside h = absurd (cc)
 
   own_still : IsInDirectory (own_row act tree).effect act tree
   own_still =
@@ -185,11 +234,38 @@ module _ (a b : PathParts) (tree : Value) (performed : IsPerformed (Move a b)) (
             (clear_inside a.names b.names (inner_name act) (not-true below beside.0) performed.1)
             (inside_parents tree b.names (inner_name act) parts.1),
       )
+  in_move Copies h = absurd (cc)
+  in_move CopiesInside h = absurd (cc)
 
   own_moves : IsInDirectory (own_row act tree).effect act tree
   own_moves =
       in_move (own_row act tree).effect
       (move_fitting below from seen (seen_possible tree (inner_of act tree) b.names (performed.0 refl).1))
+
+-- ---- a copy
+
+module _ (a b : PathParts) (deep : Bool) (tree : Value) (performed : IsPerformed (Copy a b deep)) where
+  abbrev copies : Act
+  copies = Copy a b deep
+
+  in_copy : (e : Effect) → seen_by_copy e (sight_on copies tree) ≡ true → IsInDirectory e copies tree
+  in_copy Nothing h = tt
+  in_copy MakesDir h = absurd (cc)
+  in_copy KeepsDir h = absurd (cc)
+  in_copy MakesFile h = absurd (cc)
+  in_copy MakesLink h = absurd (cc)
+  in_copy LinksInside h = absurd (cc)
+  in_copy TakesAway h = absurd (cc)
+  in_copy Moves h = absurd (cc)
+  in_copy MovesInside h = absurd (cc)
+  in_copy Copies h = some_in tree b.names (performed.0 refl).1 h
+  in_copy CopiesInside h = inside_parents tree b.names (inner_name copies) h
+
+  own_copies : IsInDirectory (own_row copies tree).effect copies tree
+  own_copies =
+      in_copy (own_row copies tree).effect
+      (copy_fitting deep (source_of copies tree) (sight_on copies tree)
+      (seen_possible tree (inner_of copies tree) b.names (performed.0 refl).1))
 
 -- ---- the row of an act
 
@@ -228,6 +304,8 @@ own_in (Touch p) tree h ne s = own_still (Touch p) tree ne refl refl refl
 own_in (Symlink p target last force) tree h ne s =
     own_still (Symlink p target last force) tree ne refl refl (links_fit force)
 own_in (Move a b) tree h ne s = own_moves a b tree h s
+own_in (Attr p) tree h ne s = own_still (Attr p) tree ne refl refl refl
+own_in (Copy a b deep) tree h ne s = own_copies a b deep tree h
 own_in (PlaceFile p) tree h ne s = own_still (PlaceFile p) tree ne refl refl refl
 own_in (PlaceLink p target) tree h ne s = own_still (PlaceLink p target) tree ne refl refl refl
 own_in (PlaceConf p) tree h ne s = own_still (PlaceConf p) tree ne refl refl refl

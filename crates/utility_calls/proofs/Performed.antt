@@ -1,5 +1,5 @@
 -- Each act that a call comes to meets its conditions.
-use Rattle.std.proofs.Common.{◌≡◌, ◌≢◌, ℕ, zero, suc, ◌-◌, Bool, true, false, not, ◌&&◌, ◌||◌, if◌then◌else◌, Option, Some, None, List, [], ◌∷◌, length, take, All, refl, sym, ap, ◌∙◌}
+use Rattle.std.proofs.Common.{◌≡◌, ◌≢◌, ℕ, zero, suc, ◌-◌, Bool, true, false, not, ◌&&◌, ◌||◌, if◌then◌else◌, Option, Some, None, List, [], ◌∷◌, ◌++◌, length, take, All, refl, sym, ap, ◌∙◌}
 use Rattle.std.specs.Prelude.{codes}
 use Rattle.std.specs.Str.{bytes_eq}
 use Rattle.std.proofs.lemmas.List.Elements.{All-nil, All-cons, All-append}
@@ -23,8 +23,15 @@ use Rattle.utility_calls.specs.Acts.{IsPerformed}
 use Rattle.utility_calls.specs.Options.{is_option, options, behind, is_ended, unended, has_option}
 use Rattle.utility_calls.specs.Operands.{first_of, path_reason, operand_reason, slash_reason, file_reason, each_reason, first_reason, ensured, each_acts, all_acts}
 use Rattle.utility_calls.specs.Pairs.{same_names, is_parent, still_reason, full_reason, end_reason, target_reason, place_reason, link_reason, ln_reason, ln_act, to_reason, mv_reason, mv_act}
+use Rattle.utility_calls.specs.Pairs.{self_copy_reason, copy_to_reason, cp_reason, cp_act, unlink_reason, unlink_act}
+use Rattle.utility_calls.specs.declared.modes.Setting.{Setting}
+use Rattle.utility_calls.specs.declared.modes.Setting.TheVariants as setting
+use Rattle.utility_calls.specs.Modes.{says}
+use Rattle.script_names.specs.Ascii.{newline}
 use Rattle.utility_calls.specs.Questions.{negated, question_of, asking, ask_path, ask, is_not, is_other_operator, test_two, test_three, test_four, test_call, bracket_call}
 use Rattle.utility_calls.specs.Calls.{unless, some_reason, each_behind, act_call, mkdir_each, is_deep, echo_call, echo_text, begins_with_dash, has_backslash, utility_call, call}
+use Rattle.utility_calls.specs.Calls.{each_call, install_behind, installed, setting_operands, setting_call, line_where}
+use Rattle.utility_calls.specs.Calls.{basename_operands, dirname_operands, copies_deep}
 use Rattle.utility_calls.specs.Performed.{HasPerformedActs}
 use Rattle.std.specs.List.{list_any}
 
@@ -146,6 +153,7 @@ each_performed each.EnsureDirs ended word n =
 each_performed each.RemoveDir ended word n = let h = operand_names ended word n in alone _ ((λ _. (h, h)), tt)
 each_performed (each.Remove force deep) ended word n = let h = operand_names ended word n in alone _ ((λ _. (h, h)), tt)
 each_performed each.Touch ended word n = let h = file_names ended word n in alone _ ((λ _. (h, h)), tt)
+each_performed each.Attr ended word n = let h = operand_names ended word n in alone _ ((λ _. (h, h)), tt)
 
 all_performed : (e : Each) (ended : Bool) (words : List (List ℕ)) → first_reason e ended words ≡ None → All (λ acts. All IsPerformed acts) (all_acts e words)
 all_performed e ended [] n = All-nil (λ acts. All IsPerformed acts)
@@ -153,10 +161,13 @@ all_performed e ended (word ∷ words) n =
     let h = first_none (each_reason e ended word) (first_reason e ended words) n in
     All-cons (λ acts. All IsPerformed acts) (each_acts e (spelled word)) (all_acts e words) (each_performed e ended word h.0) (all_performed e ended words h.1)
 
+operands_are_performed : (e : Each) (ended : Bool) (words : List (List ℕ)) → IsPerformedPlan (each_call e ended words)
+operands_are_performed e ended words =
+    unless_is_performed _ (Change (all_acts e words)) (λ n.
+    record { fact = all_performed e ended words (first_none (some_reason words) (first_reason e ended words) n).1 })
+
 each_is_performed : (e : Each) (words : List (List ℕ)) → IsPerformedPlan (each_behind e words)
-each_is_performed e words =
-    unless_is_performed _ (Change (all_acts e (unended words))) (λ n.
-    record { fact = all_performed e (is_ended words) (unended words) (first_none (some_reason (unended words)) (first_reason e (is_ended words) (unended words)) n).1 })
+each_is_performed e words = operands_are_performed e (is_ended words) (unended words)
 
 act_is_performed : (why : Option Reason) (act : Act) → (why ≡ None → IsPerformed act) → IsPerformedPlan (act_call why act)
 act_is_performed why act h =
@@ -200,6 +211,57 @@ mv_performed ended (a ∷ b ∷ more) n =
     let hb = file_names ended b second.0 in
     ((λ _. (ha, hb)), still_other (spelled_names a) (spelled_names b) third.0)
 
+-- ---- `cp` and `unlink`
+
+cp_performed : (deep ended : Bool) (words : List (List ℕ)) → cp_reason deep ended words ≡ None → IsPerformed (cp_act deep words)
+cp_performed deep ended [] n = absurd (cc)
+cp_performed deep ended (a ∷ []) n =
+    let e : Some reason.Call ≡ None = (first_none (file_reason ended a) (Some reason.Call) n).1 in absurd (cc)
+cp_performed deep ended (a ∷ b ∷ more) n =
+    let first = first_none (file_reason ended a) (copy_to_reason deep ended (spelled a) b more) n in
+    let still = first_of (self_copy_reason deep (spelled_names a) (spelled_names b)) (first_of (full_reason (spelled b)) (end_reason more)) in
+    let second = first_none (file_reason ended b) still first.1 in
+    let ha = file_names ended a first.0 in
+    let hb = file_names ended b second.0 in
+    ((λ _. (ha, hb)), tt)
+
+unlink_performed : (ended : Bool) (words : List (List ℕ)) → unlink_reason ended words ≡ None → IsPerformed (unlink_act words)
+unlink_performed ended [] n = absurd (cc)
+unlink_performed ended (word ∷ more) n =
+    let h = operand_names ended word (first_none (operand_reason ended word) (end_reason more) n).0 in
+    ((λ _. (h, h)), tt)
+
+-- ---- `install -d`, and what sets modes, owners and groups
+
+installed_is_performed : (o : Option (List (List ℕ))) → IsPerformedPlan (installed o)
+installed_is_performed None = unspecified reason.Call
+installed_is_performed (Some words) = each_is_performed each.EnsureDirs words
+
+set_is_performed : (set : Setting) (ended : Bool) (words : List (List ℕ)) → IsPerformedPlan (setting_operands set ended words)
+set_is_performed set ended [] = unspecified reason.Call
+set_is_performed set ended (word ∷ words) =
+    either (says set word) (operands_are_performed each.Attr ended words) (unspecified reason.Call)
+
+setting_is_performed : (set : Setting) (words : List (List ℕ)) → IsPerformedPlan (setting_call set words)
+setting_is_performed set words =
+    either _ (set_is_performed set (is_ended (behind words)) (unended (behind words))) (unspecified reason.Call)
+
+-- ---- `basename` and `dirname`
+
+line_is_performed : (specified : Bool) (line : List ℕ) → IsPerformedPlan (line_where specified line)
+line_is_performed specified line = either specified (printing (line ++ newline ∷ [])) (unspecified reason.Call)
+
+base_is_performed : (ended : Bool) (words : List (List ℕ)) → IsPerformedPlan (basename_operands ended words)
+base_is_performed ended [] = unspecified reason.Call
+base_is_performed ended (word ∷ []) = line_is_performed _ _
+base_is_performed ended (word ∷ suffix ∷ []) = line_is_performed _ _
+base_is_performed ended (word ∷ suffix ∷ more ∷ others) = unspecified reason.Call
+
+dir_is_performed : (ended : Bool) (words : List (List ℕ)) → IsPerformedPlan (dirname_operands ended words)
+dir_is_performed ended [] = unspecified reason.Call
+dir_is_performed ended (word ∷ []) = line_is_performed _ _
+dir_is_performed ended (word ∷ more ∷ others) = unspecified reason.Call
+
 -- ---- all calls
 
 echo_is_performed : (words : List (List ℕ)) → IsPerformedPlan (echo_call words)
@@ -223,6 +285,21 @@ utility_is_performed (Some utility.Move) words =
     either _ (act_is_performed _ (mv_act operands) (mv_performed (is_ended (behind words)) operands)) (unspecified reason.Call)
 utility_is_performed (Some utility.Test) words = test_is_performed words
 utility_is_performed (Some utility.Bracket) words = bracket_is_performed words
+utility_is_performed (Some utility.Unlink) words =
+    let operands = unended (behind words) in
+    either _ (act_is_performed _ (unlink_act operands) (unlink_performed (is_ended (behind words)) operands)) (unspecified reason.Call)
+utility_is_performed (Some utility.Install) words = installed_is_performed (install_behind false false words)
+utility_is_performed (Some utility.ChangeMode) words = setting_is_performed setting.Mode words
+utility_is_performed (Some utility.ChangeOwner) words = setting_is_performed setting.Owner words
+utility_is_performed (Some utility.ChangeGroup) words = setting_is_performed setting.Group words
+utility_is_performed (Some utility.Copy) words =
+    let operands = unended (behind words) in
+    let deep = copies_deep (options words) in
+    either _ (act_is_performed _ (cp_act deep operands) (cp_performed deep (is_ended (behind words)) operands)) (unspecified reason.Call)
+utility_is_performed (Some utility.BaseName) words =
+    either _ (base_is_performed (is_ended (behind words)) (unended (behind words))) (unspecified reason.Call)
+utility_is_performed (Some utility.DirName) words =
+    either _ (dir_is_performed (is_ended (behind words)) (unended (behind words))) (unspecified reason.Call)
 
 pub performed : (words : List (List ℕ)) → HasPerformedActs (call words)
 performed [] = tt

@@ -9,7 +9,8 @@ use Rattle.feature_trees.specs.Sound.{sound}
 use Rattle.feature_trees.specs.Tree.{kind_of, has_parents, put}
 use Rattle.utility_calls.specs.declared.acts.Act.{Act}
 use Rattle.utility_calls.specs.declared.sights.Effect.{Effect}
-use Rattle.utility_calls.specs.declared.sights.Effect.TheVariants.{Nothing, LinksInside, Moves, MovesInside}
+use Rattle.utility_calls.specs.declared.sights.Effect.TheVariants.{Nothing, LinksInside, Moves, MovesInside, Copies}
+use Rattle.utility_calls.specs.declared.sights.Effect.TheVariants.{CopiesInside}
 use Rattle.utility_calls.specs.Acts.{path_of, place_of, inner_name, with_name, is_question, IsPerformed, row}
 use Rattle.utility_calls.specs.Acts.{tree_after}
 
@@ -60,6 +61,8 @@ IsInDirectory Moves act tree =
 IsInDirectory MovesInside act tree =
     IsTrue (has_parents tree (path_of act).names)
     × IsTrue (has_parents (without act tree) (with_name (place_of act) (inner_name act)))
+IsInDirectory Copies act tree = IsTrue (has_parents tree (place_of act))
+IsInDirectory CopiesInside act tree = IsTrue (has_parents tree (with_name (place_of act) (inner_name act)))
 IsInDirectory effect act tree = IsTrue (has_parents tree (path_of act).names)
 
 -- what an act puts or takes away is in a directory

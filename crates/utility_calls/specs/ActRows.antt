@@ -1,5 +1,5 @@
 -- Where each row of an act applies on a tree, and that exactly one does.
-use Rattle.std.specs.Prelude.{◌≡◌, ◌≢◌, ℕ, ◌+◌, ◌<◌, ◌≤◌, ◌⊎◌, IsTrue, List, [], ◌∷◌, length, ◌||◌}
+use Rattle.std.specs.Prelude.{◌≡◌, ◌≢◌, ℕ, ◌+◌, ◌<◌, ◌≤◌, ◌⊎◌, IsTrue, List, [], ◌∷◌, length}
 use Rattle.feature_trees.specs.declared.value.Value.{Value}
 use Rattle.feature_trees.specs.declared.kind.Kind.TheVariants.{Absent, Link, Dir}
 use Rattle.feature_trees.specs.Sound.{IsTree}
@@ -8,7 +8,7 @@ use Rattle.utility_calls.specs.declared.acts.Act.{Act}
 use Rattle.utility_calls.specs.Ways.{kind_at, NoLinkOnWay}
 use Rattle.utility_calls.specs.declared.sights.Rule.{Rule}
 use Rattle.utility_calls.specs.Table.{rules, rule_holds}
-use Rattle.utility_calls.specs.Acts.{path_of, place_of, is_below, is_there, source_of, sight_on, IsPerformed, row}
+use Rattle.utility_calls.specs.Acts.{path_of, place_of, is_below, source_of, looks_at_way, sight_on, IsPerformed, row}
 
 -- the row is one of these
 abbrev pub IsAmong : Rule → List Rule → Type 0
@@ -25,9 +25,10 @@ FitsSlash act tree =
 abbrev pub Reaches : Act → Value → Type 0
 Reaches act tree = NoLinkOnWay tree (path_of act).names × FitsSlash act tree
 
--- A move looks at the way of its second path where it moves something, or where that path is below the first.
+-- A move looks at the way of its second path where it moves something, or where that path is below the first; a copy
+-- where it copies something.
 abbrev pub LooksAtWay : Act → Value → Type 0
-LooksAtWay act tree = IsTrue (is_below act || is_there (source_of act tree))
+LooksAtWay act tree = IsTrue (looks_at_way act tree)
 
 -- the row of this number applies to the act on the tree
 pub data Applies (act : Act) (tree : Value) : ℕ → Type 0 where
@@ -38,7 +39,7 @@ pub data Applies (act : Act) (tree : Value) : ℕ → Type 0 where
   at_slash : NoLinkOnWay tree (path_of act).names → IsTrue (path_of act).slash
       → kind_of (at tree (path_of act).names) ≢ Absent → kind_of (at tree (path_of act).names) ≢ Dir
       → Applies act tree 64
-  -- row 128 and k, of a move that looks at the way of its second path, k from 1 to one less than that path's count of
+  -- row 128 and k, of an act that looks at the way of a second path, k from 1 to one less than that path's count of
   -- names: a link stands at its first k names
   on_second_way : (k : ℕ) → Reaches act tree → LooksAtWay act tree → 1 ≤ k → k < length (place_of act)
       → kind_at tree (place_of act) k ≡ Link → Applies act tree (128 + k)

@@ -14,7 +14,8 @@ use Rattle.utility_calls.specs.declared.backs.Back.{Back}
 use Rattle.utility_calls.specs.declared.backs.Back.TheVariants.{Folder, File}
 use Rattle.utility_calls.specs.declared.sights.Effect.{Effect}
 use Rattle.utility_calls.specs.declared.sights.Effect.TheVariants.{Nothing, MakesDir, KeepsDir, MakesFile, MakesLink}
-use Rattle.utility_calls.specs.declared.sights.Effect.TheVariants.{LinksInside, TakesAway, Moves, MovesInside}
+use Rattle.utility_calls.specs.declared.sights.Effect.TheVariants.{LinksInside, TakesAway, Moves, MovesInside, Copies}
+use Rattle.utility_calls.specs.declared.sights.Effect.TheVariants.{CopiesInside}
 use Rattle.utility_calls.specs.declared.sights.Row.{Row}
 use Rattle.utility_calls.specs.declared.sights.Rule.{Rule}
 use Rattle.utility_calls.specs.declared.sights.Sight.{Sight}
@@ -84,6 +85,8 @@ put_back_by LinksInside names kept tree = tree
 put_back_by TakesAway names kept tree = put tree names value.Absent
 put_back_by Moves names kept tree = put tree names (at kept names)
 put_back_by MovesInside names kept tree = tree
+put_back_by Copies names kept tree = tree
+put_back_by CopiesInside names kept tree = tree
 
 -- the tree that a back leaves
 abbrev pub back_after : Back → Value → Value → Value

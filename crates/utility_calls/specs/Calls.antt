@@ -1,7 +1,8 @@
 -- What a call of a utility comes to, by its words alone (POSIX.1-2017, XCU).
-use Rattle.std.specs.Prelude.{ℕ, Bool, true, false, ◌||◌, ◌==◌, List, [], ◌∷◌, ◌++◌, Option, Some, None}
+use Rattle.std.specs.Prelude.{ℕ, Bool, true, false, not, ◌||◌, ◌&&◌, ◌==◌, List, [], ◌∷◌, ◌++◌, Option, Some, None}
 use Rattle.std.specs.Prelude.{if◌then◌else◌, codes}
 use Rattle.std.specs.List.{list_any}
+use Rattle.std.specs.Str.{bytes_eq}
 use Rattle.script_names.specs.declared.command_names.Utility.{Utility}
 use Rattle.script_names.specs.declared.command_names.Utility.TheVariants as utility
 use Rattle.script_names.specs.declared.reason.Reason.{Reason}
@@ -13,9 +14,15 @@ use Rattle.utility_calls.specs.declared.planned.Planned.{Planned}
 use Rattle.utility_calls.specs.declared.planned.Planned.TheVariants.{Known, Print, Change, Unspecified}
 use Rattle.utility_calls.specs.declared.operands.Each.{Each}
 use Rattle.utility_calls.specs.declared.operands.Each.TheVariants as each
+use Rattle.utility_calls.specs.declared.modes.Setting.{Setting}
+use Rattle.utility_calls.specs.declared.modes.Setting.TheVariants as setting
 use Rattle.utility_calls.specs.Options.{options, behind, is_ended, unended, options_fit, option_with, has_option}
+use Rattle.utility_calls.specs.Options.{is_end, is_option}
 use Rattle.utility_calls.specs.Operands.{first_of, first_reason, all_acts}
-use Rattle.utility_calls.specs.Pairs.{ln_reason, ln_act, mv_reason, mv_act}
+use Rattle.utility_calls.specs.Pairs.{ln_reason, ln_act, mv_reason, mv_act, cp_reason, cp_act}
+use Rattle.utility_calls.specs.Pairs.{unlink_reason, unlink_act}
+use Rattle.utility_calls.specs.Modes.{is_octal_mode, says}
+use Rattle.utility_calls.specs.PathStrings.{is_operand, is_path_string, base_name, dir_name, without_suffix}
 use Rattle.utility_calls.specs.Questions.{test_call, bracket_call}
 
 -- the plan where there is no reason against it
@@ -118,6 +125,94 @@ mv_behind words = act_call (mv_reason (is_ended words) (unended words)) (mv_act 
 abbrev pub mv_call : List (List ℕ) → Planned
 mv_call words = with_options false (codes "f") words (mv_behind (behind words))
 
+-- the operands of `cp`
+abbrev pub cp_behind : Bool → List (List ℕ) → Planned
+cp_behind deep words = act_call (cp_reason deep (is_ended words) (unended words)) (cp_act deep (unended words))
+
+-- whether one of these options is `-r`, `-R` or `-a`; 97 is `a`
+abbrev pub copies_deep : List (List ℕ) → Bool
+copies_deep given = is_deep given || option_with 97 given
+
+-- the words of `cp`
+abbrev pub cp_call : List (List ℕ) → Planned
+cp_call words = with_options true (codes "fprRa") words (cp_behind (copies_deep (options words)) (behind words))
+
+-- the operand of `unlink`
+abbrev pub unlink_behind : List (List ℕ) → Planned
+unlink_behind words = act_call (unlink_reason (is_ended words) (unended words)) (unlink_act (unended words))
+
+-- the words of `unlink`
+abbrev pub unlink_call : List (List ℕ) → Planned
+unlink_call words = with_options false [] words (unlink_behind (behind words))
+
+-- What stands behind the options of `install`, by whether `-d` came before these words, and whether their first is to
+-- be a mode, as behind `-m`. None: another option or no mode, or `-d` is not among them.
+abbrev pub install_behind : Bool → Bool → List (List ℕ) → Option (List (List ℕ))
+install_behind made moded [] = if made && not moded then Some [] else None
+install_behind made true (word ∷ words) = if is_octal_mode word then install_behind made false words else None
+install_behind made false (word ∷ words) =
+    if bytes_eq word (codes "-d") then install_behind true false words
+    else (if bytes_eq word (codes "-m") then install_behind made true words
+    else (if made && (is_end word || not (is_option word)) then Some (word ∷ words)
+    else None))
+
+-- the directories that `install -d` makes, as `mkdir -p` does
+abbrev pub installed : Option (List (List ℕ)) → Planned
+installed None = Unspecified reason.Call
+installed (Some words) = each_behind each.EnsureDirs words
+
+-- the words of `install`
+abbrev pub install_call : List (List ℕ) → Planned
+install_call words = installed (install_behind false false words)
+
+-- the operands of a utility that sets a mode, an owner or a group: a word that says which, and paths
+abbrev pub setting_operands : Setting → Bool → List (List ℕ) → Planned
+setting_operands set ended [] = Unspecified reason.Call
+setting_operands set ended (word ∷ words) =
+    if says set word then each_call each.Attr ended words else Unspecified reason.Call
+
+-- the words behind the options of such a utility
+abbrev pub setting_behind : Setting → List (List ℕ) → Planned
+setting_behind set words = setting_operands set (is_ended words) (unended words)
+
+-- the words of such a utility, which has no options here
+abbrev pub setting_call : Setting → List (List ℕ) → Planned
+setting_call set words = with_options false [] words (setting_behind set (behind words))
+
+-- a line that is written, where it has a specified meaning
+abbrev pub line_where : Bool → List ℕ → Planned
+line_where specified line = if specified then Print (line ++ newline ∷ []) else Unspecified reason.Call
+
+-- the operands of `basename`: a string, and perhaps a suffix
+abbrev pub basename_operands : Bool → List (List ℕ) → Planned
+basename_operands ended [] = Unspecified reason.Call
+basename_operands ended (word ∷ []) = line_where (is_path_string ended word) (base_name word)
+basename_operands ended (word ∷ suffix ∷ []) =
+    line_where (is_path_string ended word && is_operand ended suffix) (without_suffix suffix (base_name word))
+basename_operands ended (word ∷ suffix ∷ more ∷ others) = Unspecified reason.Call
+
+-- the words behind the options of `basename`
+abbrev pub basename_behind : List (List ℕ) → Planned
+basename_behind words = basename_operands (is_ended words) (unended words)
+
+-- the words of `basename`
+abbrev pub basename_call : List (List ℕ) → Planned
+basename_call words = with_options false [] words (basename_behind (behind words))
+
+-- the operand of `dirname`: a string
+abbrev pub dirname_operands : Bool → List (List ℕ) → Planned
+dirname_operands ended [] = Unspecified reason.Call
+dirname_operands ended (word ∷ []) = line_where (is_path_string ended word) (dir_name word)
+dirname_operands ended (word ∷ more ∷ others) = Unspecified reason.Call
+
+-- the words behind the options of `dirname`
+abbrev pub dirname_behind : List (List ℕ) → Planned
+dirname_behind words = dirname_operands (is_ended words) (unended words)
+
+-- the words of `dirname`
+abbrev pub dirname_call : List (List ℕ) → Planned
+dirname_call words = with_options false [] words (dirname_behind (behind words))
+
 -- the words of a utility
 abbrev pub utility_call : Option Utility → List (List ℕ) → Planned
 utility_call None words = Unspecified reason.Call
@@ -132,6 +227,14 @@ utility_call (Some utility.Link) words = ln_call words
 utility_call (Some utility.Move) words = mv_call words
 utility_call (Some utility.Test) words = test_call words
 utility_call (Some utility.Bracket) words = bracket_call words
+utility_call (Some utility.Unlink) words = unlink_call words
+utility_call (Some utility.Install) words = install_call words
+utility_call (Some utility.ChangeMode) words = setting_call setting.Mode words
+utility_call (Some utility.ChangeOwner) words = setting_call setting.Owner words
+utility_call (Some utility.ChangeGroup) words = setting_call setting.Group words
+utility_call (Some utility.Copy) words = cp_call words
+utility_call (Some utility.BaseName) words = basename_call words
+utility_call (Some utility.DirName) words = dirname_call words
 
 -- What a command's words come to; the first of them is the utility's name. No words come to no call.
 abbrev pub call : List (List ℕ) → Planned

@@ -1,5 +1,5 @@
 -- What a utility does with its operands, each of which is a path: why one has no specified meaning, and the acts that
--- it comes to (POSIX.1-2017, XCU `mkdir`, `rmdir`, `rm`, `touch`).
+-- it comes to (POSIX.1-2017, XCU `mkdir`, `rmdir`, `rm`, `touch`, `chmod`, `chown`, `chgrp`).
 use Rattle.std.specs.Prelude.{ℕ, zero, suc, Bool, false, not, ◌&&◌, ◌-◌, List, [], ◌∷◌, ◌++◌, length, take, map}
 use Rattle.std.specs.Prelude.{Option, Some, None, if◌then◌else◌}
 use Rattle.script_names.specs.declared.reason.Reason.{Reason}
@@ -10,7 +10,7 @@ use Rattle.script_names.specs.Paths.{PathParts, path_fault, spelled_names, path_
 use Rattle.utility_calls.specs.declared.fault.CallFault.{CallFault}
 use Rattle.utility_calls.specs.declared.fault.CallFault.TheVariants as fault
 use Rattle.utility_calls.specs.declared.acts.Act.{Act}
-use Rattle.utility_calls.specs.declared.acts.Act.TheVariants.{MakeDir, EnsureDir, RemoveDir, Remove, Touch}
+use Rattle.utility_calls.specs.declared.acts.Act.TheVariants.{MakeDir, EnsureDir, RemoveDir, Remove, Touch, Attr}
 use Rattle.utility_calls.specs.declared.operands.Each.{Each}
 use Rattle.utility_calls.specs.declared.operands.Each.TheVariants as each
 use Rattle.utility_calls.specs.Options.{is_option}
@@ -70,6 +70,7 @@ each_reason each.EnsureDirs ended word = operand_reason ended word
 each_reason each.RemoveDir ended word = operand_reason ended word
 each_reason (each.Remove force deep) ended word = operand_reason ended word
 each_reason each.Touch ended word = file_reason ended word
+each_reason each.Attr ended word = operand_reason ended word
 
 -- the first reason among the operands
 abbrev pub first_reason : Each → Bool → List (List ℕ) → Option Reason
@@ -89,6 +90,7 @@ each_acts each.EnsureDirs path = ensured path.names (length path.names - 1) ++ E
 each_acts each.RemoveDir path = RemoveDir path ∷ []
 each_acts (each.Remove force deep) path = Remove path force deep ∷ []
 each_acts each.Touch path = Touch path ∷ []
+each_acts each.Attr path = Attr path ∷ []
 
 -- the acts of each operand
 abbrev pub all_acts : Each → List (List ℕ) → List (List Act)

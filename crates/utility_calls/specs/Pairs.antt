@@ -1,4 +1,5 @@
--- `ln` and `mv`, which have two operands (POSIX.1-2017, XCU `ln`, `mv`).
+-- `ln`, `mv` and `cp`, which have two operands, and `unlink`, which has one (POSIX.1-2017, XCU `ln`, `mv`, `cp`,
+-- `unlink`).
 use Rattle.std.specs.Prelude.{ℕ, Bool, true, false, not, ◌&&◌, ◌||◌, List, [], ◌∷◌, ◌++◌, ◌-◌, length, take, filter}
 use Rattle.std.specs.Prelude.{nat_le, Option, Some, None, if◌then◌else◌}
 use Rattle.std.specs.Str.{bytes_eq}
@@ -11,7 +12,8 @@ use Rattle.script_names.specs.declared.reason.Reason.TheVariants as reason
 use Rattle.script_names.specs.Names.{is_name}
 use Rattle.script_names.specs.Paths.{PathParts, is_filled, components, path_fault, spelled_names, path_of}
 use Rattle.utility_calls.specs.declared.acts.Act.{Act}
-use Rattle.utility_calls.specs.declared.acts.Act.TheVariants.{Symlink, Move}
+use Rattle.utility_calls.specs.declared.acts.Act.TheVariants.{Symlink, Move, Copy, Remove}
+use Rattle.utility_calls.specs.Acts.{is_prefix}
 use Rattle.utility_calls.specs.Operands.{first_of, operand_reason, file_reason, slash_reason}
 
 -- whether two lists of names are the same
@@ -109,3 +111,37 @@ mv_reason ended (a ∷ b ∷ more) = first_of (file_reason ended a) (to_reason e
 -- the act of `mv` with these operands
 abbrev pub mv_act : List (List ℕ) → Act
 mv_act words = Move (path_of (first_word words)) (path_of (second_word words))
+
+-- a copy of a path to itself, or into the directory that it is in, or with `deep` to below itself
+abbrev pub copies_itself : Bool → List (List ℕ) → List (List ℕ) → Bool
+copies_itself deep a b = same_names a b || (is_parent b a || (deep && is_prefix a b))
+
+-- such a copy has no specified meaning
+abbrev pub self_copy_reason : Bool → List (List ℕ) → List (List ℕ) → Option Reason
+self_copy_reason deep a b = if copies_itself deep a b then Some reason.Same else None
+
+-- why a word, with those behind it, is no place to copy a path to
+abbrev pub copy_to_reason : Bool → Bool → PathParts → List ℕ → List (List ℕ) → Option Reason
+copy_to_reason deep ended a word more =
+    first_of (file_reason ended word)
+    (first_of (self_copy_reason deep a.names (spelled_names word))
+    (first_of (full_reason (path_of word)) (end_reason more)))
+
+-- why words are no operands of `cp`, by whether a directory is copied with all below it
+abbrev pub cp_reason : Bool → Bool → List (List ℕ) → Option Reason
+cp_reason deep ended [] = Some reason.Call
+cp_reason deep ended (a ∷ []) = first_of (file_reason ended a) (Some reason.Call)
+cp_reason deep ended (a ∷ b ∷ more) = first_of (file_reason ended a) (copy_to_reason deep ended (path_of a) b more)
+
+-- the act of `cp` with these operands
+abbrev pub cp_act : Bool → List (List ℕ) → Act
+cp_act deep words = Copy (path_of (first_word words)) (path_of (second_word words)) deep
+
+-- why words are no operand of `unlink`
+abbrev pub unlink_reason : Bool → List (List ℕ) → Option Reason
+unlink_reason ended [] = Some reason.Call
+unlink_reason ended (word ∷ more) = first_of (operand_reason ended word) (end_reason more)
+
+-- the act of `unlink` with this operand
+abbrev pub unlink_act : List (List ℕ) → Act
+unlink_act words = Remove (path_of (first_word words)) false false

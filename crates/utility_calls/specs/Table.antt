@@ -1,7 +1,7 @@
 -- The table of the acts: for each act its rows, with number, condition, answer and effect (POSIX.1-2017, XCU; a link
 -- is followed nowhere). Below 64 a row is for a link on the way; row 64 is for a slash behind a file, a link or
 -- a special file.
-use Rattle.std.specs.Prelude.{ℕ, Bool, true, false, ◌&&◌, List, [], ◌∷◌, Option, Some, None, if◌then◌else◌}
+use Rattle.std.specs.Prelude.{ℕ, Bool, true, false, ◌&&◌, List, [], ◌∷◌, ◌++◌, Option, Some, None, if◌then◌else◌}
 use Rattle.script_names.specs.declared.reason.Reason.TheVariants as reason
 use Rattle.script_names.specs.declared.reason.Done.{Done}
 use Rattle.script_names.specs.declared.reason.Done.TheVariants.{Ok, Failed, Stopped}
@@ -14,11 +14,13 @@ use Rattle.feature_trees.specs.Kinds.{has, of, but, both, either, two, special}
 use Rattle.utility_calls.specs.declared.acts.Act.{Act}
 use Rattle.utility_calls.specs.declared.acts.Act.TheVariants.{Exists, IsReg, IsDir, IsLink, CanRun, IsSpecial}
 use Rattle.utility_calls.specs.declared.acts.Act.TheVariants.{MakeDir, EnsureDir, RemoveDir, Remove, Touch, Symlink}
-use Rattle.utility_calls.specs.declared.acts.Act.TheVariants.{Move, PlaceFile, PlaceLink, PlaceConf, Discard, DiscardDir}
+use Rattle.utility_calls.specs.declared.acts.Act.TheVariants.{Move, Attr, Copy, PlaceFile, PlaceLink, PlaceConf}
+use Rattle.utility_calls.specs.declared.acts.Act.TheVariants.{Discard, DiscardDir}
 use Rattle.utility_calls.specs.declared.sights.Sight.{Sight}
 use Rattle.utility_calls.specs.declared.sights.Effect.{Effect}
 use Rattle.utility_calls.specs.declared.sights.Effect.TheVariants.{Nothing, MakesDir, KeepsDir, MakesFile, MakesLink}
-use Rattle.utility_calls.specs.declared.sights.Effect.TheVariants.{LinksInside, TakesAway, Moves, MovesInside}
+use Rattle.utility_calls.specs.declared.sights.Effect.TheVariants.{LinksInside, TakesAway, Moves, MovesInside, Copies}
+use Rattle.utility_calls.specs.declared.sights.Effect.TheVariants.{CopiesInside}
 use Rattle.utility_calls.specs.declared.sights.Row.{Row}
 use Rattle.utility_calls.specs.declared.sights.Rule.{Rule}
 use Rattle.utility_calls.specs.declared.sights.Where.{Where}
@@ -34,12 +36,12 @@ leaves n place answer = record { number = n; source = None; place = place; answe
 abbrev pub does : ℕ → Where → Effect → Rule
 does n place effect = record { number = n; source = None; place = place; answer = Ok; effect = effect }
 
--- a row that changes nothing, for the kinds of what is moved or was kept
+-- a row that changes nothing, for the kinds of what is moved or copied, or was kept
 abbrev pub leaves_from : ℕ → Kinds → Where → Done → Rule
 leaves_from n source place answer =
     record { number = n; source = Some source; place = place; answer = answer; effect = Nothing }
 
--- a row that succeeds and changes the tree, for the kinds of what is moved or was kept
+-- a row that succeeds and changes the tree, for the kinds of what is moved or copied, or was kept
 abbrev pub does_from : ℕ → Kinds → Where → Effect → Rule
 does_from n source place effect =
     record { number = n; source = Some source; place = place; answer = Ok; effect = effect }
@@ -276,6 +278,60 @@ move_rules =
     ∷ leaves_from 81 file (Into (of Link)) (Stopped reason.Same)
     ∷ []
 
+-- `chmod`, `chown`, `chgrp`
+abbrev pub attr_rules : List Rule
+attr_rules =
+    stops
+    ∷ leaves 66 (Is (of Absent)) Failed
+    ∷ leaves 67 (Is (either file (of Dir))) Ok
+    ∷ []
+
+-- `cp` of a regular file; W is what stands at the second path under the first path's last name
+abbrev pub copy_file_rules : List Rule
+copy_file_rules =
+    leaves_from 68 (of Reg) Outside Failed
+    ∷ does_from 69 (of Reg) (Inside (two Absent Reg)) Copies
+    ∷ leaves_from 70 (of Reg) (Is (of Link)) stop
+    ∷ leaves_from 71 (of Reg) (Is special) (Stopped reason.Run)
+    ∷ does_from 72 (of Reg) (Into (two Absent Reg)) CopiesInside
+    ∷ leaves_from 73 (of Reg) (Into (of Link)) stop
+    ∷ leaves_from 74 (of Reg) (Into special) (Stopped reason.Run)
+    ∷ leaves_from 75 (of Reg) (Into (of Dir)) Failed
+    ∷ []
+
+-- a special file is not copied
+abbrev pub copies_no_special : Rule
+copies_no_special = leaves_from 82 special Anything (Stopped reason.Run)
+
+-- `cp -r` of a directory, and of a special file
+abbrev pub copy_dir_rules : List Rule
+copy_dir_rules =
+    leaves_from 76 (of Dir) Outside Failed
+    ∷ does_from 77 (of Dir) (Inside (of Absent)) Copies
+    ∷ leaves_from 78 (of Dir) (Is file) Failed
+    ∷ leaves_from 79 (of Dir) (Is (of Link)) stop
+    ∷ does_from 80 (of Dir) (Into (of Absent)) CopiesInside
+    ∷ leaves_from 81 (of Dir) (Into (of Dir)) (Stopped reason.Call)
+    ∷ copies_no_special
+    ∷ leaves_from 83 (of Dir) (Into file) Failed
+    ∷ leaves_from 84 (of Dir) (Into (of Link)) stop
+    ∷ []
+
+-- `cp`
+abbrev pub copy_rules : List Rule
+copy_rules =
+    leaves_from 65 (of Link) Anything stop
+    ∷ leaves_from 66 (of Absent) Anything Failed
+    ∷ leaves_from 67 (of Dir) Anything Failed
+    ∷ (copy_file_rules ++ copies_no_special ∷ [])
+
+-- `cp -r`
+abbrev pub copy_deep_rules : List Rule
+copy_deep_rules =
+    leaves_from 65 (of Link) Anything stop
+    ∷ leaves_from 66 (of Absent) Anything Failed
+    ∷ (copy_file_rules ++ copy_dir_rules)
+
 -- the rows of `test -x` by whether a regular file may be run
 abbrev pub can_run_by : Bool → List Rule
 can_run_by false = can_run_rules
@@ -298,6 +354,11 @@ abbrev pub move_by : Bool → List Rule
 move_by false = move_rules
 move_by true = move_below_rules
 
+-- the rows of `cp` by its option
+abbrev pub copy_by : Bool → List Rule
+copy_by false = copy_rules
+copy_by true = copy_deep_rules
+
 -- the rows of an act; those of `mv` by whether its second path is below the first
 abbrev pub rules : Bool → Act → List Rule
 rules below (Exists p) = exists_rules
@@ -313,18 +374,20 @@ rules below (Remove p force deep) = remove_by force deep
 rules below (Touch p) = touch_rules
 rules below (Symlink p target last force) = symlink_by force
 rules below (Move a b) = move_by below
+rules below (Attr p) = attr_rules
+rules below (Copy a b deep) = copy_by deep
 rules below (PlaceFile p) = place_file_rules
 rules below (PlaceLink p target) = place_link_rules
 rules below (PlaceConf p) = place_conf_rules
 rules below (Discard p) = discard_rules
 rules below (DiscardDir p) = discard_dir_rules
 
--- whether what is moved, or was kept, is of one of these kinds, where they matter
+-- whether what is moved or copied, or was kept, is of one of these kinds, where they matter
 abbrev pub is_source : Option Kinds → Kind → Bool
 is_source None k = true
 is_source (Some kinds) k = has kinds k
 
--- whether a row applies to what is moved, or was kept, and to what is seen
+-- whether a row applies to what is moved or copied, or was kept, and to what is seen
 abbrev pub rule_holds : Kind → Sight → Rule → Bool
 rule_holds source s r = is_source r.source source && holds r.place s
 

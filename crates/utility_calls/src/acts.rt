@@ -1,5 +1,6 @@
 ghost use Rattle.std.specs.Prelude.{◌≡◌, IfOk};
-ghost use Rattle.utility_calls.specs.declared.acts.Act.TheVariants.{CanRun, IsSpecial, Remove, Symlink, Move, PlaceLink};
+ghost use Rattle.utility_calls.specs.declared.acts.Act.TheVariants.{CanRun, IsSpecial, Remove, Symlink, Move, Copy};
+ghost use Rattle.utility_calls.specs.declared.acts.Act.TheVariants.{PlaceLink};
 
 use feature_trees::Special;
 use script_names::{Bytes, Copied, Memory, Name, Path};
@@ -56,6 +57,15 @@ pub enum Act {
         a: Path,
         b: Path,
     },
+    /// `chmod`, `chown`, `chgrp`: sets the mode or the owner of what stands at the path, which a tree does not have.
+    Attr(Path),
+    /// `cp`: puts what stands at `a` at `b` too, or where a directory stands there, in it; with `deep` also a directory,
+    /// with all below it.
+    Copy {
+        a: Path,
+        b: Path,
+        deep: bool,
+    },
     /// A package manager places a regular file at the path.
     PlaceFile(Path),
     /// A package manager places a symbolic link at the path.
@@ -92,6 +102,8 @@ impl Copied for Act {
                 force,
             } => copy_symlink(alloc, p, target, last, *force),
             Act::Move { a, b } => copy_move(alloc, a, b),
+            Act::Attr(p) => Ok(Act::Attr(p.copy(alloc)?)),
+            Act::Copy { a, b, deep } => copy_copy(alloc, a, b, *deep),
             Act::PlaceFile(p) => Ok(Act::PlaceFile(p.copy(alloc)?)),
             Act::PlaceLink { p, target } => copy_place_link(alloc, p, target),
             Act::PlaceConf(p) => Ok(Act::PlaceConf(p.copy(alloc)?)),
@@ -153,6 +165,15 @@ fn copy_move(alloc: Global, a: &Path, b: &Path) -> Result<Act, Memory>
     let a = a.copy(alloc)?;
     let b = b.copy(alloc)?;
     Ok(Act::Move { a, b })
+}
+
+// `cp` of copies of the paths.
+fn copy_copy(alloc: Global, a: &Path, b: &Path, deep: bool) -> Result<Act, Memory>
+    ensures { IfOk result (λ act. act ≡ Copy a.now b.now deep) }
+{
+    let a = a.copy(alloc)?;
+    let b = b.copy(alloc)?;
+    Ok(Act::Copy { a, b, deep })
 }
 
 // The placing of a link, of copies of the parts.

@@ -1,16 +1,23 @@
-ghost use Rattle.std.specs.Prelude.{◌≡◌, ◌<◌, ◌++◌, length, Some, None, IfOk};
+ghost use Rattle.std.specs.Prelude.{◌≡◌, ◌<◌, ◌++◌, length, false, Some, None, IfOk};
 ghost use Rattle.std.specs.List.{list_any};
+ghost use Rattle.std.specs.Option.{option_copied};
 ghost use Rattle.utility_calls.specs.Calls.{echo_text, echo_rest, is_deep, begins_with_dash};
 ghost use Rattle.utility_calls.specs.Calls.{has_backslash, echo_call};
 ghost use Rattle.utility_calls.specs.Calls.{each_call, act_call, each_behind, mkdir_each, mkdir_call, rmdir_call};
 ghost use Rattle.utility_calls.specs.Calls.{rm_call, touch_call, ln_behind, ln_call, mv_behind, mv_call};
+ghost use Rattle.utility_calls.specs.Calls.{copies_deep, cp_behind, cp_call, unlink_behind, unlink_call};
+ghost use Rattle.utility_calls.specs.Calls.{install_behind, installed, install_call, setting_operands, setting_behind};
+ghost use Rattle.utility_calls.specs.Calls.{setting_call, line_where, basename_operands, basename_behind};
+ghost use Rattle.utility_calls.specs.Calls.{basename_call, dirname_operands, dirname_behind, dirname_call};
 ghost use Rattle.utility_calls.specs.Calls.{utility_call, call};
 
 use crate::acts::Act;
 use crate::fault::CallFault;
+use crate::modes::{Setting, is_octal_mode, says};
 use crate::operands::{Each, one_act, read_all};
-use crate::options::{has_option, options_fit, split_options, unended};
-use crate::pairs::{read_link, read_move};
+use crate::options::{has_option, is_end, is_option, options_fit, split_options, unended};
+use crate::pairs::{read_copy, read_link, read_move, read_unlink};
+use crate::path_strings::{base_name, dir_name, is_operand, is_path_string, without_suffix};
 pub use crate::planned::Planned;
 use crate::questions::{plan_bracket, plan_fault, plan_test};
 use script_names::{Bytes, List, Memory, Reason, Utility, utility_named};
@@ -227,6 +234,197 @@ fn plan_mv(alloc: Global, words: &[Bytes]) -> Result<Planned, Memory>
     plan_move(alloc, behind)
 }
 
+// Whether `-r`, `-R` or `-a` is among the options of `cp`.
+fn copies_deep(options: &[Bytes]) -> bool
+    ensures { result ≡ copies_deep options.now }
+{
+    is_deep(options) || has_option(b'a', options)
+}
+
+// The words behind the options of `cp`.
+fn plan_copy(alloc: Global, deep: bool, words: &[Bytes]) -> Result<Planned, Memory>
+    ensures { IfOk result (λ planned. planned ≡ cp_behind deep words.now) }
+{
+    let (ended, operands) = unended(words);
+    match read_copy(alloc, deep, ended, operands) {
+        Ok(act) => plan_act(alloc, act),
+        Err(fault) => plan_fault(fault),
+    }
+}
+
+// `cp`.
+fn plan_cp(alloc: Global, words: &[Bytes]) -> Result<Planned, Memory>
+    ensures { IfOk result (λ planned. planned ≡ cp_call words.now) }
+{
+    let (options, behind) = split_options(words);
+    if !options_fit(true, b"fprRa", options) {
+        return Ok(Planned::Unspecified(Reason::Call));
+    }
+    plan_copy(alloc, copies_deep(options), behind)
+}
+
+// The words behind the options of `unlink`.
+fn plan_single(alloc: Global, words: &[Bytes]) -> Result<Planned, Memory>
+    ensures { IfOk result (λ planned. planned ≡ unlink_behind words.now) }
+{
+    let (ended, operands) = unended(words);
+    match read_unlink(alloc, ended, operands) {
+        Ok(act) => plan_act(alloc, act),
+        Err(fault) => plan_fault(fault),
+    }
+}
+
+// `unlink`.
+fn plan_unlink(alloc: Global, words: &[Bytes]) -> Result<Planned, Memory>
+    ensures { IfOk result (λ planned. planned ≡ unlink_call words.now) }
+{
+    let (options, behind) = split_options(words);
+    if !options_fit(false, b"", options) {
+        return Ok(Planned::Unspecified(Reason::Call));
+    }
+    plan_single(alloc, behind)
+}
+
+// What stands behind the options of `install`, where these are `-d` and `-m` with a mode alone, and one is `-d`.
+fn install_behind(words: &[Bytes]) -> Option<&[Bytes]>
+    ensures { option_copied result ≡ install_behind false false words.now }
+{
+    let mut left = words;
+    let mut made = false;
+    let mut moded = false;
+    while let [word, rest @ ..] = left {
+        let word = word.as_slice();
+        if moded {
+            if !is_octal_mode(word) {
+                return None;
+            }
+            moded = false;
+        } else if word == b"-d".as_slice() {
+            made = true;
+        } else if word == b"-m".as_slice() {
+            moded = true;
+        } else if made && (is_end(word) || !is_option(word)) {
+            return Some(left);
+        } else {
+            return None;
+        }
+        left = rest;
+    }
+    if made && !moded { Some(left) } else { None }
+}
+
+// `install`.
+fn plan_install(alloc: Global, words: &[Bytes]) -> Result<Planned, Memory>
+    ensures { IfOk result (λ planned. planned ≡ install_call words.now) }
+{
+    match install_behind(words) {
+        None => Ok(Planned::Unspecified(Reason::Call)),
+        Some(behind) => plan_each(alloc, Each::EnsureDirs, behind),
+    }
+}
+
+// The operands of a utility that sets a mode, an owner or a group.
+fn plan_set(
+    alloc: Global,
+    setting: Setting,
+    ended: bool,
+    words: &[Bytes],
+) -> Result<Planned, Memory>
+    ensures { IfOk result (λ planned. planned ≡ setting_operands setting ended words.now) }
+{
+    match words {
+        [] => Ok(Planned::Unspecified(Reason::Call)),
+        [word, rest @ ..] => {
+            if !says(setting, word.as_slice()) {
+                return Ok(Planned::Unspecified(Reason::Call));
+            }
+            plan_operands(alloc, Each::Attr, ended, rest)
+        }
+    }
+}
+
+// A utility that sets a mode, an owner or a group.
+fn plan_setting(alloc: Global, setting: Setting, words: &[Bytes]) -> Result<Planned, Memory>
+    ensures { IfOk result (λ planned. planned ≡ setting_call setting words.now) }
+{
+    let (options, behind) = split_options(words);
+    if !options_fit(false, b"", options) {
+        return Ok(Planned::Unspecified(Reason::Call));
+    }
+    let (ended, operands) = unended(behind);
+    plan_set(alloc, setting, ended, operands)
+}
+
+// A line that is written, where it has a specified meaning.
+fn plan_line(alloc: Global, specified: bool, line: &[u8]) -> Result<Planned, Memory>
+    ensures { IfOk result (λ planned. planned ≡ line_where specified line.now) }
+{
+    if !specified {
+        return Ok(Planned::Unspecified(Reason::Call));
+    }
+    let mut text = Bytes::from_slice(alloc, line)?;
+    text.push(b'\n')?;
+    Ok(Planned::Print(text))
+}
+
+// The operands of `basename`.
+fn plan_base(alloc: Global, ended: bool, words: &[Bytes]) -> Result<Planned, Memory>
+    ensures { IfOk result (λ planned. planned ≡ basename_operands ended words.now) }
+{
+    match words {
+        [] => Ok(Planned::Unspecified(Reason::Call)),
+        [word] => {
+            let word = word.as_slice();
+            plan_line(alloc, is_path_string(ended, word), base_name(word))
+        }
+        [word, suffix] => {
+            let word = word.as_slice();
+            let suffix = suffix.as_slice();
+            let specified = is_path_string(ended, word) && is_operand(ended, suffix);
+            plan_line(alloc, specified, without_suffix(suffix, base_name(word)))
+        }
+        [_, _, _, ..] => Ok(Planned::Unspecified(Reason::Call)),
+    }
+}
+
+// `basename`.
+fn plan_basename(alloc: Global, words: &[Bytes]) -> Result<Planned, Memory>
+    ensures { IfOk result (λ planned. planned ≡ basename_call words.now) }
+{
+    let (options, behind) = split_options(words);
+    if !options_fit(false, b"", options) {
+        return Ok(Planned::Unspecified(Reason::Call));
+    }
+    let (ended, operands) = unended(behind);
+    plan_base(alloc, ended, operands)
+}
+
+// The operand of `dirname`.
+fn plan_dir(alloc: Global, ended: bool, words: &[Bytes]) -> Result<Planned, Memory>
+    ensures { IfOk result (λ planned. planned ≡ dirname_operands ended words.now) }
+{
+    match words {
+        [] => Ok(Planned::Unspecified(Reason::Call)),
+        [word] => {
+            let word = word.as_slice();
+            plan_line(alloc, is_path_string(ended, word), dir_name(word))
+        }
+        [_, _, ..] => Ok(Planned::Unspecified(Reason::Call)),
+    }
+}
+
+// `dirname`.
+fn plan_dirname(alloc: Global, words: &[Bytes]) -> Result<Planned, Memory>
+    ensures { IfOk result (λ planned. planned ≡ dirname_call words.now) }
+{
+    let (options, behind) = split_options(words);
+    if !options_fit(false, b"", options) {
+        return Ok(Planned::Unspecified(Reason::Call));
+    }
+    let (ended, operands) = unended(behind);
+    plan_dir(alloc, ended, operands)
+}
+
 // The words of a utility.
 fn plan_utility(alloc: Global, utility: Utility, words: &[Bytes]) -> Result<Planned, Memory>
     ensures { IfOk result (λ planned. planned ≡ utility_call (Some utility) words.now) }
@@ -243,12 +441,21 @@ fn plan_utility(alloc: Global, utility: Utility, words: &[Bytes]) -> Result<Plan
         Utility::Move => plan_mv(alloc, words),
         Utility::Test => plan_test(alloc, words),
         Utility::Bracket => plan_bracket(alloc, words),
+        Utility::Unlink => plan_unlink(alloc, words),
+        Utility::Install => plan_install(alloc, words),
+        Utility::ChangeMode => plan_setting(alloc, Setting::Mode, words),
+        Utility::ChangeOwner => plan_setting(alloc, Setting::Owner, words),
+        Utility::ChangeGroup => plan_setting(alloc, Setting::Group, words),
+        Utility::Copy => plan_cp(alloc, words),
+        Utility::BaseName => plan_basename(alloc, words),
+        Utility::DirName => plan_dirname(alloc, words),
     }
 }
 
 /// What the words of a command come to, the first of them being a utility's name (POSIX.1-2017, XCU `true`, `:`,
-/// `false`, `echo`, `mkdir`, `rmdir`, `rm`, `touch`, `ln`, `mv`, `test`). The words are looked at in order, and the
-/// first that has no specified meaning decides. No file is looked at.
+/// `false`, `echo`, `mkdir`, `rmdir`, `rm`, `touch`, `ln`, `mv`, `test`, `unlink`, `chmod`, `chown`, `chgrp`, `cp`,
+/// `basename`, `dirname`; and `install -d`, which is no utility of POSIX). The words are looked at in order, and the first
+/// that has no specified meaning decides. No file is looked at.
 pub fn plan(alloc: Global, words: &List<Bytes>) -> Result<Planned, Memory>
     requires { 0 < length words.now }
     ensures { IfOk result (λ planned. planned ≡ call words.now) }

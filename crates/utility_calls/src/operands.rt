@@ -24,6 +24,8 @@ pub enum Each {
     Remove { force: bool, deep: bool },
     /// `touch`
     Touch,
+    /// `chmod`, `chown` and `chgrp`, for each operand but the first
+    Attr,
 }
 
 // The fault of a word that spells no path.
@@ -96,6 +98,7 @@ fn read_each(alloc: Global, each: Each, ended: bool, word: &[u8]) -> Result<Path
         Each::RemoveDir => read_operand(alloc, ended, word),
         Each::Remove { force: _, deep: _ } => read_operand(alloc, ended, word),
         Each::Touch => read_file(alloc, ended, word),
+        Each::Attr => read_operand(alloc, ended, word),
     }
 }
 
@@ -125,6 +128,7 @@ fn acts_of(alloc: Global, each: Each, path: Path) -> Result<List<Act>, Memory>
             },
         ),
         Each::Touch => one_act(alloc, Act::Touch(path)),
+        Each::Attr => one_act(alloc, Act::Attr(path)),
     }
 }
 

@@ -7,7 +7,7 @@ ghost use Rattle.utility_calls.specs.Options.{unended, has_letter, option_fits, 
 use script_names::Bytes;
 
 // Whether a word is `--`.
-fn is_end(word: &[u8]) -> bool
+pub(crate) fn is_end(word: &[u8]) -> bool
     ensures { result ≡ is_end word.now }
 {
     word == b"--".as_slice()
@@ -75,7 +75,7 @@ pub(crate) fn unended(words: &[Bytes]) -> (bool, &[Bytes])
 }
 
 // Whether a letter is among these.
-fn has_letter(letters: &[u8], letter: u8) -> bool
+pub(crate) fn has_letter(letters: &[u8], letter: u8) -> bool
     ensures { result ≡ has_letter letters.now letter }
 {
     letters.iter().any(|b| *b == letter)

@@ -6,10 +6,13 @@ ghost use Rattle.utility_calls.specs.Pairs.{same_names, full_reason, last_compon
 ghost use Rattle.utility_calls.specs.Pairs.{self_reason};
 ghost use Rattle.utility_calls.specs.Pairs.{place_reason, end_reason, link_reason, ln_reason, ln_act, is_parent};
 ghost use Rattle.utility_calls.specs.Pairs.{still_reason, to_reason, mv_reason, mv_act};
+ghost use Rattle.utility_calls.specs.Pairs.{copies_itself, self_copy_reason, copy_to_reason, cp_reason, cp_act};
+ghost use Rattle.utility_calls.specs.Pairs.{unlink_reason, unlink_act};
 
 use crate::acts::Act;
 use crate::fault::CallFault;
 use crate::operands::{read_file, read_operand, without_slash};
+use crate::places::is_prefix;
 use script_names::{Bytes, Copied, MAX_NAMES, Memory, Name, NameFault, Path, PathFault, Reason};
 use std::alloc::Global;
 
@@ -304,6 +307,103 @@ pub(crate) fn read_move(alloc: Global, ended: bool, words: &[Bytes]) -> Result<A
                 Err(fault) => return Err(fault),
             };
             Ok(Act::Move { a, b })
+        }
+    }
+}
+
+/// Whether a copy is of a path to itself, or into the directory that it is in, or with `deep` to below itself.
+pub fn copies_itself(deep: bool, a: &[Name], b: &[Name]) -> bool
+    ensures { result ≡ copies_itself deep a.now b.now }
+{
+    same_names(a, b) || is_parent(b, a) || (deep && is_prefix(a, b))
+}
+
+// The path, unless a copy of the other to it would be one to itself.
+fn copies(deep: bool, a: &Path, b: Path) -> Result<Path, CallFault>
+    ensures { Gives (self_copy_reason deep a.now.names b.names) b result }
+{
+    if copies_itself(deep, a.names(), b.names()) {
+        Err(CallFault::Because(Reason::Same))
+    } else {
+        Ok(b)
+    }
+}
+
+// The path of a word, with those behind it, if it is a place to copy the other path to.
+fn read_copy_to(
+    alloc: Global,
+    deep: bool,
+    ended: bool,
+    a: &Path,
+    word: &[u8],
+    more: &[Bytes],
+) -> Result<Path, CallFault>
+    ensures { Gives (copy_to_reason deep ended a.now word.now more.now) (path_spelled word.now) result }
+{
+    let b = match read_file(alloc, ended, word) {
+        Ok(path) => path,
+        Err(fault) => return Err(fault),
+    };
+    let b = match copies(deep, a, b) {
+        Ok(path) => path,
+        Err(fault) => return Err(fault),
+    };
+    let b = match not_full(b) {
+        Ok(path) => path,
+        Err(fault) => return Err(fault),
+    };
+    at_end(b, more)
+}
+
+// The act of `cp` with these operands, by its options and by whether `--` ended them.
+pub(crate) fn read_copy(
+    alloc: Global,
+    deep: bool,
+    ended: bool,
+    words: &[Bytes],
+) -> Result<Act, CallFault>
+    ensures { Gives (cp_reason deep ended words.now) (cp_act deep words.now) result }
+{
+    match words {
+        [] => Err(CallFault::Because(Reason::Call)),
+        [a] => match read_file(alloc, ended, a.as_slice()) {
+            Ok(_) => Err(CallFault::Because(Reason::Call)),
+            Err(fault) => Err(fault),
+        },
+        [a, b, more @ ..] => {
+            let a = match read_file(alloc, ended, a.as_slice()) {
+                Ok(path) => path,
+                Err(fault) => return Err(fault),
+            };
+            let b = match read_copy_to(alloc, deep, ended, &a, b.as_slice(), more) {
+                Ok(path) => path,
+                Err(fault) => return Err(fault),
+            };
+            Ok(Act::Copy { a, b, deep })
+        }
+    }
+}
+
+// The act of `unlink` with this operand, by whether `--` ended the options.
+pub(crate) fn read_unlink(alloc: Global, ended: bool, words: &[Bytes]) -> Result<Act, CallFault>
+    ensures { Gives (unlink_reason ended words.now) (unlink_act words.now) result }
+{
+    match words {
+        [] => Err(CallFault::Because(Reason::Call)),
+        [word, more @ ..] => {
+            let path = match read_operand(alloc, ended, word.as_slice()) {
+                Ok(path) => path,
+                Err(fault) => return Err(fault),
+            };
+            let p = match at_end(path, more) {
+                Ok(path) => path,
+                Err(fault) => return Err(fault),
+            };
+            Ok(Act::Remove {
+                p,
+                force: false,
+                deep: false,
+            })
         }
     }
 }

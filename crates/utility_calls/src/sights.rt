@@ -83,6 +83,10 @@ pub enum Effect {
     Moves,
     /// What stands at the path is moved below the other one, under its last name.
     MovesInside,
+    /// What stands at the path is put at the other one too.
+    Copies,
+    /// What stands at the path is put below the other one too, under its last name.
+    CopiesInside,
 }
 
 impl Copied for Effect {
@@ -92,7 +96,7 @@ impl Copied for Effect {
 }
 
 /// A row of the table of the acts or of the backs: its number, its condition, and what it comes to. `source` are the
-/// kinds of what is moved, or of what stood at the path in the kept tree, where they matter.
+/// kinds of what is moved or copied, or of what stood at the path in the kept tree, where they matter.
 #[derive(Clone, Copy, Debug, PartialEq, Eq)]
 pub struct Rule {
     pub number: u8,
@@ -147,7 +151,7 @@ fn holds(place: Where, seen: &Sight) -> bool
     }
 }
 
-// Whether what is moved is of one of these kinds, where they matter.
+// Whether what is moved or copied is of one of these kinds, where they matter.
 fn is_source(kinds: Option<Kinds>, source: Kind) -> bool
     ensures { result ≡ is_source kinds source }
 {
@@ -158,7 +162,7 @@ fn is_source(kinds: Option<Kinds>, source: Kind) -> bool
 }
 
 impl Rule {
-    /// Whether the row applies to what is moved, by its kind, and to what is seen.
+    /// Whether the row applies to what is moved or copied, by its kind, and to what is seen.
     pub fn holds(&self, source: Kind, seen: &Sight) -> bool
         ensures { result ≡ rule_holds source seen.now self.now }
     {
@@ -178,7 +182,7 @@ impl Rule {
 }
 
 impl Row {
-    /// The row of a link on the way, at the first so many names of a path; 128 more for those of a move's second path.
+    /// The row of a link on the way, at the first so many names of a path; 128 more for those of a second path.
     pub fn of_link(number: u8) -> Row
         ensures { result ≡ link_row number }
     {

@@ -1,12 +1,13 @@
 ghost use Rattle.std.specs.Prelude.{◌≡◌};
 ghost use Rattle.utility_calls.specs.Backs.{back_rules};
 ghost use Rattle.utility_calls.specs.Table.{first_row, rules, can_run_by, is_special_rules, remove_by};
-ghost use Rattle.utility_calls.specs.Table.{symlink_by, move_by};
+ghost use Rattle.utility_calls.specs.Table.{symlink_by, move_by, copy_by};
 
 use crate::acts::Act;
 use crate::backs::Back;
 use crate::sights::Effect::{
-    KeepsDir, LinksInside, MakesDir, MakesFile, MakesLink, Moves, MovesInside, TakesAway,
+    Copies, CopiesInside, KeepsDir, LinksInside, MakesDir, MakesFile, MakesLink, Moves,
+    MovesInside, TakesAway,
 };
 use crate::sights::Where::{
     Anything, Empty, Full, Inside, Into, IntoEmpty, IntoFull, Is, Outside, Within,
@@ -57,7 +58,7 @@ macro_rules! does {
     };
 }
 
-// A row that changes nothing, for the kinds of what is moved or was kept.
+// A row that changes nothing, for the kinds of what is moved or copied, or was kept.
 macro_rules! leaves_from {
     ($number:expr, $source:expr, $place:expr, $answer:expr) => {
         Rule {
@@ -70,7 +71,7 @@ macro_rules! leaves_from {
     };
 }
 
-// A row that succeeds and changes the tree, for the kinds of what is moved or was kept.
+// A row that succeeds and changes the tree, for the kinds of what is moved or copied, or was kept.
 macro_rules! does_from {
     ($number:expr, $source:expr, $place:expr, $effect:expr) => {
         Rule {
@@ -106,6 +107,9 @@ const SOME: Kinds = but!(absent);
 
 // A regular file, or one of the four special kinds.
 const FILE: Kinds = special!(reg);
+
+// One of the four special kinds.
+const SPECIAL: Kinds = special!();
 
 // What is there and no directory.
 const NO_DIR: Kinds = special!(reg link);
@@ -303,6 +307,52 @@ const MOVE: &[Rule] = &[
     leaves_from!(81, FILE, Into(LINK), Stopped(Reason::Same)),
 ];
 
+// The rows of `chmod`, `chown` and `chgrp`.
+const ATTR: &[Rule] = &[
+    STOPS,
+    leaves!(66, Is(ABSENT), Failed),
+    leaves!(67, Is(special!(reg dir)), Done::Ok),
+];
+
+// The rows of `cp`; W is what stands at the second path under the first path's last name.
+const COPY: &[Rule] = &[
+    leaves_from!(65, LINK, Anything, STOP),
+    leaves_from!(66, ABSENT, Anything, Failed),
+    leaves_from!(67, DIR, Anything, Failed),
+    leaves_from!(68, REG, Outside, Failed),
+    does_from!(69, REG, Inside(kinds!(absent reg)), Copies),
+    leaves_from!(70, REG, Is(LINK), STOP),
+    leaves_from!(71, REG, Is(SPECIAL), Stopped(Reason::Run)),
+    does_from!(72, REG, Into(kinds!(absent reg)), CopiesInside),
+    leaves_from!(73, REG, Into(LINK), STOP),
+    leaves_from!(74, REG, Into(SPECIAL), Stopped(Reason::Run)),
+    leaves_from!(75, REG, Into(DIR), Failed),
+    leaves_from!(82, SPECIAL, Anything, Stopped(Reason::Run)),
+];
+
+// The rows of `cp -r`.
+const COPY_DEEP: &[Rule] = &[
+    leaves_from!(65, LINK, Anything, STOP),
+    leaves_from!(66, ABSENT, Anything, Failed),
+    leaves_from!(68, REG, Outside, Failed),
+    does_from!(69, REG, Inside(kinds!(absent reg)), Copies),
+    leaves_from!(70, REG, Is(LINK), STOP),
+    leaves_from!(71, REG, Is(SPECIAL), Stopped(Reason::Run)),
+    does_from!(72, REG, Into(kinds!(absent reg)), CopiesInside),
+    leaves_from!(73, REG, Into(LINK), STOP),
+    leaves_from!(74, REG, Into(SPECIAL), Stopped(Reason::Run)),
+    leaves_from!(75, REG, Into(DIR), Failed),
+    leaves_from!(76, DIR, Outside, Failed),
+    does_from!(77, DIR, Inside(ABSENT), Copies),
+    leaves_from!(78, DIR, Is(FILE), Failed),
+    leaves_from!(79, DIR, Is(LINK), STOP),
+    does_from!(80, DIR, Into(ABSENT), CopiesInside),
+    leaves_from!(81, DIR, Into(DIR), Stopped(Reason::Call)),
+    leaves_from!(82, SPECIAL, Anything, Stopped(Reason::Run)),
+    leaves_from!(83, DIR, Into(FILE), Failed),
+    leaves_from!(84, DIR, Into(LINK), STOP),
+];
+
 // The rows of a directory that is put back.
 const FOLDER: &[Rule] = &[
     leaves_from!(66, SOME, Anything, Done::Ok),
@@ -364,7 +414,14 @@ fn move_by(below: bool) -> &'static [Rule]
     if below { MOVE_BELOW } else { MOVE }
 }
 
-// The first row that applies to what is moved, or was kept, and to what is seen.
+// The rows of `cp` by its option.
+fn copy_by(deep: bool) -> &'static [Rule]
+    ensures { result.now ≡ copy_by deep }
+{
+    if deep { COPY_DEEP } else { COPY }
+}
+
+// The first row that applies to what is moved or copied, or was kept, and to what is seen.
 fn first_row(rules: &[Rule], source: Kind, seen: &Sight) -> Row
     ensures { result ≡ first_row rules.now source seen.now }
 {
@@ -404,6 +461,8 @@ impl Act {
                 force,
             } => symlink_by(*force),
             Act::Move { a: _, b: _ } => move_by(below),
+            Act::Attr(_) => ATTR,
+            Act::Copy { a: _, b: _, deep } => copy_by(*deep),
             Act::PlaceFile(_) => PLACE_FILE,
             Act::PlaceLink { p: _, target: _ } => PLACE_LINK,
             Act::PlaceConf(_) => PLACE_CONF,
@@ -412,8 +471,8 @@ impl Act {
         }
     }
 
-    /// The row of the act's own table that applies to what is seen on a tree, by the kind of what is moved, and by
-    /// whether a move's second path is below its first.
+    /// The row of the act's own table that applies to what is seen on a tree, by the kind of what is moved or copied,
+    /// and by whether a move's second path is below its first.
     pub fn own_row(&self, below: bool, source: Kind, seen: &Sight) -> Row
         ensures { result ≡ first_row (rules below self.now) source seen.now }
     {

@@ -21,4 +21,4 @@ returns-in-None c =
     let seen : c.sight_of.result ≡ sight_of (in_dir tree names) here (inner_at here (inner_name a)) =
     c.sight_of.ensures ∙ (λ i. sight_of (c.requires.in_dir i) (c.requires.here i) (inner i)) in
     c.own_row.ensures ∙ ap (first_row (rules false a) Absent) seen
-    ∙ still_row a tree (sym c.moved.ensures ∙ ap option_copied c.in-None.is)
+    ∙ still_row a tree (sym c.source.ensures ∙ ap option_copied c.in-None.is)
