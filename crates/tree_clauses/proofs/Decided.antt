@@ -1,8 +1,8 @@
 -- What is found of one literal: whether it holds, and the value that it gives its subject.
-use Rattle.std.proofs.Common.{◌≡◌, ◌≢◌, ℕ, zero, suc, ◌<◌, ◌↔◌, inl, inr, Bool, true, nat_eq, nat_lt, IsTrue, List, [], ◌∷◌, length, Option, Some, None, map, drop, refl, sym, ap, subst, ◌∙◌, arith, Bor}
+use Rattle.std.proofs.Common.{◌≡◌, ◌≢◌, ℕ, zero, suc, ◌<◌, ◌↔◌, inl, inr, Bool, true, nat_lt, IsTrue, List, [], ◌∷◌, length, Option, Some, None, map, drop, refl, sym, ap, subst, ◌∙◌, arith, Bor}
 use Rattle.std.specs.List.{Contains}
 use Rattle.std.specs.Option.{option_map}
-use Rattle.std.proofs.lemmas.Bool.{lt-ltb, eqb-true}
+use Rattle.std.proofs.lemmas.Bool.{lt-ltb}
 use Rattle.feature_trees.specs.declared.shape.Entry.{Entry}
 use Rattle.feature_trees.specs.declared.value.Value.{Value}
 use Rattle.feature_trees.specs.declared.value.Value.TheVariants.{Absent, Reg, Link, Special, Dir}
@@ -20,13 +20,12 @@ use Rattle.tree_clauses.specs.declared.clause.Var.{Var}
 use Rattle.tree_clauses.specs.declared.clause.Literal.{Literal}
 use Rattle.tree_clauses.specs.declared.clause.Literal.TheVariants as L
 use Rattle.tree_clauses.specs.Literals.{Valuation, value_of_variable, MeetsAll, AgreesOutside}
-use Rattle.tree_clauses.specs.MadeValues.{without, replaced}
+use Rattle.tree_clauses.specs.MadeValues.{replaced}
 use Rattle.tree_clauses.specs.Solved.{IsInOrder, BeginEmpty, BeginWithEntries}
 use Rattle.tree_clauses.specs.Steps.{Known, IsThere, FactIs, MadeIs}
-use Rattle.tree_clauses.proofs.Names.{same_yes}
 use Rattle.tree_clauses.proofs.Values.{entry_is, dir_kind, rises_entries, empty_from}
 use Rattle.tree_clauses.proofs.Orders.{same_order}
-use Rattle.tree_clauses.proofs.Edited.{has_or_not, fenced_iff, similar_iff, are_replaced, replaced_begin, replaced_missing}
+use Rattle.tree_clauses.proofs.Edited.{has_or_not, are_replaced, replaced_begin, replaced_missing}
 use Rattle.tree_clauses.proofs.Valuations.{sound_at}
 
 -- ---- facts on values
@@ -44,30 +43,12 @@ has_entry_iff v (x ∷ es) n e l = (
   λ h. lt-ltb 0 n (omega arith),
 )
 
-no_length : {X : Type 0} (xs : List X) → length xs ≡ 0 → xs ≡ []
-no_length [] e = refl
-no_length (x ∷ xs) e = absurd (omega arith)
-
-pub fenced_by : (v : Value) (names : List (List ℕ)) (left : List Entry) (n : ℕ) → IsTrue (sound v) → left ≡ without (entries_of v) names → n ≡ length left → IsTrue (nat_eq n 0) ↔ ((f : List ℕ) → ¬ (Contains names f) → entry v f ≡ Absent)
-fenced_by v names left n s e l =
-    let both = fenced_iff v names s in (
-      λ t. both.0 (sym e ∙ no_length left (sym l ∙ eqb-true n 0 t)),
-      λ h. same_yes n 0 (l ∙ ap length (e ∙ both.1 h)),
-    )
-
 pub dir_from : (v : Value) → is_dir v ≡ true → kind_of v ≡ kind.Dir
 dir_from Absent e = cc
 dir_from Reg e = cc
 dir_from (Link b) e = cc
 dir_from (Special s) e = cc
 dir_from (Dir es) e = refl
-
-pub similar_by : (v w : Value) (names : List (List ℕ)) (left right : List Entry) (b : Bool) → IsTrue (sound v) → IsTrue (sound w) → is_dir v ≡ true → left ≡ without (entries_of v) names → right ≡ without (entries_of w) names → IsTrue b ↔ (left ≡ right) → IsTrue b ↔ ((kind_of v ≡ kind.Dir) × AgreesOutside v names w)
-similar_by v w names left right b s t d l r same =
-    let both = similar_iff v w names s t in (
-      λ h. (dir_from v d, both.0 (sym l ∙ same.0 h ∙ r)),
-      λ h. same.1 (l ∙ both.1 h.1 ∙ sym r),
-    )
 
 -- ---- facts on variables
 

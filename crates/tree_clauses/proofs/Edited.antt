@@ -1,5 +1,5 @@
 -- Entries that are taken away or replaced: what stands under each name then.
-use Rattle.std.proofs.Common.{◌≡◌, ℕ, ◌⊎◌, ◌↔◌, inl, inr, Bool, true, false, IsTrue, List, [], ◌∷◌, Option, Some, None, refl, sym, ap, subst, ◌∙◌}
+use Rattle.std.proofs.Common.{◌≡◌, ℕ, ◌⊎◌, inl, inr, Bool, true, false, List, [], ◌∷◌, Option, Some, None, refl, sym, ap, subst, ◌∙◌}
 use Rattle.std.specs.List.{Contains}
 use Rattle.std.specs.Prelude.{◌&&◌, ◌==◌, if◌then◌else◌}
 use Rattle.std.specs.Option.{option_and_then}
@@ -8,19 +8,16 @@ use Rattle.std.proofs.lemmas.Bool.{eqb-true}
 use Rattle.std.proofs.lemmas.Slice.Eq.{bytes_eq-Decides}
 use Rattle.feature_trees.specs.declared.shape.Entry.{Entry}
 use Rattle.feature_trees.specs.declared.value.Value.{Value}
-use Rattle.feature_trees.specs.declared.value.Value.TheVariants.{Absent}
-use Rattle.feature_trees.specs.Tree.{entry, find, update, entries_of}
-use Rattle.feature_trees.specs.Sound.{sound}
+use Rattle.feature_trees.specs.Tree.{entry, find, update}
 use Rattle.feature_trees.proofs.Laws.{Rises, find-update_same, find-update_other}
-use Rattle.feature_trees.proofs.Kept.{rises_update, same_finds}
+use Rattle.feature_trees.proofs.Kept.{rises_update}
 use Rattle.tree_clauses.specs.declared.clause.Literal.{Literal}
 use Rattle.tree_clauses.specs.declared.clause.Literal.TheVariants as L
-use Rattle.tree_clauses.specs.Literals.{Valuation, value_of_variable, Meets, MeetsAll, AgreesOutside}
-use Rattle.tree_clauses.specs.MadeValues.{without, entry_value, replaced}
+use Rattle.tree_clauses.specs.Literals.{Valuation, value_of_variable, Meets, MeetsAll}
+use Rattle.tree_clauses.specs.MadeValues.{entry_value, replaced}
 use Rattle.tree_clauses.specs.Solved.{IsEntry, BeginWithEntries}
 use Rattle.tree_clauses.specs.Steps.{Known, IsThere, AreKnown, Agrees}
 use Rattle.tree_clauses.proofs.Names.{name_cases, same_yes}
-use Rattle.tree_clauses.proofs.Values.{entry_is, rises_entries}
 use Rattle.tree_clauses.proofs.Orders.{contains_head, contains_tail, contains_cases, contains_nothing}
 
 -- a name is one of these or not
@@ -33,53 +30,6 @@ has_or_not f (n ∷ names) = elim (name_cases n f) [
     | inr out ↦ inr (λ c. elim (contains_cases n f names c) [ inl e ↦ ne.0 e | inr d ↦ out d ])
   ]
 ]
-
--- entries that are taken away
-
-pub without_rises : (es : List Entry) (names : List (List ℕ)) → Rises es → Rises (without es names)
-without_rises es [] r = r
-without_rises es (n ∷ names) r = without_rises (update es n Absent) names (rises_update es n Absent r)
-
-pub without_other : (es : List Entry) (names : List (List ℕ)) (f : List ℕ) → Rises es → ¬ (Contains names f) → find (without es names) f ≡ find es f
-without_other es [] f r out = refl
-without_other es (n ∷ names) f r out =
-    without_other (update es n Absent) names f (rises_update es n Absent r) (λ c. out (contains_tail n f names c))
-    ∙ find-update_other es n f Absent r (λ e. out (subst (Contains (n ∷ names)) e (contains_head n names)))
-
-pub without_same : (es : List Entry) (names : List (List ℕ)) (f : List ℕ) → Rises es → Contains names f → find (without es names) f ≡ Absent
-without_same es [] f r c = absurd (contains_nothing f c)
-without_same es (n ∷ names) f r c =
-    let more = rises_update es n Absent r in
-    elim (has_or_not f names) [
-      | inl d ↦ without_same (update es n Absent) names f more d
-      | inr out ↦ without_other (update es n Absent) names f more out ∙ elim (contains_cases n f names c) [
-        | inl e ↦ subst (λ x. find (update es n Absent) x ≡ Absent) e (find-update_same es n Absent r)
-        | inr d ↦ absurd (out d)
-      ]
-    ]
-
--- no entry is left where all have these names
-pub fenced_iff : (v : Value) (names : List (List ℕ)) → IsTrue (sound v) → (without (entries_of v) names ≡ []) ↔ ((f : List ℕ) → ¬ (Contains names f) → entry v f ≡ Absent)
-fenced_iff v names s =
-    let r = rises_entries v s in (
-      λ e f out. sym (entry_is v f) ∙ sym (without_other (entries_of v) names f r out) ∙ ap (λ es. find es f) e,
-      λ h. same_finds (without (entries_of v) names) [] (without_rises (entries_of v) names r) tt (λ f. elim (has_or_not f names) [
-        | inl c ↦ without_same (entries_of v) names f r c
-        | inr out ↦ without_other (entries_of v) names f r out ∙ entry_is v f ∙ h f out
-      ]),
-    )
-
--- the same entries are left where two directories agree under every other name
-pub similar_iff : (v w : Value) (names : List (List ℕ)) → IsTrue (sound v) → IsTrue (sound w) → (without (entries_of v) names ≡ without (entries_of w) names) ↔ AgreesOutside v names w
-similar_iff v w names s t =
-    let r = rises_entries v s in
-    let q = rises_entries w t in (
-      λ e f out. sym (entry_is v f) ∙ sym (without_other (entries_of v) names f r out) ∙ ap (λ es. find es f) e ∙ without_other (entries_of w) names f q out ∙ entry_is w f,
-      λ h. same_finds (without (entries_of v) names) (without (entries_of w) names) (without_rises (entries_of v) names r) (without_rises (entries_of w) names q) (λ f. elim (has_or_not f names) [
-        | inl c ↦ without_same (entries_of v) names f r c ∙ sym (without_same (entries_of w) names f q c)
-        | inr out ↦ without_other (entries_of v) names f r out ∙ entry_is v f ∙ h f out ∙ sym (entry_is w f) ∙ sym (without_other (entries_of w) names f q out)
-      ]),
-    )
 
 -- entries that are replaced
 

@@ -16,3 +16,4 @@ pub mod KindSets
 pub mod KindWords
 pub mod ToldLines
 pub mod Below
+pub mod AgreeingEntries

@@ -10,7 +10,7 @@ use Rattle.feature_trees.specs.Sound.{sound}
 use Rattle.tree_clauses.specs.declared.clause.Literal.{Literal}
 use Rattle.tree_clauses.specs.declared.clause.Literal.TheVariants as L
 use Rattle.tree_clauses.specs.declared.clause.Clause.{Clause}
-use Rattle.tree_clauses.specs.Literals.{Valuation, value_of_variable, MeetsAll, IsSound}
+use Rattle.tree_clauses.specs.Literals.{Valuation, value_of_variable, MeetsAll, IsSound, CoversTree}
 use Rattle.tree_clauses.specs.Solved.{AllKnown, Makes, subject, Solves, done, made, fact}
 use Rattle.tree_clauses.specs.Decides.{Decides}
 use Rattle.tree_clauses.specs.Steps.{Known, IsThere, AreKnown, Agrees, CanBe, Gives, SolvedTo, FactIs, MadeIs, Passes, StepIs}
@@ -279,3 +279,10 @@ at_end start tree all known left holds w h = subst (λ l. Going start tree all k
 pub none_from : (b : Bool) (k : Option Value) → IsTrue b ↔ IsThere k → b ≡ false → k ≡ None
 none_from b (Some v) both e = let t : b ≡ true = both.1 tt in cc
 none_from b None both e = refl
+
+-- where a literal does not hold, the clause covers nothing
+pub fails : (clause : Clause) (tree : Value) (known : Known) (left : List Literal) → Going clause.start.0 tree clause.literals known left false → ¬ (CoversTree clause tree)
+fails clause tree known left h c =
+    let covers = c.1 in
+    let k = (h.met covers.valuation covers.values).0 (covers.starts, covers.met) in
+    let bad : false ≡ true = k.2 in cc

@@ -10,3 +10,5 @@ pub mod Cuts
 pub mod ClauseRead
 pub mod Plain
 pub mod Leads
+pub mod Agreeing
+pub mod NameSets

@@ -1,19 +1,13 @@
--- Values that are made of others: entries taken away, entries replaced, and names in the order of their bytes.
+-- Values that are made of others: entries replaced, and names in the order of their bytes.
 use Rattle.std.specs.Prelude.{ℕ, Bool, false, ◌&&◌, ◌==◌, List, [], ◌∷◌, Option, Some, None, if◌then◌else◌}
 use Rattle.std.specs.Option.{option_and_then}
 use Rattle.std.specs.Str.{bytes_eq}
 use Rattle.feature_trees.specs.declared.shape.Entry.{Entry}
 use Rattle.feature_trees.specs.declared.value.Value.{Value}
-use Rattle.feature_trees.specs.declared.value.Value.TheVariants.{Absent}
 use Rattle.feature_trees.specs.Tree.{update}
 use Rattle.tree_clauses.specs.declared.clause.Literal.{Literal}
 use Rattle.tree_clauses.specs.declared.clause.Literal.TheVariants as L
 use Rattle.tree_clauses.specs.Steps.{Known}
-
--- the entries, but none under these names
-abbrev pub without : List Entry → List (List ℕ) → List Entry
-without es [] = es
-without es (f ∷ names) = without (update es f Absent) names
 
 -- whether the first of the names is this one
 abbrev pub is_first : List ℕ → List (List ℕ) → Bool

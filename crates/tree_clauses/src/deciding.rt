@@ -1,7 +1,8 @@
-ghost use Rattle.std.specs.Prelude.{◌≡◌, IfOk};
+ghost use Rattle.std.specs.Prelude.{◌≡◌, ◌↔◌, IfOk, IsTrue};
 ghost use Rattle.tree_clauses.specs.Decides.{Decides};
 ghost use Rattle.tree_clauses.specs.KnownValues.{known_in};
-ghost use Rattle.tree_clauses.specs.Solved.{subject};
+ghost use Rattle.tree_clauses.specs.Literals.{CoversTree};
+ghost use Rattle.tree_clauses.specs.Solved.{IsSolved, subject};
 ghost use Rattle.tree_clauses.specs.Steps.{StepIs};
 
 use crate::clause::{Clause, Literal, Var};
@@ -31,6 +32,41 @@ pub fn meets(alloc: Global, clause: &Clause, tree: &Value) -> Result<Option<bool
     match values.is_directory(clause.now) {
         Some(directory) => Ok(Some(holds & directory)),
         None => Ok(None),
+    }
+}
+
+/// Whether the clause is in solved order.
+pub fn is_solved(alloc: Global, clause: &Clause) -> Result<bool, Memory>
+    ensures { IfOk result (λ found. IsTrue found ↔ IsSolved clause.entry.now) }
+{
+    match meets(alloc, clause, &Value::Absent)? {
+        Some(_) => Ok(true),
+        None => Ok(false),
+    }
+}
+
+/// Whether the clause, which is in solved order, covers the tree; it ends at the first literal that does not hold.
+pub fn covers(alloc: Global, clause: &Clause, tree: &Value) -> Result<bool, Memory>
+    requires { IsSolved clause.now }
+    ensures { IfOk result (λ found. IsTrue found ↔ CoversTree clause.entry.now tree.now) }
+{
+    tree.is_sound();
+    let mut values = Values::of(alloc, clause.start, tree)?;
+    let mut left = clause.literals.as_slice();
+    while let [literal, rest @ ..] = left {
+        match pass(alloc, &mut values, literal, rest)? {
+            Some(holds) => {
+                if !holds {
+                    return Ok(false);
+                }
+            }
+            None => return Ok(false),
+        }
+        left = rest;
+    }
+    match values.is_directory(clause.now) {
+        Some(directory) => Ok(directory),
+        None => Ok(false),
     }
 }
 

@@ -4,12 +4,15 @@ ghost use Rattle.feature_trees.specs.declared.value.Value.TheVariants as value;
 ghost use Rattle.feature_trees.specs.Tree.{entry, entries_of, is_dir, kind_of};
 ghost use Rattle.tree_clauses.specs.KnownValues.{known_in};
 ghost use Rattle.tree_clauses.specs.declared.clause.Literal.TheVariants as Literal;
+ghost use Rattle.feature_trees.specs.View.{IsThere};
+ghost use Rattle.tree_clauses.specs.Agreeing.{AreIn, AreWithin, IsIn, IsWithin};
 ghost use Rattle.tree_clauses.specs.Literals.{AgreesOutside};
-ghost use Rattle.tree_clauses.specs.MadeValues.{without};
+ghost use Rattle.tree_clauses.specs.NameSets.{has};
 ghost use Rattle.tree_clauses.specs.Steps.{FactIs};
 
 use crate::clause::{Literal, Var};
 use crate::known_values::Values;
+use crate::name_set::NameSet;
 use feature_trees::{Entries, Value};
 use script_names::{Bytes, Copied, Memory, Name};
 use std::alloc::Global;
@@ -79,9 +82,9 @@ fn is_fenced(alloc: Global, x: &Value, names: &[Name]) -> Result<bool, Memory>
     ensures { IfOk result (λ is. IsTrue is
         ↔ ((f : List ℕ) → ¬ (Contains names.now f) → entry x.now f ≡ value.Absent)) }
 {
-    x.is_sound();
-    let left = entries_without(alloc, x, names)?;
-    Ok(left.len() == 0)
+    let listed = NameSet::of(alloc, names)?;
+    let fenced = stands_within(x, &listed, &Value::Absent);
+    Ok(fenced)
 }
 
 // Whether a value has an entry.
@@ -99,14 +102,103 @@ fn is_similar(alloc: Global, y: &Value, names: &[Name], x: &Value) -> Result<boo
     ensures { IfOk result (λ is. IsTrue is
         ↔ ((kind_of y.now ≡ kind.Dir) × AgreesOutside y.now names.now x.now)) }
 {
-    x.is_sound();
-    y.is_sound();
     if is_directory(y) {
-        let left = entries_without(alloc, y, names)?;
-        let right = entries_without(alloc, x, names)?;
-        return Ok(same_entries(left, right));
+        let listed = NameSet::of(alloc, names)?;
+        let similar = are_alike(y, &listed, x);
+        return Ok(similar);
     }
     Ok(false)
+}
+
+// Whether two values have the same entries but those of these names.
+fn are_alike(y: &Value, names: &NameSet, x: &Value) -> bool
+    ensures { IsTrue result
+        ↔ ((f : List ℕ) → ¬ (IsTrue (has names.now f)) → entry y.now f ≡ entry x.now f) }
+{
+    stands_within(x, names, y) && stands_in(y, names, x)
+}
+
+// Whether each entry of a value but those of these names has one of its name in another.
+fn stands_within(x: &Value, names: &NameSet, other: &Value) -> bool
+    ensures { IsTrue result ↔ IsWithin x.now (has names.now) other.now }
+{
+    match x {
+        Value::Dir(entries) => entries_within(entries, names, other),
+        _ => true,
+    }
+}
+
+// Whether each of the entries but those of these names has one of its name in a value.
+fn entries_within(entries: &Entries, names: &NameSet, other: &Value) -> bool
+    ensures { IsTrue result ↔ AreWithin entries.now (has names.now) other.now }
+{
+    entries.is_sound();
+    for at in 0usize..entries.len() {
+        match entries.get_at(at) {
+            Some((f, _)) => {
+                if !is_within(f, names, other) {
+                    return false;
+                }
+            }
+            None => unreachable!(),
+        }
+    }
+    true
+}
+
+// Whether each entry of a value but those of these names is an entry of another.
+fn stands_in(x: &Value, names: &NameSet, other: &Value) -> bool
+    ensures { IsTrue result ↔ IsIn x.now (has names.now) other.now }
+{
+    match x {
+        Value::Dir(entries) => entries_in(entries, names, other),
+        _ => true,
+    }
+}
+
+// Whether each of the entries but those of these names is an entry of a value.
+fn entries_in(entries: &Entries, names: &NameSet, other: &Value) -> bool
+    ensures { IsTrue result ↔ AreIn entries.now (has names.now) other.now }
+{
+    entries.is_sound();
+    for at in 0usize..entries.len() {
+        match entries.get_at(at) {
+            Some((f, v)) => {
+                if !is_in(f, v, names, other) {
+                    return false;
+                }
+            }
+            None => unreachable!(),
+        }
+    }
+    true
+}
+
+// Whether a name is one of these, or has an entry in a value.
+fn is_within(f: &Name, names: &NameSet, other: &Value) -> bool
+    ensures { IsTrue result ↔ (¬ (IsTrue (has names.now f.now)) → entry other.now f.now ≢ value.Absent) }
+{
+    if names.has(f.as_slice()) {
+        return true;
+    }
+    match other.entry(f) {
+        Some(_) => true,
+        None => false,
+    }
+}
+
+// Whether a name is one of these, or has a value, which is there, as its entry in another.
+fn is_in(f: &Name, v: &Value, names: &NameSet, other: &Value) -> bool
+    requires { IsThere v.now }
+    ensures { IsTrue result ↔ (¬ (IsTrue (has names.now f.now)) → entry other.now f.now ≡ v.now) }
+{
+    if names.has(f.as_slice()) {
+        return true;
+    }
+    match other.entry(f) {
+        Some(there) => there.equal(v),
+        None => false,
+    }
 }
 
 /// Whether a value is a directory.
@@ -119,13 +211,6 @@ pub(crate) fn is_directory(value: &Value) -> bool
     }
 }
 
-// Whether entries are the same.
-fn same_entries(left: Entries, right: Entries) -> bool
-    ensures { IsTrue result ↔ (left ≡ right) }
-{
-    Value::Dir(left).equal(&Value::Dir(right))
-}
-
 /// Whether a value is a link to a target.
 pub(crate) fn is_link_to(x: &Value, target: &Bytes) -> bool
     ensures { IsTrue result ↔ (x.now ≡ value.Link target.now) }
@@ -134,17 +219,6 @@ pub(crate) fn is_link_to(x: &Value, target: &Bytes) -> bool
         Value::Link(to) => to.equal(target),
         _ => false,
     }
-}
-
-// The entries of a value but for these names.
-fn entries_without(alloc: Global, x: &Value, names: &[Name]) -> Result<Entries, Memory>
-    ensures { IfOk result (λ left. left ≡ without (entries_of x.now) names.now) }
-{
-    let mut left = copied_entries(alloc, x)?;
-    for f in names {
-        left.set(f, Value::Absent)?;
-    }
-    Ok(left)
 }
 
 /// A copy of the entries of a value.

@@ -1,5 +1,6 @@
-use Rattle.tree_clauses.proofs.Decided.{fenced_by}
+use Rattle.tree_clauses.specs.NameSets.{has}
+use Rattle.tree_clauses.proofs.AgreeingEntries.{fence_told}
 use Rattle.tree_clauses.proofs.facts.is_fenced.Goals as goal
 
 pub returns : goal.returns
-returns c = fenced_by c.args.x.now c.args.names.now c.in_ok-left.left c.len.result c.is_sound.ensures c.in_ok-left.ensures c.len.ensures
+returns c = fence_told c.args.x.now c.args.names.now (has c.in_ok-listed.listed) c.stands_within-fenced.result c.in_ok-listed.ensures c.stands_within-fenced.ensures

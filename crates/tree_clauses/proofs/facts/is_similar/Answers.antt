@@ -1,9 +1,9 @@
 use Rattle.std.proofs.Common.{sym, ◌∙◌}
-use Rattle.tree_clauses.proofs.Decided.{similar_by}
+use Rattle.tree_clauses.specs.NameSets.{has}
+use Rattle.tree_clauses.proofs.AgreeingEntries.{similar_told}
 use Rattle.tree_clauses.proofs.facts.is_similar.Goals as goal
 
 pub returns-then-is_directory : goal.returns-then-is_directory
 returns-then-is_directory c =
-    similar_by c.args.y.now c.args.x.now c.args.names.now c.in_ok-left.left c.in_ok-right.right c.same_entries.result
-    c.is_sound-2.ensures c.is_sound.ensures (sym c.is_directory.ensures ∙ c.if-is_directory.true)
-    c.in_ok-left.ensures c.in_ok-right.ensures c.same_entries.ensures
+    similar_told c.args.y.now c.args.x.now c.args.names.now (has c.in_ok-listed.listed) c.are_alike-similar.result
+    (sym c.is_directory.ensures ∙ c.if-is_directory.true) c.in_ok-listed.ensures c.are_alike-similar.ensures
