@@ -10,8 +10,9 @@ use Rattle.utility_calls.specs.declared.acts.Act.{Act}
 use Rattle.utility_calls.specs.declared.sights.Row.{Row}
 use Rattle.utility_calls.specs.declared.sights.Rule.{Rule}
 use Rattle.utility_calls.specs.Table.{rules, row_of}
-use Rattle.utility_calls.specs.Acts.{path_of, place_of, inner_name, moved, begins, is_below, with_name, is_question, row, IsPerformed, link_row}
+use Rattle.utility_calls.specs.Acts.{path_of, place_of, inner_name, source, is_below, with_name, is_question, row, IsPerformed, link_row}
 use Rattle.utility_calls.specs.ActRows.{IsAmong}
+use Rattle.utility_calls.proofs.ActChanges.{beside}
 use Rattle.tree_clauses.specs.declared.case.Case.{Case}
 use Rattle.act_cases.specs.Plans.{case_of}
 use Rattle.act_cases.specs.Tables.{link_plan, slash_plan}
@@ -108,14 +109,15 @@ one_answers act =
 -- the answers of all rows, part by part
 pub rows_answers : (act : Act) → map row_answer (rows_of act)
     ≡ map row_answer (link_rows 1 (length (path_of act).names - 1))
-    ++ (map row_answer (slash_rows (path_of act).slash) ++ map row_answer (map row_of (rules (is_below act) act) ++ second_rows (moved act) (place_of act)))
+    ++ (map row_answer (slash_rows (path_of act).slash) ++ map row_answer (map row_of (rules (is_below act) act) ++ second_rows (source act) (place_of act)))
 rows_answers act =
     rows_join (link_rows 1 (length (path_of act).names - 1)) _
     ∙ ap (λ l. map row_answer (link_rows 1 (length (path_of act).names - 1)) ++ l) (rows_join (slash_rows (path_of act).slash) _)
 
-same_rows : (act : Act) → IsOnOnePath act → map row_of (rules (is_below act) act) ++ second_rows (moved act) (place_of act) ≡ map row_of (rules false act)
+same_rows : (act : Act) → IsOnOnePath act → map row_of (rules (is_below act) act) ++ second_rows (source act) (place_of act) ≡ map row_of (rules false act)
 same_rows act one_path =
-    ap (λ o. map row_of (rules (begins o (place_of act)) act) ++ second_rows o (place_of act)) one_path ∙ append-nil (map row_of (rules false act))
+    ap (λ b. map row_of (rules b act) ++ second_rows (source act) (place_of act)) (beside act one_path)
+    ∙ ap (λ o. map row_of (rules false act) ++ second_rows o (place_of act)) one_path ∙ append-nil (map row_of (rules false act))
 
 all_answers : (act : Act) → IsOnOnePath act → map case_answer (cases_of act) ≡ map row_answer (rows_of act)
 all_answers act one_path =

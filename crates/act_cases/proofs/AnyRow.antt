@@ -1,5 +1,5 @@
 -- Which row an act takes on a tree.
-use Rattle.std.proofs.Common.{◌≡◌, ◌≢◌, ℕ, ◌+◌, ◌<◌, ◌≤◌, Bool, true, false, ◌||◌, if◌then◌else◌, None, List, length, refl, ap, ◌∙◌, arith}
+use Rattle.std.proofs.Common.{◌≡◌, ◌≢◌, ℕ, ◌+◌, ◌<◌, ◌≤◌, Bool, true, false, if◌then◌else◌, None, List, length, refl, ap, ◌∙◌, arith}
 use Rattle.feature_trees.specs.declared.kind.Kind.{Kind}
 use Rattle.feature_trees.specs.declared.kind.Kind.TheVariants.{Absent, Reg, Link, Special, Dir}
 use Rattle.feature_trees.specs.declared.value.Value.{Value}
@@ -10,7 +10,7 @@ use Rattle.utility_calls.specs.Ways.{link_on_way}
 use Rattle.utility_calls.specs.Ways.{kind_at, NoLinkOnWay}
 use Rattle.utility_calls.specs.declared.sights.Rule.{Rule}
 use Rattle.utility_calls.specs.Table.{rules, rule_holds, row_of}
-use Rattle.utility_calls.specs.Acts.{path_of, place_of, source_of, is_below, is_there, second_link, by_way, by_slash, slash_row, sight_on, own_row, row, IsPerformed, link_row}
+use Rattle.utility_calls.specs.Acts.{path_of, place_of, source_of, is_below, looks_at_way, second_link, by_way, by_slash, slash_row, sight_on, own_row, row, IsPerformed, link_row}
 use Rattle.utility_calls.specs.ActRows.{IsAmong, Reaches, LooksAtWay, Applies, on_way, at_slash, on_second_way, own}
 use Rattle.utility_calls.proofs.Ways.{counted}
 use Rattle.utility_calls.proofs.ActRow.{none_on, only_row, one_holds, row_applies, no_slash_is}
@@ -56,7 +56,7 @@ module _ (act : Act) (t : Value) where
       ∙ ap (λ (c : Bool). by_way (if c then link_on_way 128 t (place_of act) else None) (own_row act t)) looks
       ∙ ap (λ o. by_way o (own_row act t)) (counted (place_of act) t 128 k low high e)
 
-  no_second : (c : Bool) → (is_below act || is_there (source_of act t)) ≡ c → (LooksAtWay act t → NoLinkOnWay t (place_of act)) → second_link act t ≡ None
+  no_second : (c : Bool) → looks_at_way act t ≡ c → (LooksAtWay act t → NoLinkOnWay t (place_of act)) → second_link act t ≡ None
   no_second true e clear =
       ap (λ (c : Bool). if c then link_on_way 128 t (place_of act) else None) e ∙ none_on t (place_of act) 128 (clear e)
   no_second false e clear = ap (λ (c : Bool). if c then link_on_way 128 t (place_of act) else None) e
@@ -65,7 +65,7 @@ module _ (act : Act) (t : Value) where
   pub table_taken : IsPerformed act → (r : Rule) → Reaches act t → (LooksAtWay act t → NoLinkOnWay t (place_of act)) → IsAmong r (rules (is_below act) act)
       → rule_holds (source_of act t) (sight_on act t) r ≡ true → row act t ≡ row_of r
   table_taken performed r reaches clear among h =
-      reached_row reaches ∙ ap (λ o. by_way o (own_row act t)) (no_second (is_below act || is_there (source_of act t)) refl clear)
+      reached_row reaches ∙ ap (λ o. by_way o (own_row act t)) (no_second (looks_at_way act t) refl clear)
       ∙ only_row (source_of act t) (sight_on act t) (rules (is_below act) act) r (one_holds act t performed) among h
 
   -- what the number of the row says

@@ -10,7 +10,7 @@ use Rattle.feature_trees.proofs.Laws.{and_parts, and_made}
 use Rattle.utility_calls.specs.declared.backs.Back.{Back}
 use Rattle.utility_calls.specs.declared.backs.Back.TheVariants.{Folder, File}
 use Rattle.utility_calls.specs.declared.sights.Effect.{Effect}
-use Rattle.utility_calls.specs.declared.sights.Effect.TheVariants.{Nothing, MakesDir, KeepsDir, MakesFile, MakesLink, LinksInside, TakesAway, Moves, MovesInside}
+use Rattle.utility_calls.specs.declared.sights.Effect.TheVariants.{Nothing, MakesDir, KeepsDir, MakesFile, MakesLink, LinksInside, TakesAway, Moves, MovesInside, Copies, CopiesInside}
 use Rattle.utility_calls.specs.declared.sights.Row.{Row}
 use Rattle.utility_calls.specs.declared.sights.Rule.{Rule}
 use Rattle.utility_calls.specs.Acts.{link_row}
@@ -123,6 +123,8 @@ puts_are TakesAway o names kept t h = refl
 puts_are Moves None names kept t h = absurd (cc)
 puts_are Moves (Some kinds) names kept t h = refl
 puts_are MovesInside o names kept t h = refl
+puts_are Copies o names kept t h = refl
+puts_are CopiesInside o names kept t h = refl
 
 names_none : (c : Bool) (names : List (List ℕ)) → names_at c names None ≡ names
 names_none false names = refl

@@ -10,7 +10,7 @@ use Rattle.feature_trees.specs.Sound.{IsTree}
 use Rattle.utility_calls.specs.declared.acts.Act.{Act}
 use Rattle.utility_calls.specs.declared.sights.Row.{Row}
 use Rattle.utility_calls.specs.declared.sights.Effect.{Effect}
-use Rattle.utility_calls.specs.declared.sights.Effect.TheVariants.{Nothing, MakesDir, KeepsDir, MakesFile, MakesLink, LinksInside, TakesAway, Moves, MovesInside}
+use Rattle.utility_calls.specs.declared.sights.Effect.TheVariants.{Nothing, MakesDir, KeepsDir, MakesFile, MakesLink, LinksInside, TakesAway, Moves, MovesInside, Copies, CopiesInside}
 use Rattle.utility_calls.specs.Ways.{kind_at, NoLinkOnWay}
 use Rattle.utility_calls.specs.declared.sights.Rule.{Rule}
 use Rattle.utility_calls.specs.Table.{no_dir, rules, row_of}
@@ -49,6 +49,8 @@ effect_is act t TakesAway false h = refl
 effect_is act t TakesAway true h = absurd (cc)
 effect_is act t Moves b h = absurd (cc)
 effect_is act t MovesInside b h = absurd (cc)
+effect_is act t Copies b h = absurd (cc)
+effect_is act t CopiesInside b h = absurd (cc)
 
 -- ---- names
 

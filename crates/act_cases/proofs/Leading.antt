@@ -7,7 +7,7 @@ use Rattle.feature_trees.specs.Sound.{sound, IsTree}
 use Rattle.feature_trees.proofs.Kept.{sound_entries}
 use Rattle.tree_clauses.specs.Literals.{Valuation, value_of_variable, IsSound, MeetsAll}
 use Rattle.utility_calls.specs.declared.sights.Effect.{Effect}
-use Rattle.utility_calls.specs.declared.sights.Effect.TheVariants.{Nothing, MakesDir, KeepsDir, MakesFile, MakesLink, LinksInside, TakesAway, Moves, MovesInside}
+use Rattle.utility_calls.specs.declared.sights.Effect.TheVariants.{Nothing, MakesDir, KeepsDir, MakesFile, MakesLink, LinksInside, TakesAway, Moves, MovesInside, Copies, CopiesInside}
 use Rattle.act_cases.specs.declared.plans.Plan.{Plan}
 use Rattle.act_cases.specs.Looks.{kinds_from, Sees, look_literals}
 use Rattle.act_cases.specs.Plans.{EndMet, end_literals, is_put, made_value, made_literals, put_by, changes, root_by, case_of}
@@ -26,6 +26,8 @@ made_sound LinksInside target v s = refl
 made_sound TakesAway target v s = refl
 made_sound Moves target v s = s
 made_sound MovesInside target v s = s
+made_sound Copies target v s = s
+made_sound CopiesInside target v s = s
 
 -- the variable of what the names lead to
 at_end : (g : Valuation) (t : Value) (names : List (List ℕ)) → value_of_variable g 0 ≡ t → Along g 1 t names → value_of_variable g (length names) ≡ at t names

@@ -12,6 +12,7 @@ pub mod EachCase
 pub mod AllCases
 pub mod Ordered
 pub mod PlainCases
+pub mod TwoPaths
 pub mod Moving
 pub mod MoveTabled
 pub mod MoveCases

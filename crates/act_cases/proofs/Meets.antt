@@ -15,7 +15,7 @@ use Rattle.act_cases.proofs.ShortLists.{none_contained, one_contained}
 use Rattle.tree_clauses.proofs.Values.{absent_kind, reg_kind, entry_is, derived_same, derived_other, derived_from, ensured_from, empty_from}
 use Rattle.tree_clauses.proofs.Valuations.{sound_at}
 use Rattle.utility_calls.specs.declared.sights.Effect.{Effect}
-use Rattle.utility_calls.specs.declared.sights.Effect.TheVariants.{Nothing, MakesDir, KeepsDir, MakesFile, MakesLink, LinksInside, TakesAway, Moves, MovesInside}
+use Rattle.utility_calls.specs.declared.sights.Effect.TheVariants.{Nothing, MakesDir, KeepsDir, MakesFile, MakesLink, LinksInside, TakesAway, Moves, MovesInside, Copies, CopiesInside}
 use Rattle.act_cases.specs.declared.looks.Ways.{Ways}
 use Rattle.act_cases.specs.declared.plans.End.{End}
 use Rattle.act_cases.specs.declared.plans.End.TheVariants.{Any, Empty, Full}
@@ -105,6 +105,8 @@ made_from g LinksInside target x z v s p is m = m.0
 made_from g TakesAway target x z v s p is m = absent_kind (value_of_variable g z) (of_absent _ m.0)
 made_from g Moves target x z v s p is m = absurd (cc)
 made_from g MovesInside target x z v s p is m = absurd (cc)
+made_from g Copies target x z v s p is m = absurd (cc)
+made_from g CopiesInside target x z v s p is m = absurd (cc)
 
 pub made_to : (g : Valuation) (e : Effect) (target : List ℕ) (x z : ℕ) (v : Value) → value_of_variable g x ≡ v
     → value_of_variable g z ≡ made_value e target v → MeetsAll g (made_literals e target x z)
@@ -118,6 +120,8 @@ made_to g LinksInside target x z v is m = (m, tt)
 made_to g TakesAway target x z v is m = (rw m refl, tt)
 made_to g Moves target x z v is m = tt
 made_to g MovesInside target x z v is m = tt
+made_to g Copies target x z v is m = tt
+made_to g CopiesInside target x z v is m = tt
 
 -- ---- the values outwards
 

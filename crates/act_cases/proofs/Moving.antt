@@ -1,6 +1,6 @@
--- Where a case of a move leads: it looks along both paths, takes away what stands at the first, and puts it at the
--- second.
-use Rattle.std.proofs.Common.{◌≡◌, ℕ, ◌+◌, Bool, true, false, IsTrue, List, [], ◌∷◌, ◌++◌, length, refl, sym, ap, subst, ◌∙◌, arith, append_assoc, length-append}
+-- Where a case of a move or a copy leads: it looks along both paths, takes away what stands at the first, where it is
+-- moved, and puts it at the second.
+use Rattle.std.proofs.Common.{◌≡◌, ℕ, ◌+◌, IsTrue, List, [], ◌∷◌, ◌++◌, length, refl, sym, ap, subst, ◌∙◌, arith, append_assoc, length-append}
 use Rattle.feature_trees.specs.declared.value.Value.{Value}
 use Rattle.feature_trees.specs.declared.value.Value.TheVariants as value
 use Rattle.feature_trees.specs.declared.kind.Kind.TheVariants.{Absent}
@@ -13,6 +13,8 @@ use Rattle.tree_clauses.proofs.KindSets.{of_absent}
 use Rattle.tree_clauses.proofs.Values.{absent_kind}
 use Rattle.act_cases.specs.declared.looks.Ways.{Ways}
 use Rattle.act_cases.specs.declared.moves.MovePlan.{MovePlan}
+use Rattle.act_cases.specs.declared.moves.Moving.{Moving}
+use Rattle.act_cases.specs.declared.moves.Moving.TheVariants as moving
 use Rattle.act_cases.specs.Looks.{kinds_from, Sees, look_literals, end_of}
 use Rattle.act_cases.specs.Puts.{put_literals}
 use Rattle.act_cases.specs.Plans.{EndMet, end_literals}
@@ -41,7 +43,7 @@ module _ (p q : List (List ℕ)) (named_p : AreNames p) (named_q : AreNames q) (
   abbrev k : ℕ
   k = length q
 
-  -- what is moved, and the tree without it
+  -- what is moved or copied, and the tree without it
   abbrev thing : Value
   thing = at t p
 
@@ -53,10 +55,11 @@ module _ (p q : List (List ℕ)) (named_p : AreNames p) (named_q : AreNames q) (
 
   -- ---- from the literals
 
-  root_from : (c : Bool) (g : Valuation) → IsSound g → value_of_variable g 0 ≡ t → Along g 1 t p → MeetsAll g (moves_by c p q)
+  root_from : (c : Moving) (g : Valuation) → IsSound g → value_of_variable g 0 ≡ t → Along g 1 t p → Along g (n + 1) t q → MeetsAll g (moves_by c p q)
       → value_of_variable g (move_root c p q) ≡ moved_by c p q t
-  root_from false g s e a m = e
-  root_from true g s e a m =
+  root_from moving.Stays g s e a b m = e
+  root_from moving.Copies g s e a b m = put_from g 0 (n + 1) n (spare p q) t thing q s named_q e b (thing_at g e a) m
+  root_from moving.Moves g s e a b m =
       let none : value_of_variable g (spare p q) ≡ value.Absent = absent_kind (value_of_variable g (spare p q)) (of_absent _ m.0) in
       let one = meets_split g (put_literals 0 1 p (spare p q) (spare p q + 1)) _ m.1 in
       let gone : value_of_variable g (freed p q) ≡ without = put_from g 0 1 (spare p q) (spare p q + 1) t value.Absent p s named_p e a none one.0 in
@@ -65,7 +68,7 @@ module _ (p q : List (List ℕ)) (named_p : AreNames p) (named_q : AreNames q) (
       put_from g (freed p q) (onward p q) n (outward p q) without thing q s named_q gone way.1 (thing_at g e a) two.1
 
   pub moves_from : (plan : MovePlan) (u : Value) → Leads (move_case plan p q) t u
-      → Sees plan.source t p × Sees plan.place t q × EndMet plan.end (at t q) × (u ≡ moved_by plan.moves p q t)
+      → Sees plan.source t p × Sees plan.place t q × EndMet plan.end (at t q) × (u ≡ moved_by plan.moving p q t)
   moves_from plan u h =
       let g = h.valuation in
       let one = meets_split g (look_literals plan.source 0 1 p) _ h.met.1 in
@@ -76,7 +79,7 @@ module _ (p q : List (List ℕ)) (named_p : AreNames p) (named_q : AreNames q) (
         first.0,
         second.0,
         end_from g plan.end (end_of 0 (n + 1) q) (at t q) (along_end g 0 (n + 1) t q h.starts second.1) three.0,
-        sym h.ends ∙ root_from plan.moves g h.values h.starts first.1 three.1,
+        sym h.ends ∙ root_from plan.moving g h.values h.starts first.1 second.1 three.1,
       )
 
   -- ---- to the literals
@@ -99,26 +102,31 @@ module _ (p q : List (List ℕ)) (named_p : AreNames p) (named_q : AreNames q) (
   abbrev b5 : Valuation
   b5 = rings without q thing
 
-  abbrev last : Bool → Valuation
-  last false = []
-  last true = b2 ++ (b3 ++ (b4 ++ (b5 ++ [])))
+  -- the values with what is copied put in them
+  abbrev b6 : Valuation
+  b6 = rings t q thing
 
-  abbrev values : Bool → Valuation
+  abbrev last : Moving → Valuation
+  last moving.Stays = []
+  last moving.Moves = b2 ++ (b3 ++ (b4 ++ (b5 ++ [])))
+  last moving.Copies = b6 ++ []
+
+  abbrev values : Moving → Valuation
   values c = b0 ++ (b1 ++ last c)
 
-  along_p : (c : Bool) → Along (values c) 1 t p
+  along_p : (c : Moving) → Along (values c) 1 t p
   along_p c = along_at (t ∷ []) (b1 ++ last c) t p 1 refl
 
-  along_q : (c : Bool) → Along (values c) (n + 1) t q
+  along_q : (c : Moving) → Along (values c) (n + 1) t q
   along_q c = along_at b0 (last c) t q (n + 1) (omega (arith, line_length t p))
 
   length1 : length (b0 ++ b1) ≡ n + k + 1
   length1 = omega (arith, length-append b0 b1, line_length t p, line_length t q)
 
-  same1 : (b0 ++ b1) ++ last true ≡ values true
-  same1 = append_assoc b0 b1 (last true)
+  same1 : (b0 ++ b1) ++ last moving.Moves ≡ values moving.Moves
+  same1 = append_assoc b0 b1 (last moving.Moves)
 
-  none_here : value_of_variable (values true) (spare p q) ≡ value.Absent
+  none_here : value_of_variable (values moving.Moves) (spare p q) ≡ value.Absent
   none_here =
       ap (λ (g : Valuation). value_of_variable g (spare p q)) (sym same1)
       ∙ value_at (b0 ++ b1) (b3 ++ (b4 ++ (b5 ++ []))) value.Absent (spare p q) (omega (arith, length1))
@@ -126,10 +134,10 @@ module _ (p q : List (List ℕ)) (named_p : AreNames p) (named_q : AreNames q) (
   length2 : length ((b0 ++ b1) ++ b2) ≡ spare p q + 1
   length2 = omega (arith, length-append (b0 ++ b1) b2, length1)
 
-  same2 : ((b0 ++ b1) ++ b2) ++ (b3 ++ (b4 ++ (b5 ++ []))) ≡ values true
+  same2 : ((b0 ++ b1) ++ b2) ++ (b3 ++ (b4 ++ (b5 ++ []))) ≡ values moving.Moves
   same2 = append_assoc (b0 ++ b1) b2 (b3 ++ (b4 ++ (b5 ++ []))) ∙ same1
 
-  outwards_p : Outwards (values true) (spare p q + 1) t p value.Absent
+  outwards_p : Outwards (values moving.Moves) (spare p q + 1) t p value.Absent
   outwards_p =
       subst (λ (g : Valuation). Outwards g (spare p q + 1) t p value.Absent) same2
       (outwards_at ((b0 ++ b1) ++ b2) (b4 ++ (b5 ++ [])) t value.Absent p (spare p q + 1) (sym length2))
@@ -137,10 +145,10 @@ module _ (p q : List (List ℕ)) (named_p : AreNames p) (named_q : AreNames q) (
   length3 : length (((b0 ++ b1) ++ b2) ++ b3) ≡ onward p q
   length3 = omega (arith, length-append ((b0 ++ b1) ++ b2) b3, length2, rings_length t value.Absent p)
 
-  same3 : (((b0 ++ b1) ++ b2) ++ b3) ++ (b4 ++ (b5 ++ [])) ≡ values true
+  same3 : (((b0 ++ b1) ++ b2) ++ b3) ++ (b4 ++ (b5 ++ [])) ≡ values moving.Moves
   same3 = append_assoc ((b0 ++ b1) ++ b2) b3 (b4 ++ (b5 ++ [])) ∙ same2
 
-  along_onward : Along (values true) (onward p q) without q
+  along_onward : Along (values moving.Moves) (onward p q) without q
   along_onward =
       subst (λ (g : Valuation). Along g (onward p q) without q) same3
       (along_at (((b0 ++ b1) ++ b2) ++ b3) (b5 ++ []) without q (onward p q) (sym length3))
@@ -148,65 +156,76 @@ module _ (p q : List (List ℕ)) (named_p : AreNames p) (named_q : AreNames q) (
   length4 : length ((((b0 ++ b1) ++ b2) ++ b3) ++ b4) ≡ outward p q
   length4 = omega (arith, length-append (((b0 ++ b1) ++ b2) ++ b3) b4, length3, line_length without q)
 
-  same4 : ((((b0 ++ b1) ++ b2) ++ b3) ++ b4) ++ (b5 ++ []) ≡ values true
+  same4 : ((((b0 ++ b1) ++ b2) ++ b3) ++ b4) ++ (b5 ++ []) ≡ values moving.Moves
   same4 = append_assoc (((b0 ++ b1) ++ b2) ++ b3) b4 (b5 ++ []) ∙ same3
 
-  outwards_q : Outwards (values true) (outward p q) without q thing
+  outwards_q : Outwards (values moving.Moves) (outward p q) without q thing
   outwards_q =
       subst (λ (g : Valuation). Outwards g (outward p q) without q thing) same4
       (outwards_at ((((b0 ++ b1) ++ b2) ++ b3) ++ b4) [] without thing q (outward p q) (sym length4))
 
-  freed_is : value_of_variable (values true) (freed p q) ≡ without
-  freed_is = outwards_root (values true) (spare p q) (spare p q + 1) t value.Absent p none_here outwards_p
+  freed_is : value_of_variable (values moving.Moves) (freed p q) ≡ without
+  freed_is = outwards_root (values moving.Moves) (spare p q) (spare p q + 1) t value.Absent p none_here outwards_p
 
-  thing_here : value_of_variable (values true) n ≡ thing
-  thing_here = thing_at (values true) refl (along_p true)
+  thing_here : (c : Moving) → value_of_variable (values c) n ≡ thing
+  thing_here c = thing_at (values c) refl (along_p c)
+
+  outwards_copied : Outwards (values moving.Copies) (spare p q) t q thing
+  outwards_copied =
+      subst (λ (g : Valuation). Outwards g (spare p q) t q thing) (append_assoc b0 b1 (last moving.Copies))
+      (outwards_at (b0 ++ b1) [] t thing q (spare p q) (sym length1))
 
   without_sound : IsTrue (sound t) → IsTrue (sound without)
   without_sound s = sound-put t p value.Absent s refl named_p
 
-  moved_met : (c : Bool) → IsTrue (sound t) → (c ≡ true → IsTrue (has_parents without q)) → MeetsAll (values c) (moves_by c p q)
-  moved_met false s room = tt
-  moved_met true s room = (
-    subst (λ (u : Value). IsTrue (has (of Absent) (kind_of u))) (sym none_here) refl,
-    meets_join (values true) (put_literals 0 1 p (spare p q) (spare p q + 1)) _
-        (put_to (values true) 0 1 (spare p q) (spare p q + 1) t value.Absent p s refl (along_p true) none_here outwards_p)
-        (meets_join (values true) (look_literals (through all) (freed p q) (onward p q) q) _
-        (look_to (through all) (values true) (freed p q) (onward p q) without q freed_is (through_to all without q (room refl) (has_all _)) along_onward)
-        (put_to (values true) (freed p q) (onward p q) n (outward p q) without thing q (without_sound s) freed_is along_onward thing_here outwards_q)),
-  )
+  moved_met : (c : Moving) → IsTrue (sound t) → (c ≡ moving.Moves → IsTrue (has_parents without q)) → MeetsAll (values c) (moves_by c p q)
+  moved_met moving.Stays s room = tt
+  moved_met moving.Copies s room =
+      put_to (values moving.Copies) 0 (n + 1) n (spare p q) t thing q s refl (along_q moving.Copies) (thing_here moving.Copies) outwards_copied
+  moved_met moving.Moves s room =
+      let g = values moving.Moves in (
+        subst (λ (u : Value). IsTrue (has (of Absent) (kind_of u))) (sym none_here) refl,
+        meets_join g (put_literals 0 1 p (spare p q) (spare p q + 1)) _
+            (put_to g 0 1 (spare p q) (spare p q + 1) t value.Absent p s refl (along_p moving.Moves) none_here outwards_p)
+            (meets_join g (look_literals (through all) (freed p q) (onward p q) q) _
+            (look_to (through all) g (freed p q) (onward p q) without q freed_is (through_to all without q (room refl) (has_all _)) along_onward)
+            (put_to g (freed p q) (onward p q) n (outward p q) without thing q (without_sound s) freed_is along_onward (thing_here moving.Moves) outwards_q)),
+      )
 
-  root_is : (c : Bool) → value_of_variable (values c) (move_root c p q) ≡ moved_by c p q t
-  root_is false = refl
-  root_is true = outwards_root (values true) n (outward p q) without thing q thing_here outwards_q
+  root_is : (c : Moving) → value_of_variable (values c) (move_root c p q) ≡ moved_by c p q t
+  root_is moving.Stays = refl
+  root_is moving.Moves = outwards_root (values moving.Moves) n (outward p q) without thing q (thing_here moving.Moves) outwards_q
+  root_is moving.Copies = outwards_root (values moving.Copies) n (spare p q) t thing q (thing_here moving.Copies) outwards_copied
 
-  last_sound : (c : Bool) → IsTrue (sound t) → Each (last c)
-  last_sound false s = tt
-  last_sound true s =
+  last_sound : (c : Moving) → IsTrue (sound t) → Each (last c)
+  last_sound moving.Stays s = tt
+  last_sound moving.Copies s = each_join b6 [] (rings_sound t thing q s (at_sound p t s) named_q) tt
+  last_sound moving.Moves s =
       let w = without_sound s in (
         refl,
         each_join b3 _ (rings_sound t value.Absent p s refl named_p)
             (each_join b4 _ (line_sound without q w) (each_join b5 [] (rings_sound without thing q w (at_sound p t s) named_q) tt)),
       )
 
-  values_sound : (c : Bool) → IsTrue (sound t) → Each (values c)
+  values_sound : (c : Moving) → IsTrue (sound t) → Each (values c)
   values_sound c s = (s, each_join (line t p) _ (line_sound t p s) (each_join b1 (last c) (line_sound t q s) (last_sound c s)))
 
   pub moves_to : (plan : MovePlan) (u : Value) → IsTree t → Sees plan.source t p → Sees plan.place t q → EndMet plan.end (at t q)
-      → (plan.moves ≡ true → IsTrue (has_parents without q)) → u ≡ moved_by plan.moves p q t → Leads (move_case plan p q) t u
+      → (plan.moving ≡ moving.Moves → IsTrue (has_parents without q)) → u ≡ moved_by plan.moving p q t → Leads (move_case plan p q) t u
   moves_to plan u tree one two end room is =
       let s = tree.sound in
-      let g = values plan.moves in
+      let c = plan.moving in
+      let g = values c in
       record {
         valuation = g;
-        values = each_sound g (values_sound plan.moves s);
+        values = each_sound g (values_sound c s);
         starts = refl;
-        ends = root_is plan.moves ∙ sym is;
+        ends = root_is c ∙ sym is;
         met = (
           rw tree.dir refl,
-          meets_join g (look_literals plan.source 0 1 p) _ (look_to plan.source g 0 1 t p refl one (along_p plan.moves))
-              (meets_join g (look_literals plan.place 0 (n + 1) q) _ (look_to plan.place g 0 (n + 1) t q refl two (along_q plan.moves))
-              (meets_join g (end_literals plan.end (end_of 0 (n + 1) q)) _ (end_to g plan.end (end_of 0 (n + 1) q) (at t q) (along_end g 0 (n + 1) t q refl (along_q plan.moves)) end)
-              (moved_met plan.moves s room))),
+          meets_join g (look_literals plan.source 0 1 p) _ (look_to plan.source g 0 1 t p refl one (along_p c))
+              (meets_join g (look_literals plan.place 0 (n + 1) q) _ (look_to plan.place g 0 (n + 1) t q refl two (along_q c))
+              (meets_join g (end_literals plan.end (end_of 0 (n + 1) q)) _ (end_to g plan.end (end_of 0 (n + 1) q) (at t q) (along_end g 0 (n + 1) t q refl (along_q c)) end)
+              (moved_met c s room))),
         );
       }

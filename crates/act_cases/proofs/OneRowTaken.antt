@@ -1,5 +1,5 @@
 -- Which row an act on one path takes on a tree.
-use Rattle.std.proofs.Common.{◌≡◌, ◌≢◌, ℕ, ◌<◌, ◌≤◌, true, false, ◌&&◌, ◌||◌, None, List, length, sym, ap, subst, ◌∙◌}
+use Rattle.std.proofs.Common.{◌≡◌, ◌≢◌, ℕ, ◌<◌, ◌≤◌, true, false, ◌&&◌, None, List, length, sym, ap, subst, ◌∙◌}
 use Rattle.feature_trees.specs.declared.kind.Kind.{Kind}
 use Rattle.feature_trees.specs.declared.kind.Kind.TheVariants.{Absent, Link, Dir}
 use Rattle.feature_trees.specs.declared.value.Value.{Value}
@@ -10,10 +10,10 @@ use Rattle.utility_calls.specs.Ways.{kind_at, NoLinkOnWay}
 use Rattle.utility_calls.specs.Sights.{sight_of, holds}
 use Rattle.utility_calls.specs.declared.sights.Rule.{Rule}
 use Rattle.utility_calls.specs.Table.{rules, is_source, rule_holds, row_of}
-use Rattle.utility_calls.specs.Acts.{path_of, place_of, inner_name, inner_at, kind_at_path, source_of, begins, is_below, is_there, sight_on, row, IsPerformed}
+use Rattle.utility_calls.specs.Acts.{path_of, inner_name, inner_at, source_of, is_below, looks_at_way, sight_on, row, IsPerformed}
 use Rattle.utility_calls.specs.ActRows.{IsAmong, Reaches}
 use Rattle.act_cases.specs.Cases.{IsOnOnePath}
-use Rattle.utility_calls.proofs.ActChanges.{place_is}
+use Rattle.utility_calls.proofs.ActChanges.{place_is, beside, no_second}
 use Rattle.act_cases.proofs.AnyRow.{table_taken, Tells, row_tells}
 use Rattle.act_cases.proofs.AnyRow.{way as tells_way, slash as tells_slash, second as tells_second, table as tells_table}
 
@@ -24,11 +24,11 @@ module _ (act : Act) (one_path : IsOnOnePath act) (performed : IsPerformed act) 
   abbrev end_kind : Kind
   end_kind = kind_of (at t names)
 
-  no_look : (is_below act || is_there (source_of act t)) ≡ false
-  no_look = ap (λ o. begins o (place_of act) || is_there (kind_at_path o t)) one_path
+  no_look : looks_at_way act t ≡ false
+  no_look = no_second act t one_path
 
   same_rules : rules (is_below act) act ≡ rules false act
-  same_rules = ap (λ o. rules (begins o (place_of act)) act) one_path
+  same_rules = ap (λ b. rules b act) (beside act one_path)
 
   same_sight : sight_on act t ≡ sight_of (in_dir t names) (at t names) (inner_at (at t names) (inner_name act))
   same_sight = ap (λ ns. sight_of (in_dir t ns) (at t ns) (inner_at (at t ns) (inner_name act))) (place_is act one_path)

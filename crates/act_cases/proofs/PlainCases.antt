@@ -11,9 +11,9 @@ use Rattle.tree_clauses.specs.declared.clause.Literal.{Literal}
 use Rattle.tree_clauses.specs.declared.clause.Literal.TheVariants.{Kind}
 use Rattle.tree_clauses.specs.Literals.{Valuation, value_of_variable, MeetsAll}
 use Rattle.utility_calls.specs.declared.acts.Act.{Act}
-use Rattle.utility_calls.specs.declared.acts.Act.TheVariants.{Exists, IsReg, IsDir, IsLink, CanRun, IsSpecial, MakeDir, EnsureDir, RemoveDir, Remove, Touch, Symlink, Move, PlaceFile, PlaceLink, PlaceConf, Discard, DiscardDir}
+use Rattle.utility_calls.specs.declared.acts.Act.TheVariants.{Exists, IsReg, IsDir, IsLink, CanRun, IsSpecial, MakeDir, EnsureDir, RemoveDir, Remove, Touch, Symlink, Move, Attr, Copy, PlaceFile, PlaceLink, PlaceConf, Discard, DiscardDir}
 use Rattle.utility_calls.specs.declared.sights.Effect.{Effect}
-use Rattle.utility_calls.specs.declared.sights.Effect.TheVariants.{Nothing, MakesDir, KeepsDir, MakesFile, MakesLink, LinksInside, TakesAway, Moves, MovesInside}
+use Rattle.utility_calls.specs.declared.sights.Effect.TheVariants.{Nothing, MakesDir, KeepsDir, MakesFile, MakesLink, LinksInside, TakesAway, Moves, MovesInside, Copies, CopiesInside}
 use Rattle.utility_calls.specs.declared.sights.Where.{Where}
 use Rattle.utility_calls.specs.declared.sights.Where.TheVariants.{Anything, Is, Within as within, Inside, Outside, Empty, Full, Into, IntoEmpty, IntoFull}
 use Rattle.utility_calls.specs.declared.sights.Rule.{Rule}
@@ -54,6 +54,8 @@ keeps LinksInside = false
 keeps TakesAway = false
 keeps Moves = false
 keeps MovesInside = false
+keeps Copies = false
+keeps CopiesInside = false
 
 made_order : (e : Effect) (target : List ℕ) (x z m : ℕ) (b rest : List Literal) (after : List ℕ) → is_put e ≡ true → x < m → m ≤ z → (keeps e ≡ true → IsLimited b (var x))
     → ((b' : List Literal) → Within b b' → PlainOrder b' (z ∷ firsts m) rest after) → PlainOrder b (firsts m) (made_literals e target x z ++ rest) after
@@ -66,6 +68,8 @@ made_order LinksInside target x z m b rest after p lt le limited next = link (va
 made_order TakesAway target x z m b rest after p lt le limited next = absent (var z) (not_yet m z le) (next _ (λ l h. inr h))
 made_order Moves target x z m b rest after p lt le limited next = absurd (cc)
 made_order MovesInside target x z m b rest after p lt le limited next = absurd (cc)
+made_order Copies target x z m b rest after p lt le limited next = absurd (cc)
+made_order CopiesInside target x z m b rest after p lt le limited next = absurd (cc)
 
 -- the kinds at the end
 pub last_kinds : (b : List Literal) (w : Ways) (x y : ℕ) (names : List (List ℕ)) → AllKinds b w x y names → IsOneOf b (Kind (var (end_of x y names)) w.last)
@@ -234,6 +238,8 @@ put_well (Remove p force deep) one = remove_well force deep
 put_well (Touch p) one = (refl, refl)
 put_well (Symlink p target last force) one = symlink_well force
 put_well (Move a b) one = absurd (cc)
+put_well (Attr p) one = (refl, refl)
+put_well (Copy a b deep) one = absurd (cc)
 put_well (PlaceFile p) one = (refl, refl)
 put_well (PlaceLink p target) one = (refl, refl)
 put_well (PlaceConf p) one = (refl, refl)

@@ -4,9 +4,9 @@ use Rattle.std.proofs.lemmas.Bool.{ltb-true, not-true}
 use Rattle.feature_trees.specs.declared.kind.Kinds.{Kinds}
 use Rattle.feature_trees.proofs.Laws.{and_parts}
 use Rattle.utility_calls.specs.declared.acts.Act.{Act}
-use Rattle.utility_calls.specs.declared.acts.Act.TheVariants.{Exists, IsReg, IsDir, IsLink, CanRun, IsSpecial, MakeDir, EnsureDir, RemoveDir, Remove, Touch, Symlink, Move, PlaceFile, PlaceLink, PlaceConf, Discard, DiscardDir}
+use Rattle.utility_calls.specs.declared.acts.Act.TheVariants.{Exists, IsReg, IsDir, IsLink, CanRun, IsSpecial, MakeDir, EnsureDir, RemoveDir, Remove, Touch, Symlink, Move, Attr, Copy, PlaceFile, PlaceLink, PlaceConf, Discard, DiscardDir}
 use Rattle.utility_calls.specs.declared.sights.Effect.{Effect}
-use Rattle.utility_calls.specs.declared.sights.Effect.TheVariants.{Nothing, MakesDir, KeepsDir, MakesFile, MakesLink, LinksInside, TakesAway, Moves, MovesInside}
+use Rattle.utility_calls.specs.declared.sights.Effect.TheVariants.{Nothing, MakesDir, KeepsDir, MakesFile, MakesLink, LinksInside, TakesAway, Moves, MovesInside, Copies, CopiesInside}
 use Rattle.utility_calls.specs.declared.sights.Rule.{Rule}
 use Rattle.utility_calls.specs.Table.{rules, can_run_by, remove_by, symlink_by}
 use Rattle.utility_calls.specs.Acts.{inner_name, is_question}
@@ -67,6 +67,8 @@ effect_fits LinksInside b = b
 effect_fits TakesAway b = not b
 effect_fits Moves b = false
 effect_fits MovesInside b = false
+effect_fits Copies b = false
+effect_fits CopiesInside b = false
 
 abbrev pub implies : Bool → Bool → Bool
 implies a b = not a || b
@@ -137,6 +139,8 @@ tabled (Remove p force deep) one = remove_tabled force deep
 tabled (Touch p) one = (refl, refl)
 tabled (Symlink p target last force) one = symlink_tabled force
 tabled (Move a b) one = absurd (cc)
+tabled (Attr p) one = (refl, refl)
+tabled (Copy a b deep) one = absurd (cc)
 tabled (PlaceFile p) one = (refl, refl)
 tabled (PlaceLink p target) one = (refl, refl)
 tabled (PlaceConf p) one = (refl, refl)

@@ -17,7 +17,8 @@ use Rattle.tree_clauses.specs.Plain.{IsPlainBack}
 use Rattle.utility_calls.specs.declared.backs.Back.{Back}
 use Rattle.utility_calls.specs.declared.sights.Effect.{Effect}
 use Rattle.utility_calls.specs.declared.sights.Effect.TheVariants.{Nothing, MakesDir, KeepsDir, MakesFile, MakesLink}
-use Rattle.utility_calls.specs.declared.sights.Effect.TheVariants.{LinksInside, TakesAway, Moves, MovesInside}
+use Rattle.utility_calls.specs.declared.sights.Effect.TheVariants.{LinksInside, TakesAway, Moves, MovesInside, Copies}
+use Rattle.utility_calls.specs.declared.sights.Effect.TheVariants.{CopiesInside}
 use Rattle.utility_calls.specs.declared.sights.Row.{Row}
 use Rattle.utility_calls.specs.declared.sights.Rule.{Rule}
 use Rattle.utility_calls.specs.Acts.{link_row}
@@ -75,6 +76,8 @@ puts_of LinksInside = Leaves
 puts_of TakesAway = Takes
 puts_of Moves = Returns
 puts_of MovesInside = Leaves
+puts_of Copies = Leaves
+puts_of CopiesInside = Leaves
 
 -- the first variable behind those of the entries
 abbrev pub behind : List (List ℕ) → List (List ℕ) → ℕ

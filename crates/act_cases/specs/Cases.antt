@@ -9,7 +9,7 @@ use Rattle.utility_calls.specs.declared.acts.Act.{Act}
 use Rattle.utility_calls.specs.declared.sights.Row.{Row}
 use Rattle.utility_calls.specs.declared.sights.Rule.{Rule}
 use Rattle.utility_calls.specs.Table.{rules, row_of}
-use Rattle.utility_calls.specs.Acts.{path_of, place_of, inner_name, target_of, moved, is_below, link_row, slash_row}
+use Rattle.utility_calls.specs.Acts.{path_of, place_of, inner_name, target_of, source, is_below, link_row, slash_row}
 use Rattle.utility_calls.specs.Acts.{row, tree_after}
 use Rattle.tree_clauses.specs.declared.case.Case.{Case}
 use Rattle.act_cases.specs.Plans.{case_of}
@@ -17,11 +17,11 @@ use Rattle.tree_clauses.specs.Leads.{Leads}
 use Rattle.tree_clauses.specs.Plain.{IsPlain}
 use Rattle.act_cases.specs.Tables.{link_plan, slash_plan, plan_of, names_at, is_inner}
 
--- the act looks along one path alone, and below it: every act but a move
+-- the act looks along one path alone, and below it: every act but a move and a copy
 abbrev pub IsOnOnePath : Act → Type 0
-IsOnOnePath act = moved act ≡ None
+IsOnOnePath act = source act ≡ None
 
--- the act is a move
+-- the act is a move or a copy
 abbrev pub HasSource : Option PathParts → Type 0
 HasSource None = ⊥
 HasSource (Some a) = Unit {0}
@@ -36,7 +36,7 @@ abbrev pub slash_rows : Bool → List Row
 slash_rows false = []
 slash_rows true = slash_row ∷ []
 
--- the rows of links on the way of the second path, which a move has
+-- the rows of links on the way of the second path, which a move and a copy have
 abbrev pub second_rows : Option PathParts → List (List ℕ) → List Row
 second_rows None names = []
 second_rows (Some a) names = link_rows 129 (length names - 1)
@@ -46,7 +46,7 @@ abbrev pub rows_of : Act → List Row
 rows_of act =
     link_rows 1 (length (path_of act).names - 1)
     ++ (slash_rows (path_of act).slash
-    ++ (map row_of (rules (is_below act) act) ++ second_rows (moved act) (place_of act)))
+    ++ (map row_of (rules (is_below act) act) ++ second_rows (source act) (place_of act)))
 
 -- the case leads from each tree exactly where its row is the act's row there, and to the tree that the act leaves
 abbrev pub IsExact : Act → Case → Type 0

@@ -9,7 +9,8 @@ use Rattle.tree_clauses.specs.declared.clause.Literal.{Literal}
 use Rattle.tree_clauses.specs.declared.clause.Literal.TheVariants.{Kind, Fence, NotEmpty, Similar, Target}
 use Rattle.utility_calls.specs.declared.sights.Effect.{Effect}
 use Rattle.utility_calls.specs.declared.sights.Effect.TheVariants.{Nothing, MakesDir, KeepsDir, MakesFile, MakesLink}
-use Rattle.utility_calls.specs.declared.sights.Effect.TheVariants.{LinksInside, TakesAway, Moves, MovesInside}
+use Rattle.utility_calls.specs.declared.sights.Effect.TheVariants.{LinksInside, TakesAway, Moves, MovesInside, Copies}
+use Rattle.utility_calls.specs.declared.sights.Effect.TheVariants.{CopiesInside}
 use Rattle.utility_calls.specs.Sights.{has_entry}
 use Rattle.tree_clauses.specs.declared.case.Case.{Case}
 use Rattle.act_cases.specs.declared.plans.Plan.{Plan}
@@ -41,6 +42,8 @@ is_put LinksInside = true
 is_put TakesAway = true
 is_put Moves = false
 is_put MovesInside = false
+is_put Copies = false
+is_put CopiesInside = false
 
 -- what it puts where this value stands; links lead to the target
 abbrev pub made_value : Effect → List ℕ → Value → Value
@@ -53,6 +56,8 @@ made_value LinksInside target v = value.Link target
 made_value TakesAway target v = value.Absent
 made_value Moves target v = v
 made_value MovesInside target v = v
+made_value Copies target v = v
+made_value CopiesInside target v = v
 
 -- its literals: z is the variable of what is put, and x that of what stood there
 abbrev pub made_literals : Effect → List ℕ → ℕ → ℕ → List Literal
@@ -65,6 +70,8 @@ made_literals LinksInside target x z = Target (var z) target ∷ []
 made_literals TakesAway target x z = Kind (var z) (of kind.Absent) ∷ []
 made_literals Moves target x z = []
 made_literals MovesInside target x z = []
+made_literals Copies target x z = []
+made_literals CopiesInside target x z = []
 
 -- the tree with what the effect puts at the names
 abbrev pub put_by : Effect → List (List ℕ) → List ℕ → Value → Value

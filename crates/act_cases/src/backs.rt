@@ -51,6 +51,7 @@ fn puts_of(effect: Effect) -> Puts
     match effect {
         Effect::Nothing | Effect::MakesDir | Effect::KeepsDir | Effect::MakesFile => Puts::Leaves,
         Effect::MakesLink | Effect::LinksInside | Effect::MovesInside => Puts::Leaves,
+        Effect::Copies | Effect::CopiesInside => Puts::Leaves,
         Effect::TakesAway => Puts::Takes,
         Effect::Moves => Puts::Returns,
     }

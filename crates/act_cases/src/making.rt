@@ -2,17 +2,18 @@ ghost use Rattle.std.specs.Prelude.{◌≡◌, ◌-◌, ◌<◌, ◌≤◌, ◌+
 ghost use Rattle.script_names.specs.Names.{is_name};
 ghost use Rattle.feature_trees.specs.declared.kind.Kind.TheVariants.{Link};
 ghost use Rattle.feature_trees.specs.Kinds.{but};
-ghost use Rattle.utility_calls.specs.Acts.{path_of, place_of, inner_name, target_of, moved, with_name, IsPerformed};
+ghost use Rattle.utility_calls.specs.Acts.{path_of, place_of, inner_name, target_of, source, with_name, is_below};
+ghost use Rattle.utility_calls.specs.Acts.{IsPerformed};
 ghost use Rattle.act_cases.specs.Tables.{fitting, through, free, beside, ways_of, end_of_place, is_inner, names_at};
 ghost use Rattle.act_cases.specs.Tables.{plan_of, plan_of_row, link_plan, slash_plan};
-ghost use Rattle.act_cases.specs.Moves.{source_where, is_anything, is_move};
+ghost use Rattle.act_cases.specs.Moves.{source_where, is_anything, moving_of, copied, taken};
 ghost use Rattle.act_cases.specs.Moves.{move_plan, looked, second_plan, second_names};
 ghost use Rattle.act_cases.specs.Moves.{move_rule_case, second_cases, move_cases};
 ghost use Rattle.act_cases.specs.Cases.{IsOnOnePath, HasSource, AreCases};
 ghost use Rattle.act_cases.specs.Cases.{link_cases, slash_cases, rule_case, cases_of};
 
 use crate::looks::Ways;
-use crate::moves::{MovePlan, make_move_case};
+use crate::moves::{MovePlan, Moving, make_move_case};
 use crate::plans::{End, Plan, make_case};
 use feature_trees::{Kind, Kinds};
 use script_names::{Bytes, Copied, List, Memory, Name};
@@ -316,18 +317,20 @@ fn is_anything(place: Where) -> bool
     }
 }
 
-// Whether an effect moves something.
-fn is_move(effect: Effect) -> bool
-    ensures { result ≡ is_move effect }
+// What an effect does with what stands at the first path.
+fn moving_of(effect: Effect) -> Moving
+    ensures { result ≡ moving_of effect }
 {
     match effect {
-        Effect::Nothing | Effect::MakesDir | Effect::KeepsDir | Effect::MakesFile => false,
-        Effect::MakesLink | Effect::LinksInside | Effect::TakesAway => false,
-        Effect::Moves | Effect::MovesInside => true,
+        Effect::Nothing | Effect::MakesDir | Effect::KeepsDir => Moving::Stays,
+        Effect::MakesFile | Effect::MakesLink | Effect::LinksInside => Moving::Stays,
+        Effect::TakesAway => Moving::Stays,
+        Effect::Moves | Effect::MovesInside => Moving::Moves,
+        Effect::Copies | Effect::CopiesInside => Moving::Copies,
     }
 }
 
-// What a row of a move says of what is moved.
+// What a row of a move or a copy says of what is moved or copied.
 fn source_ways(slash: bool, source: Option<Kinds>) -> Ways
     ensures { result ≡ ways_of slash (source_where source) }
 {
@@ -337,7 +340,7 @@ fn source_ways(slash: bool, source: Option<Kinds>) -> Ways
     }
 }
 
-// A row of a move's table as it is made into a case.
+// A row of the table of a move or a copy as it is made into a case.
 fn move_plan(slash: bool, rule: &Rule) -> MovePlan
     ensures { result ≡ move_plan slash rule.now }
 {
@@ -347,38 +350,64 @@ fn move_plan(slash: bool, rule: &Rule) -> MovePlan
         source: source_ways(slash, rule.source),
         place: ways_of(false, rule.place),
         end: end_of_place(rule.place),
-        moves: is_move(rule.effect),
+        moving: moving_of(rule.effect),
     }
 }
 
-// Where a move looks at the way of its second path.
-fn looked(slash: bool, below: bool) -> Ways
-    ensures { result ≡ ways_of slash (looked below) }
+// The kinds of what is copied, by whether directories are.
+fn copied(deep: bool) -> Kinds
+    ensures { result ≡ copied deep }
 {
-    if below {
-        ways_of(slash, Where::Anything)
+    if deep {
+        Kinds::either(Kinds::of(Kind::Reg), Kinds::of(Kind::Dir))
     } else {
-        ways_of(slash, Where::Is(Kinds::but(Kind::Absent)))
+        Kinds::of(Kind::Reg)
+    }
+}
+
+// The kinds of what is moved or copied.
+fn taken(act: &Act) -> Kinds
+    ensures { result ≡ taken act.now }
+{
+    match act {
+        Act::Copy { deep, .. } => copied(*deep),
+        Act::Exists(_) | Act::IsReg(_) | Act::IsDir(_) | Act::IsLink(_) => Kinds::but(Kind::Absent),
+        Act::CanRun { .. } | Act::IsSpecial { .. } | Act::Attr(_) => Kinds::but(Kind::Absent),
+        Act::MakeDir(_) | Act::EnsureDir(_) | Act::RemoveDir(_) => Kinds::but(Kind::Absent),
+        Act::Remove { .. } | Act::Touch(_) | Act::Symlink { .. } => Kinds::but(Kind::Absent),
+        Act::Move { .. } | Act::PlaceFile(_) | Act::PlaceLink { .. } => Kinds::but(Kind::Absent),
+        Act::PlaceConf(_) | Act::Discard(_) | Act::DiscardDir(_) => Kinds::but(Kind::Absent),
+    }
+}
+
+// Where the way of the second path is looked at.
+fn looked(act: &Act) -> Where
+    ensures { result ≡ looked (is_below act.now) (taken act.now) }
+{
+    if act.is_below() {
+        Where::Anything
+    } else {
+        Where::Is(taken(act))
     }
 }
 
 // The row of a link at the first so many names of the second path.
-fn second_plan(slash: bool, below: bool, k: u8) -> MovePlan
+fn second_plan(slash: bool, source: Where, k: u8) -> MovePlan
     requires { k < 128 }
-    ensures { result ≡ second_plan slash below k }
+    ensures { result ≡ second_plan slash source k }
 {
     let row = Row::of_link(128 + k);
     MovePlan {
         number: row.number,
         answer: row.answer,
-        source: looked(slash, below),
+        source: ways_of(slash, source),
         place: through(Kinds::of(Kind::Link)),
         end: End::Any,
-        moves: false,
+        moving: Moving::Stays,
     }
 }
 
-// The names that a row of a move looks along to the place.
+// The names that a row of a move or a copy looks along to the place.
 fn second_names<'a>(act: &'a Act, inside: &'a [Name], any: bool, inner: bool) -> &'a [Name]
     requires { inside.now ≡ with_name (place_of act.now) (inner_name act.now) }
     ensures names { result.now ≡ second_names any inner (place_of act.now) (inner_name act.now) }
@@ -391,7 +420,7 @@ fn second_names<'a>(act: &'a Act, inside: &'a [Name], any: bool, inner: bool) ->
     if inner { inside } else { names }
 }
 
-// Adds the cases of the rows of a move's table.
+// Adds the cases of the rows of the table of a move or a copy.
 fn add_move_rows(
     alloc: Global,
     cases: &mut List<Case>,
@@ -417,18 +446,18 @@ fn add_seconds(alloc: Global, cases: &mut List<Case>, act: &Act) -> Result<(), M
     ensures { OnOk result (cases.new ≡ cases.old ++ second_cases act.now 1 (length (place_of act.now) - 1)) }
 {
     let path = act.path();
-    let below = act.is_below();
+    let source = looked(act);
     let names = act.place().names();
     for i in 0..prefixes(names) {
         let k = i + 1;
-        let plan = second_plan(path.slash(), below, k as u8);
+        let plan = second_plan(path.slash(), source, k as u8);
         let made = make_move_case(alloc, &plan, path.names(), &names[..k])?;
         cases.add(made)?;
     }
     Ok(())
 }
 
-// The cases of a move, as they are made.
+// The cases of a move or a copy, as they are made.
 fn make_move_cases(alloc: Global, act: &Act, inside: &[Name]) -> Result<List<Case>, Memory>
     requires { inside.now ≡ with_name (place_of act.now) (inner_name act.now) }
     ensures { IfOk result (λ cases. cases ≡ move_cases act.now) }
@@ -442,10 +471,10 @@ fn make_move_cases(alloc: Global, act: &Act, inside: &[Name]) -> Result<List<Cas
     Ok(cases)
 }
 
-// The cases of a move.
+// The cases of a move or a copy.
 fn cases_of_move(alloc: Global, act: &Act) -> Result<List<Case>, Memory>
     requires performed { IsPerformed act.now }
-    requires a_move { HasSource (moved act.now) }
+    requires a_move { HasSource (source act.now) }
     ensures { IfOk result (λ cases. AreCases act.now cases) }
 {
     let names = act.path().names();
@@ -465,7 +494,7 @@ pub fn cases(alloc: Global, act: &Act) -> Result<List<Case>, Memory>
     requires { IsPerformed act.now }
     ensures { IfOk result (λ cases. AreCases act.now cases) }
 {
-    match act.moved() {
+    match act.source() {
         Some(_) => cases_of_move(alloc, act),
         None => path_cases(alloc, act),
     }

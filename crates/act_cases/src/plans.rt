@@ -37,6 +37,7 @@ fn is_put(effect: Effect) -> bool
 {
     match effect {
         Effect::Nothing | Effect::Moves | Effect::MovesInside => false,
+        Effect::Copies | Effect::CopiesInside => false,
         Effect::MakesDir | Effect::KeepsDir | Effect::MakesFile => true,
         Effect::MakesLink | Effect::LinksInside | Effect::TakesAway => true,
     }
@@ -79,6 +80,7 @@ fn add_made(
 {
     match effect {
         Effect::Nothing | Effect::Moves | Effect::MovesInside => Ok(()),
+        Effect::Copies | Effect::CopiesInside => Ok(()),
         Effect::MakesDir => add_empty(alloc, literals, z),
         Effect::KeepsDir => literals.add(Literal::Similar(Var(z), List::new(alloc), Var(x))),
         Effect::MakesFile => literals.add(Literal::Kind(Var(z), Kinds::of(Kind::Reg))),

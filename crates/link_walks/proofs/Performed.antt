@@ -7,8 +7,8 @@ use Rattle.std.proofs.lemmas.List.Elements.{All-nil, All-cons}
 use Rattle.script_names.specs.Paths.{PathParts}
 use Rattle.utility_calls.specs.declared.acts.Act.{Act}
 use Rattle.utility_calls.specs.declared.acts.Act.TheVariants.{Exists, IsReg, IsDir, IsLink, CanRun, IsSpecial, MakeDir}
-use Rattle.utility_calls.specs.declared.acts.Act.TheVariants.{EnsureDir, RemoveDir, Remove, Touch, Symlink, Move}
-use Rattle.utility_calls.specs.declared.acts.Act.TheVariants.{PlaceFile, PlaceLink, PlaceConf, Discard, DiscardDir}
+use Rattle.utility_calls.specs.declared.acts.Act.TheVariants.{EnsureDir, RemoveDir, Remove, Touch, Symlink, Attr, Move}
+use Rattle.utility_calls.specs.declared.acts.Act.TheVariants.{Copy, PlaceFile, PlaceLink, PlaceConf, Discard, DiscardDir}
 use Rattle.utility_calls.specs.declared.planned.Planned.{Planned}
 use Rattle.utility_calls.specs.declared.planned.Planned.TheVariants.{Known, Ask, Print, Change, Unspecified}
 use Rattle.utility_calls.specs.Acts.{path_of, place_of, is_question, IsMove, IsPerformed}
@@ -76,6 +76,14 @@ second_named links a b some other = by (reach links true b) refl
     by (At q) e = λ no. (some, reached_some links true b q e other)
     by (Blocked p) e = question_named (Exists p) refl
 
+copied_named : (links : List LinkParts) (a b : PathParts) (deep : Bool) → a.names ≢ [] → b.names ≢ []
+    → IsNamed (second_along links (Copy a b deep))
+copied_named links a b deep some other = by (reach links true b) refl
+  where
+    by : (r : Reached) → reach links true b ≡ r → IsNamed (at_reached r (λ q. Copy a q deep))
+    by (At q) e = λ no. (some, reached_some links true b q e other)
+    by (Blocked p) e = question_named (Exists p) refl
+
 with_named : (links : List LinkParts) (act : Act) (q : PathParts) → IsNamed act
     → ((path_of act).names ≢ [] → q.names ≢ []) → IsNamed (second_along links (with_path act q))
 with_named links (Exists p) q h w = question_named (Exists q) refl
@@ -90,7 +98,9 @@ with_named links (RemoveDir p) q h w = λ e. let n = w (h refl).0 in (n, n)
 with_named links (Remove p force deep) q h w = λ e. let n = w (h refl).0 in (n, n)
 with_named links (Touch p) q h w = λ e. let n = w (h refl).0 in (n, n)
 with_named links (Symlink p target last force) q h w = λ e. let n = w (h refl).0 in (n, n)
+with_named links (Attr p) q h w = question_named (Attr q) refl
 with_named links (Move a b) q h w = second_named links q b (w (h refl).0) (h refl).1
+with_named links (Copy a b deep) q h w = copied_named links q b deep (w (h refl).0) (h refl).1
 with_named links (PlaceFile p) q h w = λ e. let n = w (h refl).0 in (n, n)
 with_named links (PlaceLink p target) q h w = λ e. let n = w (h refl).0 in (n, n)
 with_named links (PlaceConf p) q h w = λ e. let n = w (h refl).0 in (n, n)
@@ -134,8 +144,10 @@ apart links (RemoveDir p) h = tt
 apart links (Remove p force deep) h = tt
 apart links (Touch p) h = tt
 apart links (Symlink p target last force) h = tt
+apart links (Attr p) h = tt
 apart links (Move a b) h =
     differ a.names b.names (first_false (same_names a.names b.names) (is_parent b.names a.names) h)
+apart links (Copy a b deep) h = tt
 apart links (PlaceFile p) h = tt
 apart links (PlaceLink p target) h = tt
 apart links (PlaceConf p) h = tt
@@ -214,7 +226,9 @@ package_unmoved links (RemoveDir p) h = absurd (cc)
 package_unmoved links (Remove p force deep) h = absurd (cc)
 package_unmoved links (Touch p) h = absurd (cc)
 package_unmoved links (Symlink p target last force) h = absurd (cc)
+package_unmoved links (Attr p) h = absurd (cc)
 package_unmoved links (Move a b) h = absurd (cc)
+package_unmoved links (Copy a b deep) h = absurd (cc)
 package_unmoved links (PlaceFile p) h = reached_unmoved (reach links false p) (λ q. PlaceFile q) (λ q. tt)
 package_unmoved links (PlaceLink p target) h = reached_unmoved (reach links false p) (λ q. PlaceLink q target) (λ q. tt)
 package_unmoved links (PlaceConf p) h = reached_unmoved (reach links false p) (λ q. PlaceConf q) (λ q. tt)
@@ -234,7 +248,9 @@ package_named (RemoveDir p) h some = absurd (cc)
 package_named (Remove p force deep) h some = absurd (cc)
 package_named (Touch p) h some = absurd (cc)
 package_named (Symlink p target last force) h some = absurd (cc)
+package_named (Attr p) h some = absurd (cc)
 package_named (Move a b) h some = absurd (cc)
+package_named (Copy a b deep) h some = absurd (cc)
 package_named (PlaceFile p) h some = λ e. (some, some)
 package_named (PlaceLink p target) h some = λ e. (some, some)
 package_named (PlaceConf p) h some = λ e. (some, some)

@@ -17,17 +17,18 @@ use Rattle.feature_trees.specs.Laws.{PutsStaySound}
 use Rattle.feature_trees.proofs.Laws.{at-append}
 use Rattle.utility_calls.specs.declared.acts.Act.{Act}
 use Rattle.utility_calls.specs.declared.acts.Act.TheVariants.{Exists, IsReg, IsDir, IsLink, CanRun, IsSpecial, MakeDir}
-use Rattle.utility_calls.specs.declared.acts.Act.TheVariants.{EnsureDir, RemoveDir, Remove, Touch, Symlink, Move, PlaceFile}
-use Rattle.utility_calls.specs.declared.acts.Act.TheVariants.{PlaceLink, PlaceConf, Discard, DiscardDir}
+use Rattle.utility_calls.specs.declared.acts.Act.TheVariants.{EnsureDir, RemoveDir, Remove, Touch, Symlink, Attr, Move}
+use Rattle.utility_calls.specs.declared.acts.Act.TheVariants.{Copy, PlaceFile, PlaceLink, PlaceConf, Discard, DiscardDir}
 use Rattle.utility_calls.specs.declared.sights.Sight.{Sight}
 use Rattle.utility_calls.specs.declared.sights.Row.{Row}
 use Rattle.utility_calls.specs.declared.sights.Rule.{Rule}
 use Rattle.utility_calls.specs.declared.sights.Effect.{Effect}
 use Rattle.utility_calls.specs.declared.sights.Effect.TheVariants.{Nothing, MakesDir, KeepsDir, MakesFile, MakesLink}
-use Rattle.utility_calls.specs.declared.sights.Effect.TheVariants.{LinksInside, TakesAway, Moves, MovesInside}
+use Rattle.utility_calls.specs.declared.sights.Effect.TheVariants.{LinksInside, TakesAway, Moves, MovesInside, Copies}
+use Rattle.utility_calls.specs.declared.sights.Effect.TheVariants.{CopiesInside}
 use Rattle.utility_calls.specs.Sights.{has_entry}
 use Rattle.utility_calls.specs.Ways.{link_on_way}
-use Rattle.utility_calls.specs.Table.{rules, first_row, remove_by, symlink_by, move_by}
+use Rattle.utility_calls.specs.Table.{rules, first_row, remove_by, symlink_by, move_by, copy_by}
 use Rattle.utility_calls.specs.Acts.{path_of, place_of, inner_name, inner_of, target_of, with_name, last_name, inner_at, source_of, is_prefix, is_below, second_link, by_way, by_slash, sight_on, own_row, row, effect_on, is_question, tree_after, IsPerformed}
 use Rattle.utility_calls.specs.ActChanges.{IsInDirectory, HasNames}
 use Rattle.utility_calls.specs.Pairs.{same_names}
@@ -103,6 +104,8 @@ test fl TakesAway s =
     (fl.deep || (not (has (of Dir) s.kind) || (fl.dirs && not s.filled))) && (fl.changes || not (has (of Link) s.kind))
 test fl Moves s = false
 test fl MovesInside s = false
+test fl Copies s = false
+test fl CopiesInside s = false
 
 abbrev fits : Flags → List Rule → Sight → Bool
 fits fl rs s = not (possible s) || test fl (first_row rs Absent s).effect s
@@ -210,6 +213,8 @@ module _ (act : Act) (tree : Value) (fl : Flags) (sounds : IsTrue (sound tree)) 
           (λ f rest e. absurd (deep (taken_under f rest both.0 e) f rest e))
       link_by Moves t d = absurd (cc)
       link_by MovesInside t d = absurd (cc)
+      link_by Copies t d = absurd (cc)
+      link_by CopiesInside t d = absurd (cc)
 
     -- ---- a directory
     module _ (is : kind_of (at tree q) ≡ Dir) (empty : fl.dirs ≡ true → p ≢ q) (whole : fl.deep ≡ true → p ≢ q)
@@ -257,6 +262,8 @@ module _ (act : Act) (tree : Value) (fl : Flags) (sounds : IsTrue (sound tree)) 
               right false b h w = h
       dir_by Moves t d = absurd (cc)
       dir_by MovesInside t d = absurd (cc)
+      dir_by Copies t d = absurd (cc)
+      dir_by CopiesInside t d = absurd (cc)
 
 -- ---- the row of an act
 
@@ -337,6 +344,8 @@ move_test MakesFile k s = false
 move_test MakesLink k s = false
 move_test LinksInside k s = false
 move_test TakesAway k s = false
+move_test Copies k s = false
+move_test CopiesInside k s = false
 move_test Moves k s = not (has (of Dir) s.kind) && not (has (of Link) s.kind)
 move_test MovesInside k s =
     not (has (of Link) s.inner) && (not (has (of Dir) s.inner) || (has (of Dir) k && not s.inner_filled))
@@ -457,6 +466,8 @@ module _ (a b : PathParts) (tree : Value) (performed : IsPerformed (Move a b)) (
       link_by_move MakesLink t d = absurd (cc)
       link_by_move LinksInside t d = absurd (cc)
       link_by_move TakesAway t d = absurd (cc)
+      link_by_move Copies t d = absurd (cc)
+      link_by_move CopiesInside t d = absurd (cc)
       link_by_move Moves t d =
           let two = and_parts (not (has (of Dir) seen.kind)) (not (has (of Link) seen.kind)) t in
           let first : at without q ≡ value.Link l =
@@ -487,6 +498,8 @@ module _ (a b : PathParts) (tree : Value) (performed : IsPerformed (Move a b)) (
       dir_by_move MakesLink t d = absurd (cc)
       dir_by_move LinksInside t d = absurd (cc)
       dir_by_move TakesAway t d = absurd (cc)
+      dir_by_move Copies t d = absurd (cc)
+      dir_by_move CopiesInside t d = absurd (cc)
       dir_by_move Moves t d =
           let two = and_parts (not (has (of Dir) seen.kind)) (not (has (of Link) seen.kind)) t in
           let first : kind_of (at without q) ≡ Dir =
@@ -508,6 +521,125 @@ module _ (a b : PathParts) (tree : Value) (performed : IsPerformed (Move a b)) (
               → (x || (has (of Dir) from && not seen.inner_filled)) ≡ true → seen.inner ≡ Dir → kind_of moved ≡ Dir
           moved_dir true n h d = absurd (not_dir seen.inner n d)
           moved_dir false n h d = dir_seen from (and_parts (has (of Dir) from) (not seen.inner_filled) h).0
+
+-- ---- a copy
+
+abbrev copy_test : Effect → Sight → Bool
+copy_test Nothing s = true
+copy_test MakesDir s = false
+copy_test KeepsDir s = false
+copy_test MakesFile s = false
+copy_test MakesLink s = false
+copy_test LinksInside s = false
+copy_test TakesAway s = false
+copy_test Moves s = false
+copy_test MovesInside s = false
+copy_test Copies s = not (has (of Dir) s.kind) && not (has (of Link) s.kind)
+copy_test CopiesInside s = not (has (of Dir) s.inner) && not (has (of Link) s.inner)
+
+abbrev copy_fits : Bool → Kind → Sight → Bool
+copy_fits deep k s = not (possible s) || copy_test (first_row (copy_by deep) k s).effect s
+
+copies_fit : (deep : Bool) (k : Kind) → all_sights (copy_fits deep k) ≡ true
+copies_fit true Absent = refl
+copies_fit true Reg = refl
+copies_fit true Link = refl
+copies_fit true (Special Fifo) = refl
+copies_fit true (Special Socket) = refl
+copies_fit true (Special Block) = refl
+copies_fit true (Special Char) = refl
+copies_fit true Dir = refl
+copies_fit false Absent = refl
+copies_fit false Reg = refl
+copies_fit false Link = refl
+copies_fit false (Special Fifo) = refl
+copies_fit false (Special Socket) = refl
+copies_fit false (Special Block) = refl
+copies_fit false (Special Char) = refl
+copies_fit false Dir = refl
+
+module _ (a b : PathParts) (deep : Bool) (tree : Value) (performed : IsPerformed (Copy a b deep))
+    (sounds : IsTrue (sound tree)) where
+  abbrev copying : Act
+  copying = Copy a b deep
+
+  abbrev copy_seen : Sight
+  copy_seen = sight_on copying tree
+
+  abbrev copied : Value
+  copied = at tree a.names
+
+  abbrev copy_place : List (List ℕ)
+  copy_place = with_name b.names (inner_name copying)
+
+  copy_inner : inner_of copying tree ≡ at tree copy_place
+  copy_inner = inner_value tree b.names (inner_name copying) (last_some a.names (performed.0 refl).0)
+
+  copy_row : copy_test (row copying tree).effect copy_seen ≡ true
+  copy_row =
+      row_has (λ e. copy_test e copy_seen ≡ true) refl copying tree
+      (given_possible (possible copy_seen) (copy_test (own_row copying tree).effect copy_seen)
+      (seen_possible tree (inner_of copying tree) b.names (performed.0 refl).1)
+      (each_sight (copy_fits deep (source_of copying tree)) (copies_fit deep (source_of copying tree)) copy_seen))
+
+  module _ (q : List (List ℕ)) where
+    -- a directory stands at each path below which q stands
+    dir_above : kind_of (at tree q) ≢ Absent → (n : List (List ℕ)) (f : List ℕ) (rest : List (List ℕ))
+        → q ≡ n ++ f ∷ rest → kind_of (at tree n) ≡ Dir
+    dir_above stands n f rest e =
+        (below_full (at tree n) f rest (λ x. stands (ap kind_of (ap (at tree) e ∙ at-append tree n (f ∷ rest)) ∙ x))).0
+
+    module _ (l : List ℕ) (is : at tree q ≡ value.Link l) where
+      link_there : kind_of (at tree q) ≢ Absent
+      link_there e = let x : Link ≡ Absent = sym (ap kind_of is) ∙ e in cc
+
+      link_by_copy : (e : Effect) → copy_test e copy_seen ≡ true → IsInDirectory e copying tree
+          → at (effect_on e copying tree) q ≡ value.Link l
+      link_by_copy Nothing t d = is
+      link_by_copy MakesDir t d = absurd (cc)
+      link_by_copy KeepsDir t d = absurd (cc)
+      link_by_copy MakesFile t d = absurd (cc)
+      link_by_copy MakesLink t d = absurd (cc)
+      link_by_copy LinksInside t d = absurd (cc)
+      link_by_copy TakesAway t d = absurd (cc)
+      link_by_copy Moves t d = absurd (cc)
+      link_by_copy MovesInside t d = absurd (cc)
+      link_by_copy Copies t d =
+          let two = and_parts (not (has (of Dir) copy_seen.kind)) (not (has (of Link) copy_seen.kind)) t in
+          link_kept tree copied b.names q sounds d l is
+          (λ e. absurd (not_link copy_seen.kind two.1 (ap kind_of (ap (at tree) e ∙ is))))
+          (λ f rest e. absurd (not_dir copy_seen.kind two.0 (dir_above link_there b.names f rest e)))
+      link_by_copy CopiesInside t d =
+          let two = and_parts (not (has (of Dir) copy_seen.inner)) (not (has (of Link) copy_seen.inner)) t in
+          link_kept tree copied copy_place q sounds d l is
+          (λ e. absurd (not_link copy_seen.inner two.1 (ap kind_of (copy_inner ∙ (ap (at tree) e ∙ is)))))
+          (λ f rest e. absurd (not_dir copy_seen.inner two.0 (ap kind_of copy_inner ∙ dir_above link_there copy_place f rest e)))
+
+    module _ (is : kind_of (at tree q) ≡ Dir) where
+      dir_there : kind_of (at tree q) ≢ Absent
+      dir_there e = let x : Dir ≡ Absent = sym is ∙ e in cc
+
+      dir_by_copy : (e : Effect) → copy_test e copy_seen ≡ true → IsInDirectory e copying tree
+          → kind_of (at (effect_on e copying tree) q) ≡ Dir
+      dir_by_copy Nothing t d = is
+      dir_by_copy MakesDir t d = absurd (cc)
+      dir_by_copy KeepsDir t d = absurd (cc)
+      dir_by_copy MakesFile t d = absurd (cc)
+      dir_by_copy MakesLink t d = absurd (cc)
+      dir_by_copy LinksInside t d = absurd (cc)
+      dir_by_copy TakesAway t d = absurd (cc)
+      dir_by_copy Moves t d = absurd (cc)
+      dir_by_copy MovesInside t d = absurd (cc)
+      dir_by_copy Copies t d =
+          let two = and_parts (not (has (of Dir) copy_seen.kind)) (not (has (of Link) copy_seen.kind)) t in
+          dir_kept tree copied b.names q sounds d is
+          (λ e. absurd (not_dir copy_seen.kind two.0 (ap kind_of (ap (at tree) e) ∙ is)))
+          (λ f rest e. absurd (not_dir copy_seen.kind two.0 (dir_above dir_there b.names f rest e)))
+      dir_by_copy CopiesInside t d =
+          let two = and_parts (not (has (of Dir) copy_seen.inner)) (not (has (of Link) copy_seen.inner)) t in
+          dir_kept tree copied copy_place q sounds d is
+          (λ e. absurd (not_dir copy_seen.inner two.0 (ap kind_of (copy_inner ∙ ap (at tree) e) ∙ is)))
+          (λ f rest e. absurd (not_dir copy_seen.inner two.0 (ap kind_of copy_inner ∙ dir_above dir_there copy_place f rest e)))
 
 -- ---- all acts
 
@@ -563,6 +695,10 @@ module _ (tree : Value) (puts : PutsStaySound) (sounds : IsTrue (sound tree)) wh
         (λ e same. differ link.at.names (p.names ++ last ∷ [])
         (and_false force (same_names link.at.names (p.names ++ last ∷ [])) c e) (sym same))
         (λ e. absurd (cc))
+    link_stays (Attr p) h n c = ap (λ t. at t link.at.names) (asked (Attr p) refl) ∙ is
+    link_stays (Copy a b deep) h n c =
+        link_by_copy a b deep tree h sounds link.at.names link.target is (row (Copy a b deep) tree).effect
+        (copy_row a b deep tree h sounds) (in_directory (Copy a b deep) tree h sounds)
     link_stays (Move a b) h n c =
         link_by_move a b tree h n puts sounds link.at.names c link.target is (row (Move a b) tree).effect
         (move_row a b tree h n puts sounds) (in_directory (Move a b) tree h sounds)
@@ -619,6 +755,10 @@ module _ (tree : Value) (puts : PutsStaySound) (sounds : IsTrue (sound tree)) wh
     dir_stays (Symlink p target last force) h n c =
         still_dir (Symlink p target last force) (linking_inside force) h (h.0 refl).1 refl refl (links_fit force)
         (λ e. inner_seen p target last force tree) (λ e. absurd (cc)) (λ e. absurd (cc)) (λ e. absurd (cc))
+    dir_stays (Attr p) h n c = ap (λ t. kind_of (at t q)) (asked (Attr p) refl) ∙ is
+    dir_stays (Copy a b deep) h n c =
+        dir_by_copy a b deep tree h sounds q is (row (Copy a b deep) tree).effect
+        (copy_row a b deep tree h sounds) (in_directory (Copy a b deep) tree h sounds)
     dir_stays (Move a b) h n c =
         dir_by_move a b tree h n puts sounds q c is (row (Move a b) tree).effect
         (move_row a b tree h n puts sounds) (in_directory (Move a b) tree h sounds)

@@ -11,11 +11,12 @@ use Rattle.script_names.specs.Paths.{PathParts, path_fault, path_of as path_spel
 use Rattle.utility_calls.specs.declared.acts.Act.{Act}
 use Rattle.utility_calls.specs.declared.acts.Act.TheVariants.{Exists, IsReg, IsDir, IsLink, CanRun, IsSpecial}
 use Rattle.utility_calls.specs.declared.acts.Act.TheVariants.{MakeDir, EnsureDir, RemoveDir, Remove, Touch, Symlink}
-use Rattle.utility_calls.specs.declared.acts.Act.TheVariants.{Move, PlaceFile, PlaceLink, PlaceConf, Discard, DiscardDir}
+use Rattle.utility_calls.specs.declared.acts.Act.TheVariants.{Attr, Move, Copy, PlaceFile, PlaceLink, PlaceConf}
+use Rattle.utility_calls.specs.declared.acts.Act.TheVariants.{Discard, DiscardDir}
 use Rattle.utility_calls.specs.declared.planned.Planned.{Planned}
 use Rattle.utility_calls.specs.declared.planned.Planned.TheVariants.{Known, Ask, Print, Change, Unspecified}
 use Rattle.utility_calls.specs.Acts.{path_of, is_prefix}
-use Rattle.utility_calls.specs.Pairs.{same_names, reaches, is_parent}
+use Rattle.utility_calls.specs.Pairs.{same_names, reaches, is_parent, copies_itself}
 use Rattle.link_walks.specs.declared.walks.Reached.{Reached}
 use Rattle.link_walks.specs.declared.walks.Reached.TheVariants.{At, Blocked}
 use Rattle.link_walks.specs.Links.{LinkParts}
@@ -23,7 +24,7 @@ use Rattle.link_walks.specs.Reaching.{reach}
 
 -- ---- along the links
 
--- whether an act follows a link at its path's last name too; of a move that is said of its first path
+-- whether an act follows a link at its path's last name too; of a move or a copy that is said of its first path
 abbrev pub follows_last : Act → Bool
 follows_last (Exists p) = true
 follows_last (IsReg p) = true
@@ -33,9 +34,10 @@ follows_last (CanRun p runs) = true
 follows_last (EnsureDir p) = true
 follows_last (Touch p) = true
 follows_last (Symlink p target last force) = true
+follows_last (Attr p) = true
 follows_last act = false
 
--- the act with another path; of a move its first one
+-- the act with another path; of a move or a copy its first one
 abbrev pub with_path : Act → PathParts → Act
 with_path (Exists p) q = Exists q
 with_path (IsReg p) q = IsReg q
@@ -49,7 +51,9 @@ with_path (RemoveDir p) q = RemoveDir q
 with_path (Remove p force deep) q = Remove q force deep
 with_path (Touch p) q = Touch q
 with_path (Symlink p target last force) q = Symlink q target last force
+with_path (Attr p) q = Attr q
 with_path (Move a b) q = Move q b
+with_path (Copy a b deep) q = Copy q b deep
 with_path (PlaceFile p) q = PlaceFile q
 with_path (PlaceLink p target) q = PlaceLink q target
 with_path (PlaceConf p) q = PlaceConf q
@@ -61,9 +65,10 @@ abbrev pub at_reached : Reached → (PathParts → Act) → Act
 at_reached (At p) of = of p
 at_reached (Blocked p) of = Exists p
 
--- the second path of a move is followed at its last name too
+-- the second path of a move or a copy is followed at its last name too
 abbrev pub second_along : List LinkParts → Act → Act
 second_along links (Move a b) = at_reached (reach links true b) (λ q. Move a q)
+second_along links (Copy a b deep) = at_reached (reach links true b) (λ q. Copy a q deep)
 second_along links act = act
 
 -- an act with its paths taken along the links
@@ -142,11 +147,12 @@ links_itself links target names last =
     reaches (path_fault target) (spelled_names target) names last
     || target_leads links (path_fault target) target names last
 
--- whether an act that was taken along the links replaces the target of its own link, or moves a path to itself or into
--- the directory that it is in
+-- whether an act that was taken along the links replaces the target of its own link, moves a path to itself or into the
+-- directory that it is in, or copies one so, or with all below it to below itself
 abbrev pub is_same : List LinkParts → Act → Bool
 is_same links (Symlink p target last force) = force && links_itself links target p.names last
 is_same links (Move a b) = same_names a.names b.names || is_parent b.names a.names
+is_same links (Copy a b deep) = copies_itself deep a.names b.names
 is_same links act = false
 
 -- what is planned, unless it comes to such an act

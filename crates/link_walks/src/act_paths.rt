@@ -7,20 +7,22 @@ use script_names::{Memory, Path};
 use std::alloc::Global;
 use utility_calls::acts::Act;
 
-// Whether an act follows a link at its path's last name too; of a move that is said of its first path.
+// Whether an act follows a link at its path's last name too; of a move or a copy that is said of its first path.
 fn follows_last(a: &Act) -> bool
     ensures { result ≡ follows_last a.now }
 {
     match a {
         Act::Exists(_) | Act::IsReg(_) | Act::IsDir(_) | Act::IsSpecial { .. } => true,
         Act::CanRun { .. } | Act::EnsureDir(_) | Act::Touch(_) | Act::Symlink { .. } => true,
+        Act::Attr(_) => true,
         Act::IsLink(_) | Act::MakeDir(_) | Act::RemoveDir(_) | Act::Remove { .. } => false,
-        Act::Move { .. } | Act::PlaceFile(_) | Act::PlaceLink { .. } => false,
+        Act::Move { .. } | Act::Copy { .. } => false,
+        Act::PlaceFile(_) | Act::PlaceLink { .. } => false,
         Act::PlaceConf(_) | Act::Discard(_) | Act::DiscardDir(_) => false,
     }
 }
 
-// The act with another path; of a move its first one.
+// The act with another path; of a move or a copy its first one.
 fn with_path(a: Act, q: Path) -> Act
     ensures { result ≡ with_path a q }
 {
@@ -47,7 +49,9 @@ fn with_path(a: Act, q: Path) -> Act
             last,
             force,
         },
+        Act::Attr(_) => Act::Attr(q),
         Act::Move { a: _, b } => Act::Move { a: q, b },
+        Act::Copy { a: _, b, deep } => Act::Copy { a: q, b, deep },
         Act::PlaceFile(_) => Act::PlaceFile(q),
         Act::PlaceLink { p: _, target } => Act::PlaceLink { p: q, target },
         Act::PlaceConf(_) => Act::PlaceConf(q),
@@ -56,13 +60,17 @@ fn with_path(a: Act, q: Path) -> Act
     }
 }
 
-// The act with the second path of a move taken along the links.
+// The act with the second path of a move or a copy taken along the links.
 fn second_along(alloc: Global, links: &[KnownLink], a: Act) -> Result<Act, Memory>
     ensures { IfOk result (λ act. act ≡ second_along links.now a) }
 {
     match a {
         Act::Move { a, b } => match reach(alloc, links, &b, true)? {
             Reached::At(q) => Ok(Act::Move { a, b: q }),
+            Reached::Blocked(p) => Ok(Act::Exists(p)),
+        },
+        Act::Copy { a, b, deep } => match reach(alloc, links, &b, true)? {
+            Reached::At(q) => Ok(Act::Copy { a, b: q, deep }),
             Reached::Blocked(p) => Ok(Act::Exists(p)),
         },
         other => Ok(other),

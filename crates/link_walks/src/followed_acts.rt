@@ -35,7 +35,7 @@ fn changes_link(a: &Act, link: &KnownLink) -> bool
         Act::Exists(_) | Act::IsReg(_) | Act::IsDir(_) | Act::IsLink(_) => false,
         Act::CanRun { .. } | Act::IsSpecial { .. } => false,
         Act::MakeDir(_) | Act::EnsureDir(_) | Act::RemoveDir(_) | Act::Touch(_) => false,
-        Act::DiscardDir(_) => false,
+        Act::Attr(_) | Act::Copy { .. } | Act::DiscardDir(_) => false,
     }
 }
 
@@ -50,6 +50,7 @@ fn takes_away(a: &Act, names: &[Name]) -> bool
         Act::Exists(_) | Act::IsReg(_) | Act::IsDir(_) | Act::IsLink(_) => false,
         Act::CanRun { .. } | Act::IsSpecial { .. } | Act::Symlink { .. } => false,
         Act::MakeDir(_) | Act::EnsureDir(_) | Act::Touch(_) => false,
+        Act::Attr(_) | Act::Copy { .. } => false,
         Act::PlaceFile(_) | Act::PlaceLink { .. } | Act::PlaceConf(_) | Act::Discard(_) => false,
     }
 }
@@ -64,6 +65,7 @@ fn takes_some(a: &Act) -> bool
         Act::Exists(_) | Act::IsReg(_) | Act::IsDir(_) | Act::IsLink(_) => false,
         Act::CanRun { .. } | Act::IsSpecial { .. } | Act::Symlink { .. } => false,
         Act::MakeDir(_) | Act::EnsureDir(_) | Act::Touch(_) => false,
+        Act::Attr(_) | Act::Copy { .. } => false,
         Act::PlaceFile(_) | Act::PlaceLink { .. } | Act::PlaceConf(_) | Act::Discard(_) => false,
     }
 }
@@ -151,7 +153,7 @@ fn asked_at(at: Option<Path>, a: Act) -> Act
 }
 
 /// An act with its paths taken along known links: at the last name too for questions but `test -h`, for `mkdir -p`,
-/// `touch`, `ln -s` and the second path of `mv`. Where a path is blocked it becomes the question whether anything stands
+/// `touch`, `ln -s`, `chmod` and those like it, and the second path of `mv` and `cp`. Where a path is blocked it becomes the question whether anything stands
 /// at the link that blocks it. One that would change a known link, or could take the directory at its end away, becomes
 /// that question at the first such link; on a tree in which the link stands it has no answer.
 pub fn follow_act(alloc: Global, links: &[KnownLink], a: Act) -> Result<Act, Memory>

@@ -13,7 +13,7 @@ use script_names::{List, Memory, Name, Path, PathFault, Reason};
 use std::alloc::Global;
 use utility_calls::acts::Act;
 use utility_calls::calls::Planned;
-use utility_calls::{is_parent, reaches, same_names, same_or_below};
+use utility_calls::{copies_itself, is_parent, reaches, same_names, same_or_below};
 
 // Whether a path that is reached is this one, or stands in it under the name.
 fn leads_to(reached: &Reached, path: &Path, last: &Name) -> bool
@@ -63,8 +63,8 @@ fn links_itself(
     target_leads(alloc, links, target, path, last)
 }
 
-// Whether an act that was taken along the links puts a link in place of its own target, or moves a path to itself or
-// into the directory that it is in.
+// Whether an act that was taken along the links puts a link in place of its own target, moves a path to itself or into
+// the directory that it is in, or copies one so, or with all below it to below itself.
 fn is_same(alloc: Global, links: &[KnownLink], a: &Act) -> Result<bool, Memory>
     ensures { IfOk result (λ same. same ≡ is_same links.now a.now) }
 {
@@ -83,9 +83,11 @@ fn is_same(alloc: Global, links: &[KnownLink], a: &Act) -> Result<bool, Memory>
         Act::Move { a, b } => Ok(
             same_names(a.names(), b.names()) || is_parent(b.names(), a.names()),
         ),
+        Act::Copy { a, b, deep } => Ok(copies_itself(*deep, a.names(), b.names())),
         Act::Exists(_) | Act::IsReg(_) | Act::IsDir(_) | Act::IsLink(_) => Ok(false),
         Act::CanRun { .. } | Act::IsSpecial { .. } | Act::Remove { .. } => Ok(false),
         Act::MakeDir(_) | Act::EnsureDir(_) | Act::RemoveDir(_) | Act::Touch(_) => Ok(false),
+        Act::Attr(_) => Ok(false),
         Act::PlaceFile(_) | Act::PlaceLink { .. } | Act::PlaceConf(_) => Ok(false),
         Act::Discard(_) | Act::DiscardDir(_) => Ok(false),
     }
@@ -180,9 +182,9 @@ fn follow_change(
     Ok(unless_same(same, Planned::Change(there)))
 }
 
-/// What a call comes to whose acts are taken along known links, each by `follow_act`. Where `mv` then moves a path to
-/// itself or into the directory that it is in, or `ln -s -f` puts a link in place of its own target, whose path is tried
-/// along the links too, it has no specified meaning (`Reason::Same`). Without links it stays as it is.
+/// What a call comes to whose acts are taken along known links, each by `follow_act`. Where `mv` or `cp` then takes a
+/// path to itself or into the directory that it is in, `cp -r` a directory into itself, or `ln -s -f` puts a link in
+/// place of its own target, whose path is tried along the links too, it has no specified meaning (`Reason::Same`). Without links it stays as it is.
 pub fn follow(alloc: Global, links: &[KnownLink], planned: Planned) -> Result<Planned, Memory>
     ensures follow { IfOk result (λ there. there ≡ follow links.now planned) }
     ensures performed { HasPerformedActs planned → IfOk result HasPerformedActs }
