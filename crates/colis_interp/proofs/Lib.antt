@@ -4,3 +4,4 @@ pub mod Structs
 pub mod Weight
 pub mod Lists
 pub mod Rounds
+pub mod NamedCommands

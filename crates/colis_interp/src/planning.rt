@@ -1,6 +1,6 @@
 ghost use Rattle.std.specs.Prelude.{◌≡◌, ◌<◌, length, IfOk, option_map, if◌then◌else◌};
 ghost use Rattle.std.specs.List.{find};
-ghost use Rattle.std.specs.Option.{option_copied, unwrap_or};
+ghost use Rattle.std.specs.Option.{option_copied};
 ghost use Rattle.script_names.specs.declared.reason.Reason.TheVariants as reason;
 ghost use Rattle.utility_calls.specs.declared.planned.Planned.TheVariants.{Unspecified};
 ghost use Rattle.utility_calls.specs.Calls.{call};
@@ -8,7 +8,7 @@ ghost use Rattle.utility_calls.specs.Performed.{HasPerformedActs};
 ghost use Rattle.utility_calls.specs.StatedCalls.{has_name};
 ghost use Rattle.colis_meaning.specs.Meaning.{names_of};
 ghost use Rattle.shell_rules.specs.Planned.{asks_of_name, speaks_of, stated_end, end_plan, compared, act_in, runs_in};
-ghost use Rattle.shell_rules.specs.Planned.{outright, functions_name, is_functions, planned};
+ghost use Rattle.shell_rules.specs.Planned.{unless_function, by_end, named, is_functions, planned};
 
 use crate::names::is_function;
 use colis_syntax::Def;
@@ -105,28 +105,6 @@ fn compared(
     Ok(None)
 }
 
-// What is stated of a command, by the order of versions or as the end of a call.
-fn stated(
-    alloc: Global,
-    premises: &Premises,
-    spelled: Spelled,
-    fields: &[Bytes],
-) -> Result<Option<Planned>, Memory>
-    ensures { IfOk result (λ found. unwrap_or found (call fields.now) ≡ outright premises.now spelled fields.now) }
-{
-    match compared(alloc, premises.versions, spelled, fields)? {
-        Some(ok) => return Ok(Some(Planned::Known(ok))),
-        None => {}
-    }
-    match stated_end(&premises.calls, spelled, fields) {
-        Some(end) => {
-            let plan = end_plan(alloc, end)?;
-            Ok(Some(plan))
-        }
-        None => Ok(None),
-    }
-}
-
 // Whether the name of a command is that of a function.
 fn is_functions(functions: &[Def], fields: &[Bytes]) -> bool
     ensures { result ≡ is_functions (names_of functions.now) fields.now }
@@ -134,6 +112,44 @@ fn is_functions(functions: &[Def], fields: &[Bytes]) -> bool
     match fields {
         [] => false,
         [name, ..] => is_function(name.as_slice(), functions),
+    }
+}
+
+// That answer, unless the name of the command is that of a function.
+fn ordered(
+    alloc: Global,
+    functions: &[Def],
+    versions: bool,
+    spelled: Spelled,
+    fields: &[Bytes],
+) -> Result<Option<bool>, Memory>
+    ensures { IfOk result (λ answer. answer
+        ≡ unless_function (is_functions (names_of functions.now) fields.now) (compared versions spelled fields.now)) }
+{
+    match compared(alloc, versions, spelled, fields)? {
+        None => Ok(None),
+        Some(ok) => {
+            if is_functions(functions, fields) {
+                return Ok(None);
+            }
+            Ok(Some(ok))
+        }
+    }
+}
+
+// What a command comes to by what is stated of its name, else as a utility.
+fn ended(
+    alloc: Global,
+    calls: &StatedCalls,
+    spelled: Spelled,
+    fields: &List<Bytes>,
+) -> Result<Planned, Memory>
+    requires { 0 < length fields.now }
+    ensures { IfOk result (λ planned. planned ≡ by_end (stated_end calls.now spelled fields.now) (call fields.now)) }
+{
+    match stated_end(calls, spelled, fields.as_slice()) {
+        Some(end) => end_plan(alloc, end),
+        None => plan(alloc, fields),
     }
 }
 
@@ -158,19 +174,18 @@ fn named(
     fields: &List<Bytes>,
 ) -> Result<Planned, Memory>
     requires { 0 < length fields.now }
-    ensures { IfOk result (λ planned. planned ≡ (if is_functions (names_of functions.now) fields.now
-        then functions_name spelled fields.now else outright premises.now spelled fields.now)) }
+    ensures { IfOk result (λ planned. planned
+        ≡ named (is_functions (names_of functions.now) fields.now) premises.now spelled fields.now) }
 {
     if !spelled.name {
         return computed(alloc, functions, fields);
     }
-    match stated(alloc, premises, spelled, fields.as_slice())? {
-        None => plan(alloc, fields),
-        Some(known) => {
-            if is_functions(functions, fields.as_slice()) {
-                return plan(alloc, fields);
-            }
-            Ok(known)
+    let words = fields.as_slice();
+    match ordered(alloc, functions, premises.versions, spelled, words)? {
+        Some(ok) => Ok(Planned::Known(ok)),
+        None => {
+            let plan = ended(alloc, &premises.calls, spelled, fields)?;
+            Ok(plan)
         }
     }
 }
@@ -203,6 +218,8 @@ fn act_in(runs: bool, act: Act) -> Act
             force,
         },
         Act::Move { a, b } => Act::Move { a, b },
+        Act::Attr(p) => Act::Attr(p),
+        Act::Copy { a, b, deep } => Act::Copy { a, b, deep },
         Act::PlaceFile(p) => Act::PlaceFile(p),
         Act::PlaceLink { p, target } => Act::PlaceLink { p, target },
         Act::PlaceConf(p) => Act::PlaceConf(p),

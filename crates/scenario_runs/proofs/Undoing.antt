@@ -7,6 +7,7 @@ use Rattle.std.proofs.lemmas.List.{append-nil}
 use Rattle.utility_calls.specs.declared.acts.Act.{Act}
 use Rattle.utility_calls.specs.declared.acts.Act.TheVariants.{Exists, IsReg, IsDir, IsLink, IsSpecial, CanRun, MakeDir}
 use Rattle.utility_calls.specs.declared.acts.Act.TheVariants.{EnsureDir, RemoveDir, Remove, Touch, Symlink, Move}
+use Rattle.utility_calls.specs.declared.acts.Act.TheVariants.{Attr, Copy}
 use Rattle.utility_calls.specs.declared.acts.Act.TheVariants.{PlaceFile, PlaceLink, PlaceConf, Discard, DiscardDir}
 use Rattle.utility_calls.specs.declared.backs.Back.{Back}
 use Rattle.utility_calls.specs.Acts.{path_of}
@@ -28,6 +29,8 @@ done_names (Remove p force deep) done = refl
 done_names (Touch p) done = refl
 done_names (Symlink p target last force) done = refl
 done_names (Move a b) done = refl
+done_names (Attr p) done = refl
+done_names (Copy a b deep) done = refl
 done_names (PlaceFile p) done = refl
 done_names (PlaceLink p target) done = refl
 done_names (PlaceConf p) done = refl

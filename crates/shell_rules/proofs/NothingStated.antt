@@ -1,5 +1,5 @@
 -- Where nothing is stated a command comes to what its fields come to.
-use Rattle.std.proofs.Common.{◌≡◌, ℕ, ◌-◌, Bool, true, false, not, ◌||◌, IsTrue, List, [], ◌∷◌, Option, Some, None}
+use Rattle.std.proofs.Common.{◌≡◌, ℕ, ◌-◌, Bool, true, false, not, ◌||◌, IsTrue, List, [], ◌∷◌, ◌++◌, Option, Some, None}
 use Rattle.std.proofs.Common.{length, take, refl, sym, ap, ◌∙◌, if◌then◌else◌}
 use Rattle.std.specs.Prelude.{codes}
 use Rattle.std.specs.List.{list_any}
@@ -24,9 +24,15 @@ use Rattle.utility_calls.specs.Questions.{negated, question_of, ask_path, ask, i
 use Rattle.utility_calls.specs.Questions.{test_two, test_three, test_four, test_call, bracket_call}
 use Rattle.utility_calls.specs.Calls.{unless, each_behind, act_call, mkdir_each, is_deep, echo_call, echo_text}
 use Rattle.utility_calls.specs.Calls.{begins_with_dash, has_backslash, utility_call, call}
+use Rattle.utility_calls.specs.declared.modes.Setting.{Setting}
+use Rattle.utility_calls.specs.declared.modes.Setting.TheVariants as setting
+use Rattle.utility_calls.specs.Modes.{says}
+use Rattle.utility_calls.specs.Calls.{each_call, install_behind, installed, setting_operands, setting_call, line_where}
+use Rattle.utility_calls.specs.Calls.{basename_operands, dirname_operands}
+use Rattle.script_names.specs.Ascii.{newline}
 use Rattle.shell_rules.specs.declared.spelled.Spelled.{Spelled}
 use Rattle.shell_rules.specs.State.{Text}
-use Rattle.shell_rules.specs.Planned.{runs_in, by_end, stated_end, outright, functions_name, is_functions}
+use Rattle.shell_rules.specs.Planned.{runs_in, by_end, stated_end, outright, is_functions}
 use Rattle.shell_rules.specs.Planned.{no_premises, planned, speaks_of}
 
 -- it asks whether something runs only where regular files stop; a record, of which the plan can be told
@@ -100,8 +106,11 @@ unless_plain : (why : Option Reason) (lists : List (List Act)) → IsPlain (unle
 unless_plain (Some why) lists = record { same = refl }
 unless_plain None lists = record { same = refl }
 
+operands_plain : (e : Each) (ended : Bool) (words : List Text) → IsPlain (each_call e ended words)
+operands_plain e ended words = unless_plain _ _
+
 each_plain : (e : Each) (words : List Text) → IsPlain (each_behind e words)
-each_plain e words = unless_plain _ _
+each_plain e words = operands_plain e (is_ended words) (unended words)
 
 act_plain : (why : Option Reason) (act : Act) → IsPlain (act_call why act)
 act_plain why act = unless_plain why ((act ∷ []) ∷ [])
@@ -109,6 +118,33 @@ act_plain why act = unless_plain why ((act ∷ []) ∷ [])
 echo_plain : (words : List Text) → IsPlain (echo_call words)
 echo_plain words =
     either (begins_with_dash words || list_any has_backslash words) (unspecified reason.Echo) (written (echo_text words))
+
+installed_plain : (o : Option (List Text)) → IsPlain (installed o)
+installed_plain None = unspecified reason.Call
+installed_plain (Some words) = each_plain each.EnsureDirs words
+
+set_plain : (set : Setting) (ended : Bool) (words : List Text) → IsPlain (setting_operands set ended words)
+set_plain set ended [] = unspecified reason.Call
+set_plain set ended (word ∷ words) =
+    either (says set word) (operands_plain each.Attr ended words) (unspecified reason.Call)
+
+setting_plain : (set : Setting) (words : List Text) → IsPlain (setting_call set words)
+setting_plain set words =
+    either _ (set_plain set (is_ended (behind words)) (unended (behind words))) (unspecified reason.Call)
+
+line_plain : (specified : Bool) (line : Text) → IsPlain (line_where specified line)
+line_plain specified line = either specified (written (line ++ newline ∷ [])) (unspecified reason.Call)
+
+base_plain : (ended : Bool) (words : List Text) → IsPlain (basename_operands ended words)
+base_plain ended [] = unspecified reason.Call
+base_plain ended (word ∷ []) = line_plain _ _
+base_plain ended (word ∷ suffix ∷ []) = line_plain _ _
+base_plain ended (word ∷ suffix ∷ more ∷ others) = unspecified reason.Call
+
+dir_plain : (ended : Bool) (words : List Text) → IsPlain (dirname_operands ended words)
+dir_plain ended [] = unspecified reason.Call
+dir_plain ended (word ∷ []) = line_plain _ _
+dir_plain ended (word ∷ more ∷ others) = unspecified reason.Call
 
 utility_plain : (u : Option Utility) (words : List Text) → IsPlain (utility_call u words)
 utility_plain None words = unspecified reason.Call
@@ -128,6 +164,16 @@ utility_plain (Some utility.Move) words = either _ (act_plain _ _) (unspecified 
 utility_plain (Some utility.Test) words = test_plain words
 utility_plain (Some utility.Bracket) words =
     either _ (test_plain (take (length words - 1) words)) (unspecified reason.Call)
+utility_plain (Some utility.Unlink) words = either _ (act_plain _ _) (unspecified reason.Call)
+utility_plain (Some utility.Install) words = installed_plain (install_behind false false words)
+utility_plain (Some utility.ChangeMode) words = setting_plain setting.Mode words
+utility_plain (Some utility.ChangeOwner) words = setting_plain setting.Owner words
+utility_plain (Some utility.ChangeGroup) words = setting_plain setting.Group words
+utility_plain (Some utility.Copy) words = either _ (act_plain _ _) (unspecified reason.Call)
+utility_plain (Some utility.BaseName) words =
+    either _ (base_plain (is_ended (behind words)) (unended (behind words))) (unspecified reason.Call)
+utility_plain (Some utility.DirName) words =
+    either _ (dir_plain (is_ended (behind words)) (unended (behind words))) (unspecified reason.Call)
 
 call_plain : (fields : List Text) → runs_in false (call fields) ≡ call fields
 call_plain [] = refl
@@ -143,20 +189,22 @@ no_end : (spelled : Spelled) (fields : List Text) → stated_end [] spelled fiel
 no_end spelled [] = refl
 no_end spelled (name ∷ operands) = none_of _
 
-outright_is : (spelled : Spelled) (fields : List Text) → outright no_premises spelled fields ≡ call fields
-outright_is spelled fields = ap (λ end. by_end end (call fields)) (no_end spelled fields)
+outright_is : (function : Bool) (spelled : Spelled) (fields : List Text)
+    → outright function no_premises spelled fields ≡ call fields
+outright_is function spelled fields = ap (λ end. by_end end (call fields)) (no_end spelled fields)
 
 chosen : (function name : Bool) (x y : Planned) → y ≡ x → IsTrue (name || not function)
-    → (if function then (if name then x else Unspecified reason.Call) else y) ≡ x
-chosen true true x y e h = refl
+    → (if name then y else (if function then Unspecified reason.Call else x)) ≡ x
+chosen function true x y e h = e
 chosen true false x y e h = absurd (cc h)
-chosen false name x y e h = e
+chosen false false x y e h = refl
 
 pub none_planned : (functions : List Text) (spelled : Spelled) (fields : List Text)
     → IsTrue (spelled.name || not (is_functions functions fields))
     → planned no_premises functions spelled fields ≡ call fields
 none_planned functions spelled fields h =
     ap (runs_in false)
-    (chosen (is_functions functions fields) spelled.name (call fields) (outright no_premises spelled fields)
-    (outright_is spelled fields) h)
+    (chosen (is_functions functions fields) spelled.name (call fields)
+    (outright (is_functions functions fields) no_premises spelled fields)
+    (outright_is (is_functions functions fields) spelled fields) h)
     ∙ call_plain fields

@@ -15,8 +15,8 @@ use Rattle.link_walks.proofs.Performed.{followed_performed}
 use Rattle.shell_rules.specs.declared.premises.Premises.{Premises}
 use Rattle.shell_rules.specs.declared.spelled.Spelled.{Spelled}
 use Rattle.shell_rules.specs.State.{Text}
-use Rattle.shell_rules.specs.Planned.{act_in, runs_in, end_plan, by_end, by_order, compared, stated_end, outright}
-use Rattle.shell_rules.specs.Planned.{functions_name, is_functions, planned}
+use Rattle.shell_rules.specs.Planned.{act_in, runs_in, end_plan, by_end, by_order, compared, unless_function}
+use Rattle.shell_rules.specs.Planned.{stated_end, outright, is_functions, planned}
 
 either : (b : Bool) (x y : Planned) → HasPerformedActs x → HasPerformedActs y → HasPerformedActs (if b then x else y)
 either true x y h k = h
@@ -46,11 +46,13 @@ order_performed (Some ok) x h = tt
 pub planned_performed : (premises : Premises) (functions : List Text) (spelled : Spelled) (fields : List Text)
     → HasPerformedActs (planned premises functions spelled fields)
 planned_performed premises functions spelled fields =
+    let function : Bool = is_functions functions fields in
     let end : Planned = by_end (stated_end premises.calls spelled fields) (call fields) in
     let plain : HasPerformedActs (call fields) = performed fields in
     followed_performed premises.links _
     (runs_performed premises.runs _
-    (either (is_functions functions fields) (functions_name spelled fields) (outright premises spelled fields)
-    (either spelled.name (call fields) (Unspecified reason.Call) plain tt)
-    (order_performed (compared premises.versions spelled fields) end
-    (end_performed (stated_end premises.calls spelled fields) (call fields) plain))))
+    (either spelled.name (outright function premises spelled fields)
+    (if function then Unspecified reason.Call else call fields)
+    (order_performed (unless_function function (compared premises.versions spelled fields)) end
+    (end_performed (stated_end premises.calls spelled fields) (call fields) plain))
+    (either function (Unspecified reason.Call) (call fields) tt plain)))

@@ -445,9 +445,10 @@ stated_examples =
     (command 1 (word (codes "command") ∷ unquoted (do_literal (codes "-v")) ∷ word (codes "rm") ∷ []))
     (stops reason.Call 1) []
     ∷ under (stating (codes "command") Succeeds) (spelled_out 1 (codes "command") []) (stops reason.Call 1) []
-    -- `call f ok`, of a function of the script that is not defined so far: f; and of one that has a utility's name:
-    -- rmdir /a; x=rmdir; $x /a
-    ∷ under (stating (codes "f") Succeeds) (spelled_out 1 (codes "f") []) (stops reason.Call 1) []
+    -- `call f ok`, of a function of the script that is not defined so far: f; x=f; $x; and of one that has a utility's
+    -- name: rmdir /a; x=rmdir; $x /a
+    ∷ under (stating (codes "f") Succeeds) (spelled_out 1 (codes "f") []) (Status true) []
+    ∷ under (stating (codes "f") Succeeds) (computed 1 (codes "f") []) (stops reason.Call 1) []
     ∷ acting (spelled_out 1 (codes "rmdir") (codes "/a" ∷ [])) (Status false) (66 ∷ [])
     ∷ acting (computed 1 (codes "rmdir") (codes "/a" ∷ [])) (stops reason.Call 1) []
     ∷ []

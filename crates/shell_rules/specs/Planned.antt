@@ -73,6 +73,11 @@ by_end (Some end) planned = end_plan end
 abbrev pub compared : Bool → Spelled → List Text → Option Bool
 compared versions spelled fields = if versions && spelled.name then comparison fields else None
 
+-- that answer, unless `dpkg` is a function of the script
+abbrev pub unless_function : Bool → Option Bool → Option Bool
+unless_function function None = None
+unless_function function (Some ok) = if function then None else Some ok
+
 -- the status of a comparison, else the later one
 abbrev pub by_order : Option Bool → Planned → Planned
 by_order None planned = planned
@@ -93,25 +98,26 @@ runs_in runs planned = planned
 
 -- ---- what the fields of a command come to
 
--- Outside of the script's functions: the order of versions, then the end that is stated, and then the utility
-abbrev pub outright : Premises → Spelled → List Text → Planned
-outright premises spelled fields =
-    by_order (compared premises.versions spelled fields)
-    (by_end (stated_end premises.calls spelled fields) (call fields))
-
--- Under the name of a function of the script nothing is stated. One that is spelled out is called before the function
--- is defined, and names a utility (XCU 2.9.1.1 Command Search and Execution); one that was computed stops the run.
-abbrev pub functions_name : Spelled → List Text → Planned
-functions_name spelled fields = if spelled.name then call fields else Unspecified reason.Call
-
 -- whether the name of a command is that of a function
 abbrev pub is_functions : List Text → List Text → Bool
 is_functions functions [] = false
 is_functions functions (name ∷ operands) = is_one_of name functions
 
+-- The order of versions, then the end that is stated, and then the utility. A function's name goes by the last two
+-- before the function is defined (XCU 2.9.1.1 Command Search and Execution).
+abbrev pub outright : Bool → Premises → Spelled → List Text → Planned
+outright function premises spelled fields =
+    by_order (unless_function function (compared premises.versions spelled fields))
+    (by_end (stated_end premises.calls spelled fields) (call fields))
+
+-- Of a name that was computed nothing is stated, and a function's stops the run.
+abbrev pub named : Bool → Premises → Spelled → List Text → Planned
+named function premises spelled fields =
+    if spelled.name then outright function premises spelled fields
+    else (if function then Unspecified reason.Call else call fields)
+
 -- What a command comes to, under the premises of the run and by the names of the script's functions. The paths of its
 -- acts are taken along the known links.
 abbrev pub planned : Premises → List Text → Spelled → List Text → Planned
 planned premises functions spelled fields =
-    follow premises.links (runs_in premises.runs
-    (if is_functions functions fields then functions_name spelled fields else outright premises spelled fields))
+    follow premises.links (runs_in premises.runs (named (is_functions functions fields) premises spelled fields))
