@@ -7,8 +7,9 @@ use Rattle.std.proofs.lemmas.List.Elements.{All-nil, All-cons, All-head, All-tai
 use Rattle.script_names.specs.Paths.{PathParts}
 use Rattle.utility_calls.specs.declared.acts.Act.{Act}
 use Rattle.utility_calls.specs.declared.acts.Act.TheVariants.{Exists, IsReg, IsDir, IsLink, CanRun, IsSpecial, MakeDir}
-use Rattle.utility_calls.specs.declared.acts.Act.TheVariants.{EnsureDir, RemoveDir, Remove, Touch, Symlink, Move}
-use Rattle.utility_calls.specs.declared.acts.Act.TheVariants.{PlaceFile, PlaceLink, PlaceConf, Discard, DiscardDir}
+use Rattle.utility_calls.specs.declared.acts.Act.TheVariants.{EnsureDir, RemoveDir, Remove, Touch, Symlink, Attr, Move}
+use Rattle.utility_calls.specs.declared.acts.Act.TheVariants.{Copy, PlaceFile, PlaceLink, PlaceConf, Discard}
+use Rattle.utility_calls.specs.declared.acts.Act.TheVariants.{DiscardDir}
 use Rattle.utility_calls.specs.Acts.{path_of, IsPerformed}
 use Rattle.utility_calls.specs.Pairs.{same_names}
 use Rattle.link_walks.specs.declared.walks.Reached.{Reached}
@@ -100,7 +101,9 @@ module _ (links : List LinkParts) (all : All StandsSomewhere links) where
   placed (Remove p force deep) q h w = absurd (cc)
   placed (Touch p) q h w = absurd (cc)
   placed (Symlink p target last force) q h w = absurd (cc)
+  placed (Attr p) q h w = absurd (cc)
   placed (Move a b) q h w = absurd (cc)
+  placed (Copy a b deep) q h w = absurd (cc)
   placed (PlaceFile p) q h w = (w.0 refl).0
   placed (PlaceLink p target) q h w = (w.0 refl).0
   placed (PlaceConf p) q h w = (w.0 refl).0

@@ -39,11 +39,12 @@ use Rattle.package_lists.specs.Paths.{Paths, path_text}
 use Rattle.checker_input.specs.declared.package.Packages.{Packages}
 use Rattle.package_jobs.specs.declared.needs.Asked.{Asked}
 use Rattle.package_jobs.specs.declared.needs.Asked.TheVariants.{Placed, Fit}
+use Rattle.package_jobs.specs.Plain.{known_by_scripts}
 use Rattle.package_jobs.specs.Sides.{old_of}
 use Rattle.package_jobs.specs.StartTrees.{Entries, Links, StandsAt, place_of, IsKnown, IsLinked, Stands, IsPlaced, IsKept, AreBefore, IsFit, Fits, is_to_fit}
 use Rattle.package_jobs.specs.StartTrees.{owner, own_paths, is_to_own, entry_places, MayStand, HoldsOwn, Owns, AreOwned, is_left, IsGone, AreGone, IsStartTree}
 use Rattle.package_jobs.specs.Needed.{Holds, kinds_asked, need_at, entry_need, known_need, link_needs, kept_needs, needs_before, fit_needs, needs_to_fit, needs_in}
-use Rattle.package_jobs.specs.Needed.{kinds_owned, names_need, folder_needs, own_needs, needs_to_own, gone_needs, needs_gone, needs_removed}
+use Rattle.package_jobs.specs.Needed.{kinds_owned, names_need, folder_needs, own_needs, needs_to_own, gone_needs, needs_gone, needs_removed, needs_plain}
 
 -- ---- sets of kinds
 
@@ -271,6 +272,14 @@ module _ (tree : Value) where
       → MeetsNeeds tree (needs_removed own base new) ↔ (IsTrue base.removed → AreGone own base new tree)
   removed_met own base new = if_met base.removed (needs_gone own base new) (AreGone own base new tree) (all_gone_met own base new)
 
+  -- ---- what the scripts name
+
+  plain_met : (columns : Columns) (p : Packages)
+      → MeetsNeeds tree (needs_plain columns p) ↔ (IsTrue p.base.plain → All (IsKnown tree) (known_by_scripts columns p))
+  plain_met columns p =
+      let known = known_by_scripts columns p in
+      if_met p.base.plain (map known_need known) (All (IsKnown tree) known) (known_met known)
+
 -- ---- start trees
 
 pub starts_met : (s : Scenario) (p : Packages) (tree : Value) → IsStart (needs_in s p) tree ↔ IsStartTree s p tree
@@ -285,30 +294,35 @@ starts_met s p tree =
     let fit = needs_to_fit columns.fits base new old in
     let own = needs_to_own columns.own base new old in
     let gone = needs_removed columns.own base new in
+    let plain = needs_plain columns p in
     let of_known = known_met tree base.known in
     let of_links = links_met tree base.links in
     let of_before = before_met tree columns.before base.links new old in
     let of_fits = fits_met tree columns.fits base new old in
     let of_own = owns_met tree columns.own base new old in
     let of_gone = removed_met tree columns.own base new in
-    let first = both_met tree known (links ++ (before ++ (fit ++ (own ++ gone)))) in
-    let second = both_met tree links (before ++ (fit ++ (own ++ gone))) in
-    let third = both_met tree before (fit ++ (own ++ gone)) in
-    let fourth = both_met tree fit (own ++ gone) in
-    let last = both_met tree own gone in (
+    let of_plain = plain_met tree columns p in
+    let first = both_met tree known (links ++ (before ++ (fit ++ (own ++ (gone ++ plain))))) in
+    let second = both_met tree links (before ++ (fit ++ (own ++ (gone ++ plain)))) in
+    let third = both_met tree before (fit ++ (own ++ (gone ++ plain))) in
+    let fourth = both_met tree fit (own ++ (gone ++ plain)) in
+    let fifth = both_met tree own (gone ++ plain) in
+    let last = both_met tree gone plain in (
       (λ start.
           let m1 = first.0 start.met in
           let m2 = second.0 m1.1 in
           let m3 = third.0 m2.1 in
           let m4 = fourth.0 m3.1 in
-          let m5 = last.0 m4.1 in record {
+          let m5 = fifth.0 m4.1 in
+          let m6 = last.0 m5.1 in record {
             is_tree = start.is_tree;
             base = of_known.0 m1.0;
             links = of_links.0 m2.0;
             before = of_before.0 m3.0;
             fits = of_fits.0 m4.0;
             own = of_own.0 m5.0;
-            removed = of_gone.0 m5.1;
+            removed = of_gone.0 m6.0;
+            plain = of_plain.0 m6.1;
           }),
       (λ start. record {
         is_tree = start.is_tree;
@@ -318,48 +332,55 @@ starts_met s p tree =
             of_links.1 start.links,
             third.1 (
               of_before.1 start.before,
-              fourth.1 (of_fits.1 start.fits, last.1 (of_own.1 start.own, of_gone.1 start.removed)),
+              fourth.1 (
+                of_fits.1 start.fits,
+                fifth.1 (of_own.1 start.own, last.1 (of_gone.1 start.removed, of_plain.1 start.plain)),
+              ),
             ),
           ),
         );
       }),
     )
 
--- what is needed, by a record, a base and entries
-abbrev all_needs : Columns → Base → Entries → Entries → List Need
-all_needs columns base new old =
+-- what is needed, by a record, a base and entries, before what the scripts name
+abbrev all_needs : Columns → Base → Entries → Entries → List Need → List Need
+all_needs columns base new old plain =
     map known_need base.known
     ++ (flat_map (link_needs base.links) base.links
     ++ (needs_before columns.before base.links new old
     ++ (needs_to_fit columns.fits base new old
-    ++ (needs_to_own columns.own base new old ++ needs_removed columns.own base new))))
+    ++ (needs_to_own columns.own base new old ++ (needs_removed columns.own base new ++ plain)))))
 
-six_joined : (a b c d e f : List Need) → ((((a ++ b) ++ c) ++ d) ++ e) ++ f ≡ a ++ (b ++ (c ++ (d ++ (e ++ f))))
-six_joined a b c d e f =
-    append_assoc (((a ++ b) ++ c) ++ d) e f ∙ append_assoc ((a ++ b) ++ c) d (e ++ f) ∙ append_assoc (a ++ b) c (d ++ (e ++ f))
-    ∙ append_assoc a b (c ++ (d ++ (e ++ f)))
+joined : (a b c d e f g : List Need)
+    → (((((a ++ b) ++ c) ++ d) ++ e) ++ f) ++ g ≡ a ++ (b ++ (c ++ (d ++ (e ++ (f ++ g)))))
+joined a b c d e f g =
+    append_assoc ((((a ++ b) ++ c) ++ d) ++ e) f g ∙ append_assoc (((a ++ b) ++ c) ++ d) e (f ++ g)
+    ∙ append_assoc ((a ++ b) ++ c) d (e ++ (f ++ g)) ∙ append_assoc (a ++ b) c (d ++ (e ++ (f ++ g)))
+    ∙ append_assoc a b (c ++ (d ++ (e ++ (f ++ g))))
 
 -- needs that were added one behind another
-pub needs_are : (s : Scenario) (columns : Columns) (p : Packages) (links : Links) (new old : Entries) (none first more most owned all : List Need)
+pub needs_are : (s : Scenario) (columns : Columns) (p : Packages) (links : Links) (new old : Entries) (none first more most owned gone all : List Need)
     → columns ≡ columns_of s → links ≡ p.base.links → new ≡ p.new_package.entries → old ≡ (old_of p).entries
     → none ≡ [] → first ≡ none ++ (map known_need p.base.known ++ flat_map (link_needs p.base.links) p.base.links)
     → more ≡ first ++ needs_before columns.before links new old
     → most ≡ more ++ needs_to_fit columns.fits p.base new old → owned ≡ most ++ needs_to_own columns.own p.base new old
-    → all ≡ owned ++ needs_removed columns.own p.base new
+    → gone ≡ owned ++ needs_removed columns.own p.base new
+    → all ≡ gone ++ needs_plain columns p
     → all ≡ needs_in s p
-needs_are s columns p links new old none first more most owned all is_columns is_links is_new is_old e0 e1 e2 e3 e4 e5 =
+needs_are s columns p links new old none first more most owned behind all is_columns is_links is_new is_old e0 e1 e2 e3 e4 e5 e6 =
     let known = map known_need p.base.known in
     let of_links = flat_map (link_needs p.base.links) p.base.links in
     let before = needs_before columns.before p.base.links new old in
     let fit = needs_to_fit columns.fits p.base new old in
     let own = needs_to_own columns.own p.base new old in
     let gone = needs_removed columns.own p.base new in
+    let plain = needs_plain columns p in
     let e2 : more ≡ first ++ before = e2 ∙ ap (λ l. first ++ needs_before columns.before l new old) is_links in
-    e5 ∙ ap (λ l. l ++ gone) (e4 ∙ ap (λ l. l ++ own) (e3 ∙ ap (λ l. l ++ fit) (e2 ∙ ap (λ l. l ++ before) (e1 ∙ ap (λ l. l ++ (known ++ of_links)) e0))))
-    ∙ six_joined known of_links before fit own gone
-    ∙ ap (λ c. all_needs c p.base new old) is_columns
-    ∙ ap (λ n. all_needs (columns_of s) p.base n old) is_new
-    ∙ ap (λ o. all_needs (columns_of s) p.base p.new_package.entries o) is_old
+    e6 ∙ ap (λ l. l ++ plain) (e5 ∙ ap (λ l. l ++ gone) (e4 ∙ ap (λ l. l ++ own) (e3 ∙ ap (λ l. l ++ fit) (e2 ∙ ap (λ l. l ++ before) (e1 ∙ ap (λ l. l ++ (known ++ of_links)) e0)))))
+    ∙ joined known of_links before fit own gone plain
+    ∙ ap (λ c. all_needs c p.base new old (needs_plain c p)) is_columns
+    ∙ ap (λ n. all_needs (columns_of s) p.base n old (needs_plain (columns_of s) p)) is_new
+    ∙ ap (λ o. all_needs (columns_of s) p.base p.new_package.entries o (needs_plain (columns_of s) p)) is_old
 
 -- needs that are these
 pub needs_met : (s : Scenario) (p : Packages) (needs : List Need) → needs ≡ needs_in s p → (tree : Value) → IsStart needs tree ↔ IsStartTree s p tree

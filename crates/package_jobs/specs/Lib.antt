@@ -1,5 +1,6 @@
 pub mod Sides
 pub mod FileActs
+pub mod Plain
 pub mod StartTrees
 pub mod Needed
 pub mod Owning

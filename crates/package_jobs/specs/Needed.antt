@@ -12,6 +12,7 @@ use Rattle.link_walks.specs.Links.{LinkParts}
 use Rattle.link_walks.specs.Reaching.{reach}
 use Rattle.dpkg_scenarios.specs.declared.columns.Before.{Before}
 use Rattle.dpkg_scenarios.specs.declared.columns.Before.TheVariants as before
+use Rattle.dpkg_scenarios.specs.declared.columns.Columns.{Columns}
 use Rattle.dpkg_scenarios.specs.declared.columns.NewEntries.{NewEntries}
 use Rattle.dpkg_scenarios.specs.declared.columns.OwnFolders.{OwnFolders}
 use Rattle.dpkg_scenarios.specs.declared.columns.OwnFolders.TheVariants.{NoFolder, Dropped, Standing, Left}
@@ -30,6 +31,7 @@ use Rattle.package_lists.specs.Paths.{Paths, path_text}
 use Rattle.checker_input.specs.declared.package.Packages.{Packages}
 use Rattle.package_jobs.specs.declared.needs.Asked.{Asked}
 use Rattle.package_jobs.specs.declared.needs.Asked.TheVariants.{Placed, Fit}
+use Rattle.package_jobs.specs.Plain.{known_by_scripts}
 use Rattle.package_jobs.specs.Sides.{old_of}
 use Rattle.package_jobs.specs.StartTrees.{Entries, Links, IsPlaced, IsFit, is_to_fit, place_of, entry_places}
 use Rattle.package_jobs.specs.StartTrees.{owner, own_paths, is_to_own, is_left}
@@ -142,6 +144,13 @@ needs_gone Left base new = flat_map (gone_needs base (has_conf_below new)) new
 abbrev pub needs_removed : OwnFolders → Base → Entries → List Need
 needs_removed own base new = if base.removed then needs_gone own base new else []
 
+-- ---- `plain`
+
+-- what is needed where the base says `plain`
+abbrev pub needs_plain : Columns → Packages → List Need
+needs_plain columns packages =
+    if packages.base.plain then map known_need (known_by_scripts columns packages) else []
+
 -- ---- start trees
 
 -- what is needed of a start tree
@@ -155,4 +164,5 @@ needs_in scenario packages =
     ++ (flat_map (link_needs base.links) base.links
     ++ (needs_before columns.before base.links new old
     ++ (needs_to_fit columns.fits base new old
-    ++ (needs_to_own columns.own base new old ++ needs_removed columns.own base new))))
+    ++ (needs_to_own columns.own base new old
+    ++ (needs_removed columns.own base new ++ needs_plain columns packages)))))

@@ -33,6 +33,7 @@ use Rattle.package_lists.specs.EntrySets.{is_one_of}
 use Rattle.package_lists.specs.Below.{names_below}
 use Rattle.package_lists.specs.Paths.{Paths, path_text, path_texts, plain_path, is_among, is_within}
 use Rattle.checker_input.specs.declared.package.Packages.{Packages}
+use Rattle.package_jobs.specs.Plain.{known_by_scripts}
 use Rattle.package_jobs.specs.Sides.{old_of}
 
 -- the entries of a package
@@ -56,8 +57,8 @@ place_of links entry = reach links (is_folder entry.kind) (plain_path entry.name
 
 -- ---- the base
 
--- what is known of a path: what stands there is of one of these kinds. What `fits`, `own` and `removed` ask is said
--- below, and the other lines speak of the scripts
+-- what is known of a path: what stands there is of one of these kinds. What `fits`, `own`, `removed` and `plain` ask
+-- is said below, and the other lines speak of the scripts
 abbrev pub IsKnown : Value → KnownPath → Type 0
 IsKnown tree known = IsTrue (has known.kinds (kind_of (at tree known.path.names)))
 
@@ -207,8 +208,9 @@ AreGone Left base new tree = All (IsGone base (has_conf_below new) tree) new
 
 -- A tree that the scenario may begin from: a tree of files in which stands what the base knows of paths and links, the
 -- files are there that the scenario begins with, the new package's entries fit where the base says `fits`, the package's
--- folders hold no foreign entry where it says `own`, and a removed package is gone where it says `removed`. Which files,
--- entries and folders these are the scenario's record says.
+-- folders hold no foreign entry where it says `own`, a removed package is gone where it says `removed`, and what stands
+-- where the scripts name a path is of the sort that their command takes where it says `plain`. Which files, entries,
+-- folders and scripts these are the scenario's record says.
 pub record IsStartTree (scenario : Scenario) (packages : Packages) (tree : Value) : Type 0 where
   pub is_tree : IsTree tree
   pub base : All (IsKnown tree) packages.base.known
@@ -222,3 +224,4 @@ pub record IsStartTree (scenario : Scenario) (packages : Packages) (tree : Value
       (old_of packages).entries tree
   pub removed : IsTrue packages.base.removed
       → AreGone (columns_of scenario).own packages.base packages.new_package.entries tree
+  pub plain : IsTrue packages.base.plain → All (IsKnown tree) (known_by_scripts (columns_of scenario) packages)

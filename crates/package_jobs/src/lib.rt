@@ -9,6 +9,7 @@ mod gone_needs;
 mod job;
 mod needs;
 mod own_needs;
+mod plain_needs;
 mod programs;
 mod sides;
 mod step_acts;

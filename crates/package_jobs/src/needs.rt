@@ -11,6 +11,7 @@ ghost use Rattle.start_trees.specs.declared.need.Wanted.TheVariants as Wanted;
 
 use crate::gone_needs::add_gone;
 use crate::own_needs::add_owns;
+use crate::plain_needs::add_plain;
 use crate::sides::old_package;
 use checker_input::Packages;
 use dpkg_scenarios::{Before, NewEntries, Scenario, columns_of};
@@ -133,8 +134,8 @@ pub fn add_kinds(
     })
 }
 
-// Adds what is known of these paths.
-fn add_known(alloc: Global, needs: &mut List<Need>, known: &[KnownPath]) -> Result<(), Memory>
+/// Adds what is known of these paths.
+pub fn add_known(alloc: Global, needs: &mut List<Need>, known: &[KnownPath]) -> Result<(), Memory>
     ensures { OnOk result (needs.new ≡ needs.old ++ map known_need known.now) }
 {
     for one in known {
@@ -309,5 +310,6 @@ pub fn needs_of(
     add_fits(alloc, &mut needs, columns.fits, base, new, old)?;
     add_owns(alloc, &mut needs, columns.own, base, new, old)?;
     add_gone(alloc, &mut needs, columns.own, base, new)?;
+    add_plain(alloc, &mut needs, columns, packages)?;
     Ok(needs)
 }

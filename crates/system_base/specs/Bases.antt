@@ -38,6 +38,7 @@ nothing_known = record {
   runs = false;
   removed = false;
   versions = false;
+  plain = false;
 }
 
 -- a line that is passed over: an empty one, and one that begins with `#`
@@ -127,7 +128,8 @@ with_word base line =
     else (if bytes_eq line (codes "own") then Some (record base { own = base.own ++ plain_path [] ∷ [] })
     else (if bytes_eq line (codes "runs") then Some (record base { runs = true })
     else (if bytes_eq line (codes "removed") then Some (record base { removed = true })
-    else (if bytes_eq line (codes "versions") then Some (record base { versions = true }) else None))))
+    else (if bytes_eq line (codes "versions") then Some (record base { versions = true })
+    else (if bytes_eq line (codes "plain") then Some (record base { plain = true }) else None)))))
 
 -- the base with what line n says, whose first word stands before a space
 abbrev pub with_words : ℕ → Base → List ℕ → Result Base LineFault

@@ -42,6 +42,10 @@ pub struct Base {
     pub removed: bool,
     /// `dpkg --compare-versions` answers by Debian's order of versions (deb-version(7)).
     pub versions: bool,
+    /// Where a script names a file stands no directory, and where it names a directory no file: of each simple command
+    /// of the new package's scripts whose words are settled before the run, and, where the old package's scripts are
+    /// called too, of theirs.
+    pub plain: bool,
 }
 
 // The text of the usual base.
@@ -74,6 +78,7 @@ impl Copied for Base {
             runs: self.runs,
             removed: self.removed,
             versions: self.versions,
+            plain: self.plain,
         })
     }
 }
@@ -92,6 +97,7 @@ impl Base {
             runs: false,
             removed: false,
             versions: false,
+            plain: false,
         }
     }
 

@@ -20,8 +20,8 @@ use utility_calls::{CallEnd, can_be_stated};
 /// What a text says of the system, a line each: `dir PATH`, `file PATH`, `absent PATH` and `nodir PATH`, for a
 /// directory, a regular file, nothing, and no directory at the path; `link PATH TARGET`, for a symbolic link that leads
 /// to a directory, whose target is names joined by single `/`, perhaps with one first; `fits`; `own`, and `own PATH`;
-/// `call NAME ok`, `call NAME fails` and `call NAME asks PATH`; `runs`; `removed`; `versions`; empty lines and
-/// those that begin with `#` are passed over. The last line may lack its newline. The whys: 1, any other line; 2, an
+/// `call NAME ok`, `call NAME fails` and `call NAME asks PATH`; `runs`; `removed`; `versions`; `plain`; empty
+/// lines and those that begin with `#` are passed over. The last line may lack its newline. The whys: 1, any other line; 2, an
 /// earlier line states how the calls of that name end, or the target of a link is not of that form, or leads to a path
 /// of more than 64 names.
 pub fn read_base(alloc: Global, text: &[u8]) -> Result<Base, LineFault>
@@ -109,6 +109,10 @@ fn add_word(alloc: Global, base: &mut Base, line: &[u8]) -> Result<bool, Memory>
     }
     if line == b"versions".as_slice() {
         base.versions = true;
+        return Ok(true);
+    }
+    if line == b"plain".as_slice() {
+        base.plain = true;
         return Ok(true);
     }
     Ok(false)

@@ -1,0 +1,5 @@
+mod Acts
+mod Behind
+mod Joining
+mod Layers
+mod Unset
