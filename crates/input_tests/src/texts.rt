@@ -140,6 +140,7 @@ fn put_base(text: &mut Bytes, base: &Base) -> Result<(), Memory> {
     put_said(text, base.runs, b" runs")?;
     put_said(text, base.removed, b" removed")?;
     put_said(text, base.versions, b" versions")?;
+    put_said(text, base.plain, b" plain")?;
     put_calls(text, base.calls.as_slice())?;
     text.extend(b"\n")
 }

@@ -19,7 +19,7 @@ const FILES: &[File<'static>] = &[
     ("c", b"own\ncall x ok\nfits\ncall y fails\n"),
     (
         "e",
-        b"versions\nlink /bin usr/bin\nown /usr\ncall x asks /a b\nremoved\nown\nlink /a /b\nruns\n",
+        b"versions\nlink /bin usr/bin\nown /usr\ncall x asks /a b\nremoved\nown\nlink /a /b\nplain\nruns\n",
     ),
     ("t", b"d /etc\nf /etc/a\n"),
     ("s", b"#!/bin/sh -e\n"),
@@ -51,7 +51,7 @@ const READ: &[(&str, &str)] = &[
     ),
     (
         "check o --base e",
-        "new 0 -s-x d/usr\nbase l/bin>usr/bin l/a>/b own/usr own runs removed versions asks/a b/x\n",
+        "new 0 -s-x d/usr\nbase l/bin>usr/bin l/a>/b own/usr own runs removed versions plain asks/a b/x\n",
     ),
     ("translate s", "strict\n"),
     ("translate lax", "lax\n"),

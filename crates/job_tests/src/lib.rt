@@ -1,16 +1,26 @@
 //! Tests of package_jobs: what is needed of the trees that a scenario may begin from, the acts of steps, and the runs of
-//! jobs, with each step that succeeds and each that fails, with files that are put back, with stated calls, and with
-//! folders that hold no foreign entry. They stand apart from package_jobs, so that it is not proved twice.
+//! jobs, with each step that succeeds and each that fails, with files that are put back, with stated calls, with folders
+//! that hold no foreign entry, and along known links. They stand apart from package_jobs, so that it is not proved twice.
 #![tactic(auto)]
 
 #[cfg(test)]
+mod along;
+#[cfg(test)]
 mod answers;
+#[cfg(test)]
+mod idioms;
+#[cfg(test)]
+mod linked;
+#[cfg(test)]
+mod merged;
 #[cfg(test)]
 mod needs;
 #[cfg(test)]
 mod owned;
 #[cfg(test)]
 mod placed;
+#[cfg(test)]
+mod plain;
 #[cfg(test)]
 mod put_back;
 #[cfg(test)]

@@ -178,7 +178,7 @@ const ROWS: &[(&[u8], &[u8], &str)] = &[
         b"#!/bin/sh\nupdate-rc.d foo defaults >/dev/null\n",
         "colis brief 2\nscenario install outcomes 1\noutcome 1 done Installed\ntrace\nverdict 0\n",
     ),
-    // A function of the script has the name for itself.
+    // A function of the script has the name for itself, from its definition on.
     (
         b"dir /srv\nabsent /srv/a\nabsent /srv/b\ncall f fails\n",
         b"#!/bin/sh\nf() { touch /srv/a; }; f\n",
@@ -187,7 +187,7 @@ const ROWS: &[(&[u8], &[u8], &str)] = &[
     (
         b"dir /srv\nabsent /srv/a\nabsent /srv/b\ncall f ok\n",
         b"#!/bin/sh\nf; f() { true; }\n",
-        "colis brief 2\nscenario install outcomes 1\noutcome 1 incomplete call 3:10\ntrace\nverdict 2\n",
+        "colis brief 2\nscenario install outcomes 1\noutcome 1 done Installed\ntrace\nverdict 0\n",
     ),
     (
         b"dir /srv\nabsent /srv/a\nabsent /srv/b\ncall x ok\n",

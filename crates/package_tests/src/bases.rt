@@ -224,9 +224,16 @@ const SHELL_NAMES: &[(&[u8], u64, u8)] = &[
 const WORDS: &[(&[u8], u64, u8)] = &[
     (b"runs", 0, 0),
     (b"removed\n", 0, 0),
-    (b"plain", 1, 1),
+    (b"plain", 0, 0),
     (b"versions", 0, 0),
-    (b"runs\nremoved\nversions\nversions\nremoved\nruns\n", 0, 0),
+    (
+        b"runs\nremoved\nplain\nversions\nversions\nplain\nremoved\nruns\n",
+        0,
+        0,
+    ),
+    (b"plain \n", 1, 1),
+    (b"plains", 1, 1),
+    (b"Plain", 1, 1),
     (b"runs ", 1, 1),
     (b"run", 1, 1),
     (b"Runs", 1, 1),
@@ -268,6 +275,7 @@ const EACH: &[&[u8]] = &[
     b"runs\n",
     b"removed\n",
     b"versions\n",
+    b"plain\n",
     b"# l\n",
     b"\n",
 ];
@@ -399,12 +407,13 @@ const ANYWHERE: &[(&[u8], u8)] = &[
     (b"call m asks /n\n", 0),
     (b"own /m\n", 0),
     (b"runs\n", 0),
+    (b"plain\n", 0),
 ];
 
 #[test]
 fn lines_may_stand_in_any_place(rt: HostRuntime) -> Result<(), Fail> {
     for row in ANYWHERE {
-        for at in 0..17usize {
+        for at in 0..18usize {
             let text = with_line_at(rt.alloc(), at, row.0)?;
             let line = if row.1 == 0 { 0 } else { at as u64 + 1 };
             assert_eq!(rt;

@@ -32,6 +32,11 @@ const TOLD: &[(&[u8], &[u8])] = &[
     (b"runs", b"runs\n"),
     (b"removed", b"removed\n"),
     (b"versions", b"versions\n"),
+    (b"plain", b"plain\n"),
+    (
+        b"plain\nown /usr\nplain\nversions\n",
+        b"own /usr\nversions\nplain\n",
+    ),
     (b"fits", b"fits\n"),
     (
         b"versions\nfits\nruns\nremoved\nruns\n",
@@ -110,6 +115,7 @@ fn push_words(text: &mut Bytes, base: &Base) -> Result<(), Memory> {
         (base.runs, b"runs\n"),
         (base.removed, b"removed\n"),
         (base.versions, b"versions\n"),
+        (base.plain, b"plain\n"),
     ];
     for word in words {
         if word.0 {

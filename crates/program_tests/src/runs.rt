@@ -13,7 +13,7 @@ use crate::pages::{Page, spelled};
 use crate::programs::translated;
 use answers::answer;
 use colis_syntax::Program;
-use premised::{ASKED, COMPUTED, LINKS, RUNS, STATED, VERSIONS};
+use premised::{ASKED, COMPUTED, FURTHER, LINKS, RUNS, STATED, VERSIONS};
 use rows::{CALLS, CASES_AND_FUNCTIONS, LOOPS, REDIRECTED, SPECIAL, STATUS, WORDS, WORKED};
 use script_names::Slot;
 use std::alloc::Global;
@@ -118,6 +118,7 @@ const TABLES: &[(&str, bool, u32)] = &[
     (SPECIAL, false, 8),
     (COMPUTED, true, 18),
     (STATED, true, 36),
+    (FURTHER, true, 29),
     (ASKED, true, 14),
     (VERSIONS, true, 36),
     (RUNS, true, 9),

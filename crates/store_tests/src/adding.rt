@@ -38,7 +38,17 @@ touch /a 67; | mv /a /b | 65 68 71 72 77 79 81
 touch /a 67; mv /a /b 68; | test -e /a | 66
 touch /a 67; mv /a /b 68; | test -f /b | 67
 rmdir /a 67; rmdir /b 67; | mv /a /b | 73 74 75 76
-rmdir /a 67; mkdir /b 68; | mv /a /b | 73";
+rmdir /a 67; mkdir /b 68; | mv /a /b | 73
+; | chmod 755 /a | 65 66 67
+; | cp /a /b | 65 66 67 69 70 71 72 73 74 75 82
+; | cp -r /a /b | 65 66 69 70 71 72 73 74 75 77 78 79 80 81 82 83 84
+ln -s t /a 68; | cp -r /a /b | 65
+touch /a 67; | cp /a /b | 69 70 71 72 73 74 75
+touch /a 67; cp /a /b 69; rm /a 68; | test -f /b | 67
+test -d /a/x 67; cp -r /a /b 77; | test -d /b/x | 67
+rmdir /a 67; cp -r /a /b 77; rm -rf /a 72; | rmdir /b | 67
+mkdir /a 68; cp -r /a /b 77; touch /a/x 67; | test -e /b/x | 66
+mkdir /a 68; touch /a/x 67; cp -r /a /b 77; rm /a/x 68; | test -f /b/x | 67";
 
 // Calls with the row that each takes, from all trees on; the clause of the store behind them; and the shown start tree,
 // where each place is of its greatest kind: a directory, else a file, a link, a special thing, nothing. `|` is a newline.

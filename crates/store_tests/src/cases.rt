@@ -9,9 +9,9 @@ use std::process::Abort;
 use std::test::Fail;
 use tree_clauses::{Case, Clause, ClauseFault, Var};
 
-// A call or an act of a package manager, a row of its last act, the answer there, how many further variables the case
-// has, and its clause.
-type Printed = (&'static str, u8, &'static str, u32, &'static str);
+/// A call or an act of a package manager, a row of its last act, the answer there, how many further variables the case
+/// has, and its clause.
+pub(crate) type Printed = (&'static str, u8, &'static str, u32, &'static str);
 
 // Questions.
 const QUESTIONS: &[Printed] = &[
@@ -647,8 +647,8 @@ fn back_has(alloc: Global, row: &Printed) -> Result<bool, Fail> {
     Ok(one_is(alloc, list.as_slice(), row)?)
 }
 
-// Each call of a table has its case.
-fn expect_calls<R: Abort + AllocGlobal>(rt: &R, rows: &[Printed]) -> Result<(), Fail> {
+/// Each call of a table has its case.
+pub(crate) fn expect_calls<R: Abort + AllocGlobal>(rt: &R, rows: &[Printed]) -> Result<(), Fail> {
     for row in rows {
         assert!(rt; call_has(rt.alloc(), row)?, "{}", row.0);
     }

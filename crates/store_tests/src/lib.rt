@@ -11,6 +11,8 @@ mod cases;
 #[cfg(test)]
 mod clause_texts;
 #[cfg(test)]
+mod copied;
+#[cfg(test)]
 mod emptied;
 #[cfg(test)]
 mod returned;
@@ -20,3 +22,5 @@ mod starts;
 mod stores;
 #[cfg(test)]
 mod taken;
+#[cfg(test)]
+mod targets;

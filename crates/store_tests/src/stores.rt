@@ -11,8 +11,8 @@ use std::alloc::Global;
 use std::test::Fail;
 use tree_clauses::{ClauseFault, Var};
 
-// The variable of a path, from the tree now on.
-fn walk(alloc: Global, s: &mut Store, words: &[&[u8]]) -> Result<Var, NameFault>
+/// The variable of a path, from the tree now on.
+pub(crate) fn walk(alloc: Global, s: &mut Store, words: &[&[u8]]) -> Result<Var, NameFault>
     ensures known { IfOk result (λ y. y.0 < s.new.count) }
 {
     let mut here = s.now();
@@ -70,8 +70,13 @@ pub(crate) fn shows(alloc: Global, s: &mut Store, text: &[u8]) -> Result<bool, M
     Ok(shown.as_slice() == text)
 }
 
-// Whether a store has a clause of this text, which is read as it was printed, and shows this tree.
-fn comes_to(alloc: Global, s: &mut Store, clause: &str, tree: &str) -> Result<bool, ClauseFault> {
+/// Whether a store has a clause of this text, which is read as it was printed, and shows this tree.
+pub(crate) fn comes_to(
+    alloc: Global,
+    s: &mut Store,
+    clause: &str,
+    tree: &str,
+) -> Result<bool, ClauseFault> {
     Ok(has_clause(alloc, s, clause.as_bytes())? && shows(alloc, s, tree.as_bytes())?)
 }
 

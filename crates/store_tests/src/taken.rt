@@ -32,7 +32,11 @@ d /x/f
 d /x/l
 d /x/g
 f /x/g/a
-l /x/o t";
+l /x/o t
+d /y
+f /y/g
+f /y/l
+f /y/o";
 
 // A call, or an act of a package manager, and the row that its last act takes on that tree.
 type Taken = (&'static str, u8);
@@ -154,6 +158,69 @@ const MOVED: &[Taken] = &[
     ("mv /d /d/l/a", 130),
 ];
 
+// Modes and owners that are set.
+const ATTRS: &[Taken] = &[
+    ("chmod 755 /l/a", 1),
+    ("chmod 755 /f/", 64),
+    ("chown root /l", 65),
+    ("chgrp 0 /n", 66),
+    ("chmod u+x /d", 67),
+    ("chown 0:0 /f", 67),
+    ("chmod 644 /d/o", 67),
+];
+
+// Copies of what is no directory, or of one without `-r`.
+const COPIED: &[Taken] = &[
+    ("cp /l/a /n", 1),
+    ("cp /f /l/a", 129),
+    ("cp /f /d/l/a", 130),
+    ("cp /l /n", 65),
+    ("cp /n /l/a", 66),
+    ("cp /d /l/a", 67),
+    ("cp /d /d/n", 67),
+    ("cp /f /h/a", 68),
+    ("cp /f /f/a", 68),
+    ("cp /f /n", 69),
+    ("cp /f /h", 69),
+    ("cp /f /l", 70),
+    ("cp /f /p", 71),
+    ("cp /f /e", 72),
+    ("cp /f /d", 72),
+    ("cp /y/l /d", 73),
+    ("cp /y/o /d", 74),
+    ("cp /y/g /d", 75),
+    ("cp /p /n", 82),
+    ("cp /d/o /l/a", 82),
+];
+
+// Copies with `-r`.
+const COPIED_DEEP: &[Taken] = &[
+    ("cp -r /d/l/a /n", 2),
+    ("cp -r /f /l/a", 129),
+    ("cp -r /e /l/a", 129),
+    ("cp -r /e /d/l/a", 130),
+    ("cp -r /l /n", 65),
+    ("cp -r /n /l/a", 66),
+    ("cp -r /f /h/a", 68),
+    ("cp -r /f /n", 69),
+    ("cp -r /f /l", 70),
+    ("cp -r /f /o", 71),
+    ("cp -r /f /e", 72),
+    ("cp -r /y/l /d", 73),
+    ("cp -r /y/o /d", 74),
+    ("cp -r /f /x", 75),
+    ("cp -r /e /h/a", 76),
+    ("cp -r /d /n", 77),
+    ("cp -r /e /f", 78),
+    ("cp -r /e /c", 78),
+    ("cp -r /e /l", 79),
+    ("cp -r /g /e", 80),
+    ("cp -r /g /d", 81),
+    ("cp -r /c /n", 82),
+    ("cp -r /x/f /d", 83),
+    ("cp -r /x/l /d", 84),
+];
+
 // What a package manager places and discards.
 const PLACED: &[Taken] = &[
     ("PlaceFile /l/a", 1),
@@ -245,6 +312,13 @@ fn one_case_of_a_change_holds(rt: HostRuntime) -> Result<(), Fail> {
 #[test]
 fn one_case_of_a_move_holds(rt: HostRuntime) -> Result<(), Fail> {
     expect_calls(&rt, MOVED)
+}
+
+#[test]
+fn one_case_of_a_copy_holds(rt: HostRuntime) -> Result<(), Fail> {
+    expect_calls(&rt, ATTRS)?;
+    expect_calls(&rt, COPIED)?;
+    expect_calls(&rt, COPIED_DEEP)
 }
 
 #[test]

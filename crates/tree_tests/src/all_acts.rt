@@ -57,7 +57,7 @@ fn put_one(alloc: Global, tree: &mut Value, letter: &str, path: &str) -> Result<
 }
 
 // Puts what a text names on a tree: a letter and a path, and further ones behind a comma.
-fn put_all(alloc: Global, tree: &mut Value, text: &str) -> Result<(), Fail> {
+pub(crate) fn put_all(alloc: Global, tree: &mut Value, text: &str) -> Result<(), Fail> {
     for part in text.split(',') {
         if let Some((letter, path)) = part.split_once(' ') {
             put_one(alloc, tree, letter, path)?;
@@ -97,6 +97,7 @@ pub(crate) fn answer_text(answer: Done) -> &'static str {
         Done::Stopped(Reason::Run) => "run",
         Done::Stopped(Reason::Same) => "same",
         Done::Stopped(Reason::Conffile) => "conffile",
+        Done::Stopped(Reason::Call) => "call",
         Done::Stopped(_) => "another",
     }
 }
@@ -157,11 +158,12 @@ fn call_takes(alloc: Global, row: &Taken) -> Result<bool, Fail> {
     plan_takes(alloc, &planned, row)
 }
 
-// The act that a word names, and that no call comes to: one of a package manager, or `test -x` where it is taken that a
-// regular file may be run.
+// The act that a word names: one of a package manager, `test -x` where it is taken that a regular file may be run, or
+// the setting of a mode.
 pub(crate) fn place(alloc: Global, name: &[u8], p: Path) -> Result<Act, Memory> {
     match name {
         b"CanRunFile" => Ok(Act::CanRun { p, runs: true }),
+        b"Attr" => Ok(Act::Attr(p)),
         b"EnsureDir" => Ok(Act::EnsureDir(p)),
         b"PlaceFile" => Ok(Act::PlaceFile(p)),
         b"PlaceConf" => Ok(Act::PlaceConf(p)),
@@ -174,11 +176,35 @@ pub(crate) fn place(alloc: Global, name: &[u8], p: Path) -> Result<Act, Memory> 
     }
 }
 
-// The act that a row names, by a word and a path.
-pub(crate) fn placed(alloc: Global, text: &str) -> Result<Act, Fail> {
-    let (name, path) = text.split_once(' ').unwrap_or(("", "/"));
+// Whether a word names the copying of directories too.
+fn is_deep(name: &[u8]) -> bool {
+    match name {
+        b"CopyDeep" => true,
+        _ => false,
+    }
+}
+
+// The copying that a word and two paths name.
+fn copying(alloc: Global, name: &str, first: &str, second: &str) -> Result<Act, Fail> {
+    let a = Path::read(alloc, first.as_bytes())?;
+    let b = Path::read(alloc, second.as_bytes())?;
+    let deep = is_deep(name.as_bytes());
+    Ok(Act::Copy { a, b, deep })
+}
+
+// The act that a word and a path name.
+fn placing(alloc: Global, name: &str, path: &str) -> Result<Act, Fail> {
     let p = Path::read(alloc, path.as_bytes())?;
     Ok(place(alloc, name.as_bytes(), p)?)
+}
+
+// The act that a row names, by a word and one path or two.
+pub(crate) fn placed(alloc: Global, text: &str) -> Result<Act, Fail> {
+    let (name, paths) = text.split_once(' ').unwrap_or(("", "/"));
+    match paths.split_once(' ') {
+        Some((first, second)) => copying(alloc, name, first, second),
+        None => placing(alloc, name, paths),
+    }
 }
 
 // Whether the act that a row names takes the row.
@@ -188,7 +214,7 @@ fn placed_takes(alloc: Global, row: &Taken) -> Result<bool, Fail> {
 }
 
 // A copy of the act that a row names.
-fn placed_copy(alloc: Global, text: &str) -> Result<Act, Fail> {
+pub(crate) fn placed_copy(alloc: Global, text: &str) -> Result<Act, Fail> {
     let a = placed(alloc, text)?;
     Ok(a.copy(alloc)?)
 }
@@ -346,6 +372,24 @@ const PLACES: &[Taken] = &[
     ("DiscardDir /e", 68, "ok", "- /e"),
 ];
 
+const ATTRS: &[Taken] = &[
+    ("Attr /l", 65, "link", ""),
+    ("Attr /n", 66, "failed", ""),
+    ("Attr /f/a", 66, "failed", ""),
+    ("Attr /f", 67, "ok", ""),
+    ("Attr /d", 67, "ok", ""),
+    ("Attr /p", 67, "ok", ""),
+    ("Attr /c", 67, "ok", ""),
+    ("Attr /d/f", 67, "ok", ""),
+    ("Attr /", 67, "ok", ""),
+    ("Attr /l/a", 1, "link", ""),
+    ("Attr /d/l/a", 2, "link", ""),
+    ("Attr /f/", 64, "slash", ""),
+    ("Attr /l/", 64, "slash", ""),
+    ("Attr /n/", 66, "failed", ""),
+    ("Attr /d/", 67, "ok", ""),
+];
+
 const RUNS: &[Taken] = &[
     ("CanRunFile /l", 65, "link", ""),
     ("CanRunFile /n", 66, "failed", ""),
@@ -391,6 +435,15 @@ fn moves_take_each_row(rt: HostRuntime) -> Result<(), Fail> {
 #[test]
 fn test_x_takes_each_row_where_files_run(rt: HostRuntime) -> Result<(), Fail> {
     for row in RUNS {
+        assert!(rt; placed_takes(rt.alloc(), row)?, "{}", row.0);
+        assert!(rt; copy_takes(rt.alloc(), row)?, "{}", row.0);
+    }
+    Ok(())
+}
+
+#[test]
+fn chmod_takes_each_row(rt: HostRuntime) -> Result<(), Fail> {
+    for row in ATTRS {
         assert!(rt; placed_takes(rt.alloc(), row)?, "{}", row.0);
         assert!(rt; copy_takes(rt.alloc(), row)?, "{}", row.0);
     }

@@ -11,9 +11,13 @@ mod clause_texts;
 #[cfg(test)]
 mod clauses;
 #[cfg(test)]
+mod copies;
+#[cfg(test)]
 mod deep_paths;
 #[cfg(test)]
 mod each_kind;
+#[cfg(test)]
+mod further_plans;
 #[cfg(test)]
 mod known_links;
 #[cfg(test)]

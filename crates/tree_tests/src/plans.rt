@@ -101,6 +101,12 @@ fn put_move(out: &mut Bytes, a: &Path, b: &Path) -> Result<(), Memory> {
     put_path(out, b)
 }
 
+fn put_copy(out: &mut Bytes, a: &Path, b: &Path, deep: bool) -> Result<(), Memory> {
+    put_named(out, if deep { b"CopyDeep" } else { b"Copy" }, a)?;
+    out.push(b' ')?;
+    put_path(out, b)
+}
+
 // The question whether something is of a special kind.
 fn special_name(kind: Special) -> &'static [u8] {
     match kind {
@@ -132,6 +138,8 @@ pub(crate) fn put_act(out: &mut Bytes, act: &Act) -> Result<(), Memory> {
             force,
         } => put_symlink(out, p, target.as_slice(), last.as_slice(), *force),
         Act::Move { a, b } => put_move(out, a, b),
+        Act::Attr(p) => put_named(out, b"Attr", p),
+        Act::Copy { a, b, deep } => put_copy(out, a, b, *deep),
         Act::PlaceFile(p) => put_named(out, b"PlaceFile", p),
         Act::PlaceLink { p, target: _ } => put_named(out, b"PlaceLink", p),
         Act::PlaceConf(p) => put_named(out, b"PlaceConf", p),
@@ -203,7 +211,7 @@ false -> no
 false a \\ -> no
 '' -> call
 -- -> call
-cp a b -> call
+cpio a b -> call
 /bin/mkdir /srv/a -> call
 mkdirs /srv/a -> call
 MKDIR /srv/a -> call
@@ -502,7 +510,7 @@ fn plan_text(alloc: Global, call: &str) -> Result<Bytes, Memory> {
 }
 
 // Whether a row's call comes to what the row says.
-fn is_planned(alloc: Global, row: &str) -> Result<bool, Memory> {
+pub(crate) fn is_planned(alloc: Global, row: &str) -> Result<bool, Memory> {
     let (call, wanted) = row.split_once(" -> ").unwrap_or((row, "no plan"));
     let text = plan_text(alloc, call)?;
     Ok(text.as_slice() == wanted.as_bytes())

@@ -76,7 +76,8 @@ call f ok%
 x=f; $x; f() { :; }%
 end stopped call 3:15%trace%turns 100%after%d /srv%"##;
 
-// Stated calls: the name is spelled out, and no function of the script has it; of `command` it is of `-v` and `-V`.
+// Stated calls: the name is spelled out, and no function of that name is defined before; of `command` it is of `-v` and
+// `-V`.
 pub const STATED: &str = r##"call db_stop ok%
 100 d /srv%
 "db_stop" && touch /srv/a%
@@ -160,11 +161,11 @@ end success%trace 3:16:67 3:16:67%turns 100%after%d /srv%f /srv/a%
 call f ok%
 100 d /srv%
 f; f() { :; }%
-end stopped call 3:10%trace%turns 100%after%d /srv%
-call f ok%
+end success%trace%turns 100%after%d /srv%
+call f fails%
 100 d /srv%
-(f) || "f"; f() { :; }%
-end stopped call 3:11%trace%turns 100%after%d /srv%
+(f) || "f" || touch /srv/a; f() { :; }%
+end success%trace 3:24:67%turns 100%after%d /srv%f /srv/a%
 call command ok%
 100 d /srv%
 command -v x && touch /srv/a%
@@ -537,3 +538,121 @@ link /a b%link /b a%
 100 l /a b%l /b a%
 test -e /a/x%
 end stopped link 3:10%trace 3:10:65%turns 100%after%l /a b%l /b a%"##;
+
+// `cp` and the other utilities whose names a function may have.
+pub const FURTHER: &str = r##"%
+100 d /srv%
+chmod 0755 /srv/a%
+end failure%trace 3:10:66%turns 100%after%d /srv%
+%
+100 d /srv%f /srv/a%
+chmod 0755 /srv/a%
+end success%trace 3:10:67%turns 100%after%d /srv%f /srv/a%
+%
+100 d /srv%l /srv/a b%
+chmod 0755 /srv/a%
+end stopped link 3:10%trace 3:10:65%turns 100%after%d /srv%l /srv/a b%
+%
+100 d /srv%d /srv/a%l /srv/a/x y%
+cp -r /srv/a /srv/b%
+end success%trace 3:10:77%turns 100%after%d /srv%d /srv/a%l /srv/a/x y%d /srv/b%l /srv/b/x y%
+%
+100 d /srv%f /srv/a%
+chown www-data /srv/a%
+end stopped call 3:10%trace%turns 100%after%d /srv%f /srv/a%
+%
+100 d /srv%
+chown 0:root /srv/a || chgrp root /srv%
+end success%trace 3:10:66 3:33:67%turns 100%after%d /srv%
+call chown ok%
+100 d /srv%
+chown www-data /srv/a && touch /srv/b%
+end success%trace 3:35:67%turns 100%after%d /srv%f /srv/b%
+%
+100 d /srv%f /srv/a%
+cp() { touch /srv/c; }; cp /srv/a /srv/b%
+end success%trace 3:17:67%turns 100%after%d /srv%f /srv/a%f /srv/c%
+%
+100 d /srv%f /srv/a%
+cp /srv/a /srv/b; cp() { touch /srv/c; }%
+end success%trace 3:10:69%turns 100%after%d /srv%f /srv/a%f /srv/b%
+%
+100 d /srv%f /srv/a%
+"c"p /srv/a /srv/b; cp() { :; }; cp%
+end success%trace 3:10:69%turns 100%after%d /srv%f /srv/a%f /srv/b%
+%
+100 d /srv%f /srv/a%
+cp() { :; }; x=cp; $x /srv/a /srv/b%
+end stopped call 3:29%trace%turns 100%after%d /srv%f /srv/a%
+%
+100 d /srv%f /srv/a%
+x=cp; $x /srv/a /srv/b; cp() { :; }%
+end stopped call 3:16%trace%turns 100%after%d /srv%f /srv/a%
+%
+100 d /srv%f /srv/a%
+x=cp; $x /srv/a /srv/b%
+end success%trace 3:16:69%turns 100%after%d /srv%f /srv/a%f /srv/b%
+call cp fails%
+100 d /srv%
+cp /srv/a /srv/b || touch /srv/c; cp() { :; }%
+end success%trace 3:30:67%turns 100%after%d /srv%f /srv/c%
+call cp fails%
+100 d /srv%
+cp() { touch /srv/c; }; cp%
+end success%trace 3:17:67%turns 100%after%d /srv%f /srv/c%
+call cp fails%
+100 d /srv%f /srv/a%
+x=cp; $x /srv/a /srv/b%
+end success%trace 3:16:69%turns 100%after%d /srv%f /srv/a%f /srv/b%
+%
+100 d /srv%
+command -v cp%
+end stopped call 3:10%trace%turns 100%after%d /srv%
+%
+100 d /srv%
+for f in /x/a.conf b/c.conf /d/; do touch "/srv/$(basename "$f" .conf)"; done%
+end success%trace 3:46:67 3:46:67 3:46:67%turns 97%after%d /srv%f /srv/a%f /srv/c%f /srv/d%
+%
+100 d /srv%
+p=/srv/a/b; mkdir -p "$(dirname "$p")"; touch "$p"%
+end success%trace 3:22:68 3:22:68 3:50:67%turns 100%after%d /srv%d /srv/a%f /srv/a/b%
+%
+100 d /srv%
+basename /srv//a%
+end stopped call 3:10%trace%turns 100%after%d /srv%
+%
+100 d /srv%
+install -m 755 -d /srv/a/b && chmod u+x,go= /srv/a/b%
+end success%trace 3:10:68 3:10:68 3:10:68 3:40:67%turns 100%after%d /srv%d /srv/a%d /srv/a/b%
+%
+100 d /srv%d /srv/a%
+unlink /srv/a%
+end failure%trace 3:10:67%turns 100%after%d /srv%d /srv/a%
+%
+100 d /srv%f /srv/a%
+unlink /srv/a%
+end success%trace 3:10:68%turns 100%after%d /srv%
+%
+100 d /srv%
+cp /srv/a /srv/b || touch /srv/c%
+end success%trace 3:10:66 3:30:67%turns 100%after%d /srv%f /srv/c%
+%
+100 d /srv%d /srv/a%
+cp /srv/a /srv/b%
+end failure%trace 3:10:67%turns 100%after%d /srv%d /srv/a%
+%
+100 d /srv%l /srv/a b%
+cp -a /srv/a /srv/b%
+end stopped link 3:10%trace 3:10:65%turns 100%after%d /srv%l /srv/a b%
+%
+100 d /srv%d /srv/a%
+cp -r /srv/a /srv/b; touch /srv/a/x; rm -r /srv/a%
+end success%trace 3:10:77 3:31:67 3:47:69%turns 100%after%d /srv%d /srv/b%
+%
+100 d /srv%f /srv/a%d /srv/d%
+cp /srv/a /srv/d%
+end success%trace 3:10:72%turns 100%after%d /srv%f /srv/a%d /srv/d%f /srv/d/a%
+%
+100 d /srv%d /srv/a%
+cp -r /srv/a /srv/a/b%
+end stopped same 3:10%trace%turns 100%after%d /srv%d /srv/a%"##;

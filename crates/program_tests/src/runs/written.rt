@@ -52,7 +52,7 @@ end stopped call 3:5%trace 2:0:68%state lax failure 9 stop%after%d /srv%
 call f ok%
 lax failure 9 | d /srv%
 (def f (skip)) (call 5 (word (p =f)))
-end stopped call 3:5%trace 2:0:68%state lax failure 9%after%d /srv%
+end success%trace 2:0:68%state lax success 9%after%d /srv%
 
 call f ok%
 lax failure 9 | d /srv%
