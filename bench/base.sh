@@ -137,6 +137,15 @@ printf '%s\n' /real /real/b | package r all config-files
 whole 'one package of two architectures, and one that was removed' <<'END'
 dir /real
 END
+begin
+mkdir -p real/run/lock real/a
+printf '%s\n' /real /real/run /real/run/lock | package base-files
+printf '%s\n' /real /real/a | package p
+whole 'folders that base-files alone has' <<'END'
+dir /real
+dir /real/run
+dir /real/run/lock
+END
 
 # ---- links
 
@@ -306,5 +315,16 @@ done
 "$top/colis-base" >/dev/full 2>err
 { echo "status $?" && tail -n 1 err; } >said
 printf '%s\n' 'status 1' 'colis-base: the base could not be written' | same 'a full disk' said
+
+# Under share/debian.base the examples' daemon can be removed from each start tree, and its purge fails, since a folder
+# that its script takes away may hold a further file.
+if [ -x "$program" ]; then
+    for scenario in remove purge; do
+        "$program" check "$top/examples/logwatcher" --base "$top/share/debian.base" --scenario $scenario --brief |
+            grep -c '^outcome [0-9]* failed' >said
+        [ "$(cat said)" -eq 0 ] || echo some >said
+        case $scenario in remove) echo 0 ;; purge) echo some ;; esac | same "a daemon, $scenario" said
+    done
+fi
 
 [ ! -s wrong ]

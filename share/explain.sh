@@ -123,7 +123,7 @@ form() {
     return) echo 'return is supported in a function alone, and not in a subshell of it' ;;
     function-place) echo 'a function is supported as a command of the script itself, and not inside another command' ;;
     function-twice) echo 'a function of this name is there before; two are not supported' ;;
-    function-name) echo 'a function with the name of a command that has a meaning here is not supported' ;;
+    function-name) echo 'a function with a name that no function may have is not supported' ;;
     call-order) echo 'a function may call functions alone that are defined before it' ;;
     *) echo 'this form is not supported' ;;
     esac
