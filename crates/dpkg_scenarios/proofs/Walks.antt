@@ -6,6 +6,7 @@ use Rattle.std.specs.Option.{option_map}
 use Rattle.std.proofs.lemmas.Bool.{eqb-true, ltb-true, and_parts}
 use Rattle.dpkg_scenarios.specs.declared.scenario.Scenario.{Scenario}
 use Rattle.dpkg_scenarios.specs.declared.scenario.Scenario.TheVariants.{Install, InstallAgain, Upgrade, Remove, Purge, PurgeLater}
+use Rattle.dpkg_scenarios.specs.declared.scenario.Scenario.TheVariants.{InFavour, Deconfigure, Disappear, Twice}
 use Rattle.dpkg_scenarios.specs.declared.scenario.StepNext.{StepNext}
 use Rattle.dpkg_scenarios.specs.declared.scenario.StepNext.TheVariants.{Go, Stop}
 use Rattle.dpkg_scenarios.specs.Scenarios.{Step, table}
@@ -24,6 +25,10 @@ tables_count Upgrade = refl
 tables_count Remove = refl
 tables_count Purge = refl
 tables_count PurgeLater = refl
+tables_count InFavour = refl
+tables_count Deconfigure = refl
+tables_count Disappear = refl
+tables_count Twice = refl
 
 pub first_step : (s : Scenario) → IsStep s 1
 first_step Install = (omega arith, omega arith)
@@ -32,6 +37,10 @@ first_step Upgrade = (omega arith, omega arith)
 first_step Remove = (omega arith, omega arith)
 first_step Purge = (omega arith, omega arith)
 first_step PurgeLater = (omega arith, omega arith)
+first_step InFavour = (omega arith, omega arith)
+first_step Deconfigure = (omega arith, omega arith)
+first_step Disappear = (omega arith, omega arith)
+first_step Twice = (omega arith, omega arith)
 
 -- ---- each line goes on to a later turn
 
@@ -55,6 +64,10 @@ tables_well Upgrade = refl
 tables_well Remove = refl
 tables_well Purge = refl
 tables_well PurgeLater = refl
+tables_well InFavour = refl
+tables_well Deconfigure = refl
+tables_well Disappear = refl
+tables_well Twice = refl
 
 -- the four ways to leave a step
 four : (a b c d : Bool) → ((a && b) && (c && d)) ≡ true → ((a ≡ true) × (b ≡ true)) × ((c ≡ true) × (d ≡ true))
@@ -119,6 +132,10 @@ orders_few Upgrade = refl
 orders_few Remove = refl
 orders_few Purge = refl
 orders_few PurgeLater = refl
+orders_few InFavour = refl
+orders_few Deconfigure = refl
+orders_few Disappear = refl
+orders_few Twice = refl
 
 pub turns_few : TurnsAreFew
 turns_few s n = subst (λ k. turn_of s n ≤ k) (orders_few s) (place_few (order_of s) n)
@@ -131,6 +148,10 @@ first_turn Upgrade = refl
 first_turn Remove = refl
 first_turn Purge = refl
 first_turn PurgeLater = refl
+first_turn InFavour = refl
+first_turn Deconfigure = refl
+first_turn Disappear = refl
+first_turn Twice = refl
 
 pub succeeds : Succeeds
 succeeds Install plain = refl
@@ -139,6 +160,10 @@ succeeds Upgrade plain = refl
 succeeds Remove plain = refl
 succeeds Purge plain = refl
 succeeds PurgeLater plain = refl
+succeeds InFavour plain = refl
+succeeds Deconfigure plain = refl
+succeeds Disappear plain = refl
+succeeds Twice plain = refl
 
 pub reaches_each : ReachesEach
 reaches_each Install zero step = absurd (omega (arith, step.0))
@@ -189,3 +214,35 @@ reaches_each PurgeLater zero step = absurd (omega (arith, step.0))
 reaches_each PurgeLater (suc zero) step = ([], refl)
 reaches_each PurgeLater (suc (suc zero)) step = (true ∷ [], refl)
 reaches_each PurgeLater (suc (suc (suc n))) step = absurd (omega (arith, step.1))
+reaches_each InFavour zero step = absurd (omega (arith, step.0))
+reaches_each InFavour (suc zero) step = ([], refl)
+reaches_each InFavour (suc (suc zero)) step = (true ∷ [], refl)
+reaches_each InFavour (suc (suc (suc zero))) step = (true ∷ true ∷ [], refl)
+reaches_each InFavour (suc (suc (suc (suc zero)))) step = (true ∷ true ∷ true ∷ [], refl)
+reaches_each InFavour (suc (suc (suc (suc (suc zero))))) step = (true ∷ true ∷ true ∷ true ∷ [], refl)
+reaches_each InFavour (suc (suc (suc (suc (suc (suc zero)))))) step = (true ∷ true ∷ true ∷ true ∷ true ∷ [], refl)
+reaches_each InFavour (suc (suc (suc (suc (suc (suc (suc zero))))))) step = (false ∷ [], refl)
+reaches_each InFavour (suc (suc (suc (suc (suc (suc (suc (suc zero)))))))) step = (true ∷ false ∷ [], refl)
+reaches_each InFavour (suc (suc (suc (suc (suc (suc (suc (suc (suc zero))))))))) step = (true ∷ true ∷ false ∷ [], refl)
+reaches_each InFavour (suc (suc (suc (suc (suc (suc (suc (suc (suc (suc n)))))))))) step = absurd (omega (arith, step.1))
+reaches_each Deconfigure zero step = absurd (omega (arith, step.0))
+reaches_each Deconfigure (suc zero) step = ([], refl)
+reaches_each Deconfigure (suc (suc zero)) step = (true ∷ [], refl)
+reaches_each Deconfigure (suc (suc (suc zero))) step = (true ∷ true ∷ [], refl)
+reaches_each Deconfigure (suc (suc (suc (suc zero)))) step = (true ∷ true ∷ true ∷ [], refl)
+reaches_each Deconfigure (suc (suc (suc (suc (suc zero))))) step = (true ∷ false ∷ [], refl)
+reaches_each Deconfigure (suc (suc (suc (suc (suc (suc zero)))))) step = (false ∷ [], refl)
+reaches_each Deconfigure (suc (suc (suc (suc (suc (suc (suc zero))))))) step = (true ∷ true ∷ false ∷ [], refl)
+reaches_each Deconfigure (suc (suc (suc (suc (suc (suc (suc (suc n)))))))) step = absurd (omega (arith, step.1))
+reaches_each Disappear zero step = absurd (omega (arith, step.0))
+reaches_each Disappear (suc zero) step = ([], refl)
+reaches_each Disappear (suc (suc zero)) step = (true ∷ [], refl)
+reaches_each Disappear (suc (suc (suc zero))) step = (true ∷ true ∷ [], refl)
+reaches_each Disappear (suc (suc (suc (suc zero)))) step = (true ∷ true ∷ true ∷ [], refl)
+reaches_each Disappear (suc (suc (suc (suc (suc zero))))) step = (false ∷ [], refl)
+reaches_each Disappear (suc (suc (suc (suc (suc (suc zero)))))) step = (true ∷ false ∷ [], refl)
+reaches_each Disappear (suc (suc (suc (suc (suc (suc (suc n))))))) step = absurd (omega (arith, step.1))
+reaches_each Twice zero step = absurd (omega (arith, step.0))
+reaches_each Twice (suc zero) step = ([], refl)
+reaches_each Twice (suc (suc zero)) step = (true ∷ [], refl)
+reaches_each Twice (suc (suc (suc n))) step = absurd (omega (arith, step.1))

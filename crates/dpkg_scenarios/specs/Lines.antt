@@ -5,6 +5,7 @@ use Rattle.dpkg_scenarios.specs.declared.scenario.State.TheVariants.{ConfigFiles
 use Rattle.dpkg_scenarios.specs.declared.scenario.Ending.TheVariants as ending
 use Rattle.dpkg_scenarios.specs.declared.scenario.StepNext.{StepNext}
 use Rattle.dpkg_scenarios.specs.declared.scenario.StepNext.TheVariants as next
+use Rattle.dpkg_scenarios.specs.declared.said.Said.{Said}
 use Rattle.dpkg_scenarios.specs.declared.tables.Verb.{Verb}
 use Rattle.dpkg_scenarios.specs.declared.tables.Verb.TheVariants as verb
 use Rattle.dpkg_scenarios.specs.declared.tables.Versions.{Versions}
@@ -27,19 +28,24 @@ verb_text verb.AbortUpgrade = codes "abort-upgrade"
 verb_text verb.Remove = codes "remove"
 verb_text verb.AbortRemove = codes "abort-remove"
 verb_text verb.Purge = codes "purge"
+verb_text verb.Deconfigure = codes "deconfigure"
+verb_text verb.AbortDeconfigure = codes "abort-deconfigure"
+verb_text verb.Disappear = codes "disappear"
 
 -- the words behind it
-abbrev pub versions_text : Versions → List ℕ → List ℕ → List (List ℕ)
-versions_text versions.NoWord old new = []
-versions_text versions.EmptyWord old new = [] ∷ []
-versions_text versions.FromOld old new = old ∷ []
-versions_text versions.ToNew old new = new ∷ []
-versions_text versions.FromTo old new = old ∷ new ∷ []
+abbrev pub versions_text : Versions → Said → List (List ℕ)
+versions_text versions.NoWord said = []
+versions_text versions.EmptyWord said = [] ∷ []
+versions_text versions.FromOld said = said.old_version ∷ []
+versions_text versions.ToNew said = said.new_version ∷ []
+versions_text versions.FromTo said = said.old_version ∷ said.new_version ∷ []
+versions_text versions.Named said = said.new_name ∷ said.new_version ∷ []
+versions_text versions.InFavour said = codes "in-favour" ∷ said.new_name ∷ said.new_version ∷ []
 
 -- all words
-abbrev pub spoken_text : Spoken → List ℕ → List ℕ → List (List ℕ)
-spoken_text spoken.NoCall old new = []
-spoken_text (spoken.Call verb versions) old new = verb_text verb ∷ versions_text versions old new
+abbrev pub spoken_text : Spoken → Said → List (List ℕ)
+spoken_text spoken.NoCall said = []
+spoken_text (spoken.Call verb versions) said = verb_text verb ∷ versions_text versions said
 
 -- what follows a step
 abbrev pub then_of : Then → Bool → StepNext
@@ -51,6 +57,6 @@ then_of then.Removed plain = next.Stop (ending.Done (if plain then NotInstalled 
 -- a line that says what the scenario's table says of the step
 pub record IsLine (scenario : Scenario) (step : ℕ) (line : Line) : Type 0 where
   pub work : work_of scenario step ≡ Some line.work
-  pub words : (old new : List ℕ) → words_of scenario step old new ≡ Some (spoken_text line.spoken old new)
+  pub words : (said : Said) → words_of scenario step said ≡ Some (spoken_text line.spoken said)
   pub ok : (plain : Bool) → next_of scenario step true plain ≡ Some (then_of line.ok plain)
   pub failed : (plain : Bool) → next_of scenario step false plain ≡ Some (then_of line.failed plain)

@@ -1,8 +1,10 @@
--- The six scenarios as tables, a line for each step: its number, what is done, the words of the call, what follows on
+-- The ten scenarios as tables, a line for each step: its number, what is done, the words of the call, what follows on
 -- success and what on failure; and beside its steps a record for each scenario. To be read beside Debian Policy, 6.5
 -- (the calls), 6.6 (unpacking, and its unwinding), 6.7 (configuring) and 6.8 (removing and purging), which has the
 -- order of the scripts and their first words; the further words, and the states at the end, are this project's own.
-use Rattle.std.specs.Prelude.{ℕ, Bool, List, [], ◌∷◌, codes, if◌then◌else◌}
+-- In the scenarios of a pair the old package is an installed one of another name, to which something happens since the
+-- new one is installed.
+use Rattle.std.specs.Prelude.{ℕ, Bool, nat_lt, List, [], ◌∷◌, length, codes, if◌then◌else◌}
 use Rattle.dpkg_scenarios.specs.declared.columns.Before.{Before}
 use Rattle.dpkg_scenarios.specs.declared.columns.Before.TheVariants as before
 use Rattle.dpkg_scenarios.specs.declared.columns.NewEntries.{NewEntries}
@@ -10,6 +12,7 @@ use Rattle.dpkg_scenarios.specs.declared.columns.NewEntries.TheVariants.{Every, 
 use Rattle.dpkg_scenarios.specs.declared.columns.OwnFolders.{OwnFolders}
 use Rattle.dpkg_scenarios.specs.declared.columns.OwnFolders.TheVariants.{NoFolder, Dropped, Standing, Left}
 use Rattle.dpkg_scenarios.specs.declared.columns.Columns.{Columns}
+use Rattle.dpkg_scenarios.specs.declared.said.Said.{Said}
 use Rattle.dpkg_scenarios.specs.declared.scenario.Scenario.{Scenario}
 use Rattle.dpkg_scenarios.specs.declared.scenario.Scenario.TheVariants as scenario
 use Rattle.dpkg_scenarios.specs.declared.scenario.State.{State}
@@ -25,9 +28,9 @@ use Rattle.dpkg_scenarios.specs.declared.scenario.StepWork.TheVariants.{RemoveOl
 use Rattle.dpkg_scenarios.specs.declared.scenario.StepNext.{StepNext}
 use Rattle.dpkg_scenarios.specs.declared.scenario.StepNext.TheVariants.{Go, Stop}
 
--- the words of a call, from the old package's version and the new one's
+-- the words of a call, from what is said of the packages
 abbrev pub Words : Type 0
-Words = List ℕ → List ℕ → List (List ℕ)
+Words = Said → List (List ℕ)
 
 -- what follows, by whether the package has neither a configuration file nor a postrm
 abbrev pub Follows : Type 0
@@ -53,7 +56,7 @@ old n script words ok failed =
 
 -- files are placed, which can fail
 abbrev pub places : ℕ → StepWork → Follows → Follows → Step
-places n work ok failed = record { number = n; work = work; words = λ o n. []; ok = ok; failed = failed }
+places n work ok failed = record { number = n; work = work; words = λ said. []; ok = ok; failed = failed }
 
 -- files are taken away, which cannot fail: what is not there is passed over
 abbrev pub removes : ℕ → StepWork → Follows → Step
@@ -65,23 +68,31 @@ restores n ok = places n Restore ok ok
 
 -- a word alone
 abbrev pub alone : List ℕ → Words
-alone word o n = word ∷ []
+alone word said = word ∷ []
 
 -- one and an empty one
 abbrev pub empty : List ℕ → Words
-empty word o n = word ∷ [] ∷ []
+empty word said = word ∷ [] ∷ []
 
 -- one and the old version
 abbrev pub from_old : List ℕ → Words
-from_old word o n = word ∷ o ∷ []
+from_old word said = word ∷ said.old_version ∷ []
 
 -- one and the new version
 abbrev pub to_new : List ℕ → Words
-to_new word o n = word ∷ n ∷ []
+to_new word said = word ∷ said.new_version ∷ []
 
 -- one, the old version and the new one
 abbrev pub from_to : List ℕ → Words
-from_to word o n = word ∷ o ∷ n ∷ []
+from_to word said = word ∷ said.old_version ∷ said.new_version ∷ []
+
+-- one, and the new package's name and version
+abbrev pub named : List ℕ → Words
+named word said = word ∷ said.new_name ∷ said.new_version ∷ []
+
+-- one, `in-favour`, and the new package's name and version
+abbrev pub favours : List ℕ → Words
+favours word said = word ∷ codes "in-favour" ∷ said.new_name ∷ said.new_version ∷ []
 
 -- a further step
 abbrev pub go : ℕ → Follows
@@ -165,6 +176,50 @@ purge_later =
     ∷ new 2 Postrm (alone (codes "purge")) (done NotInstalled) (failed ConfigFiles)
     ∷ []
 
+-- Policy 6.6, where an installed package conflicts with the new one, and is removed in its favour
+abbrev pub in_favour : List Step
+in_favour =
+    old 1 Prerm (favours (codes "remove")) (go 2) (go 7)
+    ∷ new 2 Preinst (alone (codes "install")) (go 3) (go 8)
+    ∷ places 3 Unpack (go 4) (go 9)
+    ∷ removes 4 RemoveOld (go 5)
+    ∷ old 5 Postrm (alone (codes "remove")) (go 6) (failed Unpacked)
+    ∷ new 6 Postinst (empty (codes "configure")) (done Installed) (failed HalfConfigured)
+    ∷ old 7 Postinst (favours (codes "abort-remove")) (failed NotInstalled) (failed NotInstalled)
+    ∷ new 8 Postrm (alone (codes "abort-install")) (go 7) (failed HalfInstalled)
+    ∷ restores 9 (go 8)
+    ∷ []
+
+-- Policy 6.6, where the new package breaks an installed one, which is deconfigured
+abbrev pub deconfigure : List Step
+deconfigure =
+    old 1 Prerm (favours (codes "deconfigure")) (go 2) (go 6)
+    ∷ new 2 Preinst (alone (codes "install")) (go 3) (go 5)
+    ∷ places 3 Unpack (go 4) (go 7)
+    ∷ new 4 Postinst (empty (codes "configure")) (done Installed) (failed HalfConfigured)
+    ∷ new 5 Postrm (alone (codes "abort-install")) (go 6) (failed HalfInstalled)
+    ∷ old 6 Postinst (favours (codes "abort-deconfigure")) (failed NotInstalled) (failed NotInstalled)
+    ∷ restores 7 (go 5)
+    ∷ []
+
+-- Policy 6.6, where the new package has every file of an installed one, which disappears
+abbrev pub disappear : List Step
+disappear =
+    new 1 Preinst (alone (codes "install")) (go 2) (go 5)
+    ∷ places 2 Unpack (go 3) (go 6)
+    ∷ old 3 Postrm (named (codes "disappear")) (go 4) (failed Unpacked)
+    ∷ new 4 Postinst (empty (codes "configure")) (done Installed) (failed HalfConfigured)
+    ∷ new 5 Postrm (alone (codes "abort-install")) (failed NotInstalled) (failed HalfInstalled)
+    ∷ restores 6 (go 5)
+    ∷ []
+
+-- Policy 6.7, for the first time and again: scripts are idempotent (Policy 6.2)
+abbrev pub twice : List Step
+twice =
+    new 1 Postinst (empty (codes "configure")) (go 2) (failed HalfConfigured)
+    ∷ new 2 Postinst (to_new (codes "configure")) (done Installed) (failed HalfConfigured)
+    ∷ []
+
 -- the table of a scenario
 abbrev pub table : Scenario → List Step
 table scenario.Install = install
@@ -173,6 +228,10 @@ table scenario.Upgrade = upgrade
 table scenario.Remove = remove
 table scenario.Purge = purge
 table scenario.PurgeLater = purge_later
+table scenario.InFavour = in_favour
+table scenario.Deconfigure = deconfigure
+table scenario.Disappear = disappear
+table scenario.Twice = twice
 
 -- What a scenario does beside its steps: its place among all, what is in place before it, the state that it is to bring
 -- the package to, which entries of the new package have to fit, which of its configuration files are placed, and which
@@ -189,9 +248,21 @@ columns_of scenario.Upgrade = does 2 before.OldInstalled Installed Added Added D
 columns_of scenario.Remove = does 3 before.Installed ConfigFiles NoEntry NoEntry Standing
 columns_of scenario.Purge = does 4 before.Installed NotInstalled NoEntry NoEntry Standing
 columns_of scenario.PurgeLater = does 5 before.ConfigFiles NotInstalled NoEntry NoEntry Left
+columns_of scenario.InFavour = does 6 before.OldInstalled Installed Added Added NoFolder
+columns_of scenario.Deconfigure = does 7 before.OldInstalled Installed Added Added NoFolder
+columns_of scenario.Disappear = does 8 before.OldInstalled Installed Added Added NoFolder
+columns_of scenario.Twice = does 9 before.Installed Installed NoEntry NoEntry NoFolder
 
--- all scenarios, in the order of their places
-abbrev pub all_scenarios : List Scenario
-all_scenarios =
+-- the scenarios that a check of a package answers for, in the order of their places
+abbrev pub checked_scenarios : List Scenario
+checked_scenarios =
     scenario.Install ∷ scenario.InstallAgain ∷ scenario.Upgrade ∷ scenario.Remove ∷ scenario.Purge
     ∷ scenario.PurgeLater ∷ []
+
+-- whether a scenario is one of these: they have the first places
+abbrev pub is_checked : Scenario → Bool
+is_checked scenario = nat_lt (columns_of scenario).place (length checked_scenarios)
+
+-- the scenarios of a pair of packages
+abbrev pub pair_scenarios : List Scenario
+pair_scenarios = scenario.InFavour ∷ scenario.Deconfigure ∷ scenario.Disappear ∷ []

@@ -6,6 +6,7 @@ use Rattle.dpkg_scenarios.specs.declared.scenario.Scenario.{Scenario}
 use Rattle.dpkg_scenarios.specs.declared.scenario.Scenario.TheVariants as scenario
 use Rattle.dpkg_scenarios.specs.declared.scenario.StepWork.{StepWork}
 use Rattle.dpkg_scenarios.specs.declared.scenario.StepNext.{StepNext}
+use Rattle.dpkg_scenarios.specs.declared.said.Said.{Said}
 use Rattle.dpkg_scenarios.specs.Scenarios.{Step, Follows, table}
 
 -- a step of the scenario, by its number
@@ -20,9 +21,9 @@ line scenario n = find (λ step. step.number == n) (table scenario)
 abbrev pub work_of : Scenario → ℕ → Option StepWork
 work_of scenario n = option_map (λ step. step.work) (line scenario n)
 
--- the words of the call, from the versions of the old and the new package
-abbrev pub words_of : Scenario → ℕ → List ℕ → List ℕ → Option (List (List ℕ))
-words_of scenario n old new = option_map (λ step. step.words old new) (line scenario n)
+-- the words of the call, from what is said of the packages
+abbrev pub words_of : Scenario → ℕ → Said → Option (List (List ℕ))
+words_of scenario n said = option_map (λ step. step.words said) (line scenario n)
 
 -- what follows, by whether the step succeeded
 abbrev pub follows : Step → Bool → Follows
@@ -43,6 +44,10 @@ order_of scenario.Upgrade = 1 ∷ 2 ∷ 3 ∷ 4 ∷ 5 ∷ 6 ∷ 7 ∷ 8 ∷ 9 �
 order_of scenario.Remove = 1 ∷ 2 ∷ 3 ∷ 4 ∷ []
 order_of scenario.Purge = 1 ∷ 2 ∷ 3 ∷ 4 ∷ 5 ∷ 6 ∷ []
 order_of scenario.PurgeLater = 1 ∷ 2 ∷ []
+order_of scenario.InFavour = 1 ∷ 2 ∷ 3 ∷ 4 ∷ 5 ∷ 6 ∷ 9 ∷ 8 ∷ 7 ∷ []
+order_of scenario.Deconfigure = 1 ∷ 2 ∷ 3 ∷ 4 ∷ 7 ∷ 5 ∷ 6 ∷ []
+order_of scenario.Disappear = 1 ∷ 2 ∷ 3 ∷ 4 ∷ 6 ∷ 5 ∷ []
+order_of scenario.Twice = 1 ∷ 2 ∷ []
 
 -- the place of a number in a list, from 1 on
 abbrev pub place_in : List ℕ → ℕ → ℕ

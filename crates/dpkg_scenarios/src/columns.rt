@@ -1,6 +1,6 @@
 // What each scenario does beside its steps, as one record.
 ghost use Rattle.std.specs.Prelude.{◌≡◌};
-ghost use Rattle.dpkg_scenarios.specs.Scenarios.{does, columns_of, all_scenarios};
+ghost use Rattle.dpkg_scenarios.specs.Scenarios.{does, columns_of, checked_scenarios, pair_scenarios};
 
 use crate::columns::NewEntries::{Added, Every, NoEntry};
 use crate::columns::OwnFolders::{Dropped, Left, NoFolder, Standing};
@@ -135,12 +135,16 @@ pub fn columns_of(scenario: Scenario) -> Columns
             Standing,
         ),
         Scenario::PurgeLater => does(5, Before::ConfigFiles, NotInstalled, NoEntry, NoEntry, Left),
+        Scenario::InFavour => does(6, Before::OldInstalled, Installed, Added, Added, NoFolder),
+        Scenario::Deconfigure => does(7, Before::OldInstalled, Installed, Added, Added, NoFolder),
+        Scenario::Disappear => does(8, Before::OldInstalled, Installed, Added, Added, NoFolder),
+        Scenario::Twice => does(9, Before::Installed, Installed, NoEntry, NoEntry, NoFolder),
     }
 }
 
-/// All scenarios, in the order in which they are reported.
-pub fn all_scenarios() -> &'static [Scenario]
-    ensures { result.now ≡ all_scenarios }
+/// The scenarios that a check of a package answers for, in the order in which they are reported.
+pub fn checked_scenarios() -> &'static [Scenario]
+    ensures { result.now ≡ checked_scenarios }
 {
     &[
         Scenario::Install,
@@ -149,5 +153,16 @@ pub fn all_scenarios() -> &'static [Scenario]
         Scenario::Remove,
         Scenario::Purge,
         Scenario::PurgeLater,
+    ]
+}
+
+/// The scenarios of a pair of packages.
+pub fn pair_scenarios() -> &'static [Scenario]
+    ensures { result.now ≡ pair_scenarios }
+{
+    &[
+        Scenario::InFavour,
+        Scenario::Deconfigure,
+        Scenario::Disappear,
     ]
 }

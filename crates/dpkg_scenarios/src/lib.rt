@@ -1,4 +1,4 @@
-//! What a package manager does with a package, step by step: six scenarios as tables, which script of which package is
+//! What a package manager does with a package, step by step: ten scenarios as tables, which script of which package is
 //! called in each step and with which words, and what follows on its success and on its failure (Debian Policy,
 //! chapter 6). It stands on script_names. Begin with specs/Scenarios.antt, which has a line for each step, and with
 //! `scenario`.
@@ -7,6 +7,7 @@
 mod call;
 mod columns;
 mod names;
+mod said;
 mod scenario;
 mod scripts;
 mod steps;
@@ -15,8 +16,11 @@ pub mod theorems;
 mod verdicts;
 
 pub use call::call_words;
-pub use columns::{Before, Columns, NewEntries, OwnFolders, all_scenarios, columns_of};
-pub use names::{scenario_name, scenario_named, script_name};
+pub use columns::{
+    Before, Columns, NewEntries, OwnFolders, checked_scenarios, columns_of, pair_scenarios,
+};
+pub use names::{pair_named, scenario_name, scenario_named, script_name};
+pub use said::Said;
 pub use scenario::{Ending, Scenario, ScriptKind, Side, State, StepNext, StepWork};
 pub use scripts::Scripts;
 pub use steps::{next, work};

@@ -2,9 +2,10 @@ ghost use Rattle.std.specs.Prelude.{◌≡◌};
 ghost use Rattle.std.specs.List.{find};
 ghost use Rattle.std.specs.Option.{option_copied};
 ghost use Rattle.std.specs.Str.{bytes_eq};
-ghost use Rattle.dpkg_scenarios.specs.Names.{scenario_name, scenario_named, script_name};
+ghost use Rattle.dpkg_scenarios.specs.Names.{scenario_name, named_among, scenario_named, pair_named};
+ghost use Rattle.dpkg_scenarios.specs.Names.{script_name};
 
-use crate::columns::all_scenarios;
+use crate::columns::{checked_scenarios, pair_scenarios};
 use crate::scenario::{Scenario, ScriptKind};
 
 /// The name of a scenario.
@@ -18,19 +19,30 @@ pub fn scenario_name(scenario: Scenario) -> &'static str
         Scenario::Remove => "remove",
         Scenario::Purge => "purge",
         Scenario::PurgeLater => "purge-later",
+        Scenario::InFavour => "in-favour",
+        Scenario::Deconfigure => "deconfigure",
+        Scenario::Disappear => "disappear",
+        Scenario::Twice => "twice",
     }
 }
 
-/// The scenario of this name.
+/// The scenario of this name, of those that a check answers for.
 pub fn scenario_named(name: &[u8]) -> Option<Scenario>
     ensures { result ≡ scenario_named name.now }
 {
-    named_among(all_scenarios(), name)
+    named_among(checked_scenarios(), name)
+}
+
+/// The scenario of this name, of those of a pair.
+pub fn pair_named(name: &[u8]) -> Option<Scenario>
+    ensures { result ≡ pair_named name.now }
+{
+    named_among(pair_scenarios(), name)
 }
 
 // The first of these scenarios that has this name.
 fn named_among(scenarios: &[Scenario], name: &[u8]) -> Option<Scenario>
-    ensures { result ≡ find (λ scenario. bytes_eq name.now (scenario_name scenario)) scenarios.now }
+    ensures { result ≡ named_among scenarios.now name.now }
 {
     match found(scenarios, name) {
         Some(scenario) => Some(*scenario),

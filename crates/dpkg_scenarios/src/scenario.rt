@@ -3,7 +3,7 @@ ghost use Rattle.std.specs.Prelude.{◌≡◌};
 use script_names::{Copied, Memory, Reason, Site};
 use std::alloc::Global;
 
-/// What is done with a package (Debian Policy, 6.5 to 6.8).
+/// What is done with a package, or with a new one and an installed one of another name (Debian Policy, 6.5 to 6.8).
 #[derive(Clone, Copy, Debug, PartialEq, Eq)]
 pub enum Scenario {
     /// A package that is not installed is installed.
@@ -18,6 +18,14 @@ pub enum Scenario {
     Purge,
     /// The configuration files that a removed package left are taken away.
     PurgeLater,
+    /// A package is installed, in favour of which an installed one is removed that conflicts with it.
+    InFavour,
+    /// A package is installed that breaks an installed one, which is deconfigured.
+    Deconfigure,
+    /// A package is installed that has every file of an installed one, which disappears.
+    Disappear,
+    /// A package is configured, and once more.
+    Twice,
 }
 
 /// The state of a package, as dpkg names them.

@@ -10,10 +10,10 @@ use crate::scenario::State::{
 use crate::scenario::{Scenario, ScriptKind, Side, State, StepWork};
 use crate::tables::Then::{Done, Failed, Go, Removed};
 use crate::tables::Verb::{
-    AbortInstall, AbortRemove, AbortUpgrade, Configure, FailedUpgrade, Install, Purge, Remove,
-    Upgrade,
+    AbortDeconfigure, AbortInstall, AbortRemove, AbortUpgrade, Configure, Deconfigure, Disappear,
+    FailedUpgrade, Install, Purge, Remove, Upgrade,
 };
-use crate::tables::Versions::{EmptyWord, FromOld, FromTo, NoWord, ToNew};
+use crate::tables::Versions::{EmptyWord, FromOld, FromTo, InFavour, Named, NoWord, ToNew};
 
 // The first word of a call.
 #[derive(Clone, Copy)]
@@ -27,9 +27,13 @@ pub enum Verb {
     Remove,
     AbortRemove,
     Purge,
+    Deconfigure,
+    AbortDeconfigure,
+    Disappear,
 }
 
-// The words behind the first one: none, an empty one, the old version, the new one, or the old one and the new one.
+// The words behind the first one: none, an empty one, the old version, the new one, the old one and the new one; the new
+// package's name and its version, or these behind `in-favour`.
 #[derive(Clone, Copy)]
 pub enum Versions {
     NoWord,
@@ -37,6 +41,8 @@ pub enum Versions {
     FromOld,
     ToNew,
     FromTo,
+    Named,
+    InFavour,
 }
 
 // The words of a step.
@@ -80,6 +86,15 @@ fn new(script: ScriptKind, verb: Verb, versions: Versions, ok: Then, failed: The
     }
 }
 
+// The new package is configured; where that fails, it is left half configured.
+fn configures(versions: Versions, ok: Then) -> Line
+    ensures { let work = StepWork.Script Side.New ScriptKind.Postinst in
+        let spoken = Spoken.Call Verb.Configure versions in
+        result ≡ record { work = work; spoken = spoken; ok = ok; failed = Then.Failed State.HalfConfigured } }
+{
+    new(Postinst, Configure, versions, ok, Failed(HalfConfigured))
+}
+
 // A script of the old package is called.
 fn old(script: ScriptKind, verb: Verb, versions: Versions, ok: Then, failed: Then) -> Line
     ensures { let work = StepWork.Script Side.Old script in
@@ -115,13 +130,7 @@ fn install(step: u16) -> Line
     match step {
         1 => new(Preinst, Install, NoWord, Go(2), Go(4)),
         2 => files(StepWork::Unpack, Go(3), Go(5)),
-        3 => new(
-            Postinst,
-            Configure,
-            EmptyWord,
-            Done(Installed),
-            Failed(HalfConfigured),
-        ),
+        3 => configures(EmptyWord, Done(Installed)),
         4 => new(
             Postrm,
             AbortInstall,
@@ -140,13 +149,7 @@ fn install_again(step: u16) -> Line
     match step {
         1 => new(Preinst, Install, FromTo, Go(2), Go(4)),
         2 => files(StepWork::Unpack, Go(3), Go(5)),
-        3 => new(
-            Postinst,
-            Configure,
-            FromOld,
-            Done(Installed),
-            Failed(HalfConfigured),
-        ),
+        3 => configures(FromOld, Done(Installed)),
         4 => new(
             Postrm,
             AbortInstall,
@@ -170,13 +173,7 @@ fn upgrade(step: u16) -> Line
         5 => old(Postrm, Upgrade, ToNew, Go(7), Go(6)),
         6 => new(Postrm, FailedUpgrade, FromTo, Go(7), Go(13)),
         7 => files(StepWork::RemoveOld, Go(8), Go(8)),
-        8 => new(
-            Postinst,
-            Configure,
-            FromOld,
-            Done(Installed),
-            Failed(HalfConfigured),
-        ),
+        8 => configures(FromOld, Done(Installed)),
         _ => upgrade_undone(step),
     }
 }
@@ -268,6 +265,80 @@ fn purge_later(step: u16) -> Line
     }
 }
 
+fn in_favour(step: u16) -> Line
+    requires { IsStep Scenario.InFavour step }
+    ensures { IsLine Scenario.InFavour step result }
+{
+    match step {
+        1 => old(Prerm, Remove, InFavour, Go(2), Go(7)),
+        2 => new(Preinst, Install, NoWord, Go(3), Go(8)),
+        3 => files(StepWork::Unpack, Go(4), Go(9)),
+        4 => files(StepWork::RemoveOld, Go(5), Go(5)),
+        5 => old(Postrm, Remove, NoWord, Go(6), Failed(Unpacked)),
+        6 => configures(EmptyWord, Done(Installed)),
+        7 => old(
+            Postinst,
+            AbortRemove,
+            InFavour,
+            Failed(NotInstalled),
+            Failed(NotInstalled),
+        ),
+        8 => new(Postrm, AbortInstall, NoWord, Go(7), Failed(HalfInstalled)),
+        _ => files(StepWork::Restore, Go(8), Go(8)),
+    }
+}
+
+fn deconfigure(step: u16) -> Line
+    requires { IsStep Scenario.Deconfigure step }
+    ensures { IsLine Scenario.Deconfigure step result }
+{
+    match step {
+        1 => old(Prerm, Deconfigure, InFavour, Go(2), Go(6)),
+        2 => new(Preinst, Install, NoWord, Go(3), Go(5)),
+        3 => files(StepWork::Unpack, Go(4), Go(7)),
+        4 => configures(EmptyWord, Done(Installed)),
+        5 => new(Postrm, AbortInstall, NoWord, Go(6), Failed(HalfInstalled)),
+        6 => old(
+            Postinst,
+            AbortDeconfigure,
+            InFavour,
+            Failed(NotInstalled),
+            Failed(NotInstalled),
+        ),
+        _ => files(StepWork::Restore, Go(5), Go(5)),
+    }
+}
+
+fn disappear(step: u16) -> Line
+    requires { IsStep Scenario.Disappear step }
+    ensures { IsLine Scenario.Disappear step result }
+{
+    match step {
+        1 => new(Preinst, Install, NoWord, Go(2), Go(5)),
+        2 => files(StepWork::Unpack, Go(3), Go(6)),
+        3 => old(Postrm, Disappear, Named, Go(4), Failed(Unpacked)),
+        4 => configures(EmptyWord, Done(Installed)),
+        5 => new(
+            Postrm,
+            AbortInstall,
+            NoWord,
+            Failed(NotInstalled),
+            Failed(HalfInstalled),
+        ),
+        _ => files(StepWork::Restore, Go(5), Go(5)),
+    }
+}
+
+fn twice(step: u16) -> Line
+    requires { IsStep Scenario.Twice step }
+    ensures { IsLine Scenario.Twice step result }
+{
+    match step {
+        1 => configures(EmptyWord, Go(2)),
+        _ => configures(ToNew, Done(Installed)),
+    }
+}
+
 // The line of a step.
 pub fn line_of(scenario: Scenario, step: u16) -> Line
     requires { IsStep scenario step }
@@ -280,5 +351,9 @@ pub fn line_of(scenario: Scenario, step: u16) -> Line
         Scenario::Remove => remove(step),
         Scenario::Purge => purge(step),
         Scenario::PurgeLater => purge_later(step),
+        Scenario::InFavour => in_favour(step),
+        Scenario::Deconfigure => deconfigure(step),
+        Scenario::Disappear => disappear(step),
+        Scenario::Twice => twice(step),
     }
 }

@@ -1,9 +1,9 @@
 -- Bytes without the blanks at their end, looked at from the last byte on.
-use Rattle.std.proofs.Common.{◌≡◌, ℕ, ◌+◌, ◌-◌, ◌<◌, ◌≤◌, Bool, true, false, List, [], ◌∷◌, ◌++◌, length, take, drop, get_or, map, Bor, codes, refl, sym, ap, ◌∙◌, arith}
+use Rattle.std.proofs.Common.{◌≡◌, ℕ, ◌+◌, ◌-◌, ◌<◌, ◌≤◌, Bool, true, false, List, [], ◌∷◌, ◌++◌, length, take, drop, get_or, map, Bor, Some, refl, sym, ap, ◌∙◌, arith}
 use Rattle.std.specs.Prelude.{◌&&◌, nat_eq, if◌then◌else◌}
 use Rattle.std.specs.List.{list_all, starts_with}
 use Rattle.std.proofs.lemmas.List.{take_more, drop_more}
-use Rattle.package_lists.specs.Control.{is_blank, before_blanks, trimmed, version_of, first_version}
+use Rattle.package_lists.specs.Control.{is_blank, before_blanks, trimmed, first_field}
 
 all_last : (xs : List ℕ) (b : ℕ) → list_all is_blank (xs ++ b ∷ []) ≡ (list_all is_blank xs && is_blank b)
 all_last [] b = step (is_blank b)
@@ -51,10 +51,10 @@ module _ (bytes : List ℕ) (end : ℕ) (some : 0 < end) (within : end ≤ lengt
   pub other_stays : is_blank (get_or bytes (end - 1) 0) ≡ false → before_blanks (take end bytes) ≡ take end bytes
   other_stays e = ap before_blanks cut_last ∙ other_last (take (end - 1) bytes) (get_or bytes (end - 1) 0) e ∙ sym cut_last
 
--- the first of the lines that are left begins with `Version:`
-pub found_version : (lines : List (Bor (List ℕ))) (i : ℕ) (d : Bor (List ℕ)) (n : ℕ) → i < length lines
-    → starts_with nat_eq (get_or lines i d).now (codes "Version:") ≡ true
-    → first_version n (map (λ line. line.now) (drop i lines)) ≡ version_of n (trimmed (drop 8 (get_or lines i d).now))
-found_version lines i d n lt e =
-    ap (λ ls. first_version n (map (λ line. line.now) ls)) (drop_more lines i d lt)
-    ∙ ap (λ b. if b then version_of n (trimmed (drop 8 (get_or lines i d).now)) else first_version (n + 1) (map (λ line. line.now) (drop (i + 1) lines))) e
+-- the first of the lines that are left has the field
+pub found_field : (field : List ℕ) (lines : List (Bor (List ℕ))) (i : ℕ) (d : Bor (List ℕ)) (n : ℕ) → i < length lines
+    → starts_with nat_eq (get_or lines i d).now field ≡ true
+    → first_field field n (map (λ line. line.now) (drop i lines)) ≡ Some (n, trimmed (drop (length field) (get_or lines i d).now))
+found_field field lines i d n lt e =
+    ap (λ ls. first_field field n (map (λ line. line.now) ls)) (drop_more lines i d lt)
+    ∙ ap (λ b. if b then Some (n, trimmed (drop (length field) (get_or lines i d).now)) else first_field field (n + 1) (map (λ line. line.now) (drop (i + 1) lines))) e

@@ -1,6 +1,6 @@
--- The version of a package, from its control file (Debian Policy, 5.6.12).
+-- The version and the name of a package, from its control file (Debian Policy, 5.6.12 and 5.6.7).
 use Rattle.std.specs.Prelude.{ℕ, ◌+◌, Bool, ◌&&◌, ◌||◌, ◌==◌, nat_eq, nat_le, List, [], ◌∷◌}
-use Rattle.std.specs.Prelude.{drop, codes, Result, Ok, Err, if◌then◌else◌}
+use Rattle.std.specs.Prelude.{length, drop, codes, Option, Some, None, Result, Ok, Err, if◌then◌else◌}
 use Rattle.std.specs.List.{list_all, starts_with}
 use Rattle.script_names.specs.Ascii.{colon, digit_nine, digit_zero, full_stop, hyphen, lower_a, lower_z, plus, space}
 use Rattle.script_names.specs.Ascii.{tab, tilde, upper_a, upper_z}
@@ -27,6 +27,18 @@ before_blanks (b ∷ bs) = if list_all is_blank (b ∷ bs) then [] else b ∷ be
 abbrev pub trimmed : List ℕ → List ℕ
 trimmed bytes = before_blanks (after_blanks bytes)
 
+-- the number and the value of the first of these lines that has a field, which begins so; lines from number n on
+abbrev pub first_field : List ℕ → ℕ → List (List ℕ) → Option (ℕ × List ℕ)
+first_field field n [] = None
+first_field field n (line ∷ lines) =
+    if starts_with nat_eq line field then Some (n, trimmed (drop (length field) line))
+    else first_field field (n + 1) lines
+
+-- what the value of a line comes to; without a line it is the usual one
+abbrev pub value_or : List ℕ → (ℕ → List ℕ → Result (List ℕ) LineFault) → Option (ℕ × List ℕ) → Result (List ℕ) LineFault
+value_or usual comes None = Ok usual
+value_or usual comes (Some line) = comes line.0 line.1
+
 -- a byte that a version may have: a letter, a digit, `.`, `+`, `-`, `:` or `~`
 abbrev pub is_version_byte : ℕ → Bool
 is_version_byte b =
@@ -42,13 +54,24 @@ is_version bytes = is_filled bytes && list_all is_version_byte bytes
 abbrev pub version_of : ℕ → List ℕ → Result (List ℕ) LineFault
 version_of n value = if is_version value then Ok value else Err (Line n 1)
 
--- the value of the first of these lines that begins with `Version:`, from line n on; without one the version is `0`
-abbrev pub first_version : ℕ → List (List ℕ) → Result (List ℕ) LineFault
-first_version n [] = Ok (codes "0")
-first_version n (line ∷ lines) =
-    if starts_with nat_eq line (codes "Version:") then version_of n (trimmed (drop 8 line))
-    else first_version (n + 1) lines
-
--- the version of a control file, or its line at fault
+-- the version of a control file, or its line at fault; without one it is `0`
 abbrev pub control_of : List ℕ → Result (List ℕ) LineFault
-control_of text = first_version 1 (text_lines text)
+control_of text = value_or (codes "0") version_of (first_field (codes "Version:") 1 (text_lines text))
+
+-- a byte that the name of a package may have: a lower-case letter, a digit, `+`, `-` or `.`
+abbrev pub is_package_byte : ℕ → Bool
+is_package_byte b =
+    (nat_le lower_a b && nat_le b lower_z) || (nat_le digit_zero b && nat_le b digit_nine) || (b == plus)
+    || (b == hyphen) || (b == full_stop)
+
+-- the name of a package: such bytes, at least one
+abbrev pub is_package_name : List ℕ → Bool
+is_package_name bytes = is_filled bytes && list_all is_package_byte bytes
+
+-- the name of line n, where the value is one
+abbrev pub name_of : ℕ → List ℕ → Result (List ℕ) LineFault
+name_of n value = if is_package_name value then Ok value else Err (Line n 2)
+
+-- the name of the package of a control file, or its line at fault; without one it is `unnamed`
+abbrev pub package_name_of : List ℕ → Result (List ℕ) LineFault
+package_name_of text = value_or (codes "unnamed") name_of (first_field (codes "Package:") 1 (text_lines text))

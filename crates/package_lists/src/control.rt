@@ -1,7 +1,8 @@
-ghost use Rattle.std.specs.Prelude.{◌≡◌, map, IfOk, drop, codes, Some, None, Ok, if◌then◌else◌};
+ghost use Rattle.std.specs.Prelude.{◌≡◌, map, IfOk, MatchOption, drop, codes, Some, None, Ok, if◌then◌else◌};
 ghost use Rattle.std.specs.List.{list_all};
-ghost use Rattle.package_lists.specs.Control.{is_blank, after_blanks, before_blanks, trimmed, is_version_byte};
-ghost use Rattle.package_lists.specs.Control.{is_version, version_of, first_version, control_of};
+ghost use Rattle.package_lists.specs.Control.{is_blank, after_blanks, before_blanks, trimmed, first_field};
+ghost use Rattle.package_lists.specs.Control.{is_version_byte, is_version, version_of, control_of};
+ghost use Rattle.package_lists.specs.Control.{is_package_byte, is_package_name, name_of, package_name_of};
 ghost use Rattle.package_lists.specs.Faults.{IsAnswer};
 
 use crate::fault::LineFault;
@@ -16,22 +17,44 @@ pub fn read_control(alloc: Global, text: &[u8]) -> Result<Bytes, LineFault>
     ensures { IsAnswer (control_of text.now) result }
 {
     let lines = text_lines(alloc, text)?;
-    first_version(alloc, lines.as_slice())
+    match first_field(lines.as_slice(), b"Version:") {
+        None => {
+            let zero = Bytes::from_slice(alloc, b"0")?;
+            Ok(zero)
+        }
+        Some((number, value)) => version_of(alloc, number, value),
+    }
 }
 
-// The version of the first line that has one.
-fn first_version(alloc: Global, lines: &[&[u8]]) -> Result<Bytes, LineFault>
-    ensures { IsAnswer (first_version 1 (map (λ line. line.now) lines.now)) result }
+/// The name of a package, from its control file (Debian Policy, 5.6.7): the value of the first line that begins with
+/// `Package:`, without the spaces and tabs at both ends; `unnamed` without such a line. Why 2: that value is empty, or
+/// has a byte that is no lower-case letter, no digit and none of `+`, `-` and `.`. Nothing else is looked at.
+pub fn read_name(alloc: Global, text: &[u8]) -> Result<Bytes, LineFault>
+    ensures { IsAnswer (package_name_of text.now) result }
+{
+    let lines = text_lines(alloc, text)?;
+    match first_field(lines.as_slice(), b"Package:") {
+        None => {
+            let unnamed = Bytes::from_slice(alloc, b"unnamed")?;
+            Ok(unnamed)
+        }
+        Some((number, value)) => name_of(alloc, number, value),
+    }
+}
+
+// The number and the value of the first line that has a field, which begins so.
+fn first_field<'a>(lines: &[&'a [u8]], field: &[u8]) -> Option<(u64, &'a [u8])>
+    ensures { let found = first_field field.now 1 (map (λ line. line.now) lines.now) in
+        MatchOption result (found ≡ None) (λ line. found ≡ Some (line.0, line.1.now)) }
 {
     let mut number = 0u64;
     for line in lines {
         number += 1;
-        if line.starts_with(b"Version:") {
-            return version_of(alloc, number, trimmed(&line[8..]));
+        if line.starts_with(field) {
+            return Some((number, trimmed(&line[field.len()..])));
         }
     }
-    let zero = Bytes::from_slice(alloc, b"0")?;
-    Ok(zero)
+    None
 }
 
 // The version of a line, where the value is one.
@@ -46,6 +69,20 @@ fn version_of(alloc: Global, number: u64, value: &[u8]) -> Result<Bytes, LineFau
     }
     let version = Bytes::from_slice(alloc, value)?;
     Ok(version)
+}
+
+// The name of a line, where the value is one.
+fn name_of(alloc: Global, number: u64, value: &[u8]) -> Result<Bytes, LineFault>
+    ensures { IsAnswer (name_of number value.now) result }
+{
+    if !is_package_name(value) {
+        return Err(LineFault::Line {
+            line: number,
+            why: 2,
+        });
+    }
+    let name = Bytes::from_slice(alloc, value)?;
+    Ok(name)
 }
 
 // The bytes without the blanks at both ends.
@@ -116,4 +153,25 @@ fn is_version_byte(b: u8) -> bool
         || b == b'-'
         || b == b':'
         || b == b'~'
+}
+
+// Whether the bytes are the name of a package.
+fn is_package_name(bytes: &[u8]) -> bool
+    ensures { result ≡ is_package_name bytes.now }
+{
+    !bytes.is_empty() && are_package_bytes(bytes)
+}
+
+// Whether the name of a package may have each of the bytes.
+fn are_package_bytes(bytes: &[u8]) -> bool
+    ensures { result ≡ list_all is_package_byte bytes.now }
+{
+    bytes.iter().all(|b| is_package_byte(*b))
+}
+
+// Whether the name of a package may have the byte.
+fn is_package_byte(b: u8) -> bool
+    ensures { result ≡ is_package_byte b }
+{
+    (b >= b'a' && b <= b'z') || (b >= b'0' && b <= b'9') || b == b'+' || b == b'-' || b == b'.'
 }

@@ -23,14 +23,14 @@ use Rattle.scenario_runs.proofs.Walking.{Comes, goes_on, ends}
 -- the call of a step's script is the work of its line
 pub script_works : (plan : Plan) (n : ℕ) (c : Course) (side : Side) (script : ScriptKind) (r : Result Worked Memory) (what : StepWork)
     → work_of plan.scenario n ≡ Some what → what ≡ work.Script side script
-    → ((words : List (List ℕ)) → words_of plan.scenario n plan.old_version plan.new_version ≡ Some words
+    → ((words : List (List ℕ)) → words_of plan.scenario n plan.said ≡ Some words
     → IfOk r (λ worked. worked ≡ call_script plan.premises n side script words (plan.scripts side script) c))
     → IfOk r (λ worked. Works plan n c worked)
 script_works plan n c side script r what told is calls =
     let t : IsTold (λ step. step.work) (line plan.scenario n) what = is_told (λ step. step.work) (line plan.scenario n) what told in
     let words : List (List ℕ) = words_in plan t.step in
-    let spoken : words_of plan.scenario n plan.old_version plan.new_version ≡ Some words =
-    ap (option_map (λ step. step.words plan.old_version plan.new_version)) t.is_line in
+    let spoken : words_of plan.scenario n plan.said ≡ Some words =
+    ap (option_map (λ step. step.words plan.said)) t.is_line in
     IfOk-weaker r (λ worked. worked ≡ call_script plan.premises n side script words (plan.scripts side script) c) (λ worked. Works plan n c worked)
     (λ worked e. record {
       step = t.step;
@@ -38,6 +38,22 @@ script_works plan n c side script r what told is calls =
       is_work = e ∙ ap (λ x. do_work plan n x words c) (sym (t.told ∙ is));
     })
     (calls words spoken)
+
+-- what is done with files is the work of its line, which looks at no words
+pub line_works : (plan : Plan) (n : ℕ) (c : Course) (r : Result Worked Memory) (what one : StepWork)
+    → work_of plan.scenario n ≡ Some what → what ≡ one
+    → ((words : List (List ℕ)) → IfOk r (λ worked. worked ≡ do_work plan n one words c))
+    → IfOk r (λ worked. Works plan n c worked)
+line_works plan n c r what one told is does =
+    let t : IsTold (λ step. step.work) (line plan.scenario n) what = is_told (λ step. step.work) (line plan.scenario n) what told in
+    let words : List (List ℕ) = words_in plan t.step in
+    IfOk-weaker r (λ worked. worked ≡ do_work plan n one words c) (λ worked. Works plan n c worked)
+    (λ worked e. record {
+      step = t.step;
+      is_line = t.is_line;
+      is_work = e ∙ ap (λ x. do_work plan n x words c) (sym (t.told ∙ is));
+    })
+    (does words)
 
 -- what a step leads to that goes on
 pub record GoesOn (plan : Plan) (tree : Value) (n m : ℕ) (c : Course) : Type 0 where

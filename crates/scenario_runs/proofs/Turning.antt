@@ -32,7 +32,7 @@ use Rattle.dpkg_scenarios.specs.Scripts.{script_of}
 use Rattle.scenario_runs.specs.Runs.{Meaning, Plan, begun_shell, script_end, called, call_script, site_at, acted}
 use Rattle.scenario_runs.specs.Runs.{ended_behind, or_more, do_files, keeping_tree, counted, returned, do_backs, restored}
 use Rattle.scenario_runs.specs.Runs.{do_work, words_in, next_behind, followed, do_step, go_next, go_steps, begun}
-use Rattle.scenario_runs.specs.Runs.{replayed_at, replayed, package_of, program_meaning, plan_of}
+use Rattle.scenario_runs.specs.Runs.{replayed_at, replayed, scripts_in, program_meaning, plan_of}
 use Rattle.scenario_runs.specs.Laws.{is_bound, IsSameWithMore, AreSameWithMore, plan_with_more, MoreTurnsOfPlans, MoreTurns}
 
 -- ---- with more turns left
@@ -208,5 +208,5 @@ programs_same law (Some program) meaning e =
 pub jobs_same : programs.MoreTurnsSameRun → MoreTurns
 jobs_same law job n tree run e =
     plans_same (plan_of job)
-    (λ side script. programs_same law (script_of script (package_of job side).scripts))
+    (λ side script. programs_same law (script_of script (scripts_in job side)))
     n tree run e

@@ -174,7 +174,7 @@ module _ (job : Job) (files : ArePerformed job.files) where
       (λ w trace deeds. r.do_work (r.plan_of job) n what words (course_at calls turns unpacked w trace deeds))
   work_plays n (work.Script side script) words calls turns unpacked =
       script_plays job.premises n side script words calls turns unpacked
-      (script_of script (r.package_of job side).scripts)
+      (script_of script (r.scripts_in job side))
   work_plays n work.Unpack words calls turns unpacked =
       unpack_plays calls turns unpacked n job.files.unpack files.unpack
   work_plays n work.RemoveFiles words calls turns unpacked =

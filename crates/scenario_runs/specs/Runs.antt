@@ -23,6 +23,7 @@ use Rattle.shell_rules.specs.declared.run.End.TheVariants as end
 use Rattle.shell_rules.specs.Whole.{Ended}
 use Rattle.colis_syntax.specs.WellFormed.{ProgramParts}
 use Rattle.colis_meaning.specs.Meaning.{co_program}
+use Rattle.dpkg_scenarios.specs.declared.said.Said.{Said}
 use Rattle.dpkg_scenarios.specs.declared.scenario.Scenario.{Scenario}
 use Rattle.dpkg_scenarios.specs.declared.scenario.ScriptKind.{ScriptKind}
 use Rattle.dpkg_scenarios.specs.declared.scenario.Side.{Side}
@@ -34,9 +35,9 @@ use Rattle.dpkg_scenarios.specs.declared.scenario.StepNext.TheVariants.{Go, Stop
 use Rattle.dpkg_scenarios.specs.declared.scenario.Ending.TheVariants as ending
 use Rattle.dpkg_scenarios.specs.Names.{script_name}
 use Rattle.dpkg_scenarios.specs.Scenarios.{Step, table}
+use Rattle.dpkg_scenarios.specs.declared.scripts.Scripts.{Scripts}
 use Rattle.dpkg_scenarios.specs.Scripts.{script_of}
 use Rattle.dpkg_scenarios.specs.Steps.{line, follows}
-use Rattle.scenario_runs.specs.declared.job.PackagePrograms.{PackagePrograms}
 use Rattle.scenario_runs.specs.declared.job.Files.{Files}
 use Rattle.scenario_runs.specs.declared.job.Job.{Job}
 use Rattle.scenario_runs.specs.declared.call.ScriptCall.{ScriptCall}
@@ -58,13 +59,12 @@ pub record Meaning : Type 0 where
   pub ends : ℕ → Conc → Value → List Mark → Ended
 
 -- What the run of a scenario needs: the scenario, whether the new package has neither a configuration file nor a
--- postrm, the versions of both packages, what each script of either package does, where it has that one, what is done
--- with files, what is known of the system, and how many turns of loops the scripts have, together.
+-- postrm, what the scripts are told of the packages, what each script of either package does, where it has that one,
+-- what is done with files, what is known of the system, and how many turns of loops the scripts have, together.
 pub record Plan : Type 0 where
   pub scenario : Scenario
   pub plain : Bool
-  pub old_version : List ℕ
-  pub new_version : List ℕ
+  pub said : Said
   pub scripts : Side → ScriptKind → Option Meaning
   pub files : Files
   pub premises : Premises
@@ -211,7 +211,7 @@ do_work plan n work.Restore words c = restore n plan.files.backs c
 
 -- the words of a step's call
 abbrev pub words_in : Plan → Step → List (List ℕ)
-words_in plan step = step.words plan.old_version plan.new_version
+words_in plan step = step.words plan.said
 
 -- what follows a step whose work ended so
 abbrev pub next_behind : Bool → Step → WorkEnd → StepNext
@@ -265,10 +265,10 @@ run_of plan tree =
 
 -- ---- the run of a job, whose scripts are programs
 
--- one of the packages
-abbrev pub package_of : Job → Side → PackagePrograms
-package_of job New = job.new_package
-package_of job Old = job.old_package
+-- the scripts of one of the packages
+abbrev pub scripts_in : Job → Side → Scripts ProgramParts
+scripts_in job New = job.new_scripts
+scripts_in job Old = job.old_scripts
 
 -- what a program does
 abbrev pub program_meaning : ProgramParts → Meaning
@@ -279,9 +279,8 @@ abbrev pub plan_of : Job → Plan
 plan_of job = record {
   scenario = job.scenario;
   plain = job.plain;
-  old_version = job.old_package.version;
-  new_version = job.new_package.version;
-  scripts = λ side script. option_map program_meaning (script_of script (package_of job side).scripts);
+  said = job.said;
+  scripts = λ side script. option_map program_meaning (script_of script (scripts_in job side));
   files = job.files;
   premises = job.premises;
   turns = job.turns;

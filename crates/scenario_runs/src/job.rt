@@ -1,29 +1,14 @@
 ghost use Rattle.std.specs.Prelude.{◌≡◌};
 ghost use Rattle.scenario_runs.specs.Performed.{ArePerformed};
-ghost use Rattle.scenario_runs.specs.Runs.{package_of};
+ghost use Rattle.scenario_runs.specs.Runs.{scripts_in};
 
 use crate::file_acts::FileActs;
 use crate::file_backs::FileBacks;
 use colis_syntax::Program;
-use dpkg_scenarios::{Scenario, Scripts, Side};
-use script_names::{Bytes, Common, Copied, Memory};
+use dpkg_scenarios::{Said, Scenario, Scripts, Side};
+use script_names::{Common, Copied, Memory};
 use shell_rules::Premises;
 use std::alloc::Global;
-
-/// What the run of a scenario needs of a package: its version, which scripts are told, and its scripts as programs.
-#[derive(Drop)]
-pub struct PackagePrograms {
-    pub version: Bytes,
-    pub scripts: Scripts<Program>,
-}
-
-impl Copied for PackagePrograms {
-    fn copy(&self, alloc: Global) -> Result<PackagePrograms, Memory> {
-        let version = self.version.copy(alloc)?;
-        let scripts = self.scripts.copy(alloc)?;
-        Ok(PackagePrograms { version, scripts })
-    }
-}
 
 /// What is done with files in the steps of a scenario, for each work of a step that is no script: the acts, and for
 /// each act that unpacks what undoes it, in the same order.
@@ -54,14 +39,15 @@ impl Copied for Files {
 }
 
 /// What the run of a scenario needs: the scenario, whether the new package has neither a configuration file nor a
-/// postrm, both packages, what is done with files, what is known of the system, and how many turns of loops its scripts
-/// have, together.
+/// postrm, what its scripts are told of the packages, the scripts of both as programs, what is done with files, what is
+/// known of the system, and how many turns of loops its scripts have, together.
 #[derive(Drop)]
 pub struct Job {
     pub scenario: Scenario,
     pub plain: bool,
-    pub new_package: PackagePrograms,
-    pub old_package: PackagePrograms,
+    pub said: Said,
+    pub new_scripts: Scripts<Program>,
+    pub old_scripts: Scripts<Program>,
     pub files: Files,
     pub premises: Common<Premises>,
     pub turns: u32,
@@ -69,15 +55,17 @@ pub struct Job {
 
 impl Copied for Job {
     fn copy(&self, alloc: Global) -> Result<Job, Memory> {
-        let new_package = self.new_package.copy(alloc)?;
-        let old_package = self.old_package.copy(alloc)?;
+        let said = self.said.copy(alloc)?;
+        let new_scripts = self.new_scripts.copy(alloc)?;
+        let old_scripts = self.old_scripts.copy(alloc)?;
         let files = self.files.copy(alloc)?;
         let premises = self.premises.fork()?;
         Ok(Job {
             scenario: self.scenario,
             plain: self.plain,
-            new_package,
-            old_package,
+            said,
+            new_scripts,
+            old_scripts,
             files,
             premises,
             turns: self.turns,
@@ -86,13 +74,13 @@ impl Copied for Job {
 }
 
 impl Job {
-    /// One of the packages.
-    pub(crate) fn package(&self, side: Side) -> &PackagePrograms
-        ensures { result.now ≡ package_of self.now side }
+    /// The scripts of one of the packages.
+    pub(crate) fn scripts(&self, side: Side) -> &Scripts<Program>
+        ensures { result.now ≡ scripts_in self.now side }
     {
         match side {
-            Side::New => &self.new_package,
-            Side::Old => &self.old_package,
+            Side::New => &self.new_scripts,
+            Side::Old => &self.old_scripts,
         }
     }
 

@@ -21,7 +21,7 @@ pub use call::{CallEnd, ScriptCall};
 pub use course::{Course, Reached, WorkEnd, Worked};
 pub use file_acts::FileActs;
 pub use file_backs::FileBacks;
-pub use job::{Files, Job, PackagePrograms};
+pub use job::{Files, Job};
 pub use replayed::Replayed;
 pub use restoring::restored;
 pub use runs::run;

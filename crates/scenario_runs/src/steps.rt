@@ -29,22 +29,18 @@ fn call_step(
     requires step { IsStep job.now.scenario step }
     requires dir { kind_of course.tree ≡ Dir }
     ensures call { (words : List (List ℕ))
-        → let o = job.now.old_package.version in
-        let n = job.now.new_package.version in
-        let meaning = (plan_of job.now).scripts side script in
-        words_of job.now.scenario step o n ≡ Some words
+        → let meaning = (plan_of job.now).scripts side script in
+        words_of job.now.scenario step job.now.said ≡ Some words
         → IfOk result (λ worked. worked ≡ call_script job.now.premises step side script words meaning course) }
     ensures dir { IfOk result (λ worked. kind_of worked.course.tree ≡ Dir) }
 {
-    match job.package(side).scripts.get(script) {
+    match job.scripts(side).get(script) {
         None => Ok(Worked {
             end: WorkEnd::Succeeded,
             course,
         }),
         Some(program) => {
-            let before = &job.old_package.version;
-            let now = &job.new_package.version;
-            let words = call_words(alloc, job.scenario, step, before, now)?;
+            let words = call_words(alloc, job.scenario, step, &job.said)?;
             let premises = &job.premises;
             call_script(alloc, premises, step, side, script, words, program, course)
         }
