@@ -1,7 +1,7 @@
 -- The request that settings make, and the one that their texts ask for.
-use Rattle.std.proofs.Common.{◌≡◌, ◌≢◌, ℕ, Bool, true, false, List, [], ◌∷◌, Option, Some, None, refl, sym, ap, subst, ◌∙◌, codes}
-use Rattle.std.specs.Prelude.{IfSome, if◌then◌else◌, ◌||◌}
-use Rattle.std.specs.Option.{is_some, option_map, option_and_then, unwrap_or}
+use Rattle.std.proofs.Common.{◌≡◌, ℕ, zero, suc, Bool, true, false, List, [], ◌∷◌, Option, Some, None, refl, sym, ap, subst, ◌∙◌, codes}
+use Rattle.std.specs.Prelude.{if◌then◌else◌, ◌||◌}
+use Rattle.std.specs.Option.{is_some, option_and_then, unwrap_or}
 use Rattle.std.specs.Str.{bytes_eq}
 use Rattle.std.proofs.lemmas.Slice.Eq.{bytes_eq-Decides}
 use Rattle.dpkg_scenarios.specs.declared.scenario.Scenario.{Scenario}
@@ -14,17 +14,17 @@ use Rattle.command_words.specs.declared.request.Folders.{Folders}
 use Rattle.command_words.specs.declared.request.Layout.{Layout}
 use Rattle.command_words.specs.declared.request.Layout.TheVariants.{Plain, Brief, Json}
 use Rattle.command_words.specs.declared.request.Request.{Request}
-use Rattle.command_words.specs.declared.request.Request.TheVariants.{Check, Run, Translate, Load}
+use Rattle.command_words.specs.declared.request.Request.TheVariants.{Check, Run, Translate, Load, Predict, Explain, Pair, Twice}
 use Rattle.command_words.specs.declared.limits.TheConstants.{MOST_LOAD, MOST_TURNS, MOST_LIMIT}
 use Rattle.command_words.specs.declared.limits.TheConstants.{USUAL_TURNS, USUAL_LIMIT}
-use Rattle.command_words.specs.Fields.{takes, texts, first, given, is_field, command_name}
-use Rattle.dpkg_scenarios.proofs.Named.{names_scenario, scenario_read}
-use Rattle.dpkg_scenarios.specs.Names.{scenario_name, scenario_named}
+use Rattle.command_words.specs.Fields.{takes, fields_of, names_of, most, texts, first, behind, given, command_name}
+use Rattle.dpkg_scenarios.specs.Names.{scenario_named, pair_named}
 use Rattle.command_words.specs.Values.{number_in, is_value}
-use Rattle.command_words.specs.Requests.{number_or, scenario_said, layout_by, folders_said, check_of, run_from, load_by}
-use Rattle.command_words.specs.Requests.{request_by, request_of}
-use Rattle.command_words.specs.CommandLines.{Texts, listed, IsNumberOr, IsNumber, layout_words, NamesFolders, AsksCheck, AsksRun, AsksTranslate, AsksLoad, Asks, command_of}
-use Rattle.command_words.proofs.Fitting.{OneOf, Suits, AllFit, same_field}
+use Rattle.command_words.specs.Requests.{number_or, scenario_said, layout_by, folders_said, check_of, explain_of, run_from, load_by, predict_by}
+use Rattle.command_words.specs.Requests.{pair_said, pair_from, twice_of, request_by, request_of}
+use Rattle.command_words.specs.CommandLines.{Texts, listed, IsNumberOr, IsNumber, IsScenarioOr, IsScenario, layout_words, places_words, NoOthers, NamesFolders}
+use Rattle.command_words.specs.CommandLines.{AsksCheck, AsksRun, AsksTranslate, AsksLoad, AsksPredict, AsksExplain, AsksPair, AsksTwice, Asks, command_of}
+use Rattle.command_words.proofs.Fitting.{OneOf, FewOf, Suits, AllFit, fit_once, ones_fit, Each, of_all}
 use Rattle.command_words.proofs.Results.{differ, is_no, in_some}
 
 abbrev pub command_at : Request → Command
@@ -32,12 +32,20 @@ command_at (Check folders chosen turns limit layout) = command.Check
 command_at (Run folders tree chosen turns) = command.Run
 command_at (Translate file) = command.Translate
 command_at (Load number limit) = command.Load
+command_at (Predict report trees) = command.Predict
+command_at (Explain folders chosen turns limit alone) = command.Explain
+command_at (Pair dir other base chosen turns limit) = command.Pair
+command_at (Twice dir base turns limit) = command.Twice
 
 pub commands : (request : Request) → command_of request ≡ command_name (command_at request)
 commands (Check folders chosen turns limit layout) = refl
 commands (Run folders tree chosen turns) = refl
 commands (Translate file) = refl
 commands (Load number limit) = refl
+commands (Predict report trees) = refl
+commands (Explain folders chosen turns limit alone) = refl
+commands (Pair dir other base chosen turns limit) = refl
+commands (Twice dir base turns limit) = refl
 
 -- ---- a text, or none
 
@@ -47,34 +55,47 @@ module _ (P : List ℕ → Type 0) where
   listed_first (t ∷ []) h = refl
   listed_first (t ∷ u ∷ more) h = absurd h
 
-  none_of : (ts : Texts) → ((t : List ℕ) → P t → ⊥) → OneOf P ts → ts ≡ []
-  none_of [] never h = refl
-  none_of (t ∷ []) never h = absurd (never t h)
-  none_of (t ∷ u ∷ more) never h = absurd h
-
 first_listed : (o : Option (List ℕ)) → first (listed o) ≡ o
 first_listed None = refl
 first_listed (Some t) = refl
 
+few_none : (n : ℕ) (P : List ℕ → Type 0) (ts : Texts) → ((t : List ℕ) → P t → ⊥) → FewOf n P ts → ts ≡ []
+few_none n P [] never h = refl
+few_none zero P (t ∷ ts) never h = absurd h
+few_none (suc n) P (t ∷ ts) never h = absurd (never t h.0)
+
 not_taken : (command : Command) (said : List Setting) (f : Field) → takes command f ≡ false → AllFit command said → texts f said ≡ []
-not_taken command said f never fit = none_of (Suits command f) (texts f said) (λ t h. differ (sym h.0 ∙ never)) (fit f)
+not_taken command said f never fit =
+    few_none (most command f) (Suits command f) (texts f said) (λ t h. differ (sym h.0 ∙ never)) (fit f)
 
 -- ---- scenarios, numbers, layouts
 
-scenario_by : (t : List ℕ) (o : Option Scenario) → is_some o ≡ true → IfSome o (λ s. t ≡ scenario_name s)
-    → t ∷ [] ≡ listed (option_map scenario_name o)
-scenario_by t None some h = absurd (differ (sym some))
-scenario_by t (Some s) some h = ap (λ x. x ∷ []) h
+module _ (named : List ℕ → Option Scenario) where
+  scenario_listed : (X : List ℕ → Type 0) (ts : Texts) → OneOf (λ t. X t × (is_some (named t) ≡ true)) ts
+      → IsScenarioOr named ts (option_and_then named (first ts))
+  scenario_listed X [] h = refl
+  scenario_listed X (t ∷ []) h = (refl, h.1)
+  scenario_listed X (t ∷ u ∷ more) h = absurd h
 
-scenario_listed : (command : Command) (ts : Texts) → OneOf (Suits command field.Scenario) ts
-    → ts ≡ listed (option_map scenario_name (option_and_then scenario_named (first ts)))
-scenario_listed command [] h = refl
-scenario_listed command (t ∷ []) h = scenario_by t (scenario_named t) h.1 (names_scenario t)
-scenario_listed command (t ∷ u ∷ more) h = absurd h
+  one_chosen : (ts : Texts) (s : Scenario) → IsScenarioOr named ts (Some s) → IsScenario named ts s
+  one_chosen [] s h = absurd (is_no (sym h))
+  one_chosen (t ∷ []) s h = h.0
+  one_chosen (t ∷ u ∷ more) s h = absurd h
 
-scenario_first : (o : Option Scenario) → option_and_then scenario_named (first (listed (option_map scenario_name o))) ≡ o
-scenario_first None = refl
-scenario_first (Some s) = scenario_read s
+  scenario_first : (ts : Texts) (o : Option Scenario) → IsScenarioOr named ts o → option_and_then named (first ts) ≡ o
+  scenario_first [] o h = sym h
+  scenario_first (t ∷ []) o h = h.0
+  scenario_first (t ∷ u ∷ more) o h = absurd h
+
+  chosen_first : (ts : Texts) (s : Scenario) → IsScenario named ts s → option_and_then named (first ts) ≡ Some s
+  chosen_first [] s h = absurd h
+  chosen_first (t ∷ []) s h = h
+  chosen_first (t ∷ u ∷ more) s h = absurd h
+
+  pub chosen_text : (ts : Texts) (s : Scenario) → IsScenario named ts s → (t : List ℕ) × (ts ≡ t ∷ [])
+  chosen_text [] s h = absurd h
+  chosen_text (t ∷ []) s h = (t, refl)
+  chosen_text (t ∷ u ∷ more) s h = absurd h
 
 number_by : (o : Option ℕ) (usual : ℕ) → is_some o ≡ true → o ≡ Some (unwrap_or o usual)
 number_by None usual h = absurd (differ (sym h))
@@ -103,16 +124,25 @@ layout_of_flag t true c same other h = ap (λ x. x ∷ []) ((bytes_eq-Decides t 
 layout_of_flag t false true same other h = ap (λ x. x ∷ []) ((bytes_eq-Decides t (codes "--brief")).0 other)
 layout_of_flag t false false same other h = absurd (differ (sym h))
 
-layout_listed : (command : Command) (ts : Texts) → OneOf (Suits command field.Layout) ts → ts ≡ layout_words (layout_by (first ts))
-layout_listed command [] h = refl
-layout_listed command (t ∷ []) h =
+layout_listed : (ts : Texts) → OneOf (Suits command.Check field.Layout) ts → ts ≡ layout_words (layout_by (first ts))
+layout_listed [] h = refl
+layout_listed (t ∷ []) h =
     layout_of_flag t (bytes_eq t (codes "--json")) (bytes_eq t (codes "--brief")) refl refl h.1
-layout_listed command (t ∷ u ∷ more) h = absurd h
+layout_listed (t ∷ u ∷ more) h = absurd h
 
 layout_first : (layout : Layout) → layout_by (first (layout_words layout)) ≡ layout
 layout_first Plain = refl
 layout_first Brief = refl
 layout_first Json = refl
+
+places_listed : (ts : Texts) → OneOf (Suits command.Explain field.Layout) ts → ts ≡ places_words (is_some (first ts))
+places_listed [] h = refl
+places_listed (t ∷ []) h = ap (λ w. w ∷ []) ((bytes_eq-Decides t (codes "--places")).0 h.1)
+places_listed (t ∷ u ∷ more) h = absurd h
+
+places_first : (alone : Bool) → is_some (first (places_words alone)) ≡ alone
+places_first true = refl
+places_first false = refl
 
 -- ---- what settings that fit ask for
 
@@ -121,8 +151,8 @@ names_folders : (command : Command) (dir : List ℕ) (said : List Setting) → A
 names_folders command dir said fit named =
     record {
       dir = named;
-      old = listed_first (Suits command field.Old) (texts field.Old said) (fit field.Old);
-      base = listed_first (Suits command field.Base) (texts field.Base said) (fit field.Base);
+      old = listed_first (Suits command field.Old) (texts field.Old said) (fit_once command said field.Old refl fit);
+      base = listed_first (Suits command field.Base) (texts field.Base said) (fit_once command said field.Base refl fit);
     }
 
 asks_check : (dir : List ℕ) (said : List Setting) → AllFit command.Check said → texts field.Named said ≡ dir ∷ []
@@ -130,26 +160,31 @@ asks_check : (dir : List ℕ) (said : List Setting) → AllFit command.Check sai
 asks_check dir said fit named =
     record {
       of_folders = names_folders command.Check dir said fit named;
-      of_scenario = scenario_listed command.Check (texts field.Scenario said) (fit field.Scenario);
-      of_turns = number_listed (λ t. takes command.Check field.Turns ≡ true) MOST_TURNS USUAL_TURNS (texts field.Turns said) (fit field.Turns);
-      of_limit = number_listed (λ t. takes command.Check field.Limit ≡ true) MOST_LIMIT USUAL_LIMIT (texts field.Limit said) (fit field.Limit);
-      of_layout = layout_listed command.Check (texts field.Layout said) (fit field.Layout);
-      of_tree = not_taken command.Check said field.Tree refl fit;
+      of_scenario = scenario_listed scenario_named (λ t. takes command.Check field.Scenario ≡ true) (texts field.Scenario said) (fit_once command.Check said field.Scenario refl fit);
+      of_turns = number_listed (λ t. takes command.Check field.Turns ≡ true) MOST_TURNS USUAL_TURNS (texts field.Turns said) (fit_once command.Check said field.Turns refl fit);
+      of_limit = number_listed (λ t. takes command.Check field.Limit ≡ true) MOST_LIMIT USUAL_LIMIT (texts field.Limit said) (fit_once command.Check said field.Limit refl fit);
+      of_layout = layout_listed (texts field.Layout said) (fit_once command.Check said field.Layout refl fit);
+      of_others = λ f never. not_taken command.Check said f never fit;
     }
 
-other_field : (one f : Field) → f ≢ one → (b : Bool) → is_field one f ≡ b → b ≡ false
-other_field one f other true e = absurd (other (sym (same_field one f e)))
-other_field one f other false e = refl
-
-is_other : (one f : Field) → f ≢ one → is_field one f ≡ false
-is_other one f other = other_field one f other (is_field one f) refl
+asks_explain : (dir : List ℕ) (said : List Setting) → AllFit command.Explain said → texts field.Named said ≡ dir ∷ []
+    → Asks (λ f. texts f said) (explain_of dir said)
+asks_explain dir said fit named =
+    record {
+      of_folders = names_folders command.Explain dir said fit named;
+      of_scenario = scenario_listed scenario_named (λ t. takes command.Explain field.Scenario ≡ true) (texts field.Scenario said) (fit_once command.Explain said field.Scenario refl fit);
+      of_turns = number_listed (λ t. takes command.Explain field.Turns ≡ true) MOST_TURNS USUAL_TURNS (texts field.Turns said) (fit_once command.Explain said field.Turns refl fit);
+      of_limit = number_listed (λ t. takes command.Explain field.Limit ≡ true) MOST_LIMIT USUAL_LIMIT (texts field.Limit said) (fit_once command.Explain said field.Limit refl fit);
+      of_layout = places_listed (texts field.Layout said) (fit_once command.Explain said field.Layout refl fit);
+      of_others = λ f never. not_taken command.Explain said f never fit;
+    }
 
 asks_translate : (file : List ℕ) (said : List Setting) → AllFit command.Translate said → texts field.Named said ≡ file ∷ []
     → Asks (λ f. texts f said) (Translate file)
 asks_translate file said fit named =
     record {
       of_file = named;
-      of_others = λ f other. not_taken command.Translate said f (is_other field.Named f other) fit;
+      of_others = λ f never. not_taken command.Translate said f never fit;
     }
 
 asks_load : (name : List ℕ) (number : ℕ) (said : List Setting) → AllFit command.Load said → texts field.Named said ≡ name ∷ []
@@ -158,10 +193,8 @@ asks_load : (name : List ℕ) (number : ℕ) (said : List Setting) → AllFit co
 asks_load name number said fit named is =
     record {
       of_number = subst (λ ts. IsNumber MOST_LOAD ts number) (sym named) is;
-      of_limit = number_listed (λ t. takes command.Load field.Limit ≡ true) MOST_LIMIT USUAL_LIMIT (texts field.Limit said) (fit field.Limit);
-      of_others = λ f unnamed unlimited.
-          not_taken command.Load said f
-          (ap (λ b. b || is_field field.Limit f) (is_other field.Named f unnamed) ∙ is_other field.Limit f unlimited) fit;
+      of_limit = number_listed (λ t. takes command.Load field.Limit ≡ true) MOST_LIMIT USUAL_LIMIT (texts field.Limit said) (fit_once command.Load said field.Limit refl fit);
+      of_others = λ f never. not_taken command.Load said f never fit;
     }
 
 -- what a request has to be for these settings
@@ -170,7 +203,7 @@ pub record IsAsked (c : Command) (said : List Setting) (request : Request) : Typ
   pub asks : Asks (λ f. texts f said) request
 
 asked_run : (dir : List ℕ) (said : List Setting) (request : Request) (chosen : Option Scenario) (tree : Option (List ℕ))
-    → AllFit command.Run said → texts field.Named said ≡ dir ∷ [] → texts field.Scenario said ≡ listed (option_map scenario_name chosen)
+    → AllFit command.Run said → texts field.Named said ≡ dir ∷ [] → IsScenarioOr scenario_named (texts field.Scenario said) chosen
     → texts field.Tree said ≡ listed tree → run_from dir said chosen tree ≡ Some request → IsAsked command.Run said request
 asked_run dir said request None tree fit named scenarios trees e = absurd (is_no e)
 asked_run dir said request (Some s) None fit named scenarios trees e = absurd (is_no e)
@@ -181,12 +214,42 @@ asked_run dir said request (Some s) (Some tree) fit named scenarios trees e =
       asks = record {
         of_folders = names_folders command.Run dir said fit named;
         of_tree = trees;
-        of_scenario = scenarios;
-        of_turns = number_listed (λ t. takes command.Run field.Turns ≡ true) MOST_TURNS USUAL_TURNS (texts field.Turns said) (fit field.Turns);
-        of_limit = not_taken command.Run said field.Limit refl fit;
-        of_layout = not_taken command.Run said field.Layout refl fit;
+        of_scenario = one_chosen scenario_named (texts field.Scenario said) s scenarios;
+        of_turns = number_listed (λ t. takes command.Run field.Turns ≡ true) MOST_TURNS USUAL_TURNS (texts field.Turns said) (fit_once command.Run said field.Turns refl fit);
+        of_others = λ f never. not_taken command.Run said f never fit;
       };
     })
+
+asked_pair : (dir : List ℕ) (said : List Setting) (request : Request) (chosen : Option Scenario) (other : Option (List ℕ))
+    → AllFit command.Pair said → texts field.Named said ≡ dir ∷ [] → IsScenarioOr pair_named (texts field.Scenario said) chosen
+    → texts field.With said ≡ listed other → pair_from dir said chosen other ≡ Some request → IsAsked command.Pair said request
+asked_pair dir said request None other fit named scenarios others e = absurd (is_no e)
+asked_pair dir said request (Some s) None fit named scenarios others e = absurd (is_no e)
+asked_pair dir said request (Some s) (Some other) fit named scenarios others e =
+    subst (IsAsked command.Pair said) (in_some e)
+    (record {
+      is = refl;
+      asks = record {
+        of_dir = named;
+        of_other = others;
+        of_base = listed_first (Suits command.Pair field.Base) (texts field.Base said) (fit_once command.Pair said field.Base refl fit);
+        of_scenario = one_chosen pair_named (texts field.Scenario said) s scenarios;
+        of_turns = number_listed (λ t. takes command.Pair field.Turns ≡ true) MOST_TURNS USUAL_TURNS (texts field.Turns said) (fit_once command.Pair said field.Turns refl fit);
+        of_limit = number_listed (λ t. takes command.Pair field.Limit ≡ true) MOST_LIMIT USUAL_LIMIT (texts field.Limit said) (fit_once command.Pair said field.Limit refl fit);
+        of_others = λ f never. not_taken command.Pair said f never fit;
+      };
+    })
+
+asks_twice : (dir : List ℕ) (said : List Setting) → AllFit command.Twice said → texts field.Named said ≡ dir ∷ []
+    → Asks (λ f. texts f said) (twice_of dir said)
+asks_twice dir said fit named =
+    record {
+      of_dir = named;
+      of_base = listed_first (Suits command.Twice field.Base) (texts field.Base said) (fit_once command.Twice said field.Base refl fit);
+      of_turns = number_listed (λ t. takes command.Twice field.Turns ≡ true) MOST_TURNS USUAL_TURNS (texts field.Turns said) (fit_once command.Twice said field.Turns refl fit);
+      of_limit = number_listed (λ t. takes command.Twice field.Limit ≡ true) MOST_LIMIT USUAL_LIMIT (texts field.Limit said) (fit_once command.Twice said field.Limit refl fit);
+      of_others = λ f never. not_taken command.Twice said f never fit;
+    }
 
 asked_load : (name : List ℕ) (said : List Setting) (request : Request) (o : Option ℕ) → AllFit command.Load said
     → texts field.Named said ≡ name ∷ [] → number_in MOST_LOAD name ≡ o → load_by said o ≡ Some request
@@ -195,24 +258,70 @@ asked_load name said request None fit named is e = absurd (is_no e)
 asked_load name said request (Some number) fit named is e =
     subst (IsAsked command.Load said) (in_some e) (record { is = refl; asks = asks_load name number said fit named is })
 
+-- a command that names one thing
+named_once : (c : Command) (said : List Setting) (t : List ℕ) → names_of c ≡ 1 → AllFit c said → given field.Named said ≡ Some t
+    → texts field.Named said ≡ t ∷ []
+named_once c said t once fit e =
+    listed_first (Suits c field.Named) (texts field.Named said) (fit_once c said field.Named once fit) ∙ ap listed e
+
+-- a command that names two: the second text is there, and no third one
+pub record NamesTwo (ts : Texts) (report : List ℕ) (request : Request) : Type 0 where
+  pub trees : List ℕ
+  pub texts_are : ts ≡ report ∷ trees ∷ []
+  pub makes : Predict report trees ≡ request
+
+names_two : (P : List ℕ → Type 0) (ts : Texts) (report : List ℕ) (request : Request) → FewOf 2 P ts → first ts ≡ Some report
+    → predict_by report (first (behind ts)) ≡ Some request → NamesTwo ts report request
+names_two P [] report request few is e = absurd (is_no is)
+names_two P (t ∷ []) report request few is e = absurd (is_no e)
+names_two P (t ∷ u ∷ []) report request few is e =
+    record { trees = u; texts_are = ap (λ x. x ∷ u ∷ []) (in_some is); makes = in_some e }
+names_two P (t ∷ u ∷ v ∷ more) report request few is e = absurd few.1.1
+
+asks_predict : (report : List ℕ) (said : List Setting) (request : Request) → AllFit command.Predict said
+    → NamesTwo (texts field.Named said) report request → IsAsked command.Predict said request
+asks_predict report said request fit two =
+    subst (IsAsked command.Predict said) two.makes
+    (record {
+      is = refl;
+      asks = record {
+        of_files = two.texts_are;
+        of_others = λ f never. not_taken command.Predict said f never fit;
+      };
+    })
+
 asked_by : (c : Command) (said : List Setting) (request : Request) (o : Option (List ℕ)) → AllFit c said
-    → texts field.Named said ≡ listed o → request_by c said o ≡ Some request → IsAsked c said request
+    → given field.Named said ≡ o → request_by c said o ≡ Some request → IsAsked c said request
 asked_by c said request None fit named e = absurd (is_no e)
 asked_by command.Check said request (Some dir) fit named e =
-    subst (IsAsked command.Check said) (in_some e) (record { is = refl; asks = asks_check dir said fit named })
+    subst (IsAsked command.Check said) (in_some e)
+    (record { is = refl; asks = asks_check dir said fit (named_once command.Check said dir refl fit named) })
 asked_by command.Run said request (Some dir) fit named e =
-    asked_run dir said request (scenario_said said) (given field.Tree said) fit named
-    (scenario_listed command.Run (texts field.Scenario said) (fit field.Scenario))
-    (listed_first (Suits command.Run field.Tree) (texts field.Tree said) (fit field.Tree)) e
+    asked_run dir said request (scenario_said said) (given field.Tree said) fit (named_once command.Run said dir refl fit named)
+    (scenario_listed scenario_named (λ t. takes command.Run field.Scenario ≡ true) (texts field.Scenario said) (fit_once command.Run said field.Scenario refl fit))
+    (listed_first (Suits command.Run field.Tree) (texts field.Tree said) (fit_once command.Run said field.Tree refl fit)) e
 asked_by command.Translate said request (Some file) fit named e =
-    subst (IsAsked command.Translate said) (in_some e) (record { is = refl; asks = asks_translate file said fit named })
+    subst (IsAsked command.Translate said) (in_some e)
+    (record { is = refl; asks = asks_translate file said fit (named_once command.Translate said file refl fit named) })
 asked_by command.Load said request (Some name) fit named e =
-    asked_load name said request (number_in MOST_LOAD name) fit named refl e
+    asked_load name said request (number_in MOST_LOAD name) fit (named_once command.Load said name refl fit named) refl e
+asked_by command.Predict said request (Some report) fit named e =
+    asks_predict report said request fit
+    (names_two (Suits command.Predict field.Named) (texts field.Named said) report request (fit field.Named) named e)
+asked_by command.Explain said request (Some dir) fit named e =
+    subst (IsAsked command.Explain said) (in_some e)
+    (record { is = refl; asks = asks_explain dir said fit (named_once command.Explain said dir refl fit named) })
+asked_by command.Pair said request (Some dir) fit named e =
+    asked_pair dir said request (pair_said said) (given field.With said) fit (named_once command.Pair said dir refl fit named)
+    (scenario_listed pair_named (λ t. takes command.Pair field.Scenario ≡ true) (texts field.Scenario said) (fit_once command.Pair said field.Scenario refl fit))
+    (listed_first (Suits command.Pair field.With) (texts field.With said) (fit_once command.Pair said field.With refl fit)) e
+asked_by command.Twice said request (Some dir) fit named e =
+    subst (IsAsked command.Twice said) (in_some e)
+    (record { is = refl; asks = asks_twice dir said fit (named_once command.Twice said dir refl fit named) })
 
 pub asked : (c : Command) (said : List Setting) (request : Request) → AllFit c said → request_of c said ≡ Some request
     → IsAsked c said request
-asked c said request fit e =
-    asked_by c said request (given field.Named said) fit (listed_first (Suits c field.Named) (texts field.Named said) (fit field.Named)) e
+asked c said request fit e = asked_by c said request (given field.Named said) fit refl e
 
 -- ---- and the request of what they ask for
 
@@ -232,7 +341,7 @@ module _ (said : List Setting) where
   made_check folders chosen turns limit layout asks =
       let named = ap first asks.of_folders.dir in
       let dirs = folders_made folders asks.of_folders in
-      let scenarios = ap (λ ts. option_and_then scenario_named (first ts)) asks.of_scenario ∙ scenario_first chosen in
+      let scenarios = scenario_first scenario_named (texts field.Scenario said) chosen asks.of_scenario in
       let turn = number_first MOST_TURNS USUAL_TURNS (texts field.Turns said) turns asks.of_turns in
       let most = number_first MOST_LIMIT USUAL_LIMIT (texts field.Limit said) limit asks.of_limit in
       let layouts = ap (λ ts. layout_by (first ts)) asks.of_layout ∙ layout_first layout in
@@ -245,7 +354,7 @@ module _ (said : List Setting) where
   made_run folders tree chosen turns asks =
       let named = ap first asks.of_folders.dir in
       let dirs = folders_made folders asks.of_folders in
-      let scenarios = ap (λ ts. option_and_then scenario_named (first ts)) asks.of_scenario ∙ scenario_read chosen in
+      let scenarios = chosen_first scenario_named (texts field.Scenario said) chosen asks.of_scenario in
       let trees = ap first asks.of_tree in
       let turn = number_first MOST_TURNS USUAL_TURNS (texts field.Turns said) turns asks.of_turns in
       ap (request_by command.Run said) named
@@ -259,13 +368,60 @@ module _ (said : List Setting) where
       let most = number_first MOST_LIMIT USUAL_LIMIT (texts field.Limit said) limit asks.of_limit in
       number_named said (texts field.Named said) number asks.of_number ∙ (λ i. Some (Load number (most i)))
 
+  made_explain : (folders : Folders) (chosen : Option Scenario) (turns limit : ℕ) (alone : Bool)
+      → AsksExplain (λ f. texts f said) folders chosen turns limit alone
+      → request_of command.Explain said ≡ Some (Explain folders chosen turns limit alone)
+  made_explain folders chosen turns limit alone asks =
+      let named = ap first asks.of_folders.dir in
+      let dirs = folders_made folders asks.of_folders in
+      let scenarios = scenario_first scenario_named (texts field.Scenario said) chosen asks.of_scenario in
+      let turn = number_first MOST_TURNS USUAL_TURNS (texts field.Turns said) turns asks.of_turns in
+      let most = number_first MOST_LIMIT USUAL_LIMIT (texts field.Limit said) limit asks.of_limit in
+      let layouts = ap (λ ts. is_some (first ts)) asks.of_layout ∙ places_first alone in
+      ap (request_by command.Explain said) named
+      ∙ (λ i. Some (Explain (dirs i) (scenarios i) (turn i) (most i) (layouts i)))
+
+  made_pair : (dir other : List ℕ) (base : Option (List ℕ)) (chosen : Scenario) (turns limit : ℕ)
+      → AsksPair (λ f. texts f said) dir other base chosen turns limit
+      → request_of command.Pair said ≡ Some (Pair dir other base chosen turns limit)
+  made_pair dir other base chosen turns limit asks =
+      let named = ap first asks.of_dir in
+      let others = ap first asks.of_other in
+      let bases = first_of field.Base base asks.of_base in
+      let scenarios = chosen_first pair_named (texts field.Scenario said) chosen asks.of_scenario in
+      let turn = number_first MOST_TURNS USUAL_TURNS (texts field.Turns said) turns asks.of_turns in
+      let most = number_first MOST_LIMIT USUAL_LIMIT (texts field.Limit said) limit asks.of_limit in
+      ap (request_by command.Pair said) named
+      ∙ ap (λ s. pair_from dir said s (given field.With said)) scenarios
+      ∙ ap (λ o. pair_from dir said (Some chosen) o) others
+      ∙ (λ i. Some (Pair dir other (bases i) chosen (turn i) (most i)))
+
+  made_twice : (dir : List ℕ) (base : Option (List ℕ)) (turns limit : ℕ) → AsksTwice (λ f. texts f said) dir base turns limit
+      → request_of command.Twice said ≡ Some (Twice dir base turns limit)
+  made_twice dir base turns limit asks =
+      let named = ap first asks.of_dir in
+      let bases = first_of field.Base base asks.of_base in
+      let turn = number_first MOST_TURNS USUAL_TURNS (texts field.Turns said) turns asks.of_turns in
+      let most = number_first MOST_LIMIT USUAL_LIMIT (texts field.Limit said) limit asks.of_limit in
+      ap (request_by command.Twice said) named ∙ (λ i. Some (Twice dir (bases i) (turn i) (most i)))
+
   pub made : (request : Request) → Asks (λ f. texts f said) request → request_of (command_at request) said ≡ Some request
   made (Check folders chosen turns limit layout) asks = made_check folders chosen turns limit layout asks
   made (Run folders tree chosen turns) asks = made_run folders tree chosen turns asks
   made (Translate file) asks = ap (request_by command.Translate said) (ap first asks.of_file)
   made (Load number limit) asks = made_load number limit asks
+  made (Predict report trees) asks =
+      ap (request_by command.Predict said) (ap first asks.of_files)
+      ∙ ap (predict_by report) (ap (λ ts. first (behind ts)) asks.of_files)
+  made (Explain folders chosen turns limit alone) asks = made_explain folders chosen turns limit alone asks
+  made (Pair dir other base chosen turns limit) asks = made_pair dir other base chosen turns limit asks
+  made (Twice dir base turns limit) asks = made_twice dir base turns limit asks
 
 -- ---- what is asked for fits
+
+-- of each field that the command takes, one text at most
+abbrev OnesFit : Command → List Setting → Type 0
+OnesFit command said = Each (λ f. OneOf (Suits command f) (texts f said)) (fields_of command)
 
 module _ (c : Command) (f : Field) where
   fits_none : (ts : Texts) → ts ≡ [] → OneOf (Suits c f) ts
@@ -290,11 +446,20 @@ fits_named [] n h = absurd h
 fits_named (t ∷ []) n h = (refl, ap is_some h)
 fits_named (t ∷ u ∷ more) n h = absurd h
 
-fits_scenario : (c : Command) (ts : Texts) (o : Option Scenario) → ts ≡ listed (option_map scenario_name o)
-    → takes c field.Scenario ≡ true → OneOf (Suits c field.Scenario) ts
-fits_scenario c ts None e taken = fits_none c field.Scenario ts e
-fits_scenario c ts (Some s) e taken =
-    fits_one c field.Scenario ts (scenario_name s) e taken (ap is_some (scenario_read s))
+module _ (named : List ℕ → Option Scenario) (X : List ℕ → Type 0) (x : (t : List ℕ) → X t) where
+  fits_scenario : (ts : Texts) (o : Option Scenario) → IsScenarioOr named ts o → OneOf (λ t. X t × (is_some (named t) ≡ true)) ts
+  fits_scenario [] o h = tt
+  fits_scenario (t ∷ []) o h = (x t, ap is_some h.0 ∙ h.1)
+  fits_scenario (t ∷ u ∷ more) o h = absurd h
+
+  fits_chosen : (ts : Texts) (s : Scenario) → IsScenario named ts s → OneOf (λ t. X t × (is_some (named t) ≡ true)) ts
+  fits_chosen [] s h = absurd h
+  fits_chosen (t ∷ []) s h = (x t, ap is_some h)
+  fits_chosen (t ∷ u ∷ more) s h = absurd h
+
+fits_places : (ts : Texts) (alone : Bool) → ts ≡ places_words alone → OneOf (Suits command.Explain field.Layout) ts
+fits_places ts true e = fits_one command.Explain field.Layout ts (codes "--places") e refl refl
+fits_places ts false e = fits_none command.Explain field.Layout ts e
 
 fits_layout : (ts : Texts) (layout : Layout) → ts ≡ layout_words layout → OneOf (Suits command.Check field.Layout) ts
 fits_layout ts Plain e = fits_none command.Check field.Layout ts e
@@ -303,76 +468,148 @@ fits_layout ts Json e = fits_one command.Check field.Layout ts (codes "--json") 
 
 module _ (said : List Setting) where
   check_fits : (folders : Folders) (chosen : Option Scenario) (turns limit : ℕ) (layout : Layout)
-      → AsksCheck (λ f. texts f said) folders chosen turns limit layout → AllFit command.Check said
-  check_fits folders chosen turns limit layout asks field.Named =
-      fits_one command.Check field.Named (texts field.Named said) folders.dir asks.of_folders.dir refl refl
-  check_fits folders chosen turns limit layout asks field.Old =
-      fits_listed command.Check field.Old (texts field.Old said) folders.old asks.of_folders.old refl (λ t. refl)
-  check_fits folders chosen turns limit layout asks field.Base =
-      fits_listed command.Check field.Base (texts field.Base said) folders.base asks.of_folders.base refl (λ t. refl)
-  check_fits folders chosen turns limit layout asks field.Scenario =
-      fits_scenario command.Check (texts field.Scenario said) chosen asks.of_scenario refl
-  check_fits folders chosen turns limit layout asks field.Tree =
-      fits_none command.Check field.Tree (texts field.Tree said) asks.of_tree
-  check_fits folders chosen turns limit layout asks field.Turns =
-      fits_number (λ t. takes command.Check field.Turns ≡ true) MOST_TURNS USUAL_TURNS (texts field.Turns said) turns (λ t. refl) asks.of_turns
-  check_fits folders chosen turns limit layout asks field.Limit =
-      fits_number (λ t. takes command.Check field.Limit ≡ true) MOST_LIMIT USUAL_LIMIT (texts field.Limit said) limit (λ t. refl) asks.of_limit
-  check_fits folders chosen turns limit layout asks field.Layout =
-      fits_layout (texts field.Layout said) layout asks.of_layout
+      → AsksCheck (λ f. texts f said) folders chosen turns limit layout → OnesFit command.Check said
+  check_fits folders chosen turns limit layout asks = (
+    fits_one command.Check field.Named (texts field.Named said) folders.dir asks.of_folders.dir refl refl,
+    (
+      fits_listed command.Check field.Old (texts field.Old said) folders.old asks.of_folders.old refl (λ t. refl),
+      (
+        fits_listed command.Check field.Base (texts field.Base said) folders.base asks.of_folders.base refl (λ t. refl),
+        (
+          fits_scenario scenario_named (λ t. takes command.Check field.Scenario ≡ true) (λ t. refl) (texts field.Scenario said) chosen asks.of_scenario,
+          (
+            fits_number (λ t. takes command.Check field.Turns ≡ true) MOST_TURNS USUAL_TURNS (texts field.Turns said) turns (λ t. refl) asks.of_turns,
+            (
+              fits_number (λ t. takes command.Check field.Limit ≡ true) MOST_LIMIT USUAL_LIMIT (texts field.Limit said) limit (λ t. refl) asks.of_limit,
+              (
+                fits_layout (texts field.Layout said) layout asks.of_layout,
+                tt,
+              ),
+            ),
+          ),
+        ),
+      ),
+    ),
+  )
 
   run_fits : (folders : Folders) (tree : List ℕ) (chosen : Scenario) (turns : ℕ)
-      → AsksRun (λ f. texts f said) folders tree chosen turns → AllFit command.Run said
-  run_fits folders tree chosen turns asks field.Named =
-      fits_one command.Run field.Named (texts field.Named said) folders.dir asks.of_folders.dir refl refl
-  run_fits folders tree chosen turns asks field.Old =
-      fits_listed command.Run field.Old (texts field.Old said) folders.old asks.of_folders.old refl (λ t. refl)
-  run_fits folders tree chosen turns asks field.Base =
-      fits_listed command.Run field.Base (texts field.Base said) folders.base asks.of_folders.base refl (λ t. refl)
-  run_fits folders tree chosen turns asks field.Scenario =
-      fits_scenario command.Run (texts field.Scenario said) (Some chosen) asks.of_scenario refl
-  run_fits folders tree chosen turns asks field.Tree =
-      fits_one command.Run field.Tree (texts field.Tree said) tree asks.of_tree refl refl
-  run_fits folders tree chosen turns asks field.Turns =
-      fits_number (λ t. takes command.Run field.Turns ≡ true) MOST_TURNS USUAL_TURNS (texts field.Turns said) turns (λ t. refl) asks.of_turns
-  run_fits folders tree chosen turns asks field.Limit =
-      fits_none command.Run field.Limit (texts field.Limit said) asks.of_limit
-  run_fits folders tree chosen turns asks field.Layout =
-      fits_none command.Run field.Layout (texts field.Layout said) asks.of_layout
+      → AsksRun (λ f. texts f said) folders tree chosen turns → OnesFit command.Run said
+  run_fits folders tree chosen turns asks = (
+    fits_one command.Run field.Named (texts field.Named said) folders.dir asks.of_folders.dir refl refl,
+    (
+      fits_listed command.Run field.Old (texts field.Old said) folders.old asks.of_folders.old refl (λ t. refl),
+      (
+        fits_listed command.Run field.Base (texts field.Base said) folders.base asks.of_folders.base refl (λ t. refl),
+        (
+          fits_chosen scenario_named (λ t. takes command.Run field.Scenario ≡ true) (λ t. refl) (texts field.Scenario said) chosen asks.of_scenario,
+          (
+            fits_one command.Run field.Tree (texts field.Tree said) tree asks.of_tree refl refl,
+            (
+              fits_number (λ t. takes command.Run field.Turns ≡ true) MOST_TURNS USUAL_TURNS (texts field.Turns said) turns (λ t. refl) asks.of_turns,
+              tt,
+            ),
+          ),
+        ),
+      ),
+    ),
+  )
 
-  translate_fits : (file : List ℕ) → AsksTranslate (λ f. texts f said) file → AllFit command.Translate said
-  translate_fits file asks field.Named = fits_one command.Translate field.Named (texts field.Named said) file asks.of_file refl refl
-  translate_fits file asks field.Old = fits_none command.Translate field.Old (texts field.Old said) (asks.of_others field.Old (λ e. cc))
-  translate_fits file asks field.Base = fits_none command.Translate field.Base (texts field.Base said) (asks.of_others field.Base (λ e. cc))
-  translate_fits file asks field.Scenario =
-      fits_none command.Translate field.Scenario (texts field.Scenario said) (asks.of_others field.Scenario (λ e. cc))
-  translate_fits file asks field.Tree = fits_none command.Translate field.Tree (texts field.Tree said) (asks.of_others field.Tree (λ e. cc))
-  translate_fits file asks field.Turns =
-      fits_none command.Translate field.Turns (texts field.Turns said) (asks.of_others field.Turns (λ e. cc))
-  translate_fits file asks field.Limit =
-      fits_none command.Translate field.Limit (texts field.Limit said) (asks.of_others field.Limit (λ e. cc))
-  translate_fits file asks field.Layout =
-      fits_none command.Translate field.Layout (texts field.Layout said) (asks.of_others field.Layout (λ e. cc))
+  translate_fits : (file : List ℕ) → AsksTranslate (λ f. texts f said) file → OnesFit command.Translate said
+  translate_fits file asks = (
+    fits_one command.Translate field.Named (texts field.Named said) file asks.of_file refl refl,
+    tt,
+  )
 
-  load_fits : (number limit : ℕ) → AsksLoad (λ f. texts f said) number limit → AllFit command.Load said
-  load_fits number limit asks field.Named = fits_named (texts field.Named said) number asks.of_number
-  load_fits number limit asks field.Old =
-      fits_none command.Load field.Old (texts field.Old said) (asks.of_others field.Old (λ e. cc) (λ e. cc))
-  load_fits number limit asks field.Base =
-      fits_none command.Load field.Base (texts field.Base said) (asks.of_others field.Base (λ e. cc) (λ e. cc))
-  load_fits number limit asks field.Scenario =
-      fits_none command.Load field.Scenario (texts field.Scenario said) (asks.of_others field.Scenario (λ e. cc) (λ e. cc))
-  load_fits number limit asks field.Tree =
-      fits_none command.Load field.Tree (texts field.Tree said) (asks.of_others field.Tree (λ e. cc) (λ e. cc))
-  load_fits number limit asks field.Turns =
-      fits_none command.Load field.Turns (texts field.Turns said) (asks.of_others field.Turns (λ e. cc) (λ e. cc))
-  load_fits number limit asks field.Limit =
-      fits_number (λ t. takes command.Load field.Limit ≡ true) MOST_LIMIT USUAL_LIMIT (texts field.Limit said) limit (λ t. refl) asks.of_limit
-  load_fits number limit asks field.Layout =
-      fits_none command.Load field.Layout (texts field.Layout said) (asks.of_others field.Layout (λ e. cc) (λ e. cc))
+  load_fits : (number limit : ℕ) → AsksLoad (λ f. texts f said) number limit → OnesFit command.Load said
+  load_fits number limit asks = (
+    fits_named (texts field.Named said) number asks.of_number,
+    (
+      fits_number (λ t. takes command.Load field.Limit ≡ true) MOST_LIMIT USUAL_LIMIT (texts field.Limit said) limit (λ t. refl) asks.of_limit,
+      tt,
+    ),
+  )
+
+  explain_fits : (folders : Folders) (chosen : Option Scenario) (turns limit : ℕ) (alone : Bool)
+      → AsksExplain (λ f. texts f said) folders chosen turns limit alone → OnesFit command.Explain said
+  explain_fits folders chosen turns limit alone asks = (
+    fits_one command.Explain field.Named (texts field.Named said) folders.dir asks.of_folders.dir refl refl,
+    (
+      fits_listed command.Explain field.Old (texts field.Old said) folders.old asks.of_folders.old refl (λ t. refl),
+      (
+        fits_listed command.Explain field.Base (texts field.Base said) folders.base asks.of_folders.base refl (λ t. refl),
+        (
+          fits_scenario scenario_named (λ t. takes command.Explain field.Scenario ≡ true) (λ t. refl) (texts field.Scenario said) chosen asks.of_scenario,
+          (
+            fits_number (λ t. takes command.Explain field.Turns ≡ true) MOST_TURNS USUAL_TURNS (texts field.Turns said) turns (λ t. refl) asks.of_turns,
+            (
+              fits_number (λ t. takes command.Explain field.Limit ≡ true) MOST_LIMIT USUAL_LIMIT (texts field.Limit said) limit (λ t. refl) asks.of_limit,
+              (
+                fits_places (texts field.Layout said) alone asks.of_layout,
+                tt,
+              ),
+            ),
+          ),
+        ),
+      ),
+    ),
+  )
+
+  pair_fits : (dir other : List ℕ) (base : Option (List ℕ)) (chosen : Scenario) (turns limit : ℕ)
+      → AsksPair (λ f. texts f said) dir other base chosen turns limit → OnesFit command.Pair said
+  pair_fits dir other base chosen turns limit asks = (
+    fits_one command.Pair field.Named (texts field.Named said) dir asks.of_dir refl refl,
+    (
+      fits_one command.Pair field.With (texts field.With said) other asks.of_other refl refl,
+      (
+        fits_listed command.Pair field.Base (texts field.Base said) base asks.of_base refl (λ t. refl),
+        (
+          fits_chosen pair_named (λ t. takes command.Pair field.Scenario ≡ true) (λ t. refl) (texts field.Scenario said) chosen asks.of_scenario,
+          (
+            fits_number (λ t. takes command.Pair field.Turns ≡ true) MOST_TURNS USUAL_TURNS (texts field.Turns said) turns (λ t. refl) asks.of_turns,
+            (
+              fits_number (λ t. takes command.Pair field.Limit ≡ true) MOST_LIMIT USUAL_LIMIT (texts field.Limit said) limit (λ t. refl) asks.of_limit,
+              tt,
+            ),
+          ),
+        ),
+      ),
+    ),
+  )
+
+  twice_fits : (dir : List ℕ) (base : Option (List ℕ)) (turns limit : ℕ) → AsksTwice (λ f. texts f said) dir base turns limit
+      → OnesFit command.Twice said
+  twice_fits dir base turns limit asks = (
+    fits_one command.Twice field.Named (texts field.Named said) dir asks.of_dir refl refl,
+    (
+      fits_listed command.Twice field.Base (texts field.Base said) base asks.of_base refl (λ t. refl),
+      (
+        fits_number (λ t. takes command.Twice field.Turns ≡ true) MOST_TURNS USUAL_TURNS (texts field.Turns said) turns (λ t. refl) asks.of_turns,
+        (
+          fits_number (λ t. takes command.Twice field.Limit ≡ true) MOST_LIMIT USUAL_LIMIT (texts field.Limit said) limit (λ t. refl) asks.of_limit,
+          tt,
+        ),
+      ),
+    ),
+  )
+
+  fits_once : (c : Command) → names_of c ≡ 1 → OnesFit c said → NoOthers (fields_of c) (λ f. texts f said) → AllFit c said
+  fits_once c once each others =
+      ones_fit c said once (of_all (λ f ts. OneOf (Suits c f) ts) (λ f. tt) (fields_of c) said each others)
+
+  predict_fits : (report trees : List ℕ) → AsksPredict (λ f. texts f said) report trees → AllFit command.Predict said
+  predict_fits report trees asks =
+      of_all (λ f ts. FewOf (most command.Predict f) (Suits command.Predict f) ts) (λ f. tt) (fields_of command.Predict) said
+      (subst (FewOf 2 (Suits command.Predict field.Named)) (sym asks.of_files) ((refl, refl), ((refl, refl), tt)), tt) asks.of_others
 
   pub asked_fits : (request : Request) → Asks (λ f. texts f said) request → AllFit (command_at request) said
-  asked_fits (Check folders chosen turns limit layout) asks = check_fits folders chosen turns limit layout asks
-  asked_fits (Run folders tree chosen turns) asks = run_fits folders tree chosen turns asks
-  asked_fits (Translate file) asks = translate_fits file asks
-  asked_fits (Load number limit) asks = load_fits number limit asks
+  asked_fits (Check folders chosen turns limit layout) asks =
+      fits_once command.Check refl (check_fits folders chosen turns limit layout asks) asks.of_others
+  asked_fits (Run folders tree chosen turns) asks = fits_once command.Run refl (run_fits folders tree chosen turns asks) asks.of_others
+  asked_fits (Translate file) asks = fits_once command.Translate refl (translate_fits file asks) asks.of_others
+  asked_fits (Load number limit) asks = fits_once command.Load refl (load_fits number limit asks) asks.of_others
+  asked_fits (Predict report trees) asks = predict_fits report trees asks
+  asked_fits (Explain folders chosen turns limit alone) asks =
+      fits_once command.Explain refl (explain_fits folders chosen turns limit alone asks) asks.of_others
+  asked_fits (Pair dir other base chosen turns limit) asks =
+      fits_once command.Pair refl (pair_fits dir other base chosen turns limit asks) asks.of_others
+  asked_fits (Twice dir base turns limit) asks = fits_once command.Twice refl (twice_fits dir base turns limit asks) asks.of_others

@@ -12,10 +12,10 @@ use Rattle.command_words.specs.declared.setting.Setting.{Setting}
 use Rattle.command_words.specs.declared.look.Look.{Look}
 use Rattle.command_words.specs.declared.look.Look.TheVariants.{Says, Awaits, Ends, Unknown}
 use Rattle.command_words.specs.Fields.{option_name, option_named, command_name, command_named}
-use Rattle.command_words.specs.Values.{is_name, is_flag}
+use Rattle.command_words.specs.Values.{is_name, is_report_flag, is_flag}
 use Rattle.command_words.specs.Looks.{cut, put_before, awaits, says, parted, option_look, look}
 use Rattle.command_words.specs.CommandLines.{Item, item_words, item_setting, IsItem, HasValue}
-use Rattle.command_words.specs.CommandLines.Item.{joined, json, brief, name}
+use Rattle.command_words.specs.CommandLines.Item.{joined, json, brief, places, name}
 use Rattle.command_words.proofs.Results.{differ}
 
 same_bytes : (one other : List ℕ) → bytes_eq one other ≡ true → one ≡ other
@@ -52,7 +52,8 @@ names_option word =
     (pick P word (codes "--scenario") field.Scenario _ (λ e. (e, has_value field.Scenario refl))
     (pick P word (codes "--tree") field.Tree _ (λ e. (e, has_value field.Tree refl))
     (pick P word (codes "--turns") field.Turns _ (λ e. (e, has_value field.Turns refl))
-    (pick P word (codes "--limit") field.Limit None (λ e. (e, has_value field.Limit refl)) tt)))))
+    (pick P word (codes "--limit") field.Limit _ (λ e. (e, has_value field.Limit refl))
+    (pick P word (codes "--with") field.With None (λ e. (e, has_value field.With refl)) tt))))))
 
 pub names_command : (word : List ℕ) → IfSome (command_named word) (λ c. word ≡ command_name c)
 names_command word =
@@ -60,7 +61,11 @@ names_command word =
     pick P word (codes "check") command.Check _ (λ e. e)
     (pick P word (codes "run") command.Run _ (λ e. e)
     (pick P word (codes "translate") command.Translate _ (λ e. e)
-    (pick P word (codes "load") command.Load None (λ e. e) tt)))
+    (pick P word (codes "load") command.Load _ (λ e. e)
+    (pick P word (codes "predict") command.Predict _ (λ e. e)
+    (pick P word (codes "explain") command.Explain _ (λ e. e)
+    (pick P word (codes "pair") command.Pair _ (λ e. e)
+    (pick P word (codes "twice") command.Twice None (λ e. e) tt)))))))
 
 -- ---- a word with an equals sign
 
@@ -114,8 +119,8 @@ looked_parted : (word : List ℕ) (o : Option (List ℕ × List ℕ)) → Whole 
 looked_parted word None h = looked_awaits word (option_named word) (names_option word)
 looked_parted word (Some parts) h = looked_says word parts.0 parts.1 (option_named parts.0) h (names_option parts.0)
 
-a_flag : (word : List ℕ) → is_flag word ≡ true → IsItemOf word (record { field = field.Layout; text = word })
-a_flag word e =
+a_report_flag : (word : List ℕ) → is_report_flag word ≡ true → IsItemOf word (record { field = field.Layout; text = word })
+a_report_flag word e =
     ⊎_elim
     (λ h. let same = same_bytes word (codes "--json") h in
     record {
@@ -132,6 +137,19 @@ a_flag word e =
       is = tt;
     })
     (or_cases (bytes_eq word (codes "--json")) (bytes_eq word (codes "--brief")) e)
+
+a_flag : (word : List ℕ) → is_flag word ≡ true → IsItemOf word (record { field = field.Layout; text = word })
+a_flag word e =
+    ⊎_elim
+    (λ h. a_report_flag word h)
+    (λ h. let same = same_bytes word (codes "--places") h in
+    record {
+      item = places;
+      words = ap (λ w. w ∷ []) same;
+      setting = let f : List ℕ → Setting = λ w. record { field = field.Layout; text = w } in ap f (sym same);
+      is = tt;
+    })
+    (or_cases (is_report_flag word) (bytes_eq word (codes "--places")) e)
 
 a_name : (word : List ℕ) → is_name word ≡ true → IsItemOf word (record { field = field.Named; text = word })
 a_name word e = record { item = name word; words = refl; setting = refl; is = e }
@@ -159,6 +177,7 @@ option_looked field.Tree h = refl
 option_looked field.Turns h = refl
 option_looked field.Limit h = refl
 option_looked field.Layout h = absurd (h refl)
+option_looked field.With h = refl
 
 pub joined_looked : (f : Field) (text : List ℕ) → HasValue f
     → look (option_name f ++ (codes "=" ++ text)) ≡ Says (record { field = f; text = text })
@@ -170,12 +189,16 @@ joined_looked field.Tree text h = refl
 joined_looked field.Turns text h = refl
 joined_looked field.Limit text h = refl
 joined_looked field.Layout text h = absurd (h refl)
+joined_looked field.With text h = refl
 
 pub json_looked : look (codes "--json") ≡ Says (record { field = field.Layout; text = codes "--json" })
 json_looked = refl
 
 pub brief_looked : look (codes "--brief") ≡ Says (record { field = field.Layout; text = codes "--brief" })
 brief_looked = refl
+
+pub places_looked : look (codes "--places") ≡ Says (record { field = field.Layout; text = codes "--places" })
+places_looked = refl
 
 pub name_looked : (word : List ℕ) → is_name word ≡ true → look word ≡ Says (record { field = field.Named; text = word })
 name_looked word h =

@@ -2,13 +2,10 @@
 use Rattle.std.proofs.Common.{◌≡◌, ◌≢◌, ℕ, ◌+◌, Bool, true, false, List, [], ◌∷◌, ◌++◌, map, Option, Some, None, Result, Ok, Err, refl, sym, ap, subst, ◌∙◌, append_assoc, codes}
 use Rattle.std.specs.Prelude.{if◌then◌else◌}
 use Rattle.std.specs.Str.{bytes_eq}
-use Rattle.std.proofs.lemmas.Bool.{and_parts, and_from}
 use Rattle.std.proofs.lemmas.List.{append-nil}
 use Rattle.std.proofs.lemmas.Slice.Eq.{bytes_eq-Decides}
 use Rattle.command_words.specs.declared.field.Command.{Command}
-use Rattle.command_words.specs.declared.field.Command.TheVariants as command
 use Rattle.command_words.specs.declared.field.Field.{Field}
-use Rattle.command_words.specs.declared.field.Field.TheVariants as field
 use Rattle.command_words.specs.declared.setting.Setting.{Setting}
 use Rattle.command_words.specs.declared.look.Look.{Look}
 use Rattle.command_words.specs.declared.look.Look.TheVariants.{Says, Awaits, Ends, Unknown}
@@ -16,14 +13,14 @@ use Rattle.command_words.specs.declared.read.Begun.{Begun}
 use Rattle.command_words.specs.declared.read.Place.{Place}
 use Rattle.command_words.specs.declared.read.Place.TheVariants.{Options, Value, Ended}
 use Rattle.command_words.specs.declared.request.Request.{Request}
-use Rattle.command_words.specs.Fields.{may, is_given, option_name}
+use Rattle.command_words.specs.Fields.{needs_of, may, option_name}
 use Rattle.command_words.specs.Values.{is_name, is_value}
 use Rattle.command_words.specs.Looks.{look}
 use Rattle.command_words.specs.Words.{is_ready, at, say, open_step, step_at, step, after, start, finished_at, finished}
 use Rattle.command_words.specs.CommandLines.{Item, Texts, item_words, item_setting, items_words, IsItem, AreItems, HasValue, AreNames, Line}
 use Rattle.command_words.specs.CommandLines.{ended_words, ended_names, line_words, line_settings, name_setting}
 use Rattle.command_words.specs.CommandLines.Item.{apart}
-use Rattle.command_words.proofs.Fitting.{AllFit, fits_more, none_fit, still_given}
+use Rattle.command_words.proofs.Fitting.{AllFit, fits_more, none_fit, all_given, still_given}
 use Rattle.command_words.proofs.Looking.{Looked, looked, IsItemOf}
 use Rattle.command_words.proofs.Results.{differ, is_no, in_some, ok_value}
 
@@ -236,13 +233,7 @@ said_sound command said s place next fits is stands =
 
 -- a command that has what it needs still has it when more is said
 still_ready : (command : Command) (said more : List Setting) → is_ready command said ≡ true → is_ready command (said ++ more) ≡ true
-still_ready command.Check said more h = refl
-still_ready command.Run said more h =
-    let parts = and_parts (is_given field.Scenario said) (is_given field.Tree said) h in
-    and_from (is_given field.Scenario (said ++ more)) (is_given field.Tree (said ++ more))
-    (still_given field.Scenario said more parts.0) (still_given field.Tree said more parts.1)
-still_ready command.Translate said more h = refl
-still_ready command.Load said more h = refl
+still_ready command said more h = all_given said (said ++ more) (needs_of command) (λ f h. still_given f said more h) h
 
 opened_sound : (command : Command) (said : List Setting) (word : List ℕ) (next : Begun) (l : Look) → AllFit command said
     → Opened command said word l next → Sound command next

@@ -1,6 +1,7 @@
 -- A line spells its request.
 use Rattle.std.proofs.Common.{◌≡◌, ◌≢◌, ℕ, ◌+◌, Bool, true, false, List, [], ◌∷◌, ◌++◌, map, length, Option, Some, None, Result, Ok, Err, refl, sym, ap, subst, ◌∙◌, append_assoc, codes}
-use Rattle.std.specs.Prelude.{IfSome, if◌then◌else◌}
+use Rattle.std.specs.Prelude.{IfSome, ◌&&◌, if◌then◌else◌}
+use Rattle.std.specs.List.{list_all}
 use Rattle.std.specs.Option.{is_some, ok_or}
 use Rattle.std.specs.Str.{bytes_eq}
 use Rattle.std.proofs.lemmas.Bool.{and_from}
@@ -15,20 +16,20 @@ use Rattle.command_words.specs.declared.read.Begun.{Begun}
 use Rattle.command_words.specs.declared.read.Place.{Place}
 use Rattle.command_words.specs.declared.read.Place.TheVariants.{Options, Value, Ended}
 use Rattle.command_words.specs.declared.request.Request.{Request}
-use Rattle.command_words.specs.declared.request.Request.TheVariants.{Check, Run, Translate, Load}
-use Rattle.command_words.specs.Fields.{may, is_given, option_name, texts, first, command_name, command_named}
-use Rattle.dpkg_scenarios.specs.Names.{scenario_name}
+use Rattle.command_words.specs.declared.request.Request.TheVariants.{Check, Run, Translate, Load, Predict, Explain, Pair, Twice}
+use Rattle.command_words.specs.Fields.{is_field, may, is_given, option_name, texts, first, command_name, command_named}
+use Rattle.dpkg_scenarios.specs.Names.{scenario_named, pair_named}
 use Rattle.command_words.specs.Values.{is_value}
 use Rattle.command_words.specs.Looks.{look}
 use Rattle.command_words.specs.Requests.{request_of}
 use Rattle.command_words.specs.Words.{is_ready, at, say, open_step, step, after, start, finished_at, finished, ended_form, line_form, command_form, form}
 use Rattle.command_words.specs.CommandLines.{Item, Texts, item_words, item_setting, items_words, IsItem, AreItems, AreNames, Line, IsLine, Asks}
 use Rattle.command_words.specs.CommandLines.{ended_words, ended_names, line_words, line_settings, name_setting, command_of}
-use Rattle.command_words.specs.CommandLines.Item.{apart, joined, json, brief, name}
+use Rattle.command_words.specs.CommandLines.Item.{apart, joined, json, brief, places, name}
 use Rattle.command_words.specs.Laws.{FormIsLine}
 use Rattle.command_words.proofs.Fitting.{AllFit, fits_there, texts-append}
-use Rattle.command_words.proofs.Looking.{option_looked, joined_looked, json_looked, brief_looked, name_looked, names_command}
-use Rattle.command_words.proofs.Asking.{command_at, commands, made, asked, asked_fits}
+use Rattle.command_words.proofs.Looking.{option_looked, joined_looked, json_looked, brief_looked, places_looked, name_looked, names_command}
+use Rattle.command_words.proofs.Asking.{command_at, commands, made, asked, asked_fits, chosen_text}
 use Rattle.command_words.proofs.Advance.{after_step}
 use Rattle.command_words.proofs.ReadLines.{reads, sound_after, sound_start}
 use Rattle.command_words.proofs.Results.{differ, no_fault, ok_value}
@@ -76,6 +77,8 @@ module _ (command : Command) (said : List Setting) where
       alone_after (codes "--json") (item_setting json) words n wanted json_looked can value rest
   item_after brief words n wanted is can value rest =
       alone_after (codes "--brief") (item_setting brief) words n wanted brief_looked can value rest
+  item_after places words n wanted is can value rest =
+      alone_after (codes "--places") (item_setting places) words n wanted places_looked can value rest
   item_after (name word) words n wanted is can value rest =
       alone_after word (name_setting word) words n wanted (name_looked word is) can value rest
 
@@ -127,34 +130,42 @@ names_after command said (word ∷ names) n are fit =
 
 -- ---- a whole line
 
--- the command has what it needs before `--`
-abbrev Needs : Command → List Setting → Type 0
-Needs command said = is_ready command said ≡ true
+-- a text for another field than the names stands before `--`
+no_names : (f : Field) (names : Texts) → is_field f field.Named ≡ false → texts f (map name_setting names) ≡ []
+no_names f [] other = refl
+no_names f (word ∷ names) other =
+    let later = texts f (map name_setting names) in ap (λ b. if b then word ∷ later else later) other ∙ no_names f names other
 
-no_scenario : (names : Texts) → texts field.Scenario (map name_setting names) ≡ []
-no_scenario [] = refl
-no_scenario (word ∷ names) = no_scenario names
-
-no_tree : (names : Texts) → texts field.Tree (map name_setting names) ≡ []
-no_tree [] = refl
-no_tree (word ∷ names) = no_tree names
-
-given_before : (f : Field) (said : List Setting) (names : Texts) (text : List ℕ) → texts f (map name_setting names) ≡ []
+given_before : (f : Field) (said : List Setting) (names : Texts) (text : List ℕ) → is_field f field.Named ≡ false
     → texts f (said ++ map name_setting names) ≡ text ∷ [] → is_given f said ≡ true
-given_before f said names text none e =
+given_before f said names text other e =
     let before : texts f said ≡ text ∷ [] =
-    sym (append-nil (texts f said)) ∙ ap (λ l. texts f said ++ l) (sym none) ∙ sym (texts-append f said (map name_setting names)) ∙ e in
+    sym (append-nil (texts f said)) ∙ ap (λ l. texts f said ++ l) (sym (no_names f names other))
+    ∙ sym (texts-append f said (map name_setting names)) ∙ e in
     ap (λ l. is_some (first l)) before
 
+-- two options that a command needs
+both_given : (f g : Field) (said : List Setting) → is_given f said ≡ true → is_given g said ≡ true
+    → list_all (λ h. is_given h said) (f ∷ g ∷ []) ≡ true
+both_given f g said one other =
+    and_from (is_given f said) (is_given g said && true) one (and_from (is_given g said) true other refl)
+
+-- the command has what it needs before `--`
 ready_before : (request : Request) (said : List Setting) (names : Texts)
     → Asks (λ f. texts f (said ++ map name_setting names)) request → is_ready (command_at request) said ≡ true
 ready_before (Check folders chosen turns limit layout) said names asks = refl
 ready_before (Run folders tree chosen turns) said names asks =
-    and_from (is_given field.Scenario said) (is_given field.Tree said)
-    (given_before field.Scenario said names (scenario_name chosen) (no_scenario names) asks.of_scenario)
-    (given_before field.Tree said names tree (no_tree names) asks.of_tree)
+    both_given field.Scenario field.Tree said
+    (let t = chosen_text scenario_named _ chosen asks.of_scenario in given_before field.Scenario said names t.0 refl t.1)
+    (given_before field.Tree said names tree refl asks.of_tree)
 ready_before (Translate file) said names asks = refl
 ready_before (Load number limit) said names asks = refl
+ready_before (Predict report trees) said names asks = refl
+ready_before (Explain folders chosen turns limit alone) said names asks = refl
+ready_before (Pair dir other base chosen turns limit) said names asks =
+    both_given field.With field.Scenario said (given_before field.With said names other refl asks.of_other)
+    (let t = chosen_text pair_named _ chosen asks.of_scenario in given_before field.Scenario said names t.0 refl t.1)
+ready_before (Twice dir base turns limit) said names asks = refl
 
 abbrev ended_place : Option Texts → Place
 ended_place None = Options
@@ -202,6 +213,10 @@ named_command (Check folders chosen turns limit layout) = refl
 named_command (Run folders tree chosen turns) = refl
 named_command (Translate file) = refl
 named_command (Load number limit) = refl
+named_command (Predict report trees) = refl
+named_command (Explain folders chosen turns limit alone) = refl
+named_command (Pair dir other base chosen turns limit) = refl
+named_command (Twice dir base turns limit) = refl
 
 pub line_spells : (words : Texts) (request : Request) → IsLine words request → form words ≡ Ok request
 line_spells words request is =

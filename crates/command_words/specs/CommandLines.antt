@@ -1,7 +1,7 @@
 -- What a valid command line is: a command, and behind it options and the folder, file or number that is named, in any
--- order.
-use Rattle.std.specs.Prelude.{◌≡◌, ◌≢◌, ℕ, List, [], ◌∷◌, ◌++◌, map, codes, Option, Some, None, IsTrue}
-use Rattle.std.specs.Option.{option_map}
+-- order; a prediction names two files.
+use Rattle.std.specs.Prelude.{◌≡◌, ◌≢◌, ℕ, Bool, true, false, List, [], ◌∷◌, ◌++◌, map, codes, Option, Some, None, IsTrue}
+use Rattle.std.specs.Option.{is_some}
 use Rattle.dpkg_scenarios.specs.declared.scenario.Scenario.{Scenario}
 use Rattle.command_words.specs.declared.field.Field.{Field}
 use Rattle.command_words.specs.declared.field.Field.TheVariants as field
@@ -10,11 +10,11 @@ use Rattle.command_words.specs.declared.request.Folders.{Folders}
 use Rattle.command_words.specs.declared.request.Layout.{Layout}
 use Rattle.command_words.specs.declared.request.Layout.TheVariants.{Plain, Brief, Json}
 use Rattle.command_words.specs.declared.request.Request.{Request}
-use Rattle.command_words.specs.declared.request.Request.TheVariants.{Check, Run, Translate, Load}
+use Rattle.command_words.specs.declared.request.Request.TheVariants.{Check, Run, Translate, Load, Predict, Explain, Pair, Twice}
 use Rattle.command_words.specs.declared.limits.TheConstants.{MOST_LOAD, MOST_TURNS, MOST_LIMIT}
 use Rattle.command_words.specs.declared.limits.TheConstants.{USUAL_TURNS, USUAL_LIMIT}
-use Rattle.command_words.specs.Fields.{option_name, texts}
-use Rattle.dpkg_scenarios.specs.Names.{scenario_name}
+use Rattle.command_words.specs.Fields.{option_name, is_among, texts}
+use Rattle.dpkg_scenarios.specs.Names.{scenario_named, pair_named}
 use Rattle.command_words.specs.Values.{is_name, number_in}
 
 -- words of a line, or what is said of a field, in order
@@ -29,6 +29,7 @@ pub data Item : Type 0 where
   joined : Field → List ℕ → Item
   json : Item
   brief : Item
+  places : Item
   name : List ℕ → Item
 
 -- its words
@@ -37,6 +38,7 @@ item_words (apart f text) = option_name f ∷ text ∷ []
 item_words (joined f text) = (option_name f ++ (codes "=" ++ text)) ∷ []
 item_words json = codes "--json" ∷ []
 item_words brief = codes "--brief" ∷ []
+item_words places = codes "--places" ∷ []
 item_words (name word) = word ∷ []
 
 -- what it says, of what
@@ -45,6 +47,7 @@ item_setting (apart f text) = record { field = f; text = text }
 item_setting (joined f text) = record { field = f; text = text }
 item_setting json = record { field = field.Layout; text = codes "--json" }
 item_setting brief = record { field = field.Layout; text = codes "--brief" }
+item_setting places = record { field = field.Layout; text = codes "--places" }
 item_setting (name word) = record { field = field.Named; text = word }
 
 -- the field is an option that has a value
@@ -58,6 +61,7 @@ IsItem (apart f text) = HasValue f × IsTrue (is_name text)
 IsItem (joined f text) = HasValue f
 IsItem json = Unit {0}
 IsItem brief = Unit {0}
+IsItem places = Unit {0}
 IsItem (name word) = IsTrue (is_name word)
 
 -- items, of which each is one
@@ -121,11 +125,32 @@ IsNumber most [] n = ⊥
 IsNumber most (text ∷ []) n = number_in most text ≡ Some n
 IsNumber most (text ∷ other ∷ more) n = ⊥
 
+-- no text, and no scenario; or the name of a scenario, of those that are named so
+abbrev pub IsScenarioOr : (List ℕ → Option Scenario) → Texts → Option Scenario → Type 0
+IsScenarioOr named [] chosen = chosen ≡ None
+IsScenarioOr named (text ∷ []) chosen = (named text ≡ chosen) × IsTrue (is_some chosen)
+IsScenarioOr named (text ∷ other ∷ more) chosen = ⊥
+
+-- the name of a scenario, of those that are named so, and no other text
+abbrev pub IsScenario : (List ℕ → Option Scenario) → Texts → Scenario → Type 0
+IsScenario named [] chosen = ⊥
+IsScenario named (text ∷ []) chosen = named text ≡ Some chosen
+IsScenario named (text ∷ other ∷ more) chosen = ⊥
+
 -- the words for a layout
 abbrev pub layout_words : Layout → Texts
 layout_words Plain = []
 layout_words Brief = codes "--brief" ∷ []
 layout_words Json = codes "--json" ∷ []
+
+-- the words that ask for a line for each place alone
+abbrev pub places_words : Bool → Texts
+places_words true = codes "--places" ∷ []
+places_words false = []
+
+-- nothing is said but of these fields
+abbrev pub NoOthers : List Field → (Field → Texts) → Type 0
+NoOthers fields said = (f : Field) → is_among fields f ≡ false → said f ≡ []
 
 -- the texts for each field name these folders
 pub record NamesFolders (said : Field → Texts) (folders : Folders) : Type 0 where
@@ -137,32 +162,67 @@ pub record NamesFolders (said : Field → Texts) (folders : Folders) : Type 0 wh
 pub record AsksCheck (said : Field → Texts) (folders : Folders) (chosen : Option Scenario) (turns limit : ℕ)
     (layout : Layout) : Type 0 where
   pub of_folders : NamesFolders said folders
-  pub of_scenario : said field.Scenario ≡ listed (option_map scenario_name chosen)
+  pub of_scenario : IsScenarioOr scenario_named (said field.Scenario) chosen
   pub of_turns : IsNumberOr MOST_TURNS USUAL_TURNS (said field.Turns) turns
   pub of_limit : IsNumberOr MOST_LIMIT USUAL_LIMIT (said field.Limit) limit
   pub of_layout : said field.Layout ≡ layout_words layout
-  pub of_tree : said field.Tree ≡ []
+  pub of_others : NoOthers
+      (field.Named ∷ field.Old ∷ field.Base ∷ field.Scenario ∷ field.Turns ∷ field.Limit ∷ field.Layout ∷ []) said
 
 -- the texts for each field ask for a run
 pub record AsksRun (said : Field → Texts) (folders : Folders) (tree : List ℕ) (chosen : Scenario) (turns : ℕ)
     : Type 0 where
   pub of_folders : NamesFolders said folders
   pub of_tree : said field.Tree ≡ tree ∷ []
-  pub of_scenario : said field.Scenario ≡ scenario_name chosen ∷ []
+  pub of_scenario : IsScenario scenario_named (said field.Scenario) chosen
   pub of_turns : IsNumberOr MOST_TURNS USUAL_TURNS (said field.Turns) turns
-  pub of_limit : said field.Limit ≡ []
-  pub of_layout : said field.Layout ≡ []
+  pub of_others : NoOthers (field.Named ∷ field.Old ∷ field.Base ∷ field.Scenario ∷ field.Tree ∷ field.Turns ∷ []) said
 
 -- the texts for each field ask for a translation
 pub record AsksTranslate (said : Field → Texts) (file : List ℕ) : Type 0 where
   pub of_file : said field.Named ≡ file ∷ []
-  pub of_others : (f : Field) → f ≢ field.Named → said f ≡ []
+  pub of_others : NoOthers (field.Named ∷ []) said
 
 -- the texts for each field ask for a load
 pub record AsksLoad (said : Field → Texts) (number limit : ℕ) : Type 0 where
   pub of_number : IsNumber MOST_LOAD (said field.Named) number
   pub of_limit : IsNumberOr MOST_LIMIT USUAL_LIMIT (said field.Limit) limit
-  pub of_others : (f : Field) → f ≢ field.Named → f ≢ field.Limit → said f ≡ []
+  pub of_others : NoOthers (field.Named ∷ field.Limit ∷ []) said
+
+-- the texts for each field ask for a prediction: the report is named first, the trees behind it
+pub record AsksPredict (said : Field → Texts) (report trees : List ℕ) : Type 0 where
+  pub of_files : said field.Named ≡ report ∷ trees ∷ []
+  pub of_others : NoOthers (field.Named ∷ []) said
+
+-- the texts for each field ask for an explanation of these folders
+pub record AsksExplain (said : Field → Texts) (folders : Folders) (chosen : Option Scenario) (turns limit : ℕ)
+    (alone : Bool) : Type 0 where
+  pub of_folders : NamesFolders said folders
+  pub of_scenario : IsScenarioOr scenario_named (said field.Scenario) chosen
+  pub of_turns : IsNumberOr MOST_TURNS USUAL_TURNS (said field.Turns) turns
+  pub of_limit : IsNumberOr MOST_LIMIT USUAL_LIMIT (said field.Limit) limit
+  pub of_layout : said field.Layout ≡ places_words alone
+  pub of_others : NoOthers
+      (field.Named ∷ field.Old ∷ field.Base ∷ field.Scenario ∷ field.Turns ∷ field.Limit ∷ field.Layout ∷ []) said
+
+-- the texts for each field ask for a check of a package against another
+pub record AsksPair (said : Field → Texts) (dir other : List ℕ) (base : Option (List ℕ)) (chosen : Scenario)
+    (turns limit : ℕ) : Type 0 where
+  pub of_dir : said field.Named ≡ dir ∷ []
+  pub of_other : said field.With ≡ other ∷ []
+  pub of_base : said field.Base ≡ listed base
+  pub of_scenario : IsScenario pair_named (said field.Scenario) chosen
+  pub of_turns : IsNumberOr MOST_TURNS USUAL_TURNS (said field.Turns) turns
+  pub of_limit : IsNumberOr MOST_LIMIT USUAL_LIMIT (said field.Limit) limit
+  pub of_others : NoOthers (field.Named ∷ field.With ∷ field.Base ∷ field.Scenario ∷ field.Turns ∷ field.Limit ∷ []) said
+
+-- the texts for each field ask for a check that a package can be configured twice
+pub record AsksTwice (said : Field → Texts) (dir : List ℕ) (base : Option (List ℕ)) (turns limit : ℕ) : Type 0 where
+  pub of_dir : said field.Named ≡ dir ∷ []
+  pub of_base : said field.Base ≡ listed base
+  pub of_turns : IsNumberOr MOST_TURNS USUAL_TURNS (said field.Turns) turns
+  pub of_limit : IsNumberOr MOST_LIMIT USUAL_LIMIT (said field.Limit) limit
+  pub of_others : NoOthers (field.Named ∷ field.Base ∷ field.Turns ∷ field.Limit ∷ []) said
 
 -- the texts for each field ask for this request
 abbrev pub Asks : (Field → Texts) → Request → Type 0
@@ -170,6 +230,10 @@ Asks said (Check folders scenario turns limit layout) = AsksCheck said folders s
 Asks said (Run folders tree scenario turns) = AsksRun said folders tree scenario turns
 Asks said (Translate file) = AsksTranslate said file
 Asks said (Load number limit) = AsksLoad said number limit
+Asks said (Predict report trees) = AsksPredict said report trees
+Asks said (Explain folders scenario turns limit alone) = AsksExplain said folders scenario turns limit alone
+Asks said (Pair dir other base scenario turns limit) = AsksPair said dir other base scenario turns limit
+Asks said (Twice dir base turns limit) = AsksTwice said dir base turns limit
 
 -- the command of a request
 abbrev pub command_of : Request → List ℕ
@@ -177,6 +241,10 @@ command_of (Check folders scenario turns limit layout) = codes "check"
 command_of (Run folders tree scenario turns) = codes "run"
 command_of (Translate file) = codes "translate"
 command_of (Load number limit) = codes "load"
+command_of (Predict report trees) = codes "predict"
+command_of (Explain folders scenario turns limit alone) = codes "explain"
+command_of (Pair dir other base scenario turns limit) = codes "pair"
+command_of (Twice dir base turns limit) = codes "twice"
 
 -- The words are a valid line for a request: its command and a line that asks for it. So each option stands there once
 -- at most, and `--json` and `--brief` exclude each other.

@@ -11,11 +11,11 @@ use Rattle.command_words.specs.declared.request.Folders.{Folders}
 use Rattle.command_words.specs.declared.request.Layout.{Layout}
 use Rattle.command_words.specs.declared.request.Layout.TheVariants.{Plain, Brief, Json}
 use Rattle.command_words.specs.declared.request.Request.{Request}
-use Rattle.command_words.specs.declared.request.Request.TheVariants.{Check, Run, Translate, Load}
+use Rattle.command_words.specs.declared.request.Request.TheVariants.{Check, Run, Translate, Load, Predict, Explain, Pair, Twice}
 use Rattle.command_words.specs.declared.limits.TheConstants.{MOST_LOAD, MOST_TURNS, MOST_LIMIT}
 use Rattle.command_words.specs.declared.limits.TheConstants.{USUAL_TURNS, USUAL_LIMIT}
-use Rattle.command_words.specs.Fields.{given}
-use Rattle.dpkg_scenarios.specs.Names.{scenario_named}
+use Rattle.command_words.specs.Fields.{given, second, is_given}
+use Rattle.dpkg_scenarios.specs.Names.{scenario_named, pair_named}
 use Rattle.command_words.specs.Values.{number_in}
 
 -- the number that a text spells, or the usual one
@@ -66,13 +66,55 @@ load_by said (Some number) = Some (Load number (number_or MOST_LIMIT USUAL_LIMIT
 abbrev pub load_of : List ℕ → List Setting → Option Request
 load_of name said = load_by said (number_in MOST_LOAD name)
 
--- the request, by its command and by the folder, file or number that is named
+-- a prediction by a report, for the trees in a file; None where no file of trees is named
+abbrev pub predict_by : List ℕ → Option (List ℕ) → Option Request
+predict_by report None = None
+predict_by report (Some trees) = Some (Predict report trees)
+
+-- a prediction by the report that is named first
+abbrev pub predict_of : List ℕ → List Setting → Option Request
+predict_of report said = predict_by report (second field.Named said)
+
+-- an explanation of the package in a folder
+abbrev pub explain_of : List ℕ → List Setting → Request
+explain_of dir said =
+    Explain (folders_said dir said) (scenario_said said) (number_or MOST_TURNS USUAL_TURNS (given field.Turns said))
+    (number_or MOST_LIMIT USUAL_LIMIT (given field.Limit said)) (is_given field.Layout said)
+
+-- the scenario of a pair that was said
+abbrev pub pair_said : List Setting → Option Scenario
+pair_said said = option_and_then pair_named (given field.Scenario said)
+
+-- a check of the package in a folder against the installed one in another, in a scenario
+abbrev pub pair_from : List ℕ → List Setting → Option Scenario → Option (List ℕ) → Option Request
+pair_from dir said None other = None
+pair_from dir said (Some scenario) None = None
+pair_from dir said (Some scenario) (Some other) =
+    Some
+    (Pair dir other (given field.Base said) scenario (number_or MOST_TURNS USUAL_TURNS (given field.Turns said))
+    (number_or MOST_LIMIT USUAL_LIMIT (given field.Limit said)))
+
+-- a check of the package in a folder against another; None where no scenario or no other folder was said
+abbrev pub pair_of : List ℕ → List Setting → Option Request
+pair_of dir said = pair_from dir said (pair_said said) (given field.With said)
+
+-- a check that the package in a folder can be configured twice
+abbrev pub twice_of : List ℕ → List Setting → Request
+twice_of dir said =
+    Twice dir (given field.Base said) (number_or MOST_TURNS USUAL_TURNS (given field.Turns said))
+    (number_or MOST_LIMIT USUAL_LIMIT (given field.Limit said))
+
+-- the request, by its command and by the folder, file or number that is named first
 abbrev pub request_by : Command → List Setting → Option (List ℕ) → Option Request
 request_by command said None = None
 request_by command.Check said (Some name) = Some (check_of name said)
 request_by command.Run said (Some name) = run_of name said
 request_by command.Translate said (Some name) = Some (Translate name)
 request_by command.Load said (Some name) = load_of name said
+request_by command.Predict said (Some name) = predict_of name said
+request_by command.Explain said (Some name) = Some (explain_of name said)
+request_by command.Pair said (Some name) = pair_of name said
+request_by command.Twice said (Some name) = Some (twice_of name said)
 
 -- the request that they make; None where something is missing
 abbrev pub request_of : Command → List Setting → Option Request

@@ -1,10 +1,10 @@
 -- The form of the command line, word by word.
-use Rattle.std.specs.Prelude.{◌≡◌, ℕ, ◌+◌, Bool, true, ◌&&◌, List, [], ◌∷◌, ◌++◌, length, codes}
+use Rattle.std.specs.Prelude.{◌≡◌, ℕ, ◌+◌, Bool, List, [], ◌∷◌, ◌++◌, length, codes}
 use Rattle.std.specs.Prelude.{Option, Some, None, Result, Ok, Err, if◌then◌else◌}
+use Rattle.std.specs.List.{list_all}
 use Rattle.std.specs.Option.{ok_or}
 use Rattle.std.specs.Str.{bytes_eq}
 use Rattle.command_words.specs.declared.field.Command.{Command}
-use Rattle.command_words.specs.declared.field.Command.TheVariants as command
 use Rattle.command_words.specs.declared.field.Field.TheVariants as field
 use Rattle.command_words.specs.declared.setting.Setting.{Setting}
 use Rattle.command_words.specs.declared.look.Look.{Look}
@@ -15,17 +15,14 @@ use Rattle.command_words.specs.declared.read.Place.TheVariants.{Options, Value, 
 use Rattle.command_words.specs.declared.read.WordsFault.{WordsFault}
 use Rattle.command_words.specs.declared.read.WordsFault.TheVariants.{Usage, Memory}
 use Rattle.command_words.specs.declared.request.Request.{Request}
-use Rattle.command_words.specs.Fields.{command_named, is_given, may}
+use Rattle.command_words.specs.Fields.{command_named, needs_of, is_given, may}
 use Rattle.command_words.specs.Values.{is_name, is_value}
 use Rattle.command_words.specs.Looks.{look}
 use Rattle.command_words.specs.Requests.{request_of}
 
 -- the options that the command needs have been said
 abbrev pub is_ready : Command → List Setting → Bool
-is_ready command.Check said = true
-is_ready command.Run said = is_given field.Scenario said && is_given field.Tree said
-is_ready command.Translate said = true
-is_ready command.Load said = true
+is_ready command said = list_all (λ f. is_given f said) (needs_of command)
 
 -- a line that says these things and stands at a place
 abbrev pub at : List Setting → Place → Option Begun

@@ -1,7 +1,7 @@
 // What a part of a command line is about.
 ghost use Rattle.std.specs.Prelude.{◌≡◌};
 ghost use Rattle.command_words.specs.Fields.{rank, is_field, option_name, option_named, takes};
-ghost use Rattle.command_words.specs.Fields.{command_named};
+ghost use Rattle.command_words.specs.Fields.{command_named, fields_of, needs_of, most};
 
 /// A command.
 #[derive(Clone, Copy, Debug, PartialEq, Eq)]
@@ -10,6 +10,10 @@ pub enum Command {
     Run,
     Translate,
     Load,
+    Predict,
+    Explain,
+    Pair,
+    Twice,
 }
 
 /// What a part of a line is about: the folder, file or number that is named, an option that has a value, or how a
@@ -24,6 +28,7 @@ pub enum Field {
     Turns,
     Limit,
     Layout,
+    With,
 }
 
 /// The command of this name.
@@ -42,6 +47,18 @@ pub fn command_named(name: &str) -> Option<Command>
     if name == "load" {
         return Some(Command::Load);
     }
+    if name == "predict" {
+        return Some(Command::Predict);
+    }
+    if name == "explain" {
+        return Some(Command::Explain);
+    }
+    if name == "pair" {
+        return Some(Command::Pair);
+    }
+    if name == "twice" {
+        return Some(Command::Twice);
+    }
     None
 }
 
@@ -58,6 +75,7 @@ fn rank(field: Field) -> u8
         Field::Turns => 5,
         Field::Limit => 6,
         Field::Layout => 7,
+        Field::With => 8,
     }
 }
 
@@ -90,17 +108,85 @@ pub fn option_named(name: &str) -> Option<Field>
     if name == "--limit" {
         return Some(Field::Limit);
     }
+    if name == "--with" {
+        return Some(Field::With);
+    }
     None
+}
+
+// The fields for which a line of the command may have a text.
+fn fields_of(command: Command) -> &'static [Field]
+    ensures { result.now ≡ fields_of command }
+{
+    match command {
+        Command::Check => &[
+            Field::Named,
+            Field::Old,
+            Field::Base,
+            Field::Scenario,
+            Field::Turns,
+            Field::Limit,
+            Field::Layout,
+        ],
+        Command::Run => &[
+            Field::Named,
+            Field::Old,
+            Field::Base,
+            Field::Scenario,
+            Field::Tree,
+            Field::Turns,
+        ],
+        Command::Translate => &[Field::Named],
+        Command::Load => &[Field::Named, Field::Limit],
+        Command::Predict => &[Field::Named],
+        Command::Explain => &[
+            Field::Named,
+            Field::Old,
+            Field::Base,
+            Field::Scenario,
+            Field::Turns,
+            Field::Limit,
+            Field::Layout,
+        ],
+        Command::Pair => &[
+            Field::Named,
+            Field::With,
+            Field::Base,
+            Field::Scenario,
+            Field::Turns,
+            Field::Limit,
+        ],
+        Command::Twice => &[Field::Named, Field::Base, Field::Turns, Field::Limit],
+    }
+}
+
+/// The options that a line of the command has to have.
+pub fn needs_of(command: Command) -> &'static [Field]
+    ensures { result.now ≡ needs_of command }
+{
+    match command {
+        Command::Run => &[Field::Scenario, Field::Tree],
+        Command::Pair => &[Field::With, Field::Scenario],
+        Command::Check | Command::Translate | Command::Load => &[],
+        Command::Predict | Command::Explain | Command::Twice => &[],
+    }
 }
 
 /// Whether a line of the command may have a text for the field.
 pub fn takes(command: Command, field: Field) -> bool
     ensures { result ≡ takes command field }
 {
-    match command {
-        Command::Check => !is_field(Field::Tree, field),
-        Command::Run => !is_field(Field::Limit, field) && !is_field(Field::Layout, field),
-        Command::Translate => is_field(Field::Named, field),
-        Command::Load => is_field(Field::Named, field) || is_field(Field::Limit, field),
+    fields_of(command)
+        .iter()
+        .any(|taken| is_field(*taken, field))
+}
+
+/// How many texts for the field a line of the command may have.
+pub fn most(command: Command, field: Field) -> usize
+    ensures { result ≡ most command field }
+{
+    match (command, field) {
+        (Command::Predict, Field::Named) => 2,
+        _ => 1,
     }
 }

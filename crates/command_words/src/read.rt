@@ -5,10 +5,10 @@ ghost use Rattle.command_words.specs.Looks.{look};
 ghost use Rattle.command_words.specs.Words.{say, step, open_step, is_ready, after, start, finished, line_form, form};
 ghost use Rattle.command_words.specs.Words.{FormGives};
 
-use crate::field::{Command, Field, command_named, takes};
+use crate::field::{Command, Field, command_named, most, needs_of, takes};
 use crate::look::{Look, read_word};
 use crate::request::Request;
-use crate::said::{is_given, request_of};
+use crate::said::{count, is_given, request_of};
 use crate::setting::Setting;
 use crate::value::{is_name, is_value};
 use script_names::{Copied, List, Memory, Text};
@@ -187,15 +187,14 @@ fn say(
 fn may(command: Command, said: &[Setting], field: Field) -> bool
     ensures { result ≡ may command said.now field }
 {
-    takes(command, field) && !is_given(said, field)
+    takes(command, field) && count(said, field) < most(command, field)
 }
 
 // Whether the options that the command needs have been said.
 fn is_ready(command: Command, said: &[Setting]) -> bool
     ensures { result ≡ is_ready command said.now }
 {
-    match command {
-        Command::Check | Command::Translate | Command::Load => true,
-        Command::Run => is_given(said, Field::Scenario) && is_given(said, Field::Tree),
-    }
+    needs_of(command)
+        .iter()
+        .all(|needed| is_given(said, *needed))
 }

@@ -66,6 +66,37 @@ pub enum Request {
         number: u32,
         limit: u32,
     },
+    /// The outcome of each tree in a file, by the report in a file.
+    Predict {
+        report: Text,
+        trees: Text,
+    },
+    /// What there is to say of a package to people, of one scenario or of all six: the whole text, or a line for each
+    /// place alone; `turns` and `limit` are those of a check.
+    Explain {
+        folders: Folders,
+        scenario: Option<Scenario>,
+        turns: u32,
+        limit: u32,
+        places: bool,
+    },
+    /// The report on a package and an installed one of another name, in a scenario of the two; `turns` is how many turns
+    /// of loops a run has, `limit` how many outcomes the scenario may have.
+    Pair {
+        dir: Text,
+        other: Text,
+        base: Option<Text>,
+        scenario: Scenario,
+        turns: u32,
+        limit: u32,
+    },
+    /// The report on a package that is configured twice.
+    Twice {
+        dir: Text,
+        base: Option<Text>,
+        turns: u32,
+        limit: u32,
+    },
 }
 
 impl Copied for Request {
@@ -110,6 +141,62 @@ impl Copied for Request {
                 number: *number,
                 limit: *limit,
             }),
+            Request::Predict { report, trees } => {
+                let report = report.copy(alloc)?;
+                let trees = trees.copy(alloc)?;
+                Ok(Request::Predict { report, trees })
+            }
+            Request::Explain {
+                folders,
+                scenario,
+                turns,
+                limit,
+                places,
+            } => {
+                let folders = folders.copy(alloc)?;
+                Ok(Request::Explain {
+                    folders,
+                    scenario: *scenario,
+                    turns: *turns,
+                    limit: *limit,
+                    places: *places,
+                })
+            }
+            Request::Pair {
+                dir,
+                other,
+                base,
+                scenario,
+                turns,
+                limit,
+            } => {
+                let dir = dir.copy(alloc)?;
+                let other = other.copy(alloc)?;
+                let base = base.copy(alloc)?;
+                Ok(Request::Pair {
+                    dir,
+                    other,
+                    base,
+                    scenario: *scenario,
+                    turns: *turns,
+                    limit: *limit,
+                })
+            }
+            Request::Twice {
+                dir,
+                base,
+                turns,
+                limit,
+            } => {
+                let dir = dir.copy(alloc)?;
+                let base = base.copy(alloc)?;
+                Ok(Request::Twice {
+                    dir,
+                    base,
+                    turns: *turns,
+                    limit: *limit,
+                })
+            }
         }
     }
 }

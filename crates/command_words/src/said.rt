@@ -1,17 +1,17 @@
 // What the words so far have said, and the request that they make.
-ghost use Rattle.std.specs.Prelude.{◌≡◌, IfOk};
+ghost use Rattle.std.specs.Prelude.{◌≡◌, length, IfOk};
 ghost use Rattle.std.specs.List.{find};
 ghost use Rattle.std.specs.Option.{option_copied};
-ghost use Rattle.command_words.specs.Fields.{is_field, given, is_given};
+ghost use Rattle.command_words.specs.Fields.{is_field, texts, given, second, is_given};
 ghost use Rattle.command_words.specs.Requests.{number_or, scenario_said, layout_said, folders_said, request_of, run_of};
-ghost use Rattle.command_words.specs.Requests.{load_of};
+ghost use Rattle.command_words.specs.Requests.{load_of, predict_of, pair_said, pair_of, twice_of};
 
 use crate::field::{Command, Field, is_field};
 use crate::limits::{MOST_LIMIT, MOST_LOAD, MOST_TURNS, USUAL_LIMIT, USUAL_TURNS};
 use crate::request::{Folders, Layout, Request};
 use crate::setting::Setting;
 use crate::value::read_number;
-use dpkg_scenarios::{Scenario, scenario_named};
+use dpkg_scenarios::{Scenario, pair_named, scenario_named};
 use script_names::{Memory, Text};
 use std::alloc::Global;
 
@@ -29,6 +29,31 @@ fn given(said: &[Setting], field: Field) -> Option<&str>
     match found(said, field) {
         None => None,
         Some(setting) => Some(setting.text.as_str()),
+    }
+}
+
+/// How many of the settings are of the field.
+pub fn count(said: &[Setting], field: Field) -> usize
+    ensures { result ≡ length (texts field said.now) }
+{
+    said.iter()
+        .filter(|setting| is_field(field, setting.field))
+        .count()
+}
+
+// The second text for the field.
+fn second(said: &[Setting], field: Field) -> Option<&str>
+    ensures { option_copied result ≡ second field said.now }
+{
+    match said {
+        [] => None,
+        [setting, rest @ ..] => {
+            if is_field(field, setting.field) {
+                given(rest, field)
+            } else {
+                second(rest, field)
+            }
+        }
     }
 }
 
@@ -126,6 +151,22 @@ pub fn request_of(
         Command::Run => run_request(alloc, said, name),
         Command::Translate => Ok(Some(Request::Translate { file: name })),
         Command::Load => Ok(load_request(said, name.as_str())),
+        Command::Predict => predict_request(alloc, said, name),
+        Command::Explain => {
+            let folders = folders_said(alloc, said, name)?;
+            Ok(Some(Request::Explain {
+                folders,
+                scenario: scenario_said(said),
+                turns: number_or(said, Field::Turns, MOST_TURNS, USUAL_TURNS),
+                limit: number_or(said, Field::Limit, MOST_LIMIT, USUAL_LIMIT),
+                places: is_given(said, Field::Layout),
+            }))
+        }
+        Command::Pair => pair_request(alloc, said, name),
+        Command::Twice => {
+            let twice = twice_request(alloc, said, name)?;
+            Ok(Some(twice))
+        }
     }
 }
 
@@ -150,6 +191,52 @@ fn run_request(alloc: Global, said: &[Setting], dir: Text) -> Result<Option<Requ
     }))
 }
 
+// The scenario of a pair that was said.
+fn pair_said(said: &[Setting]) -> Option<Scenario>
+    ensures { result ≡ pair_said said.now }
+{
+    match given(said, Field::Scenario) {
+        None => None,
+        Some(name) => pair_named(name.as_bytes()),
+    }
+}
+
+// The request of a pair, from the new package's folder.
+fn pair_request(alloc: Global, said: &[Setting], dir: Text) -> Result<Option<Request>, Memory>
+    ensures { IfOk result (λ request. request ≡ pair_of dir said.now) }
+{
+    let scenario = match pair_said(said) {
+        None => return Ok(None),
+        Some(scenario) => scenario,
+    };
+    let other = match copied(alloc, said, Field::With)? {
+        None => return Ok(None),
+        Some(other) => other,
+    };
+    let base = copied(alloc, said, Field::Base)?;
+    Ok(Some(Request::Pair {
+        dir,
+        other,
+        base,
+        scenario,
+        turns: number_or(said, Field::Turns, MOST_TURNS, USUAL_TURNS),
+        limit: number_or(said, Field::Limit, MOST_LIMIT, USUAL_LIMIT),
+    }))
+}
+
+// The request of a package that is configured twice, from its folder.
+fn twice_request(alloc: Global, said: &[Setting], dir: Text) -> Result<Request, Memory>
+    ensures { IfOk result (λ request. request ≡ twice_of dir said.now) }
+{
+    let base = copied(alloc, said, Field::Base)?;
+    Ok(Request::Twice {
+        dir,
+        base,
+        turns: number_or(said, Field::Turns, MOST_TURNS, USUAL_TURNS),
+        limit: number_or(said, Field::Limit, MOST_LIMIT, USUAL_LIMIT),
+    })
+}
+
 // The request of a load, of the number that is named.
 fn load_request(said: &[Setting], name: &str) -> Option<Request>
     ensures { result ≡ load_of name.now said.now }
@@ -160,5 +247,18 @@ fn load_request(said: &[Setting], name: &str) -> Option<Request>
             number,
             limit: number_or(said, Field::Limit, MOST_LIMIT, USUAL_LIMIT),
         }),
+    }
+}
+
+// The request of a prediction, by the report that is named first.
+fn predict_request(alloc: Global, said: &[Setting], report: Text) -> Result<Option<Request>, Memory>
+    ensures { IfOk result (λ request. request ≡ predict_of report said.now) }
+{
+    match second(said, Field::Named) {
+        None => Ok(None),
+        Some(trees) => {
+            let trees = Text::from_text(alloc, trees)?;
+            Ok(Some(Request::Predict { report, trees }))
+        }
     }
 }

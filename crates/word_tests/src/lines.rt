@@ -93,6 +93,51 @@ fn shown_request(alloc: Global, request: &Request) -> Result<String, AllocError>
             format!(in alloc; "translate {file}")
         }
         Request::Load { number, limit } => format!(in alloc; "load {number} {limit}"),
+        Request::Predict { report, trees } => {
+            let report = shown_word(report.as_str());
+            let trees = shown_word(trees.as_str());
+            format!(in alloc; "predict {report} {trees}")
+        }
+        Request::Explain {
+            folders,
+            scenario,
+            turns,
+            limit,
+            places,
+        } => {
+            let dir = shown_word(folders.dir.as_str());
+            let layout = if *places { "places" } else { "plain" };
+            let mut text = format!(in alloc; "explain {dir} {turns} {limit} {layout}")?;
+            put_folders(&mut text, folders)?;
+            put_scenario(&mut text, *scenario)?;
+            Ok(text)
+        }
+        Request::Pair {
+            dir,
+            other,
+            base,
+            scenario,
+            turns,
+            limit,
+        } => {
+            let dir = shown_word(dir.as_str());
+            let other = shown_word(other.as_str());
+            let scenario = scenario_name(*scenario);
+            let mut text = format!(in alloc; "pair {dir} {other} {scenario} {turns} {limit}")?;
+            put_option(&mut text, " base=", base)?;
+            Ok(text)
+        }
+        Request::Twice {
+            dir,
+            base,
+            turns,
+            limit,
+        } => {
+            let dir = shown_word(dir.as_str());
+            let mut text = format!(in alloc; "twice {dir} {turns} {limit}")?;
+            put_option(&mut text, " base=", base)?;
+            Ok(text)
+        }
     }
 }
 

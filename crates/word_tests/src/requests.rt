@@ -1,5 +1,7 @@
 //! Lines that spell a request. A check is shown with its folder, turns, limit and layout; a run with its folder,
-//! scenario, tree and turns; a load with its number and limit.
+//! scenario, tree and turns; a load with its number and limit; a prediction with its report and trees; an explanation as a
+//! check, plain or by places alone; a pair with its folders, scenario, turns and limit; what is configured twice with its
+//! folder, turns and limit.
 use crate::lines::check_rows;
 use std::test::Fail;
 
@@ -34,7 +36,6 @@ fn plain_checks(rt: HostRuntime) -> Result<(), Fail> {
     check_rows(&rt, PLAIN, 22)
 }
 
-// The other folders, and scenarios.
 const FOLDERS: &str = r#"
 check p --old o -> check p 100 10000 plain old=o
 check --old o p -> check p 100 10000 plain old=o
@@ -141,6 +142,87 @@ translate -- --turns -> translate --turns
 #[test]
 fn translations_are_read(rt: HostRuntime) -> Result<(), Fail> {
     check_rows(&rt, TRANSLATIONS, 9)
+}
+
+const PREDICTIONS: &str = r#"
+predict r t -> predict r t
+predict - - -> predict - -
+predict "" "" -> predict "" ""
+predict r r -> predict r r
+predict predict check -> predict predict check
+predict r=s t=u -> predict r=s t=u
+predict r t -- -> predict r t
+predict r -- t -> predict r t
+predict -- r t -> predict r t
+predict -- -r --trees -> predict -r --trees
+predict r -- --json -> predict r --json
+predict -- "" - -> predict "" -
+"#;
+
+#[test]
+fn predictions_are_read(rt: HostRuntime) -> Result<(), Fail> {
+    check_rows(&rt, PREDICTIONS, 12)
+}
+
+const EXPLANATIONS: &str = r#"
+explain p -> explain p 100 10000 plain
+explain - -> explain - 100 10000 plain
+explain explain -> explain explain 100 10000 plain
+explain p --places -> explain p 100 10000 places
+explain --places p -> explain p 100 10000 places
+explain --places -- -p -> explain -p 100 10000 places
+explain -- --places -> explain --places 100 10000 plain
+explain p --scenario install -> explain p 100 10000 plain scenario=install
+explain p --places --scenario=purge-later -> explain p 100 10000 places scenario=purge-later
+explain --turns=10000 p --limit 100000 -> explain p 10000 100000 plain
+explain --old= --base b p -> explain p 100 10000 plain old="" base=b
+explain --old o --base b --scenario upgrade --turns 5 --limit 6 --places p -> explain p 5 6 places old=o base=b scenario=upgrade
+explain p --old o --base b --scenario purge --turns 7 --limit 3 -> explain p 7 3 plain old=o base=b scenario=purge
+explain --scenario=install-again --places --limit=100000 p -> explain p 100 100000 places scenario=install-again
+"#;
+
+#[test]
+fn explanations_are_read(rt: HostRuntime) -> Result<(), Fail> {
+    check_rows(&rt, EXPLANATIONS, 14)
+}
+
+const PAIRS: &str = r#"
+pair p --with q --scenario in-favour -> pair p q in-favour 100 10000
+pair --with q --scenario deconfigure p -> pair p q deconfigure 100 10000
+pair --scenario=disappear p --with=q -> pair p q disappear 100 10000
+pair --with=q p --scenario=in-favour --base b -> pair p q in-favour 100 10000 base=b
+pair p --scenario disappear --with q --turns 5 --limit=6 --base= -> pair p q disappear 5 6 base=""
+pair - --with - --scenario in-favour -> pair - - in-favour 100 10000
+pair "" --with= --scenario in-favour -> pair "" "" in-favour 100 10000
+pair p --with=--scenario --scenario in-favour -> pair p --scenario in-favour 100 10000
+pair p --with p --scenario deconfigure -> pair p p deconfigure 100 10000
+pair pair --with twice --scenario deconfigure -- -> pair pair twice deconfigure 100 10000
+pair --with q --scenario disappear -- -p -> pair -p q disappear 100 10000
+pair --with q --scenario disappear -- --with -> pair --with q disappear 100 10000
+twice p -> twice p 100 10000
+twice - -> twice - 100 10000
+twice twice -> twice twice 100 10000
+twice p --base b -> twice p 100 10000 base=b
+twice --base= p -> twice p 100 10000 base=""
+twice --turns 5 p --limit=6 -> twice p 5 6
+twice --limit 100000 --turns=10000 --base b p -> twice p 10000 100000 base=b
+twice -- p -> twice p 100 10000
+twice p -- -> twice p 100 10000
+twice -- --base -> twice --base 100 10000
+pair p --with=-q --scenario disappear -> pair p -q disappear 100 10000
+pair --limit=9 --turns=7 --base= --scenario in-favour --with q p -- -> pair p q in-favour 7 9 base=""
+twice "" -- -> twice "" 100 10000
+pair --with=q --scenario=disappear p -> pair p q disappear 100 10000
+pair p --with= --scenario in-favour -> pair p "" in-favour 100 10000
+pair p --with - --scenario in-favour -> pair p - in-favour 100 10000
+pair p --with q --scenario in-favour --base b --turns 7 --limit 9 -> pair p q in-favour 7 9 base=b
+pair p --with p --scenario in-favour -> pair p p in-favour 100 10000
+twice --turns 7 --limit=9 p -> twice p 7 9
+"#;
+
+#[test]
+fn pairs_are_read(rt: HostRuntime) -> Result<(), Fail> {
+    check_rows(&rt, PAIRS, 31)
 }
 
 const LOADS: &str = r#"

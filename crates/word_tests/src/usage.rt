@@ -16,8 +16,14 @@ check=p -> usage 1
 -- check p -> usage 1
 --json check p -> usage 1
 loads 5 -> usage 1
-predict r t -> usage 1
-pair p q -> usage 1
+predicts r t -> usage 1
+explains p -> usage 1
+Explain p -> usage 1
+Predict r t -> usage 1
+pairs p --with q -> usage 1
+Pair p --with q -> usage 1
+twic p -> usage 1
+Twice p -> usage 1
 Run p --scenario install --tree t -> usage 1
 Translate f -> usage 1
 translates f -> usage 1
@@ -25,7 +31,7 @@ translates f -> usage 1
 
 #[test]
 fn wrong_commands(rt: HostRuntime) -> Result<(), Fail> {
-    check_rows(&rt, COMMANDS, 17)
+    check_rows(&rt, COMMANDS, 23)
 }
 
 const NAMES: &str = r#"
@@ -210,6 +216,170 @@ translate -- -- -> usage 3
 #[test]
 fn wrong_translations(rt: HostRuntime) -> Result<(), Fail> {
     check_rows(&rt, TRANSLATIONS, 15)
+}
+
+const PREDICTIONS: &str = r#"
+predict -> usage 2
+predict r -> usage 3
+predict r t u -> usage 4
+predict r t "" -> usage 4
+predict -r -> usage 2
+predict -r t -> usage 2
+predict r -t -> usage 3
+predict --json -> usage 2
+predict --json r t -> usage 2
+predict r --json t -> usage 3
+predict r t --json -> usage 4
+predict r t --brief -> usage 4
+predict r --turns 5 t -> usage 3
+predict r t --turns=5 -> usage 4
+predict r t --limit 5 -> usage 4
+predict --old=o r t -> usage 2
+predict r t --base b -> usage 4
+predict r t --scenario install -> usage 4
+predict r --tree t -> usage 3
+predict r t --tree=t -> usage 4
+predict -- -> usage 3
+predict r -- -> usage 4
+predict -- r -> usage 4
+predict -- -- -> usage 3
+predict r -- -- -> usage 4
+predict r t -- -- -> usage 5
+predict r t -- u -> usage 5
+predict r -- t u -> usage 5
+predict -- r t u -> usage 5
+predict -- r t -- -> usage 5
+predict r t u v -> usage 4
+"#;
+
+#[test]
+fn wrong_predictions(rt: HostRuntime) -> Result<(), Fail> {
+    check_rows(&rt, PREDICTIONS, 31)
+}
+
+const EXPLANATIONS: &str = r#"
+explain -> usage 2
+explain --places -> usage 3
+explain --explain p -> usage 2
+explain p q -> usage 3
+explain p --places --places -> usage 4
+explain --places p --places -> usage 4
+explain p --places= -> usage 3
+explain p --place -> usage 3
+explain p --json -> usage 3
+explain --brief p -> usage 2
+explain --places --json p -> usage 3
+explain p --tree t -> usage 3
+explain --tree=t p -> usage 2
+explain p --old o --old=o -> usage 5
+explain p --base --places -> usage 4
+explain p --scenario nope -> usage 4
+explain p --scenario -> usage 4
+explain p --turns 0 -> usage 4
+explain p --limit=100001 -> usage 3
+explain -- -> usage 3
+explain p -- q -> usage 4
+explain -- p --places -> usage 4
+check --places p -> usage 2
+check p --places -> usage 3
+run p --places -> usage 3
+translate f --places -> usage 3
+load 5 --places -> usage 3
+predict r t --places -> usage 4
+"#;
+
+#[test]
+fn wrong_explanations(rt: HostRuntime) -> Result<(), Fail> {
+    check_rows(&rt, EXPLANATIONS, 28)
+}
+
+const PAIRS: &str = r#"
+pair -> usage 2
+pair p -> usage 3
+pair p q -> usage 3
+pair p --with q -> usage 5
+pair p --with=q -> usage 4
+pair p --scenario in-favour -> usage 5
+pair --with q --scenario in-favour -> usage 6
+pair p --with -> usage 4
+pair p --with --scenario -> usage 4
+pair p --with q --scenario -> usage 6
+pair p --with q --scenario install -> usage 6
+pair p --with q --scenario=purge-later -> usage 5
+pair p --with q --scenario twice -> usage 6
+pair p --with q --scenario In-favour -> usage 6
+pair p --with q --scenario=in-favor -> usage 5
+pair p --with q --scenario= -> usage 5
+pair p --with q --with q -> usage 5
+pair p --with=q --with=q -> usage 4
+pair p --with q --old o -> usage 5
+pair --old=o p --with q -> usage 2
+pair p --with q --tree t -> usage 5
+pair p --with q --scenario in-favour --json -> usage 7
+pair --brief p --with q -> usage 2
+pair p --places -> usage 3
+pair p --turns 0 -> usage 4
+pair p --limit=100001 -> usage 3
+pair p --base b --base=b -> usage 5
+pair p -- -> usage 3
+pair -- p -> usage 2
+pair --with q -- p -> usage 4
+pair p --scenario=disappear -- -> usage 4
+pair --with=q --scenario=disappear -- -> usage 5
+pair --with=q --scenario=disappear -- p q -> usage 6
+pair p --with=q --scenario=disappear -- q -> usage 6
+check p --with q -> usage 3
+check --with=q p -> usage 2
+check p --scenario in-favour -> usage 4
+check p --scenario=twice -> usage 3
+run p --with=q -> usage 3
+run p --scenario disappear -> usage 4
+explain p --with q -> usage 3
+explain p --scenario=deconfigure -> usage 3
+translate f --with q -> usage 3
+load 5 --with=q -> usage 3
+predict r t --with q -> usage 4
+pair -- -> usage 2
+pair p --with q -- -> usage 5
+pair --with q --scenario disappear -- p q -> usage 8
+run p --scenario in-favour --tree t -> usage 4
+twice -> usage 2
+twice p q -> usage 3
+twice -p -> usage 2
+twice p --old o -> usage 3
+twice p --scenario twice -> usage 3
+twice --scenario=install p -> usage 2
+twice p --tree=t -> usage 3
+twice p --with q -> usage 3
+twice p --json -> usage 3
+twice --brief p -> usage 2
+twice p --places -> usage 3
+twice p --turns 0 -> usage 4
+twice p --turns=10001 -> usage 3
+twice p --limit 100001 -> usage 4
+twice p --base -> usage 4
+twice --base b -> usage 4
+twice p --base b --base=b -> usage 5
+twice -- -> usage 3
+twice p -- q -> usage 4
+twice -- p --base -> usage 4
+twice p -- -- -> usage 4
+pair --scenario disappear -- -> usage 4
+pair p --with q --scenario=In-Favour -> usage 5
+pair p --with --scenario disappear -> usage 4
+pair p --old o -> usage 3
+pair p --tree t -> usage 3
+pair p --json -> usage 3
+pair --brief p -> usage 2
+pair p --with q --scenario disappear --limit 0 -> usage 8
+check p --scenario disappear -> usage 4
+twice p --old=o -> usage 3
+twice --json p -> usage 2
+"#;
+
+#[test]
+fn wrong_pairs(rt: HostRuntime) -> Result<(), Fail> {
+    check_rows(&rt, PAIRS, 81)
 }
 
 const LOADS: &str = r#"
