@@ -15,7 +15,7 @@ use Rattle.checker_input.specs.declared.faults.InputRefusal.{InputRefusal}
 use Rattle.checker_input.specs.declared.read_file.Found.{Found}
 use Rattle.checker_input.specs.declared.read_file.TheConstants.{MAX_FILE}
 use Rattle.checker_input.specs.Lines.{AreFew}
-use Rattle.checker_input.specs.Input.{FileFound, OfFile, ReadsInput, of_file, one_file, refused}
+use Rattle.checker_input.specs.Input.{FileFound, FoundWithin, OfFile, ReadsInput, file_within, of_file, one_file, refused}
 
 -- ---- a content that was read without its name
 
@@ -78,45 +78,54 @@ module _ {R : Type 0} (max : ℕ) (too_long : R) where
     asks_it (Some files) = record { may = inl refl; told = inl refl }
 
 -- the same, of a file of a request
-module _ (name : List ℕ) (s t : ShelfState) where
-  pub named_ok : (found : Option (List ℕ)) → Reads {F = Unit {0}} {R = Unit {0}} (λ _. name) s t (content (tt {0}) MAX_FILE (tt {0})) (Ok found)
-      → ReadsInput s t (content name MAX_FILE (refused name TooLong)) (Ok found)
+module _ (most : ℕ) (name : List ℕ) (s t : ShelfState) where
+  pub named_ok : (found : Option (List ℕ)) → Reads {F = Unit {0}} {R = Unit {0}} (λ _. name) s t (content (tt {0}) most (tt {0})) (Ok found)
+      → ReadsInput s t (content name most (refused name (TooLong most))) (Ok found)
   named_ok found reads =
-      record { kept = reads.kept; ends = (reads.ends.0, answers_ok MAX_FILE (refused name TooLong) name s.holds found reads.ends.1) }
+      record { kept = reads.kept; ends = (reads.ends.0, answers_ok most (refused name (TooLong most)) name s.holds found reads.ends.1) }
 
-  pub named_long : (u : Unit {0}) → Reads {F = Unit {0}} {R = Unit {0}} (λ _. name) s t (content (tt {0}) MAX_FILE (tt {0})) (Err (Refused u))
-      → ReadsInput s t (content name MAX_FILE (refused name TooLong)) (Err (Refused (refused name TooLong)))
+  pub named_long : (u : Unit {0}) → Reads {F = Unit {0}} {R = Unit {0}} (λ _. name) s t (content (tt {0}) most (tt {0})) (Err (Refused u))
+      → ReadsInput s t (content name most (refused name (TooLong most))) (Err (Refused (refused name (TooLong most))))
   named_long u reads =
-      record { kept = reads.kept; ends = (reads.ends.0, answers_err MAX_FILE (refused name TooLong) name s.holds u reads.ends.1) }
+      record { kept = reads.kept; ends = (reads.ends.0, answers_err most (refused name (TooLong most)) name s.holds u reads.ends.1) }
 
-  pub named_failed : (u : Unit {0}) → Reads {F = Unit {0}} {R = Unit {0}} (λ _. name) s t (content (tt {0}) MAX_FILE (tt {0})) (Err (ReadFailed u))
-      → ReadsInput s t (content name MAX_FILE (refused name TooLong)) (Err (ReadFailed name))
+  pub named_failed : (u : Unit {0}) → Reads {F = Unit {0}} {R = Unit {0}} (λ _. name) s t (content (tt {0}) most (tt {0})) (Err (ReadFailed u))
+      → ReadsInput s t (content name most (refused name (TooLong most))) (Err (ReadFailed name))
   named_failed u reads =
-      record { kept = reads.kept; ends = (reads.ends.0, reads.ends.1, asks_it MAX_FILE (refused name TooLong) name s.holds) }
+      record { kept = reads.kept; ends = (reads.ends.0, reads.ends.1, asks_it most (refused name (TooLong most)) name s.holds) }
 
-  pub named_nothing : Reads {F = Unit {0}} {R = Unit {0}} (λ _. name) s t (content (tt {0}) MAX_FILE (tt {0})) (Err NoMemory)
-      → ReadsInput s t (content name MAX_FILE (refused name TooLong)) (Err NoMemory)
+  pub named_nothing : Reads {F = Unit {0}} {R = Unit {0}} (λ _. name) s t (content (tt {0}) most (tt {0})) (Err NoMemory)
+      → ReadsInput s t (content name most (refused name (TooLong most))) (Err NoMemory)
   named_nothing reads = record { kept = reads.kept; ends = reads.ends }
 
 -- ---- a file that was read, and what its content came to
 
-module _ {V : Type 0} (comes : Comes V FileFault) (name : List ℕ) (s t : ShelfState) where
+module _ {V : Type 0} (most : ℕ) (comes : Comes V FileFault) (name : List ℕ) (s t : ShelfState) where
   content_gives : (found : Option (List ℕ)) (came : Result (Result V FileFault) Memory) → IfOk came (comes found)
       → Gives (OfFile name comes found) (of_file name came)
   content_gives found (Ok (Ok value)) is = is
   content_gives found (Ok (Err wrong)) is = (wrong, is, refl)
   content_gives found (Err missing) is = tt
 
+  pub within_read : (found : Found) (came : Result (Result V FileFault) Memory) (result : Result V (Stop (List ℕ) InputRefusal))
+      → FoundWithin most name s t (Ok found) → IfOk came (comes found.content) → result ≡ of_file found.name came
+      → ReadsInput s t (file_within most name comes) result
+  within_read found came result is content_is same =
+      subst (λ r. ReadsInput s t (file_within most name comes) r) (sym (same ∙ ap (λ n. of_file n came) is.0))
+      (reads_understood name most (refused name (TooLong most)) (OfFile name comes) (λ n. n) s t found.content (of_file name came) is.1
+      (content_gives found.content came content_is))
+
+  pub within_unread : (stop : Stop (List ℕ) InputRefusal) → FoundWithin most name s t (Err stop) → ReadsInput s t (file_within most name comes) (Err stop)
+  within_unread stop is = reads_unread name most (refused name (TooLong most)) (OfFile name comes) (λ n. n) s t stop is
+
+module _ {V : Type 0} (comes : Comes V FileFault) (name : List ℕ) (s t : ShelfState) where
   pub file_read : (found : Found) (came : Result (Result V FileFault) Memory) (result : Result V (Stop (List ℕ) InputRefusal))
       → FileFound name s t (Ok found) → IfOk came (comes found.content) → result ≡ of_file found.name came
       → ReadsInput s t (one_file name comes) result
-  file_read found came result is content_is same =
-      subst (λ r. ReadsInput s t (one_file name comes) r) (sym (same ∙ ap (λ n. of_file n came) is.0))
-      (reads_understood name MAX_FILE (refused name TooLong) (OfFile name comes) (λ n. n) s t found.content (of_file name came) is.1
-      (content_gives found.content came content_is))
+  file_read = within_read MAX_FILE comes name s t
 
   pub file_unread : (stop : Stop (List ℕ) InputRefusal) → FileFound name s t (Err stop) → ReadsInput s t (one_file name comes) (Err stop)
-  file_unread stop is = reads_unread name MAX_FILE (refused name TooLong) (OfFile name comes) (λ n. n) s t stop is
+  file_unread = within_unread MAX_FILE comes name s t
 
 -- what holds of what a content came to holds of what the call ends with
 module _ {A : Type 0} (P : A → Type 0) (name : List ℕ) where
@@ -136,25 +145,25 @@ IsShort found = IfSome found (λ bytes. length bytes ≤ MAX_FILE)
 
 module _ (name : List ℕ) (s t : ShelfState) where
   longer_short : (b : Bool) (bytes : List ℕ) (value : Option (List ℕ)) → nat_lt MAX_FILE (length bytes) ≡ b
-      → if_longer b (refused name TooLong) (IsContent MAX_FILE (refused name TooLong) (Some bytes)) (Ok value) → IsShort value
-  longer_short true bytes value e is = absurd (not_both MAX_FILE (refused name TooLong) value (refused name TooLong) is)
+      → if_longer b (refused name (TooLong MAX_FILE)) (IsContent MAX_FILE (refused name (TooLong MAX_FILE)) (Some bytes)) (Ok value) → IsShort value
+  longer_short true bytes value e is = absurd (not_both MAX_FILE (refused name (TooLong MAX_FILE)) value (refused name (TooLong MAX_FILE)) is)
   longer_short false bytes value e is =
       let same : value ≡ Some bytes = cc in
       subst IsShort (sym same) (ltb-false MAX_FILE (length bytes) e)
 
   within_short : (at value : Option (List ℕ))
-      → Within MAX_FILE (refused name TooLong) (IsContent MAX_FILE (refused name TooLong)) at (Ok value) → IsShort value
+      → Within MAX_FILE (refused name (TooLong MAX_FILE)) (IsContent MAX_FILE (refused name (TooLong MAX_FILE))) at (Ok value) → IsShort value
   within_short None value is = let same : value ≡ None = cc in subst IsShort (sym same) tt
   within_short (Some bytes) value is = longer_short (nat_lt MAX_FILE (length bytes)) bytes value refl is
 
   led_short : (at found : Option (List ℕ))
-      → Leads {A = Option (List ℕ)} (Within MAX_FILE (refused name TooLong) (IsContent MAX_FILE (refused name TooLong)) at)
+      → Leads {A = Option (List ℕ)} (Within MAX_FILE (refused name (TooLong MAX_FILE)) (IsContent MAX_FILE (refused name (TooLong MAX_FILE))) at)
       (λ value. ◌≡◌ {A = Result (Option (List ℕ)) InputRefusal} (Ok value) (Ok found)) (Ok found)
       → IsShort found
   led_short at found (inl h) =
       let same : h.0 ≡ found = cc in
       subst IsShort same (within_short at h.0 h.1)
-  led_short at found (inr h) = absurd (not_both MAX_FILE (refused name TooLong) found h.0 h.2)
+  led_short at found (inr h) = absurd (not_both MAX_FILE (refused name (TooLong MAX_FILE)) found h.0 h.2)
 
   found_short : (found : Found) → FileFound name s t (Ok found) → IsShort found.content
   found_short found is = led_short is.1.ends.1.may.0 found.content is.1.ends.1.may.1

@@ -1,6 +1,6 @@
-mod Files
+pub mod Files
 mod Texts
 mod Plans
 mod Requests
 pub mod OneScript
-mod OneAnswer
+pub mod OneAnswer

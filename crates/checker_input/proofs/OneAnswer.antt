@@ -6,6 +6,7 @@ use Rattle.checker_io.proofs.Readings.{answer_once, single_file, single_next}
 use Rattle.command_words.specs.declared.request.Folders.{Folders}
 use Rattle.command_words.specs.declared.request.Request.{Request}
 use Rattle.command_words.specs.declared.request.Request.TheVariants as request
+use Rattle.dpkg_scenarios.specs.declared.scenario.Scenario.TheVariants.{Twice}
 use Rattle.dpkg_scenarios.specs.declared.scenario.ScriptKind.{ScriptKind}
 use Rattle.dpkg_scenarios.specs.declared.scenario.ScriptKind.TheVariants.{Preinst, Postinst, Prerm, Postrm}
 use Rattle.feature_trees.specs.declared.value.Value.{Value}
@@ -20,17 +21,18 @@ use Rattle.package_lists.specs.Control.{control_of}
 use Rattle.package_lists.specs.Entries.{EntryParts}
 use Rattle.package_lists.specs.Lists.{list_of}
 use Rattle.shell_syntax.specs.declared.script.Script.{Script}
+use Rattle.checker_input.specs.declared.asked.Asked.{Asked}
 use Rattle.checker_input.specs.declared.faults.FileFault.{FileFault}
 use Rattle.checker_input.specs.declared.faults.FileFault.TheVariants as fault
 use Rattle.checker_input.specs.declared.faults.InputRefusal.{InputRefusal}
 use Rattle.checker_input.specs.declared.names.PackageFile.TheVariants as of_package
 use Rattle.checker_input.specs.declared.read_file.TheConstants.{MAX_FILE}
 use Rattle.checker_input.specs.declared.script.ScriptFault.{ScriptFault}
-use Rattle.checker_input.specs.declared.task.Task.{Task}
 use Rattle.checker_input.specs.Lines.{LinesCome, TreeComes}
 use Rattle.checker_input.specs.Script.{TextComes}
-use Rattle.checker_input.specs.Input.{BaseComes, ConffilesCome, ControlComes, ListComes, OfFile, ScriptComes, ScriptReads, StartComes, TranslatedComes, base_in, conffiles_in, file_in, input, list_in, old_in, one_file, package_in, packages_in, refused, script_in, scripts_in, start_in, translated_in, version_in}
-use Rattle.checker_input.proofs.Plans.{after_old_package, after_packages, before_start, after_start, after_translated, after_postrm, after_prerm, after_postinst, after_preinst, after_scripts, after_conffiles, after_list, after_version, after_new, after_old, after_base}
+use Rattle.checker_input.specs.Input.{BaseComes, ConffilesCome, ControlComes, ListComes, NamedControlComes, OfFile, ScriptComes, ScriptReads, StartComes, TranslatedComes, base_in, conffiles_in, file_in, file_within, input, list_in, old_in, one_file, package_in, packages_in, refused, script_in, scripts_in, start_in, translated_in, version_in, named_control_of, named_control_in, named_package_in, package_with, pair_in, twice_in, KeptComes, kept_in, kept_old_in, kept_package_in, kept_script_in, kept_scripts_in}
+use Rattle.checker_input.proofs.Plans.{after_old_package, after_packages, before_start, after_start, after_translated, after_postrm, after_prerm, after_postinst, after_preinst, after_scripts, after_conffiles, after_list, after_version, after_new, after_old, after_base, after_named, after_control, after_other, after_own, after_pair_base, after_alone, after_twice_base, after_pair, after_kept, after_kept_base, after_kept_old, after_kept_new, after_kept_old_package, after_kept_version, after_kept_list, after_kept_conffiles, after_kept_scripts, after_kept_preinst, after_kept_postinst, after_kept_prerm, after_kept_postrm}
+use Rattle.checker_input.specs.declared.sources.KeptScript.{KeptScript}
 use Rattle.checker_input.proofs.OneScript.{text_once}
 
 -- ---- what lines come to
@@ -49,12 +51,16 @@ tree_once wrong (Err tree_fault.Memory) r s x y = absurd x
 
 -- ---- what each file comes to
 
-abbrev Once : {V : Type 0} → Comes V FileFault → Type 0
+abbrev pub Once : {V : Type 0} → Comes V FileFault → Type 0
 Once {V} comes = (found : Option (List ℕ)) (r s : Result V FileFault) → comes found r → comes found s → r ≡ s
 
 control_once : Once ControlComes
 control_once None r s x y = x ∙ sym y
 control_once (Some text) r s x y = lines_once (λ line why. fault.Version line) (control_of text) r s x y
+
+named_control_once : Once NamedControlComes
+named_control_once None r s x y = x ∙ sym y
+named_control_once (Some text) r s x y = lines_once (λ line why. fault.Version line) (named_control_of text) r s x y
 
 list_once : Once ListComes
 list_once None r s x y = x ∙ sym y
@@ -98,6 +104,30 @@ script_once (Some text) r s x y =
     let b = is_there text s y in
     a.2 ∙ ap there (reads_once text a.0 b.0 a.1 b.1) ∙ sym b.2
 
+same_kept : (text : List ℕ) (a b : Script) → a ≡ b → ◌≡◌ {A = Result KeptScript FileFault} (Ok (record { script = Some a; text = Some text })) (Ok (record { script = Some b; text = Some text }))
+same_kept text a b e = let f : Script → Result KeptScript FileFault = λ s. Ok (record { script = Some s; text = Some text }) in ap f e
+
+ok_script : {a b : Script} → ◌≡◌ {A = Result Script FileFault} (Ok a) (Ok b) → a ≡ b
+ok_script e = cc
+
+not_script : {a : Script} {b : FileFault} → ◌≡◌ {A = Result Script FileFault} (Ok a) (Err b) → ⊥
+not_script e = cc
+
+same_wrong : {a b : FileFault} → ◌≡◌ {A = Result Script FileFault} (Err a) (Err b) → ◌≡◌ {A = Result KeptScript FileFault} (Err a) (Err b)
+same_wrong {a} {b} e = let same : a ≡ b = cc in let f : FileFault → Result KeptScript FileFault = λ w. Err w in ap f same
+
+kept_there : (text : List ℕ) (r s : Result KeptScript FileFault) → KeptComes (Some text) r → KeptComes (Some text) s → r ≡ s
+kept_there text (Ok a) (Ok b) x y =
+    let f : KeptScript → Result KeptScript FileFault = λ k. Ok k in
+    ap f x.2 ∙ same_kept text x.0 y.0 (ok_script (reads_once text (Ok x.0) (Ok y.0) x.1 y.1)) ∙ ap f (sym y.2)
+kept_there text (Ok a) (Err wrong) x y = absurd (not_script (reads_once text (Ok x.0) (Err wrong) x.1 y))
+kept_there text (Err wrong) (Ok b) x y = absurd (not_script (reads_once text (Ok y.0) (Err wrong) y.1 x))
+kept_there text (Err a) (Err b) x y = same_wrong (reads_once text (Err a) (Err b) x y)
+
+kept_once : Once KeptComes
+kept_once None r s x y = x ∙ sym y
+kept_once (Some text) r s x y = kept_there text r s x y
+
 base_once : Once BaseComes
 base_once None r s x y = x ∙ sym y
 base_once (Some text) r s x y = lines_once (λ line why. fault.Line line why) (base_of text) r s x y
@@ -122,12 +152,15 @@ is_under : {V : Type 0} (name : List ℕ) (comes : Comes V FileFault) (found : O
 is_under name comes found (Ok value) is = (Ok value, is, refl)
 is_under name comes found (Err refusal) is = (Err is.0, is.1, ap Err is.2)
 
-one_file_single : {V : Type 0} (name : List ℕ) (comes : Comes V FileFault) → Once comes → IsSingle (one_file name comes)
-one_file_single name comes single =
-    single_file name MAX_FILE (refused name fault.TooLong) (OfFile name comes) (λ found r s x y.
+pub file_single : {V : Type 0} (most : ℕ) (name : List ℕ) (comes : Comes V FileFault) → Once comes → IsSingle (file_within most name comes)
+file_single most name comes single =
+    single_file name most (refused name (fault.TooLong most)) (OfFile name comes) (λ found r s x y.
     let a = is_under name comes found r x in
     let b = is_under name comes found s y in
     a.2 ∙ ap (under name) (single found a.0 b.0 a.1 b.1) ∙ sym b.2)
+
+one_file_single : {V : Type 0} (name : List ℕ) (comes : Comes V FileFault) → Once comes → IsSingle (one_file name comes)
+one_file_single name comes single = file_single MAX_FILE name comes single
 
 script_single : (folder : List ℕ) (kind : ScriptKind) → IsSingle (script_in folder kind)
 unfolding script_in
@@ -154,13 +187,27 @@ unfolding conffiles_in
 conffiles_single folder entries =
     one_file_single (file_in folder of_package.Conffiles) (ConffilesCome entries) (conffiles_once entries)
 
+with_single : (folder version : List ℕ) → IsSingle (package_with folder version)
+unfolding package_with
+with_single folder version =
+    single_next (list_in folder) (after_list folder version) (list_single folder) (λ listed.
+    single_next (conffiles_in folder listed) (after_conffiles folder version) (conffiles_single folder listed) (λ entries.
+    single_next (scripts_in folder) (after_scripts version entries) (scripts_single folder) (λ scripts. tt)))
+
 package_single : (folder : List ℕ) → IsSingle (package_in folder)
 unfolding package_in
 package_single folder =
-    single_next (version_in folder) (after_version folder) (version_single folder) (λ version.
-    single_next (list_in folder) (after_list folder version) (list_single folder) (λ listed.
-    single_next (conffiles_in folder listed) (after_conffiles folder version) (conffiles_single folder listed) (λ entries.
-    single_next (scripts_in folder) (after_scripts version entries) (scripts_single folder) (λ scripts. tt))))
+    single_next (version_in folder) (after_version folder) (version_single folder) (λ version. with_single folder version)
+
+named_control_single : (folder : List ℕ) → IsSingle (named_control_in folder)
+unfolding named_control_in
+named_control_single folder = one_file_single (file_in folder of_package.Control) NamedControlComes named_control_once
+
+named_package_single : (folder : List ℕ) → IsSingle (named_package_in folder)
+unfolding named_package_in
+named_package_single folder =
+    single_next (named_control_in folder) (after_control folder) (named_control_single folder) (λ control.
+    single_next (package_with folder control.version) (after_named control.name) (with_single folder control.version) (λ own. tt))
 
 old_single : (named : Option (List ℕ)) → IsSingle (old_in named)
 unfolding old_in
@@ -179,6 +226,51 @@ packages_single folders =
     single_next (old_in folders.old) (after_old folders.dir base) (old_single folders.old) (λ before.
     single_next (package_in folders.dir) (after_new base before) (package_single folders.dir) (λ own. tt)))
 
+pair_single : (dir other : List ℕ) (base : Option (List ℕ)) → IsSingle (pair_in dir other base)
+unfolding pair_in
+pair_single dir other named =
+    single_next (base_in named) (after_pair_base dir other) (base_single named) (λ base.
+    single_next (named_package_in dir) (after_own other base) (named_package_single dir) (λ own.
+    single_next (package_in other) (after_other base own) (package_single other) (λ before. tt)))
+
+twice_single : (dir : List ℕ) (base : Option (List ℕ)) → IsSingle (twice_in dir base)
+unfolding twice_in
+twice_single dir named =
+    single_next (base_in named) (after_twice_base dir) (base_single named) (λ base.
+    single_next (named_package_in dir) (after_alone base) (named_package_single dir) (λ own. tt))
+
+kept_script_single : (folder : List ℕ) (kind : ScriptKind) → IsSingle (kept_script_in folder kind)
+unfolding kept_script_in
+kept_script_single folder kind = one_file_single (file_in folder (of_package.Script kind)) KeptComes kept_once
+
+kept_scripts_single : (folder : List ℕ) → IsSingle (kept_scripts_in folder)
+unfolding kept_scripts_in
+kept_scripts_single folder =
+    single_next (kept_script_in folder Preinst) (after_kept_preinst folder) (kept_script_single folder Preinst) (λ preinst.
+    single_next (kept_script_in folder Postinst) (after_kept_postinst folder preinst) (kept_script_single folder Postinst) (λ postinst.
+    single_next (kept_script_in folder Prerm) (after_kept_prerm folder preinst postinst) (kept_script_single folder Prerm) (λ prerm.
+    single_next (kept_script_in folder Postrm) (after_kept_postrm preinst postinst prerm) (kept_script_single folder Postrm) (λ postrm. tt))))
+
+kept_package_single : (folder : List ℕ) → IsSingle (kept_package_in folder)
+unfolding kept_package_in
+kept_package_single folder =
+    single_next (version_in folder) (after_kept_version folder) (version_single folder) (λ version.
+    single_next (list_in folder) (after_kept_list folder version) (list_single folder) (λ listed.
+    single_next (conffiles_in folder listed) (after_kept_conffiles folder version) (conffiles_single folder listed) (λ entries.
+    single_next (kept_scripts_in folder) (after_kept_scripts version entries) (kept_scripts_single folder) (λ kept. tt))))
+
+kept_old_single : (named : Option (List ℕ)) → IsSingle (kept_old_in named)
+unfolding kept_old_in
+kept_old_single None = tt
+kept_old_single (Some folder) = single_next (kept_package_in folder) after_kept_old_package (kept_package_single folder) (λ own. tt)
+
+kept_single : (folders : Folders) → IsSingle (kept_in folders)
+unfolding kept_in
+kept_single folders =
+    single_next (base_in folders.base) (after_kept_base folders) (base_single folders.base) (λ base.
+    single_next (kept_old_in folders.old) (after_kept_old folders base) (kept_old_single folders.old) (λ before.
+    single_next (kept_package_in folders.dir) (after_kept_new folders base before) (kept_package_single folders.dir) (λ own. tt)))
+
 start_single : (name : List ℕ) → IsSingle (start_in name)
 unfolding start_in
 start_single name = one_file_single name StartComes start_once
@@ -187,7 +279,7 @@ translated_single : (name : List ℕ) → IsSingle (translated_in name)
 unfolding translated_in
 translated_single name = one_file_single name TranslatedComes translated_once
 
-input_single : (asked : Request) → IsSingle (input asked)
+pub input_single : (asked : Request) → IsSingle (input asked)
 unfolding input
 input_single (request.Check folders scenario turns limit layout) =
     single_next (packages_in folders) (after_packages scenario turns limit layout) (packages_single folders) (λ packages. tt)
@@ -196,7 +288,14 @@ input_single (request.Run folders tree scenario turns) =
     single_next (start_in tree) (after_start scenario turns packages) (start_single tree) (λ start. tt))
 input_single (request.Translate name) = single_next (translated_in name) after_translated (translated_single name) (λ script. tt)
 input_single (request.Load number limit) = tt
+input_single (request.Pair dir other base scenario turns limit) =
+    single_next (pair_in dir other base) (after_pair scenario turns limit) (pair_single dir other base) (λ packages. tt)
+input_single (request.Twice dir base turns limit) =
+    single_next (twice_in dir base) (after_pair Twice turns limit) (twice_single dir base) (λ packages. tt)
+input_single (request.Predict report trees) = tt
+input_single (request.Explain folders scenario turns limit places) =
+    single_next (kept_in folders) (after_kept scenario turns limit places) (kept_single folders) (λ kept. tt)
 
-pub one_answer : (asked : Request) (files : Files) (r s : Result Task InputRefusal)
+pub one_answer : (asked : Request) (files : Files) (r s : Result Asked InputRefusal)
     → IsAnswer files (input asked) r → IsAnswer files (input asked) s → r ≡ s
 one_answer asked files r s x y = answer_once files (input asked) r s (input_single asked) x y

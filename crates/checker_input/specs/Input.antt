@@ -1,5 +1,5 @@
 -- What a request reads, file by file, and what comes of it.
-use Rattle.std.specs.Prelude.{◌≡◌, ℕ, ◌≤◌, ◌++◌, List, Option, Some, None, Result, Ok, Err, codes}
+use Rattle.std.specs.Prelude.{◌≡◌, ℕ, ◌≤◌, [], ◌++◌, List, Option, Some, None, Result, Ok, Err, codes}
 use Rattle.script_names.specs.declared.memory.Memory.{Memory}
 use Rattle.checker_io.specs.Reading.{Asking, done, Comes, Reads, content, file_of, and_then}
 use Rattle.checker_io.specs.Shelf.{ShelfState}
@@ -9,6 +9,7 @@ use Rattle.command_words.specs.declared.limits.TheConstants.{MOST_LOAD}
 use Rattle.command_words.specs.declared.request.Folders.{Folders}
 use Rattle.command_words.specs.declared.request.Request.{Request}
 use Rattle.command_words.specs.declared.request.Request.TheVariants as request
+use Rattle.dpkg_scenarios.specs.declared.scenario.Scenario.TheVariants.{Twice}
 use Rattle.dpkg_scenarios.specs.declared.scenario.ScriptKind.{ScriptKind}
 use Rattle.dpkg_scenarios.specs.declared.scenario.ScriptKind.TheVariants.{Preinst, Postinst, Prerm, Postrm}
 use Rattle.dpkg_scenarios.specs.declared.scripts.Scripts.{Scripts}
@@ -19,19 +20,30 @@ use Rattle.feature_trees.specs.TreeLines.{tree_of}
 use Rattle.system_base.specs.declared.base.Base.{Base}
 use Rattle.system_base.specs.Bases.{base_of, usual}
 use Rattle.package_lists.specs.Conffiles.{conffiles_of}
-use Rattle.package_lists.specs.Control.{control_of}
+use Rattle.package_lists.specs.Control.{control_of, package_name_of}
 use Rattle.package_lists.specs.Entries.{EntryParts}
+use Rattle.package_lists.specs.Faults.{and_then as then_line}
+use Rattle.package_lists.specs.declared.fault.LineFault.{LineFault}
 use Rattle.package_lists.specs.Lists.{list_of}
 use Rattle.shell_syntax.specs.declared.script.Script.{Script}
+use Rattle.checker_input.specs.declared.asked.Asked.{Asked}
+use Rattle.checker_input.specs.declared.asked.Asked.TheVariants as asked
+use Rattle.checker_input.specs.declared.control.Control.{Control}
 use Rattle.checker_input.specs.declared.faults.FileFault.{FileFault}
 use Rattle.checker_input.specs.declared.faults.FileFault.TheVariants as fault
 use Rattle.checker_input.specs.declared.faults.InputRefusal.{InputRefusal}
 use Rattle.checker_input.specs.declared.names.PackageFile.{PackageFile}
 use Rattle.checker_input.specs.declared.names.PackageFile.TheVariants as of_package
 use Rattle.checker_input.specs.declared.package.Package.{Package}
+use Rattle.checker_input.specs.declared.package.NamedPackage.{NamedPackage}
 use Rattle.checker_input.specs.declared.package.Packages.{Packages}
 use Rattle.checker_input.specs.declared.read_file.Found.{Found}
 use Rattle.checker_input.specs.declared.read_file.TheConstants.{MAX_FILE}
+use Rattle.checker_input.specs.declared.sources.KeptScript.{KeptScript}
+use Rattle.checker_input.specs.declared.sources.KeptScripts.{KeptScripts}
+use Rattle.checker_input.specs.declared.sources.KeptPackage.{KeptPackage}
+use Rattle.checker_input.specs.declared.sources.KeptOld.{KeptOld}
+use Rattle.checker_input.specs.declared.sources.Kept.{Kept}
 use Rattle.checker_input.specs.declared.task.Task.{Task}
 use Rattle.checker_input.specs.declared.task.Task.TheVariants as task
 use Rattle.checker_input.specs.Lines.{LinesCome, TreeComes}
@@ -58,6 +70,17 @@ abbrev pub ControlComes : Comes (List ℕ) FileFault
 ControlComes None came = came ≡ Ok (codes "0")
 ControlComes (Some text) came = LinesCome (λ line why. fault.Version line) (control_of text) came
 
+-- the version of a control file and the name in it, or the first of the two that is at fault
+abbrev pub named_control_of : List ℕ → Result Control LineFault
+named_control_of text =
+    then_line (λ version. then_line (λ name. Ok (record { version = version; name = name })) (package_name_of text))
+    (control_of text)
+
+-- the control file of a package whose name is asked for: without such a file the version is `0`, the name `unnamed`
+abbrev pub NamedControlComes : Comes Control FileFault
+NamedControlComes None came = came ≡ Ok (record { version = codes "0"; name = codes "unnamed" })
+NamedControlComes (Some text) came = LinesCome (λ line why. fault.Version line) (named_control_of text) came
+
 -- the list of files, which has to be there: the entries
 abbrev pub ListComes : Comes (List EntryParts) FileFault
 ListComes None came = came ≡ Err fault.Missing
@@ -79,6 +102,17 @@ ScriptComes None came = came ≡ Ok None
 ScriptComes (Some text) (Ok None) = ⊥
 ScriptComes (Some text) (Ok (Some script)) = ScriptReads text (Ok script)
 ScriptComes (Some text) (Err wrong) = ScriptReads text (Err wrong)
+
+-- a script that is accepted, with its text
+abbrev pub IsKept : List ℕ → KeptScript → Type 0
+IsKept text kept =
+    (script : Script) × IsAccepted text script × (kept ≡ record { script = Some script; text = Some text })
+
+-- a script of a package, with its text; none, where there is no such file
+abbrev pub KeptComes : Comes KeptScript FileFault
+KeptComes None came = came ≡ Ok (record { script = None; text = None })
+KeptComes (Some text) (Ok kept) = IsKept text kept
+KeptComes (Some text) (Err wrong) = ScriptReads text (Err wrong)
 
 -- the base, which has to be there where one is named
 abbrev pub BaseComes : Comes Base FileFault
@@ -114,9 +148,13 @@ abbrev pub OfFile : {V : Type 0} → List ℕ → Comes V FileFault → Comes V 
 OfFile name comes found (Ok value) = comes found (Ok value)
 OfFile name comes found (Err refusal) = (wrong : FileFault) × comes found (Err wrong) × (refusal ≡ refused name wrong)
 
+-- one file, of so many bytes at most, and what it comes to
+abbrev pub file_within : {V : Type 0} → ℕ → List ℕ → Comes V FileFault → Input V
+file_within most name comes = file_of name most (refused name (fault.TooLong most)) (OfFile name comes)
+
 -- one file, of at most 1,048,576 bytes, and what it comes to
 abbrev pub one_file : {V : Type 0} → List ℕ → Comes V FileFault → Input V
-one_file name comes = file_of name MAX_FILE (refused name fault.TooLong) (OfFile name comes)
+one_file name comes = file_within MAX_FILE name comes
 
 -- a script of a package
 unfoldable pub script_in : List ℕ → ScriptKind → Input (Option Script)
@@ -141,12 +179,26 @@ list_in folder = one_file (file_in folder of_package.List) ListComes
 unfoldable pub conffiles_in : List ℕ → List EntryParts → Input (List EntryParts)
 conffiles_in folder entries = one_file (file_in folder of_package.Conffiles) (ConffilesCome entries)
 
--- the package in a folder: its version, its files, its configuration files, its scripts
+-- the package in a folder that has this version: its files, its configuration files, its scripts
+unfoldable pub package_with : List ℕ → List ℕ → Input Package
+package_with folder version =
+    and_then (list_in folder) (λ listed. and_then (conffiles_in folder listed) (λ entries.
+    and_then (scripts_in folder) (λ scripts.
+    done (Ok (record { version = version; entries = entries; scripts = scripts })))))
+
+-- the package in a folder: its version, and all else
 unfoldable pub package_in : List ℕ → Input Package
-package_in folder =
-    and_then (version_in folder) (λ version. and_then (list_in folder) (λ listed.
-    and_then (conffiles_in folder listed) (λ entries. and_then (scripts_in folder) (λ scripts.
-    done (Ok (record { version = version; entries = entries; scripts = scripts }))))))
+package_in folder = and_then (version_in folder) (λ version. package_with folder version)
+
+-- the version and the name of a package
+unfoldable pub named_control_in : List ℕ → Input Control
+named_control_in folder = one_file (file_in folder of_package.Control) NamedControlComes
+
+-- the package in a folder, with its name
+unfoldable pub named_package_in : List ℕ → Input NamedPackage
+named_package_in folder =
+    and_then (named_control_in folder) (λ control. and_then (package_with folder control.version) (λ own.
+    done (Ok (record { name = control.name; own = own }))))
 
 -- the old package, where one is named
 unfoldable pub old_in : Option (List ℕ) → Input (Option Package)
@@ -158,12 +210,84 @@ unfoldable pub base_in : Option (List ℕ) → Input Base
 base_in None = done (Ok usual)
 base_in (Some name) = one_file name BaseComes
 
--- the base, the old package, the new one
+-- the base, the old package, the new one, whose name is not asked for
 unfoldable pub packages_in : Folders → Input Packages
 packages_in folders =
     and_then (base_in folders.base) (λ base. and_then (old_in folders.old) (λ before.
     and_then (package_in folders.dir) (λ own.
-    done (Ok (record { new_package = own; old_package = before; base = base })))))
+    done (Ok (record { new_package = own; old_package = before; base = base; name = [] })))))
+
+-- the base, the new package with its name, the other one
+unfoldable pub pair_in : List ℕ → List ℕ → Option (List ℕ) → Input Packages
+pair_in dir other base =
+    and_then (base_in base) (λ base. and_then (named_package_in dir) (λ own. and_then (package_in other) (λ before.
+    done (Ok (record { new_package = own.own; old_package = Some before; base = base; name = own.name })))))
+
+-- the base, the package with its name
+unfoldable pub twice_in : List ℕ → Option (List ℕ) → Input Packages
+twice_in dir base =
+    and_then (base_in base) (λ base. and_then (named_package_in dir) (λ own.
+    done (Ok (record { new_package = own.own; old_package = None; base = base; name = own.name }))))
+
+-- a script of a package, with its text
+unfoldable pub kept_script_in : List ℕ → ScriptKind → Input KeptScript
+kept_script_in folder kind = one_file (file_in folder (of_package.Script kind)) KeptComes
+
+-- scripts with their texts, apart
+abbrev pub kept_apart : KeptScript → KeptScript → KeptScript → KeptScript → KeptScripts
+kept_apart preinst postinst prerm postrm = record {
+  scripts = record {
+    preinst = preinst.script;
+    postinst = postinst.script;
+    prerm = prerm.script;
+    postrm = postrm.script;
+  };
+  texts = record { preinst = preinst.text; postinst = postinst.text; prerm = prerm.text; postrm = postrm.text };
+}
+
+-- the scripts of a package, with their texts, in the order of the scripts alone
+unfoldable pub kept_scripts_in : List ℕ → Input KeptScripts
+kept_scripts_in folder =
+    and_then (kept_script_in folder Preinst) (λ preinst. and_then (kept_script_in folder Postinst) (λ postinst.
+    and_then (kept_script_in folder Prerm) (λ prerm. and_then (kept_script_in folder Postrm) (λ postrm.
+    done (Ok (kept_apart preinst postinst prerm postrm))))))
+
+-- a package, with the texts of its scripts
+abbrev pub kept_of : List ℕ → List EntryParts → KeptScripts → KeptPackage
+kept_of version entries kept =
+    record { own = record { version = version; entries = entries; scripts = kept.scripts }; texts = kept.texts }
+
+-- the package in a folder, with the texts of its scripts
+unfoldable pub kept_package_in : List ℕ → Input KeptPackage
+kept_package_in folder =
+    and_then (version_in folder) (λ version. and_then (list_in folder) (λ listed.
+    and_then (conffiles_in folder listed) (λ entries. and_then (kept_scripts_in folder) (λ kept.
+    done (Ok (kept_of version entries kept))))))
+
+-- that there is no old package, and that there is one
+abbrev pub kept_none : KeptOld
+kept_none = record { own = None; texts = None }
+
+abbrev pub kept_some : KeptPackage → KeptOld
+kept_some own = record { own = Some own.own; texts = Some own.texts }
+
+-- the old package, where one is named, with the texts of its scripts
+unfoldable pub kept_old_in : Option (List ℕ) → Input KeptOld
+kept_old_in None = done (Ok kept_none)
+kept_old_in (Some folder) = and_then (kept_package_in folder) (λ own. done (Ok (kept_some own)))
+
+-- packages, and where they come from
+abbrev pub kept_all : Folders → Base → KeptOld → KeptPackage → Kept
+kept_all folders base before own = record {
+  packages = record { new_package = own.own; old_package = before.own; base = base; name = [] };
+  sources = record { folders = folders; new_texts = own.texts; old_texts = before.texts };
+}
+
+-- the base, the old package, the new one, with the texts of the scripts
+unfoldable pub kept_in : Folders → Input Kept
+kept_in folders =
+    and_then (base_in folders.base) (λ base. and_then (kept_old_in folders.old) (λ before.
+    and_then (kept_package_in folders.dir) (λ own. done (Ok (kept_all folders base before own)))))
 
 -- the tree of a run
 unfoldable pub start_in : List ℕ → Input Value
@@ -174,18 +298,32 @@ unfoldable pub translated_in : List ℕ → Input Script
 translated_in name = one_file name TranslatedComes
 
 -- what a request reads: its packages, and behind them the tree of a run; or the script that is translated; or nothing,
--- for a package that is made. The task has what else the request asks for.
-unfoldable pub input : Request → Input Task
+-- for a package that is made. The task has what else the request asks for. The files of a prediction are not read here.
+unfoldable pub input : Request → Input Asked
 input (request.Check folders scenario turns limit layout) =
-    and_then (packages_in folders) (λ packages. done (Ok (task.Check packages scenario turns limit layout)))
+    and_then (packages_in folders) (λ packages.
+    done (Ok (asked.Task (task.Check packages scenario turns limit layout))))
 input (request.Run folders tree scenario turns) =
     and_then (packages_in folders) (λ packages.
-    and_then (start_in tree) (λ start. done (Ok (task.Run packages start scenario turns))))
+    and_then (start_in tree) (λ start. done (Ok (asked.Task (task.Run packages start scenario turns)))))
 input (request.Translate name) =
-    and_then (translated_in name) (λ script. done (Ok (task.Translate script)))
-input (request.Load number limit) = done (Ok (task.Load number limit))
+    and_then (translated_in name) (λ script. done (Ok (asked.Task (task.Translate script))))
+input (request.Load number limit) = done (Ok (asked.Task (task.Load number limit)))
+input (request.Pair dir other base scenario turns limit) =
+    and_then (pair_in dir other base) (λ packages. done (Ok (asked.Task (task.Pair packages scenario turns limit))))
+input (request.Twice dir base turns limit) =
+    and_then (twice_in dir base) (λ packages. done (Ok (asked.Task (task.Pair packages Twice turns limit))))
+input (request.Predict report trees) = done (Ok (asked.Prediction report trees))
+input (request.Explain folders scenario turns limit places) =
+    and_then (kept_in folders) (λ kept.
+    done (Ok (asked.Task (task.Explain kept.packages kept.sources scenario turns limit places))))
 
 -- ---- what holds of a task
+
+-- this holds of the task, where one is asked for
+abbrev pub OfTask : (Task → Type 0) → Asked → Type 0
+OfTask P (asked.Task task) = P task
+OfTask P (asked.Prediction report trees) = Unit {0}
 
 -- the number of a load is from 1 to MOST_LOAD
 abbrev pub IsInRange : Request → Type 0
@@ -193,6 +331,10 @@ IsInRange (request.Check folders scenario turns limit layout) = Unit {0}
 IsInRange (request.Run folders file scenario turns) = Unit {0}
 IsInRange (request.Translate file) = Unit {0}
 IsInRange (request.Load number limit) = (1 ≤ number) × (number ≤ MOST_LOAD)
+IsInRange (request.Pair dir other base scenario turns limit) = Unit {0}
+IsInRange (request.Twice dir base turns limit) = Unit {0}
+IsInRange (request.Predict report trees) = Unit {0}
+IsInRange (request.Explain folders scenario turns limit places) = Unit {0}
 
 -- the tree of a run is a tree of files
 abbrev pub HasTree : Task → Type 0
@@ -200,6 +342,8 @@ HasTree (task.Check packages scenario turns limit layout) = Unit {0}
 HasTree (task.Run packages tree scenario turns) = IsTree tree
 HasTree (task.Translate script) = Unit {0}
 HasTree (task.Load number limit) = Unit {0}
+HasTree (task.Pair packages scenario turns limit) = Unit {0}
+HasTree (task.Explain packages sources scenario turns limit places) = Unit {0}
 
 -- the tree of a run is a tree of files, and the number of a load is from 1 to MOST_LOAD
 abbrev pub IsSound : Task → Type 0
@@ -207,14 +351,21 @@ IsSound (task.Check packages scenario turns limit layout) = Unit {0}
 IsSound (task.Run packages tree scenario turns) = IsTree tree
 IsSound (task.Translate script) = Unit {0}
 IsSound (task.Load number limit) = (1 ≤ number) × (number ≤ MOST_LOAD)
+IsSound (task.Pair packages scenario turns limit) = Unit {0}
+IsSound (task.Explain packages sources scenario turns limit places) = Unit {0}
 
 -- ---- what the code answers
 
--- what the file of this name holds, if it is there, or why it was not read
+-- what the file of this name holds, if it is there, of so many bytes at most, or why it was not read
+abbrev pub FoundWithin : ℕ → List ℕ → ShelfState → ShelfState → Result Found (Stop (List ℕ) InputRefusal) → Type 0
+FoundWithin most name old new (Ok found) = (found.name ≡ name)
+    × ReadsInput old new (content name most (refused name (fault.TooLong most))) (Ok found.content)
+FoundWithin most name old new (Err stop) =
+    ReadsInput old new (content name most (refused name (fault.TooLong most))) (Err stop)
+
+-- the same, of at most 1,048,576 bytes
 abbrev pub FileFound : List ℕ → ShelfState → ShelfState → Result Found (Stop (List ℕ) InputRefusal) → Type 0
-FileFound name old new (Ok found) = (found.name ≡ name)
-    × ReadsInput old new (content name MAX_FILE (refused name fault.TooLong)) (Ok found.content)
-FileFound name old new (Err stop) = ReadsInput old new (content name MAX_FILE (refused name fault.TooLong)) (Err stop)
+FileFound name old new result = FoundWithin MAX_FILE name old new result
 
 -- how a call ends by what the content of a file came to, unless memory was missing
 abbrev pub of_file : {V : Type 0} → List ℕ → Result (Result V FileFault) Memory → Result V (Stop (List ℕ) InputRefusal)

@@ -7,14 +7,17 @@ use std::alloc::Global;
 pub enum FileFault {
     /// It is not there.
     Missing,
-    /// It has more than 1,048,576 bytes.
-    TooLong,
+    /// It has more bytes than it may have at most.
+    TooLong { most: usize },
     /// Its text is no accepted script.
     Script(ScriptFault),
-    /// The version in this line of a control file is none.
+    /// The version, or the name, in this line of a control file is none.
     Version { line: u64 },
-    /// A line of a list of files, a list of configuration files, a base or a tree is at fault, and why.
+    /// A line of a list of files, a list of configuration files, a base, a tree or a file of trees is at fault, and why.
     Line { line: u64, why: u8 },
+    /// It is no report by which trees can be told apart: 1, it is no JSON text (RFC 8259); 2, one that is no report; 3,
+    /// a report with a clause that is not in solved order.
+    Report { why: u8 },
 }
 
 impl Copied for FileFault {

@@ -26,12 +26,21 @@ impl Copied for Package {
     }
 }
 
-/// What was read of a command line's folders: the new package, the old one, where it is another, and the base.
+/// A package with its name.
+#[derive(Drop)]
+pub struct NamedPackage {
+    pub name: Bytes,
+    pub own: Package,
+}
+
+/// What was read of a command line's folders: the new package, the old one, where it is another, and the base; and the
+/// new package's name, which is empty where no scenario asks for it.
 #[derive(Drop)]
 pub struct Packages {
     pub new_package: Package,
     pub old_package: Option<Package>,
     pub base: Base,
+    pub name: Bytes,
 }
 
 impl Copied for Packages {
@@ -39,10 +48,12 @@ impl Copied for Packages {
         let new_package = self.new_package.copy(alloc)?;
         let old_package = self.old_package.copy(alloc)?;
         let base = self.base.copy(alloc)?;
+        let name = self.name.copy(alloc)?;
         Ok(Packages {
             new_package,
             old_package,
             base,
+            name,
         })
     }
 }

@@ -1,5 +1,5 @@
 ghost use Rattle.std.specs.Prelude.{◌≡◌};
-ghost use Rattle.checker_input.specs.Input.{FileFound, file_in as name_in, of_file};
+ghost use Rattle.checker_input.specs.Input.{FileFound, FoundWithin, file_in as name_in, of_file};
 
 use crate::faults::{FileFault, InputRefusal};
 use crate::names::{PackageFile, file_in};
@@ -7,7 +7,7 @@ use checker_io::{Shelf, Stop, read_content};
 use script_names::{Bytes, Copied, Memory, Text};
 use std::alloc::Global;
 
-/// How many bytes a file may have.
+/// How many bytes a file of a package, a base, a tree or a script may have.
 pub const MAX_FILE: usize = 1_048_576;
 
 /// A file that was looked for: its name, and what it holds, if it is there.
@@ -15,6 +15,26 @@ pub const MAX_FILE: usize = 1_048_576;
 pub struct Found {
     pub name: Text,
     pub content: Option<Bytes>,
+}
+
+/// What the file of this name holds, if it is there, where it has at most so many bytes.
+pub fn read_within<S: Shelf>(
+    alloc: Global,
+    name: Text,
+    most: usize,
+    shelf: &mut S,
+) -> Result<Found, Stop<Text, InputRefusal>>
+    ensures { FoundWithin most name (S.state shelf.old) (S.state shelf.new) result }
+{
+    match read_content(alloc, shelf, (), name.as_str(), most, ()) {
+        Ok(content) => Ok(Found { name, content }),
+        Err(Stop::Refused(())) => Err(Stop::Refused(InputRefusal {
+            file: name,
+            fault: FileFault::TooLong { most },
+        })),
+        Err(Stop::ReadFailed(())) => Err(Stop::ReadFailed(name)),
+        Err(Stop::NoMemory) => Err(Stop::NoMemory),
+    }
 }
 
 /// What the file of this name holds, if it is there.
@@ -25,15 +45,7 @@ pub fn read_file<S: Shelf>(
 ) -> Result<Found, Stop<Text, InputRefusal>>
     ensures { FileFound name (S.state shelf.old) (S.state shelf.new) result }
 {
-    match read_content(alloc, shelf, (), name.as_str(), MAX_FILE, ()) {
-        Ok(content) => Ok(Found { name, content }),
-        Err(Stop::Refused(())) => Err(Stop::Refused(InputRefusal {
-            file: name,
-            fault: FileFault::TooLong,
-        })),
-        Err(Stop::ReadFailed(())) => Err(Stop::ReadFailed(name)),
-        Err(Stop::NoMemory) => Err(Stop::NoMemory),
-    }
+    read_within(alloc, name, MAX_FILE, shelf)
 }
 
 /// What the file of this name holds, if it is there; the name is copied.

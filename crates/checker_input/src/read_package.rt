@@ -1,5 +1,5 @@
 ghost use Rattle.checker_input.specs.Input.{ReadsInput, version_in, list_in, conffiles_in, script_in, scripts_in};
-ghost use Rattle.checker_input.specs.Input.{package_in};
+ghost use Rattle.checker_input.specs.Input.{package_with, package_in};
 
 use crate::faults::InputRefusal;
 use crate::names::PackageFile;
@@ -13,8 +13,8 @@ use script_names::{Bytes, Slot, Text};
 use shell_forms::Accepted;
 use std::alloc::Global;
 
-// The version of a package, from its control file.
-fn read_version<S: Shelf>(
+/// The version of a package, from its control file.
+pub(crate) fn read_version<S: Shelf>(
     alloc: Global,
     folder: &Text,
     shelf: &mut S,
@@ -29,8 +29,8 @@ fn read_version<S: Shelf>(
     of_file(found.name, came)
 }
 
-// The files of a package, from its list.
-fn read_entries<S: Shelf>(
+/// The files of a package, from its list.
+pub(crate) fn read_entries<S: Shelf>(
     alloc: Global,
     folder: &Text,
     shelf: &mut S,
@@ -48,8 +48,8 @@ fn read_entries<S: Shelf>(
     }
 }
 
-// The files of a package with its configuration files, from the list of these.
-fn mark_conffiles<S: Shelf>(
+/// The files of a package with its configuration files, from the list of these.
+pub(crate) fn mark_conffiles<S: Shelf>(
     alloc: Global,
     folder: &Text,
     entries: FileList,
@@ -127,6 +127,21 @@ pub fn read_package<S: Shelf>(
         Ok(version) => version,
         Err(stop) => return Err(stop),
     };
+    match read_with(alloc, folder, version, shelf) {
+        Ok(own) => Ok(own),
+        Err(stop) => Err(stop),
+    }
+}
+
+/// The package in a folder that has this version.
+pub fn read_with<S: Shelf>(
+    alloc: Global,
+    folder: &Text,
+    version: Bytes,
+    shelf: &mut S,
+) -> Result<Package, Stop<Text, InputRefusal>>
+    ensures { ReadsInput (S.state shelf.old) (S.state shelf.new) (package_with folder.now version) result }
+{
     let listed = match read_entries(alloc, folder, shelf) {
         Ok(listed) => listed,
         Err(stop) => return Err(stop),

@@ -1,4 +1,5 @@
 use crate::package::Packages;
+use crate::sources::Sources;
 use command_words::Layout;
 use dpkg_scenarios::Scenario;
 use feature_trees::Value;
@@ -31,5 +32,23 @@ pub enum Task {
     Load {
         number: u32,
         limit: u32,
+    },
+    /// The report on a pair of packages in one of its scenarios, or on a package that is configured twice; `turns` is
+    /// how many turns of loops a run has, `limit` how many outcomes the scenario may have.
+    Pair {
+        packages: Packages,
+        scenario: Scenario,
+        turns: u32,
+        limit: u32,
+    },
+    /// What there is to say of packages to people, in one scenario or in all six: the whole text, or a line for each
+    /// place alone; `turns` and `limit` are those of a check.
+    Explain {
+        packages: Packages,
+        sources: Sources,
+        scenario: Option<Scenario>,
+        turns: u32,
+        limit: u32,
+        places: bool,
     },
 }

@@ -3,13 +3,18 @@
 ghost use Rattle.std.specs.Prelude.{IfOk};
 ghost use Rattle.feature_trees.specs.Sound.{IsTree};
 ghost use Rattle.checker_input.specs.Input.{ControlComes, ListComes, ConffilesCome, ScriptComes, BaseComes};
+ghost use Rattle.checker_input.specs.Input.{NamedControlComes, KeptComes};
 ghost use Rattle.checker_input.specs.Input.{StartComes, TranslatedComes};
 ghost use Rattle.checker_input.specs.Lines.{AreFew};
 
+use crate::control::Control;
 use crate::faults::FileFault;
 use crate::script::read_script;
+use crate::sources::KeptScript;
 use feature_trees::{TreeFault, Value, read_tree};
-use package_lists::{Entry, FileList, LineFault, read_conffiles, read_control, read_list};
+use package_lists::{
+    Entry, FileList, LineFault, read_conffiles, read_control, read_list, read_name,
+};
 use script_names::{Bytes, List, Memory, Slot};
 use shell_forms::Accepted;
 use std::alloc::Global;
@@ -32,6 +37,36 @@ pub fn control_version(
             Err(LineFault::Line { line, why: _ }) => { Ok(Err(FileFault::Version { line })) }
             Err(LineFault::Memory) => Err(Memory),
         },
+    }
+}
+
+/// The version and the name of a control file; `0` and `unnamed` where there is none.
+pub fn named_control(
+    alloc: Global,
+    control: &Option<Bytes>,
+) -> Result<Result<Control, FileFault>, Memory>
+    ensures { IfOk result (NamedControlComes control.now) }
+{
+    match control {
+        None => {
+            let version = Bytes::from_slice(alloc, b"0")?;
+            let name = Bytes::from_slice(alloc, b"unnamed")?;
+            Ok(Ok(Control { version, name }))
+        }
+        Some(text) => {
+            let version = match read_control(alloc, text.as_slice()) {
+                Ok(version) => version,
+                Err(LineFault::Line { line, why: _ }) => return Ok(Err(FileFault::Version {
+                    line,
+                })),
+                Err(LineFault::Memory) => return Err(Memory),
+            };
+            match read_name(alloc, text.as_slice()) {
+                Ok(name) => Ok(Ok(Control { version, name })),
+                Err(LineFault::Line { line, why: _ }) => Ok(Err(FileFault::Version { line })),
+                Err(LineFault::Memory) => Err(Memory),
+            }
+        }
     }
 }
 
@@ -89,6 +124,32 @@ pub fn package_script(
                 Ok(script) => {
                     let script = Slot::new(alloc, script)?;
                     Ok(Ok(script))
+                }
+                Err(fault) => Ok(Err(FileFault::Script(fault))),
+            }
+        }
+    }
+}
+
+/// The script of a package, with its text; none, where there is no such file.
+pub fn kept_script(
+    alloc: Global,
+    script: Option<Bytes>,
+) -> Result<Result<KeptScript, FileFault>, Memory>
+    ensures { IfOk result (KeptComes script) }
+{
+    match script {
+        None => Ok(Ok(KeptScript {
+            script: Slot::empty(alloc),
+            text: Slot::empty(alloc),
+        })),
+        Some(text) => {
+            let came = read_script(alloc, text.as_slice())?;
+            match came {
+                Ok(script) => {
+                    let script = Slot::new(alloc, script)?;
+                    let text = Slot::new(alloc, text)?;
+                    Ok(Ok(KeptScript { script, text }))
                 }
                 Err(fault) => Ok(Err(FileFault::Script(fault))),
             }

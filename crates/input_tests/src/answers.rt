@@ -58,7 +58,7 @@ fn shelf(alloc: Global, files: &[File<'_>], failing: u32) -> Result<MemShelf, Me
 // What was read for a request, as a text.
 fn read(alloc: Global, request: &Request, shelf: &mut MemShelf) -> Result<Bytes, Stopped> {
     match read_task(alloc, request, shelf) {
-        Ok(task) => match told(alloc, task) {
+        Ok(asked) => match told(alloc, asked) {
             Ok(text) => Ok(text),
             Err(_) => Err(Stopped::NoMemory),
         },

@@ -27,6 +27,25 @@ const ORDER: &[&str] = &[
     "t",
 ];
 
+// The files of a pair in the order in which they are read.
+const PAIRED: &[&str] = &[
+    "b",
+    "p/control",
+    "p/list",
+    "p/conffiles",
+    "p/preinst",
+    "p/postinst",
+    "p/prerm",
+    "p/postrm",
+    "o/control",
+    "o/list",
+    "o/conffiles",
+    "o/preinst",
+    "o/postinst",
+    "o/prerm",
+    "o/postrm",
+];
+
 const PROGRAM: &[&str] = &["s"];
 
 // The words of a request, and its files: those of a list between two places.
@@ -37,6 +56,13 @@ const REQUESTS: &[(&str, &[&str], usize, usize)] = &[
     ("check p", ORDER, 8, 15),
     ("translate s", PROGRAM, 0, 1),
     ("load 7", PROGRAM, 0, 0),
+    (
+        "pair p --with o --base b --scenario in-favour",
+        PAIRED,
+        0,
+        15,
+    ),
+    ("twice p", PAIRED, 1, 8),
 ];
 
 // The files that have to be there.
@@ -83,7 +109,7 @@ fn too_long<R: Abort + AllocGlobal>(rt: &R, text: &[u8], want: bool) {
             ("t", b""),
             (*name, text),
         ];
-        let refused = Wanted::Refused(*name, FileFault::TooLong);
+        let refused = Wanted::Refused(*name, FileFault::TooLong { most: 1_048_576 });
         let is_long = is_stopped(rt.alloc(), RUN, &files, 0, refused);
         assert!(rt; is_long == want, "{name}");
     }

@@ -79,6 +79,36 @@ const ROWS: &[(&str, &[File<'static>], Wanted<'static>)] = &[
         Wanted::Refused("p/list", FileFault::Missing),
     ),
     (
+        "twice p",
+        &[("p/control", b"Package: a_b\nVersion: 1_2\n")],
+        Wanted::Refused("p/control", FileFault::Version { line: 2 }),
+    ),
+    (
+        "twice p",
+        &[("p/control", b"Version: 1\nPackage: \t\nPackage: a\n")],
+        Wanted::Refused("p/control", FileFault::Version { line: 2 }),
+    ),
+    (
+        "pair p --with q --scenario in-favour",
+        &[("p/control", b"Version: 1\n\nPackage: A\n")],
+        Wanted::Refused("p/control", FileFault::Version { line: 3 }),
+    ),
+    (
+        "pair p --with q --scenario in-favour",
+        &[("p/list", b"x\n"), ("q/control", b"Package: A\n")],
+        Wanted::Refused("p/list", FileFault::Line { line: 1, why: 1 }),
+    ),
+    (
+        "pair p --with q --scenario in-favour",
+        &[("p/list", b""), ("q/control", b"Package: A\n")],
+        Wanted::Refused("q/list", FileFault::Missing),
+    ),
+    (
+        "check p",
+        &[("p/control", b"Package: A_\n"), ("p/list", b"x\n")],
+        Wanted::Refused("p/list", FileFault::Line { line: 1, why: 1 }),
+    ),
+    (
         "check p",
         &[("p/list", b"/etc/a\n/etc/a\n")],
         Wanted::Refused("p/list", FileFault::Line { line: 2, why: 2 }),

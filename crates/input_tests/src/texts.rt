@@ -5,8 +5,8 @@
 //! nothing and n for no directory. Behind its paths stand the links with their targets, the words that it says, with the
 //! paths of `own`, and the stated calls.
 
-use checker_input::{Package, Packages, Task};
-use dpkg_scenarios::Scripts;
+use checker_input::{Asked, Package, Packages, Task};
+use dpkg_scenarios::{Scripts, scenario_name};
 use feature_trees::{Kind, Kinds, put_tree};
 use link_walks::KnownLink;
 use package_lists::{Entry, EntryKind};
@@ -169,6 +169,18 @@ fn put_task(alloc: Global, text: &mut Bytes, task: &Task) -> Result<(), Memory> 
             }
         }
         Task::Load { .. } => text.extend(b"load\n"),
+        Task::Explain { packages, .. } => put_packages(text, packages),
+        Task::Pair {
+            packages,
+            scenario,
+            ..
+        } => {
+            text.extend(scenario_name(*scenario).as_bytes())?;
+            text.extend(b" ")?;
+            text.extend(packages.name.as_slice())?;
+            text.extend(b"\n")?;
+            put_packages(text, packages)
+        }
     }
 }
 
@@ -178,7 +190,21 @@ fn task_text(alloc: Global, task: &Task) -> Result<Bytes, Memory> {
     Ok(text)
 }
 
+// What was read for what is asked, or the names of the files of a prediction.
+fn asked_text(alloc: Global, asked: &Asked) -> Result<Bytes, Memory> {
+    match asked {
+        Asked::Task(task) => task_text(alloc, task),
+        Asked::Prediction { report, trees } => {
+            let mut text = Bytes::from_slice(alloc, b"prediction ")?;
+            text.extend(report.as_str().as_bytes())?;
+            text.extend(b" ")?;
+            text.extend(trees.as_str().as_bytes())?;
+            Ok(text)
+        }
+    }
+}
+
 /// What was read, which is let go here, in one place.
-pub(crate) fn told(alloc: Global, task: Task) -> Result<Bytes, Memory> {
-    task_text(alloc, &task)
+pub(crate) fn told(alloc: Global, asked: Asked) -> Result<Bytes, Memory> {
+    asked_text(alloc, &asked)
 }

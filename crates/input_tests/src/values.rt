@@ -27,7 +27,8 @@ const FILES: &[File<'static>] = &[
 ];
 
 // The words of a request, and what is read for it: packages, of which a script of theirs that there is none of is left
-// out, the base that is named or else the usual one, a tree, the script of a program, and nothing for a load.
+// out, the base that is named or else the usual one, a tree, the script of a program, and nothing for a load; of a pair
+// also its scenario and the new package's name.
 const READ: &[(&str, &str)] = &[
     (
         "run p --old o --base b --scenario upgrade --tree t",
@@ -57,6 +58,14 @@ const READ: &[(&str, &str)] = &[
     ("translate lax", "lax\n"),
     ("load 7", "load\n"),
     ("load --limit=3 500", "load\n"),
+    (
+        "pair p --with o --scenario disappear --base c",
+        "disappear a\nnew 2.0-1 x-s- d/etc f/etc/a c/etc/b l/l\nold 0 -s-x d/usr\nbase fits own ok/x fails/y\n",
+    ),
+    (
+        "twice o --base c",
+        "twice unnamed\nnew 0 -s-x d/usr\nbase fits own ok/x fails/y\n",
+    ),
 ];
 
 #[test]

@@ -1,5 +1,5 @@
 -- The plan of a job is the written one.
-use Rattle.std.proofs.Common.{◌≡◌, ℕ, Option, sym, ap, subst}
+use Rattle.std.proofs.Common.{◌≡◌, ℕ, Option, sym, ap}
 use Rattle.std.specs.Prelude.{option_map}
 use Rattle.feature_trees.specs.declared.value.Value.{Value}
 use Rattle.dpkg_scenarios.specs.declared.scenario.Scenario.{Scenario}
@@ -13,13 +13,11 @@ use Rattle.shell_syntax.specs.declared.script.Script.{Script}
 use Rattle.colis_syntax.specs.WellFormed.{ProgramParts}
 use Rattle.shell_to_colis.specs.Laws.{DoesTheSame}
 use Rattle.checker_input.specs.declared.package.Packages.{Packages}
-use Rattle.checker_input.specs.declared.package.Package.{Package}
-use Rattle.scenario_runs.specs.declared.job.PackagePrograms.{PackagePrograms}
 use Rattle.scenario_runs.specs.declared.job.Job.{Job}
-use Rattle.scenario_runs.specs.Runs.{Plan, plan_of, run_of, scenario_run, program_meaning, package_of}
-use Rattle.package_jobs.specs.Made.{DoTheSame, IsMade}
+use Rattle.scenario_runs.specs.Runs.{Plan, plan_of, run_of, scenario_run, program_meaning, scripts_in}
+use Rattle.package_jobs.specs.Made.{DoTheSame}
 use Rattle.package_jobs.specs.Sides.{old_of}
-use Rattle.package_jobs.specs.Written.{side_of, script_meaning, premises_of, is_plain, files_of, written_plan, written_run}
+use Rattle.package_jobs.specs.Written.{side_of, script_meaning, said_of, premises_of, is_plain, files_of, written_plan, written_run}
 
 -- a program that does what a script does has the script's meaning
 pub meaning_same : (s : Script) (p : ProgramParts) → p.strict ≡ s.strict → DoesTheSame s p → program_meaning p ≡ script_meaning s
@@ -38,34 +36,29 @@ kinds_same scripts a b c d e f g h Postinst = f
 kinds_same scripts a b c d e f g h Prerm = g
 kinds_same scripts a b c d e f g h Postrm = h
 
--- a package with these programs in place of its scripts
-pub made_with : (written : Package) (made : PackagePrograms) (programs : Scripts ProgramParts)
-    → made.version ≡ written.version → made.scripts ≡ programs → DoTheSame written.scripts programs
-    → IsMade written made
-made_with written made programs version scripts same =
-    record { version = version; scripts = subst (DoTheSame written.scripts) (sym scripts) same }
-
 module _ (job : Job) (s : Scenario) (p : Packages) (turns : ℕ) where
-  scripts_same : IsMade p.new_package job.new_package → IsMade (old_of p) job.old_package → (side : Side) (kind : ScriptKind)
-      → option_map program_meaning (script_of kind (package_of job side).scripts) ≡ option_map script_meaning (script_of kind (side_of p side).scripts)
-  scripts_same new old New kind = new.scripts kind
-  scripts_same new old Old kind = old.scripts kind
+  scripts_same : DoTheSame p.new_package.scripts job.new_scripts → DoTheSame (old_of p).scripts job.old_scripts → (side : Side) (kind : ScriptKind)
+      → option_map program_meaning (script_of kind (scripts_in job side)) ≡ option_map script_meaning (script_of kind (side_of p side).scripts)
+  scripts_same new old New kind = new kind
+  scripts_same new old Old kind = old kind
 
-  plan_same : job.scenario ≡ s → job.plain ≡ is_plain p.new_package → IsMade p.new_package job.new_package → IsMade (old_of p) job.old_package
+  plan_same : job.scenario ≡ s → job.plain ≡ is_plain p.new_package → job.said ≡ said_of p
+      → DoTheSame p.new_package.scripts job.new_scripts → DoTheSame (old_of p).scripts job.old_scripts
       → job.files ≡ files_of s p.new_package.entries (old_of p).entries p.base → job.premises ≡ premises_of p.base → job.turns ≡ turns
       → plan_of job ≡ written_plan s p turns
-  plan_same scenario plain new old files premises left = λ i. record {
+  plan_same scenario plain said new old files premises left = λ i. record {
     scenario = scenario i;
     plain = plain i;
-    old_version = old.version i;
-    new_version = new.version i;
+    said = said i;
     scripts = λ side kind. scripts_same new old side kind i;
     files = files i;
     premises = premises i;
     turns = left i;
   }
 
-  pub runs_same : job.scenario ≡ s → job.plain ≡ is_plain p.new_package → IsMade p.new_package job.new_package → IsMade (old_of p) job.old_package
+  pub runs_same : job.scenario ≡ s → job.plain ≡ is_plain p.new_package → job.said ≡ said_of p
+      → DoTheSame p.new_package.scripts job.new_scripts → DoTheSame (old_of p).scripts job.old_scripts
       → job.files ≡ files_of s p.new_package.entries (old_of p).entries p.base → job.premises ≡ premises_of p.base → job.turns ≡ turns
       → (tree : Value) → scenario_run job tree ≡ written_run s p turns tree
-  runs_same scenario plain new old files premises left tree = ap (λ (plan : Plan). run_of plan tree) (plan_same scenario plain new old files premises left)
+  runs_same scenario plain said new old files premises left tree =
+      ap (λ (plan : Plan). run_of plan tree) (plan_same scenario plain said new old files premises left)

@@ -7,3 +7,4 @@ pub mod Owning
 pub mod Written
 pub mod Made
 pub mod Laws
+pub mod Kept

@@ -1,12 +1,10 @@
--- What is made of a written package, between the steps of making a job.
+-- What is made of written packages, between the steps of making a job.
 use Rattle.std.specs.Prelude.{◌≡◌, option_map}
 use Rattle.dpkg_scenarios.specs.declared.scenario.ScriptKind.{ScriptKind}
 use Rattle.dpkg_scenarios.specs.declared.scripts.Scripts.{Scripts}
 use Rattle.dpkg_scenarios.specs.Scripts.{script_of}
 use Rattle.shell_syntax.specs.declared.script.Script.{Script}
 use Rattle.colis_syntax.specs.WellFormed.{ProgramParts}
-use Rattle.checker_input.specs.declared.package.Package.{Package}
-use Rattle.scenario_runs.specs.declared.job.PackagePrograms.{PackagePrograms}
 use Rattle.scenario_runs.specs.Runs.{program_meaning}
 use Rattle.checker_input.specs.declared.package.Packages.{Packages}
 use Rattle.package_jobs.specs.declared.programs.Programs.{Programs}
@@ -18,11 +16,6 @@ abbrev pub DoTheSame : Scripts Script → Scripts ProgramParts → Type 0
 DoTheSame scripts programs =
     (kind : ScriptKind)
     → option_map program_meaning (script_of kind programs) ≡ option_map script_meaning (script_of kind scripts)
-
--- a package with programs in place of its scripts
-pub record IsMade (written : Package) (made : PackagePrograms) : Type 0 where
-  pub version : made.version ≡ written.version
-  pub scripts : DoTheSame written.scripts made.scripts
 
 -- the programs of packages: those of the new package's scripts, and of the old one's
 pub record AreProgramsOf (packages : Packages) (programs : Programs) : Type 0 where

@@ -3,6 +3,7 @@
 use Rattle.std.specs.Prelude.{ℕ, Bool, not, ◌&&◌, List, map, Option, is_none, option_map}
 use Rattle.std.specs.List.{list_any}
 use Rattle.feature_trees.specs.declared.value.Value.{Value}
+use Rattle.dpkg_scenarios.specs.declared.said.Said.{Said}
 use Rattle.dpkg_scenarios.specs.declared.scenario.Scenario.{Scenario}
 use Rattle.dpkg_scenarios.specs.declared.scenario.Side.{Side}
 use Rattle.dpkg_scenarios.specs.declared.scenario.Side.TheVariants.{New, Old}
@@ -63,13 +64,20 @@ files_of scenario new old base =
       remove_conf = done_acts base (acts_of scenario RemoveConf new old base);
     }
 
+-- what the scripts are told of the packages
+abbrev pub said_of : Packages → Said
+said_of packages = record {
+  old_version = (old_of packages).version;
+  new_version = packages.new_package.version;
+  new_name = packages.name;
+}
+
 -- what the run of a scenario needs, with so many turns of loops
 abbrev pub written_plan : Scenario → Packages → ℕ → Plan
 written_plan scenario packages turns = record {
   scenario = scenario;
   plain = is_plain packages.new_package;
-  old_version = (old_of packages).version;
-  new_version = packages.new_package.version;
+  said = said_of packages;
   scripts = λ side script. option_map script_meaning (script_of script (side_of packages side).scripts);
   files = files_of scenario packages.new_package.entries (old_of packages).entries packages.base;
   premises = premises_of packages.base;

@@ -6,35 +6,36 @@ ghost use Rattle.package_jobs.specs.FileActs.{AreListed, acts_of};
 ghost use Rattle.package_lists.specs.PathSets.{has};
 ghost use Rattle.scenario_runs.specs.Runs.{scenario_run};
 ghost use Rattle.package_jobs.specs.Made.{AreProgramsOf};
-ghost use Rattle.package_jobs.specs.Written.{is_conffile, is_plain, premises_of, done_acts, files_of, written_run};
+ghost use Rattle.package_jobs.specs.Written.{is_conffile, is_plain, said_of, premises_of, done_acts, files_of};
+ghost use Rattle.package_jobs.specs.Written.{written_run};
 
 use crate::followed::followed;
 use crate::programs::{Programs, programs_of};
 use crate::sides::old_package;
 use crate::step_acts::file_acts;
 use checker_input::{Package, Packages};
-use colis_syntax::Program;
-use dpkg_scenarios::{Scenario, Scripts, StepWork};
+use dpkg_scenarios::{Said, Scenario, StepWork};
 use package_lists::{Entry, FileList, PathSet};
-use scenario_runs::{FileActs, FileBacks, Files, Job, PackagePrograms};
+use scenario_runs::{FileActs, FileBacks, Files, Job};
 use script_names::{Common, Copied, List, Memory};
 use shell_rules::Premises;
 use std::alloc::Global;
 use system_base::{Base, base_paths};
 use utility_calls::acts::Act;
 
-// A package with programs in place of its scripts.
-fn package_of(
-    alloc: Global,
-    written: &Package,
-    programs: &Scripts<Program>,
-) -> Result<PackagePrograms, Memory>
-    ensures version { IfOk result (λ made. made.version ≡ written.now.version) }
-    ensures scripts { IfOk result (λ made. made.scripts ≡ programs.now) }
+// What the scripts are told of the packages.
+fn said_of(alloc: Global, packages: &Packages) -> Result<Said, Memory>
+    ensures { IfOk result (λ said. said ≡ said_of packages.now) }
 {
-    let version = written.version.copy(alloc)?;
-    let scripts = programs.copy(alloc)?;
-    Ok(PackagePrograms { version, scripts })
+    let old = old_package(packages);
+    let old_version = old.version.copy(alloc)?;
+    let new_version = packages.new_package.version.copy(alloc)?;
+    let new_name = packages.name.copy(alloc)?;
+    Ok(Said {
+        old_version,
+        new_version,
+        new_name,
+    })
 }
 
 /// Whether a package has neither a configuration file nor a postrm.
@@ -158,16 +159,18 @@ pub fn job_with(
 {
     let new = &packages.new_package;
     let old = old_package(packages);
-    let new_package = package_of(alloc, new, &programs.new_package)?;
-    let old_package = package_of(alloc, old, &programs.old_package)?;
+    let said = said_of(alloc, packages)?;
+    let new_scripts = programs.new_package.copy(alloc)?;
+    let old_scripts = programs.old_package.copy(alloc)?;
     let files = files_of(alloc, scenario, &new.entries, &old.entries, &packages.base)?;
     let stated = premises_of(alloc, &packages.base)?;
     let premises = Common::new(alloc, stated)?;
     Ok(Job {
         scenario,
         plain: is_plain(new),
-        new_package,
-        old_package,
+        said,
+        new_scripts,
+        old_scripts,
         files,
         premises,
         turns,

@@ -7,6 +7,7 @@
 mod followed;
 mod gone_needs;
 mod job;
+mod kept;
 mod needs;
 mod own_needs;
 mod plain_needs;
@@ -16,6 +17,7 @@ mod step_acts;
 pub mod theorems;
 
 pub use job::{is_plain, job_of, job_with};
+pub use kept::kept_of;
 pub use needs::needs_of;
 pub use programs::{Programs, programs_of};
 pub use step_acts::file_acts;

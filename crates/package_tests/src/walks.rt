@@ -1,13 +1,13 @@
 //! Walks through the scenarios by hand, from Debian Policy, 6.5 to 6.8: every step is left once by its success and once
 //! by its failure. A row has the scenario, how the steps end in turn (`o` for success, `f` for failure), and what is
-//! done: `n` or `o` for the package, the script, its words with `-` for an empty one; the versions are 1 and 2. A plain
-//! package has neither a configuration file nor a postrm.
+//! done: `n` or `o` for the package, the script, its words with `-` for an empty one; the versions are 1 and 2, the new
+//! package's name is `new`. A plain package has neither a configuration file nor a postrm.
 
 ghost use Rattle.dpkg_scenarios.specs.Steps.{IsStep};
 
 use dpkg_scenarios::theorems::scenarios_end;
 use dpkg_scenarios::{
-    Ending, Scenario, ScriptKind, Side, State, StepNext, StepWork, call_words, next, work,
+    Ending, Said, Scenario, ScriptKind, Side, State, StepNext, StepWork, call_words, next, work,
 };
 use script_names::{Bytes, Memory};
 use std::alloc::Global;
@@ -210,6 +210,135 @@ const UPGRADES: &[(Scenario, &[u8], &[u8])] = &[
     ),
 ];
 
+// The walks through the scenarios of a pair, and of a package that is configured twice.
+const PAIRS: &[(Scenario, &[u8], &[u8])] = &[
+    (
+        Scenario::InFavour,
+        b"oooooo",
+        b"o prerm remove in-favour new 2;n preinst install;unpack;remove old;o postrm remove;n postinst configure -;done Installed",
+    ),
+    (
+        Scenario::InFavour,
+        b"ooooof",
+        b"o prerm remove in-favour new 2;n preinst install;unpack;remove old;o postrm remove;n postinst configure -;failed Half-Configured",
+    ),
+    (
+        Scenario::InFavour,
+        b"oooof",
+        b"o prerm remove in-favour new 2;n preinst install;unpack;remove old;o postrm remove;failed Unpacked",
+    ),
+    (
+        Scenario::InFavour,
+        b"fo",
+        b"o prerm remove in-favour new 2;o postinst abort-remove in-favour new 2;failed Not-Installed",
+    ),
+    (
+        Scenario::InFavour,
+        b"ff",
+        b"o prerm remove in-favour new 2;o postinst abort-remove in-favour new 2;failed Not-Installed",
+    ),
+    (
+        Scenario::InFavour,
+        b"ofoo",
+        b"o prerm remove in-favour new 2;n preinst install;n postrm abort-install;o postinst abort-remove in-favour new 2;failed Not-Installed",
+    ),
+    (
+        Scenario::InFavour,
+        b"off",
+        b"o prerm remove in-favour new 2;n preinst install;n postrm abort-install;failed Half-Installed",
+    ),
+    (
+        Scenario::InFavour,
+        b"oofooo",
+        b"o prerm remove in-favour new 2;n preinst install;unpack;restore;n postrm abort-install;o postinst abort-remove in-favour new 2;failed Not-Installed",
+    ),
+    (
+        Scenario::InFavour,
+        b"oofff",
+        b"o prerm remove in-favour new 2;n preinst install;unpack;restore;n postrm abort-install;failed Half-Installed",
+    ),
+    (
+        Scenario::Deconfigure,
+        b"oooo",
+        b"o prerm deconfigure in-favour new 2;n preinst install;unpack;n postinst configure -;done Installed",
+    ),
+    (
+        Scenario::Deconfigure,
+        b"ooof",
+        b"o prerm deconfigure in-favour new 2;n preinst install;unpack;n postinst configure -;failed Half-Configured",
+    ),
+    (
+        Scenario::Deconfigure,
+        b"fo",
+        b"o prerm deconfigure in-favour new 2;o postinst abort-deconfigure in-favour new 2;failed Not-Installed",
+    ),
+    (
+        Scenario::Deconfigure,
+        b"ff",
+        b"o prerm deconfigure in-favour new 2;o postinst abort-deconfigure in-favour new 2;failed Not-Installed",
+    ),
+    (
+        Scenario::Deconfigure,
+        b"ofoo",
+        b"o prerm deconfigure in-favour new 2;n preinst install;n postrm abort-install;o postinst abort-deconfigure in-favour new 2;failed Not-Installed",
+    ),
+    (
+        Scenario::Deconfigure,
+        b"off",
+        b"o prerm deconfigure in-favour new 2;n preinst install;n postrm abort-install;failed Half-Installed",
+    ),
+    (
+        Scenario::Deconfigure,
+        b"oofoof",
+        b"o prerm deconfigure in-favour new 2;n preinst install;unpack;restore;n postrm abort-install;o postinst abort-deconfigure in-favour new 2;failed Not-Installed",
+    ),
+    (
+        Scenario::Disappear,
+        b"oooo",
+        b"n preinst install;unpack;o postrm disappear new 2;n postinst configure -;done Installed",
+    ),
+    (
+        Scenario::Disappear,
+        b"ooof",
+        b"n preinst install;unpack;o postrm disappear new 2;n postinst configure -;failed Half-Configured",
+    ),
+    (
+        Scenario::Disappear,
+        b"oof",
+        b"n preinst install;unpack;o postrm disappear new 2;failed Unpacked",
+    ),
+    (
+        Scenario::Disappear,
+        b"fo",
+        b"n preinst install;n postrm abort-install;failed Not-Installed",
+    ),
+    (
+        Scenario::Disappear,
+        b"ff",
+        b"n preinst install;n postrm abort-install;failed Half-Installed",
+    ),
+    (
+        Scenario::Disappear,
+        b"ofoo",
+        b"n preinst install;unpack;restore;n postrm abort-install;failed Not-Installed",
+    ),
+    (
+        Scenario::Twice,
+        b"oo",
+        b"n postinst configure -;n postinst configure 2;done Installed",
+    ),
+    (
+        Scenario::Twice,
+        b"of",
+        b"n postinst configure -;n postinst configure 2;failed Half-Configured",
+    ),
+    (
+        Scenario::Twice,
+        b"f",
+        b"n postinst configure -;failed Half-Configured",
+    ),
+];
+
 // Walks of a plain package.
 const PLAIN: &[(Scenario, &[u8], &[u8])] = &[
     (
@@ -277,9 +406,12 @@ fn put_step(alloc: Global, text: &mut Bytes, scenario: Scenario, step: u16) -> R
     let work = work(scenario, step);
     text.extend(package_name(work))?;
     text.extend(work_name(work))?;
-    let old = Bytes::from_slice(alloc, b"1")?;
-    let new = Bytes::from_slice(alloc, b"2")?;
-    let words = call_words(alloc, scenario, step, &old, &new)?;
+    let said = Said {
+        old_version: Bytes::from_slice(alloc, b"1")?,
+        new_version: Bytes::from_slice(alloc, b"2")?,
+        new_name: Bytes::from_slice(alloc, b"new")?,
+    };
+    let words = call_words(alloc, scenario, step, &said)?;
     for word in words.as_slice() {
         text.extend(b" ")?;
         text.extend(if word.len() == 0 {
@@ -337,6 +469,15 @@ fn steps_are_walked(rt: HostRuntime) -> Result<(), Fail> {
 #[test]
 fn upgrades_are_walked(rt: HostRuntime) -> Result<(), Fail> {
     for row in UPGRADES {
+        let text = walked(rt.alloc(), row.0, false, row.1)?;
+        assert_eq!(rt; text.as_slice(), row.2);
+    }
+    Ok(())
+}
+
+#[test]
+fn pairs_are_walked(rt: HostRuntime) -> Result<(), Fail> {
+    for row in PAIRS {
         let text = walked(rt.alloc(), row.0, false, row.1)?;
         assert_eq!(rt; text.as_slice(), row.2);
     }

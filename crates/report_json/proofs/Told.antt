@@ -20,7 +20,7 @@ use Rattle.tree_clauses.specs.declared.clause.Clause.{Clause}
 use Rattle.tree_clauses.specs.ClauseRead.{is_clause, clause_of, has_text as has_clause_text}
 use Rattle.tree_clauses.specs.ClauseText.{var_text, literal_content, literal_text, clause_text, is_first_clause}
 use Rattle.tree_clauses.proofs.ClauseLaw.{clause_read}
-use Rattle.dpkg_scenarios.specs.Names.{scenario_name, scenario_named}
+use Rattle.dpkg_scenarios.specs.Names.{scenario_name}
 use Rattle.scenario_runs.specs.declared.call.ScriptCall.{ScriptCall}
 use Rattle.outcome_report.specs.declared.outcome_report.Report.{Report}
 use Rattle.outcome_report.specs.declared.outcome_report.ReportEntry.{ReportEntry}
@@ -29,7 +29,7 @@ use Rattle.report_text.specs.PieceRead.{result_of, trace_of, call_of, is_call}
 use Rattle.report_text.specs.ReportText.{result_text, call_content}
 use Rattle.report_text.specs.Whole.{IsRepresentableTree, IsRepresentableEntry, AllRepresentable, AllPartsRepresentable, IsWholeEntry, AllWhole, AllPartsWhole}
 use Rattle.report_text.proofs.Blocks.{read_apart, each_apart}
-use Rattle.dpkg_scenarios.proofs.Named.{scenario_read}
+use Rattle.dpkg_scenarios.proofs.Named.{any_named, any_read}
 use Rattle.report_text.proofs.PieceReading.{result_read, trace_read, call_read}
 use Rattle.report_text.proofs.TextApart.{tree_apart, literals_spelled}
 use Rattle.report_json.specs.FirstVersion.{is_first_entry, is_first_part, has_text}
@@ -224,7 +224,7 @@ part_members version p q same = record { name = cc; entries = cc }
 part_told : (version : Version) (p q : ReportPart) → IsPartTold version p → IsPartTold version q → part_json version p ≡ part_json version q → p ≡ q
 part_told version p q h g same =
     let members = part_members version p q same in
-    let scenario = read_apart scenario_name scenario_named p.scenario q.scenario (scenario_read p.scenario) (scenario_read q.scenario) members.name in
+    let scenario = read_apart scenario_name any_named p.scenario q.scenario (any_read p.scenario) (any_read q.scenario) members.name in
     let entries = items_told (entry_json version) (IsToldEntry version) (entry_told version) p.entries q.entries h g members.entries in
     λ i. record { scenario = scenario i; entries = entries i }
 

@@ -1,6 +1,6 @@
 -- A report that is read from a value is readable.
 use Rattle.std.proofs.Common.{◌≡◌, ℕ, suc, ◌+◌, ◌^◌, ◌<◌, ◌≤◌, true, List, [], ◌∷◌, ◌++◌, Some, refl, sym, ap, subst, ◌∙◌, arith, append_assoc, append-nil}
-use Rattle.std.specs.Prelude.{Option, ◌&&◌, nat_le, nat_lt, codes}
+use Rattle.std.specs.Prelude.{Option, IfSome, ◌&&◌, nat_le, nat_lt, codes}
 use Rattle.std.specs.List.{list_all}
 use Rattle.std.specs.Option.{option_map, option_and_then}
 use Rattle.std.proofs.lemmas.Bool.{and_parts, leb-true, ltb-true}
@@ -24,11 +24,13 @@ use Rattle.outcome_report.specs.declared.outcome_report.ReportPart.{ReportPart}
 use Rattle.outcome_report.specs.declared.replay.Replay.{Replay}
 use Rattle.report_text.specs.Numbered.{AreNumbered, AllNumbered}
 use Rattle.dpkg_scenarios.specs.Names.{scenario_named}
+use Rattle.dpkg_scenarios.specs.Scenarios.{is_checked}
+use Rattle.dpkg_scenarios.proofs.Named.{named_checked}
 use Rattle.report_text.specs.PieceRead.{result_of, trace_of, is_ending, is_call}
 use Rattle.report_text.specs.Whole.{IsRepresentableEntry, AllRepresentable, AllPartsRepresentable, IsWholeEntry, AllWhole, AllPartsWhole, AreInOrder, scenario_place}
 use Rattle.report_reader.specs.ReportRead.{text_at, list_at, short, number_at, lines_at, tree_found, tree_at, calls_onto, calls_at, ending_at, trace_at, if_told, clause_from, clause_in}
 use Rattle.report_reader.specs.ReportRead.{outcome_in, replay_in, entry_in, entries_onto, part_in, from_place, parts_onto, report_in}
-use Rattle.report_reader.specs.JsonAnswers.{HasShortPaths, AllShort, AllPartsShort, IsReadable}
+use Rattle.report_reader.specs.JsonAnswers.{HasShortPaths, AllShort, AllPartsShort, AllChecked, IsReadable}
 use Rattle.report_reader.proofs.TextFacts.{got, made, kept}
 use Rattle.report_reader.proofs.TreeFacts.{IsFound, found_tree}
 use Rattle.report_reader.proofs.PieceFacts.{ending_fits, trace_fits, calls_fit}
@@ -199,6 +201,7 @@ record IsGoodPart (p : ReportPart) : Type 0 where
   whole : AllWhole p.entries
   short : AllShort p.entries
   numbered : AreNumbered 1 p.entries
+  checked : is_checked p.scenario ≡ true
 
 part_is : (d : Data) (p : ReportPart) → part_in d ≡ Some p → IsGoodPart p
 part_is d p e =
@@ -207,12 +210,16 @@ part_is d p e =
     (λ scenario m f. made (λ (entries : List ReportEntry). let it : ReportPart = record { scenario = scenario; entries = entries } in it)
     (option_and_then (entries_onto 1 []) (list_at (codes "outcomes") d)) p f
     (λ entries g same. got (entries_onto 1 []) (list_at (codes "outcomes") d) entries g
-    (λ ds k h. subst IsGoodPart same (good scenario entries (entries_are 1 [] ds entries h)))))
+    (λ ds k h. got scenario_named (text_at (codes "name") d) scenario m
+    (λ name a b. subst IsGoodPart same (good scenario entries (named name scenario b) (entries_are 1 [] ds entries h))))))
   where
-    good : (scenario : Scenario) (entries : List ReportEntry) → AreEntries 1 [] entries → (let it : ReportPart = record { scenario = scenario; entries = entries } in IsGoodPart it)
-    good scenario entries a =
+    named : (name : List ℕ) (scenario : Scenario) → scenario_named name ≡ Some scenario → is_checked scenario ≡ true
+    named name scenario b = subst (λ (o : Option Scenario). IfSome o (λ s. is_checked s ≡ true)) b (named_checked name)
+
+    good : (scenario : Scenario) (entries : List ReportEntry) → is_checked scenario ≡ true → AreEntries 1 [] entries → (let it : ReportPart = record { scenario = scenario; entries = entries } in IsGoodPart it)
+    good scenario entries c a =
         let facts : (let it : ReportPart = record { scenario = scenario; entries = a.more } in IsGoodPart it) =
-        record { representable = a.representable; whole = a.whole; short = a.short; numbered = a.numbered } in
+        record { representable = a.representable; whole = a.whole; short = a.short; numbered = a.numbered; checked = c } in
         subst (λ es. let it : ReportPart = record { scenario = scenario; entries = es } in IsGoodPart it) (sym a.is) facts
 
 -- parts behind others
@@ -224,6 +231,7 @@ record AreParts (least : ℕ) (done ps : List ReportPart) : Type 0 where
   short : AllPartsShort more
   numbered : AllNumbered more
   order : AreInOrder least more
+  checked : AllChecked more
 
 one_part : (least : ℕ) (done ps : List ReportPart) (p : ReportPart) → least ≤ scenario_place p.scenario → IsGoodPart p
     → AreParts (scenario_place p.scenario + 1) (done ++ p ∷ []) ps → AreParts least done ps
@@ -237,12 +245,13 @@ one_part least done ps p le good rest =
       short = (good.short, rest.short);
       numbered = (good.numbered, rest.numbered);
       order = (le, subst (λ k. AreInOrder k rest.more) next rest.order);
+      checked = (good.checked, rest.checked);
     }
 
 parts_are : (least : ℕ) (done : List ReportPart) (ds : Items) (ps : List ReportPart) → parts_onto least done ds ≡ Some ps → AreParts least done ps
 parts_are least done no_items ps e =
     let same : done ≡ ps = cc in
-    record { more = []; is = sym same ∙ sym (append-nil done); representable = tt; whole = tt; short = tt; numbered = tt; order = tt }
+    record { more = []; is = sym same ∙ sym (append-nil done); representable = tt; whole = tt; short = tt; numbered = tt; order = tt; checked = tt }
 parts_are least done (item d ds) ps e =
     got (λ (part : ReportPart). parts_onto (scenario_place part.scenario + 1) (done ++ part ∷ []) ds) (option_and_then (from_place least) (part_in d)) ps e
     (λ p m f. got (from_place least) (part_in d) p m
@@ -262,5 +271,5 @@ report_found d report e =
     good : (parts : List ReportPart) → AreParts 0 [] parts → (let it : Report = record { parts = parts } in IsReadable it)
     good parts a =
         let facts : (let it : Report = record { parts = a.more } in IsReadable it) =
-        record { representable = a.representable; whole = record { entries = a.whole; numbered = a.numbered; order = a.order }; short = a.short } in
+        record { representable = a.representable; whole = record { entries = a.whole; numbered = a.numbered; order = a.order }; short = a.short; checked = a.checked } in
         subst (λ ps. let it : Report = record { parts = ps } in IsReadable it) (sym a.is) facts

@@ -5,6 +5,7 @@ use Rattle.std.specs.Option.{option_map, option_and_then}
 use Rattle.std.proofs.lemmas.Bool.{and_parts, le-leb}
 use Rattle.serde_json.specs.Data.{Data}
 use Rattle.serde_json.specs.View.{items_of}
+use Rattle.dpkg_scenarios.specs.Scenarios.{is_checked}
 use Rattle.dpkg_scenarios.proofs.Named.{scenario_read}
 use Rattle.tree_clauses.specs.ClauseRead.{has_text as has_clause_text}
 use Rattle.feature_trees.specs.declared.version.Version.{Version}
@@ -21,7 +22,7 @@ use Rattle.report_json.specs.FirstVersion.{has_text}
 use Rattle.report_json.specs.ReportJson.{entry_json, part_json, json_of}
 use Rattle.report_json.proofs.Told.{have_clause_texts, have_texts, clauses_told}
 use Rattle.report_reader.specs.ReportRead.{outcome_in, replay_in, entry_in, entries_onto, part_in, from_place, parts_onto, version_of, version_in, report_in}
-use Rattle.report_reader.specs.JsonAnswers.{HasShortPaths, AllShort, AllPartsShort, IsReadable, HasValue}
+use Rattle.report_reader.specs.JsonAnswers.{HasShortPaths, AllShort, AllPartsShort, AllChecked, IsReadable, HasValue}
 use Rattle.report_reader.proofs.ClauseFacts.{short_is}
 use Rattle.report_reader.proofs.MemberLaws.{tree_back, calls_back, clause_back}
 
@@ -66,33 +67,33 @@ entries_back version n done (e ∷ es) h w s m t =
 
 -- ---- parts
 
-part_back : (version : Version) (p : ReportPart) → AllRepresentable p.entries → AllWhole p.entries → AllShort p.entries → AreNumbered 1 p.entries → have_clause_texts version p.entries ≡ true
+part_back : (version : Version) (p : ReportPart) → is_checked p.scenario ≡ true → AllRepresentable p.entries → AllWhole p.entries → AllShort p.entries → AreNumbered 1 p.entries → have_clause_texts version p.entries ≡ true
     → part_in (part_json version p) ≡ Some p
 unfolding part_json
-part_back version p h w s m t =
+part_back version p c h w s m t =
     λ i. option_and_then (λ scenario. option_map (λ entries. let made : ReportPart = record { scenario = scenario; entries = entries } in made)
-    (entries_back version 1 [] p.entries h w s m t i)) (scenario_read p.scenario i)
+    (entries_back version 1 [] p.entries h w s m t i)) (scenario_read p.scenario c i)
 
 in_place : (least : ℕ) (p : ReportPart) → least ≤ scenario_place p.scenario → from_place least p ≡ Some p
 in_place least p le = ap (λ t. if t then Some p else None) (le-leb least (scenario_place p.scenario) le)
 
-parts_back : (version : Version) (least : ℕ) (done ps : List ReportPart) → AllPartsRepresentable ps → AllPartsWhole ps → AllPartsShort ps → AllNumbered ps → AreInOrder least ps
+parts_back : (version : Version) (least : ℕ) (done ps : List ReportPart) → AllChecked ps → AllPartsRepresentable ps → AllPartsWhole ps → AllPartsShort ps → AllNumbered ps → AreInOrder least ps
     → have_texts version ps ≡ true → parts_onto least done (items_of (map (part_json version) ps)) ≡ Some (done ++ ps)
-parts_back version least done [] h w s m o t = ap Some (sym (append-nil done))
-parts_back version least done (p ∷ ps) h w s m o t =
+parts_back version least done [] c h w s m o t = ap Some (sym (append-nil done))
+parts_back version least done (p ∷ ps) c h w s m o t =
     let k = and_parts (have_clause_texts version p.entries) (have_texts version ps) t in
     let next : suc (scenario_place p.scenario) ≡ scenario_place p.scenario + 1 = omega arith in
     ap (λ found. option_and_then (λ (part : ReportPart). parts_onto (scenario_place part.scenario + 1) (done ++ part ∷ []) (items_of (map (part_json version) ps)))
-    (option_and_then (from_place least) found)) (part_back version p h.0 w.0 s.0 m.0 k.0)
+    (option_and_then (from_place least) found)) (part_back version p c.0 h.0 w.0 s.0 m.0 k.0)
     ∙ ap (option_and_then (λ (part : ReportPart). parts_onto (scenario_place part.scenario + 1) (done ++ part ∷ []) (items_of (map (part_json version) ps)))) (in_place least p o.0)
-    ∙ parts_back version (scenario_place p.scenario + 1) (done ++ p ∷ []) ps h.1 w.1 s.1 m.1 (subst (λ k. AreInOrder k ps) next o.1) k.1 ∙ ap Some (append_assoc done (p ∷ []) ps)
+    ∙ parts_back version (scenario_place p.scenario + 1) (done ++ p ∷ []) ps c.1 h.1 w.1 s.1 m.1 (subst (λ k. AreInOrder k ps) next o.1) k.1 ∙ ap Some (append_assoc done (p ∷ []) ps)
 
 -- the value of a readable report is read as the report
 pub report_back : (version : Version) (report : Report) → IsReadable report → has_text version report ≡ true → report_in (json_of version report) ≡ Some report
 unfolding json_of
 report_back version report r t =
     ap (option_map (λ parts. let made : Report = record { parts = parts } in made))
-    (parts_back version 0 [] report.parts r.representable r.whole.entries r.short r.whole.numbered r.whole.order (clauses_told version report t))
+    (parts_back version 0 [] report.parts r.checked r.representable r.whole.entries r.short r.whole.numbered r.whole.order (clauses_told version report t))
 
 -- and the version is that which it names
 pub version_back : (version : Version) (report : Report) → version_in (json_of version report) ≡ Some version

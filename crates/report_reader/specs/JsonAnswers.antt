@@ -5,6 +5,7 @@ use Rattle.serde_json.specs.Read.{read}
 use Rattle.feature_trees.specs.declared.read.TheConstants.{MOST_NAMES}
 use Rattle.feature_trees.specs.declared.version.Version.TheVariants.{First, Second}
 use Rattle.feature_trees.specs.Readable.{depth}
+use Rattle.dpkg_scenarios.specs.Scenarios.{is_checked}
 use Rattle.outcome_report.specs.declared.outcome_report.Report.{Report}
 use Rattle.outcome_report.specs.declared.outcome_report.ReportEntry.{ReportEntry}
 use Rattle.outcome_report.specs.declared.outcome_report.ReportPart.{ReportPart}
@@ -33,11 +34,18 @@ abbrev pub AllPartsShort : List ReportPart → Type 0
 AllPartsShort [] = Unit {0}
 AllPartsShort (part ∷ parts) = AllShort part.entries × AllPartsShort parts
 
--- a whole report that the program's types represent, whose trees have no longer paths than can be read
+-- each part is of a scenario that a check answers for
+abbrev pub AllChecked : List ReportPart → Type 0
+AllChecked [] = Unit {0}
+AllChecked (part ∷ parts) = IsTrue (is_checked part.scenario) × AllChecked parts
+
+-- a whole report of scenarios that a check answers for, that the program's types represent, whose trees have no longer
+-- paths than can be read
 pub record IsReadable (report : Report) : Type 0 where
   pub representable : IsRepresentable report
   pub whole : IsWhole report
   pub short : AllPartsShort report.parts
+  pub checked : AllChecked report.parts
 
 -- the value is the report's in the second version, or in the first, where the report has a text of that
 abbrev pub HasValue : Report → Data → Type 0

@@ -19,6 +19,7 @@ use Rattle.dpkg_scenarios.specs.declared.scenario.Ending.{Ending}
 use Rattle.dpkg_scenarios.specs.declared.scenario.Ending.TheVariants.{Done, Failed, Incomplete, Bound}
 use Rattle.dpkg_scenarios.specs.declared.scenario.Scenario.{Scenario}
 use Rattle.dpkg_scenarios.specs.declared.scenario.Scenario.TheVariants.{Install, InstallAgain, Upgrade, Remove, Purge, PurgeLater}
+use Rattle.dpkg_scenarios.specs.declared.scenario.Scenario.TheVariants.{InFavour, Deconfigure, Disappear, Twice}
 use Rattle.dpkg_scenarios.specs.declared.scenario.State.{State}
 use Rattle.dpkg_scenarios.specs.declared.scenario.State.TheVariants.{Installed, Unpacked, HalfConfigured, HalfInstalled, ConfigFiles, NotInstalled}
 use Rattle.dpkg_scenarios.specs.declared.scenario.Side.{Side}
@@ -66,6 +67,10 @@ scenario_shown Upgrade = refl
 scenario_shown Remove = refl
 scenario_shown Purge = refl
 scenario_shown PurgeLater = refl
+scenario_shown InFavour = refl
+scenario_shown Deconfigure = refl
+scenario_shown Disappear = refl
+scenario_shown Twice = refl
 
 pub state_shown : (s : State) → list_all is_shown (state_name s) ≡ true
 state_shown Installed = refl

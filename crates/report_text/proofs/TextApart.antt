@@ -32,8 +32,8 @@ use Rattle.report_text.specs.declared.places.EndPlace.{EndPlace}
 use Rattle.report_text.specs.Numbered.{AreNumbered, AllNumbered}
 use Rattle.report_text.specs.PieceRead.{result_of, trace_of, call_of, is_ending, is_call}
 use Rattle.report_text.specs.PlaceText.{place_line, places_text}
-use Rattle.dpkg_scenarios.specs.Names.{scenario_name, scenario_named}
-use Rattle.dpkg_scenarios.proofs.Named.{scenario_read}
+use Rattle.dpkg_scenarios.specs.Names.{scenario_name}
+use Rattle.dpkg_scenarios.proofs.Named.{any_named, any_read}
 use Rattle.report_text.specs.ReportText.{result_text, outcome_line, trace_mark, trace_line, confirmed_line, call_content, call_line, trees_text, entry_text}
 use Rattle.report_text.specs.ReportText.{scenario_line, part_text, verdict_line, report_text}
 use Rattle.report_text.specs.TextLaws.{TextsTellReports}
@@ -272,7 +272,7 @@ scenario_apart x y e =
     let names = front_apart (λ b. not (b == 32)) (scenario_name x.scenario) (scenario_name y.scenario) (codes " outcomes " ++ decimal (length x.entries))
     (codes " outcomes " ++ decimal (length y.entries)) (no_space (scenario_name x.scenario) (scenario_shown x.scenario)) (no_space (scenario_name y.scenario) (scenario_shown y.scenario))
     refl refl behind in
-    read_apart scenario_name scenario_named x.scenario y.scenario (scenario_read x.scenario) (scenario_read y.scenario) names.0
+    read_apart scenario_name any_named x.scenario y.scenario (any_read x.scenario) (any_read y.scenario) names.0
 
 part_grouped : (part : ReportPart) (s : List ℕ)
     → part_text part ++ s ≡ line (scenario_content part) ++ (flat_map entry_text part.entries ++ (places_text part.entries ++ s))

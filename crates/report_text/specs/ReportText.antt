@@ -105,3 +105,7 @@ verdict_line report = line_of_verdict (verdict_of report)
 -- the text of a report
 unfoldable pub report_text : Report → List ℕ
 report_text report = line (codes "colis report 2") ++ flat_map part_text report.parts ++ verdict_line report
+
+-- the text of a report on a pair of packages, or on a package that is configured twice
+unfoldable pub pair_text : Report → List ℕ
+pair_text report = line (codes "colis pair 1") ++ flat_map part_text report.parts ++ verdict_line report

@@ -19,7 +19,7 @@ mod told_report;
 
 pub use brief_text::render_brief;
 pub use places::{EndKind, EndPlace};
-pub use report_text::{print_call, put_calls, put_result, render_text};
+pub use report_text::{print_call, put_calls, put_result, render_pair, render_text};
 pub use representable::is_representable;
 pub use representable_clauses::{is_representable_clause, is_representable_literal};
 pub use representable_pieces::{

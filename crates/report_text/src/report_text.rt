@@ -3,7 +3,7 @@ ghost use Rattle.std.specs.List.{flat_map};
 ghost use Rattle.report_text.specs.ReportText.{stop_text, result_text, outcome_line, trace_mark, trace_line};
 ghost use Rattle.report_text.specs.ReportText.{confirmed_line, call_word, call_content, call_line, trees_text};
 ghost use Rattle.report_text.specs.ReportText.{entry_text, heading, scenario_line, part_text, line_of_verdict};
-ghost use Rattle.report_text.specs.ReportText.{verdict_line, report_text};
+ghost use Rattle.report_text.specs.ReportText.{verdict_line, report_text, pair_text};
 
 use crate::place_text::put_places;
 use crate::report_names::{call_end_name, confirmed_name, side_name, state_name};
@@ -268,6 +268,19 @@ pub fn render_text(alloc: Global, report: &Report) -> Result<Bytes, Memory>
 {
     let mut text = Bytes::new(alloc);
     push_line(&mut text, b"colis report 2")?;
+    put_parts(alloc, &mut text, report.parts.as_slice())?;
+    put_verdict(&mut text, report)?;
+    Ok(text)
+}
+
+/// The text of a report on a pair of packages, or on a package that is configured twice: that of a report, but for its
+/// first line.
+#[tactic(auto, unfolding(crate::specs::ReportText::pair_text))]
+pub fn render_pair(alloc: Global, report: &Report) -> Result<Bytes, Memory>
+    ensures { IfOk result (λ text. text ≡ pair_text report.now) }
+{
+    let mut text = Bytes::new(alloc);
+    push_line(&mut text, b"colis pair 1")?;
     put_parts(alloc, &mut text, report.parts.as_slice())?;
     put_verdict(&mut text, report)?;
     Ok(text)

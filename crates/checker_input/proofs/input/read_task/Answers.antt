@@ -1,4 +1,4 @@
-use Rattle.checker_input.proofs.Requests.{check_ok, check_stops, load_reads, run_ok, run_stops, run_unpacked, translate_ok, translate_stops}
+use Rattle.checker_input.proofs.Requests.{check_ok, check_stops, load_reads, predict_reads, run_ok, run_stops, run_unpacked, translate_ok, translate_stops, pair_ok, pair_stops, twice_ok, twice_stops, explain_ok, explain_stops}
 use Rattle.checker_input.proofs.input.read_task.Goals as goal
 
 pub returns-in-Ok-clause-reads : goal.returns-in-Ok-clause-reads
@@ -49,3 +49,44 @@ pub returns-in-Load-clause-reads : goal.returns-in-Load-clause-reads
 returns-in-Load-clause-reads g c =
     let s = g.S.Shelf.state c.args.shelf.now in
     load_reads s s s c.args.request.now _ _ c.in-Load.is
+
+pub returns-in-Ok-read_pair-clause-reads : goal.returns-in-Ok-read_pair-clause-reads
+returns-in-Ok-read_pair-clause-reads g c =
+    let s = g.S.Shelf.state c.args.shelf.now in
+    let t = g.S.Shelf.state c.read_pair.new.shelf in
+    pair_ok s t t c.args.request.now _ _ _ _ _ _ c.in-Pair.is c.in-Ok-read_pair.packages c.in-Ok-read_pair.ensures
+
+pub returns-in-Err-read_pair-clause-reads : goal.returns-in-Err-read_pair-clause-reads
+returns-in-Err-read_pair-clause-reads g c =
+    let s = g.S.Shelf.state c.args.shelf.now in
+    let t = g.S.Shelf.state c.read_pair.new.shelf in
+    pair_stops s t t c.args.request.now _ _ _ _ _ _ c.in-Pair.is c.in-Err-read_pair.stop c.in-Err-read_pair.ensures
+
+pub returns-in-Ok-read_twice-clause-reads : goal.returns-in-Ok-read_twice-clause-reads
+returns-in-Ok-read_twice-clause-reads g c =
+    let s = g.S.Shelf.state c.args.shelf.now in
+    let t = g.S.Shelf.state c.read_twice.new.shelf in
+    twice_ok s t t c.args.request.now _ _ _ _ c.in-Twice.is c.in-Ok-read_twice.packages c.in-Ok-read_twice.ensures
+
+pub returns-in-Err-read_twice-clause-reads : goal.returns-in-Err-read_twice-clause-reads
+returns-in-Err-read_twice-clause-reads g c =
+    let s = g.S.Shelf.state c.args.shelf.now in
+    let t = g.S.Shelf.state c.read_twice.new.shelf in
+    twice_stops s t t c.args.request.now _ _ _ _ c.in-Twice.is c.in-Err-read_twice.stop c.in-Err-read_twice.ensures
+
+pub returns-in_ok-prediction-in-Predict-clause-reads : goal.returns-in_ok-prediction-in-Predict-clause-reads
+returns-in_ok-prediction-in-Predict-clause-reads g c =
+    let s = g.S.Shelf.state c.args.shelf.now in
+    predict_reads s s s c.args.request.now _ _ c.in-Predict.is c.in_ok-prediction-in-Predict.prediction c.in_ok-prediction-in-Predict.ensures
+
+pub returns-in-Ok-read_kept-clause-reads : goal.returns-in-Ok-read_kept-clause-reads
+returns-in-Ok-read_kept-clause-reads g c =
+    let s = g.S.Shelf.state c.args.shelf.now in
+    let t = g.S.Shelf.state c.read_kept.new.shelf in
+    explain_ok s t t c.args.request.now _ _ _ _ _ c.in-Explain.is c.in-Ok-read_kept.kept c.in-Ok-read_kept.ensures
+
+pub returns-in-Err-read_kept-clause-reads : goal.returns-in-Err-read_kept-clause-reads
+returns-in-Err-read_kept-clause-reads g c =
+    let s = g.S.Shelf.state c.args.shelf.now in
+    let t = g.S.Shelf.state c.read_kept.new.shelf in
+    explain_stops s t t c.args.request.now _ _ _ _ _ c.in-Explain.is c.in-Err-read_kept.stop c.in-Err-read_kept.ensures

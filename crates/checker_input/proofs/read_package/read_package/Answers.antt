@@ -1,8 +1,7 @@
 use Rattle.std.proofs.Common.{Ok, Err}
 use Rattle.checker_io.proofs.Readings.{reads_done, reads_next, reads_stop}
-use Rattle.checker_input.specs.Input.{conffiles_in, list_in, package_in, scripts_in, version_in}
-use Rattle.checker_input.specs.declared.package.Package.{Package}
-use Rattle.checker_input.proofs.Plans.{after_version, after_list, after_conffiles, after_scripts}
+use Rattle.checker_input.specs.Input.{package_in, version_in}
+use Rattle.checker_input.proofs.Plans.{after_version}
 use Rattle.checker_input.proofs.read_package.read_package.Goals as goal
 
 pub returns-in-Err : goal.returns-in-Err
@@ -10,33 +9,12 @@ unfolding package_in
 returns-in-Err g c =
     reads_stop (λ n. n) (g.S.Shelf.state c.args.shelf.now) (g.S.Shelf.state c.read_version.new.shelf) (version_in c.args.folder.now) (after_version c.args.folder.now) c.in-Err.stop c.in-Err.ensures
 
-pub returns-in-Err-read_entries : goal.returns-in-Err-read_entries
+pub returns-in-Ok-read_with : goal.returns-in-Ok-read_with
 unfolding package_in
-returns-in-Err-read_entries g c =
-    reads_next (λ n. n) (g.S.Shelf.state c.args.shelf.now) (g.S.Shelf.state c.read_version.new.shelf) (g.S.Shelf.state c.read_entries.new.shelf) (version_in c.args.folder.now) (after_version c.args.folder.now) c.in-Ok.version (Err c.in-Err-read_entries.stop) c.in-Ok.ensures (
-    reads_stop (λ n. n) (g.S.Shelf.state c.read_version.new.shelf) (g.S.Shelf.state c.read_entries.new.shelf) (list_in c.args.folder.now) (after_list c.args.folder.now c.in-Ok.version) c.in-Err-read_entries.stop c.in-Err-read_entries.ensures)
+returns-in-Ok-read_with g c =
+    reads_next (λ n. n) (g.S.Shelf.state c.args.shelf.now) (g.S.Shelf.state c.read_version.new.shelf) (g.S.Shelf.state c.read_with.new.shelf) (version_in c.args.folder.now) (after_version c.args.folder.now) c.in-Ok.version (Ok c.in-Ok-read_with.own) c.in-Ok.ensures c.in-Ok-read_with.ensures
 
-pub returns-in-Err-mark_conffiles : goal.returns-in-Err-mark_conffiles
+pub returns-in-Err-read_with : goal.returns-in-Err-read_with
 unfolding package_in
-returns-in-Err-mark_conffiles g c =
-    reads_next (λ n. n) (g.S.Shelf.state c.args.shelf.now) (g.S.Shelf.state c.read_version.new.shelf) (g.S.Shelf.state c.mark_conffiles.new.shelf) (version_in c.args.folder.now) (after_version c.args.folder.now) c.in-Ok.version (Err c.in-Err-mark_conffiles.stop) c.in-Ok.ensures (
-    reads_next (λ n. n) (g.S.Shelf.state c.read_version.new.shelf) (g.S.Shelf.state c.read_entries.new.shelf) (g.S.Shelf.state c.mark_conffiles.new.shelf) (list_in c.args.folder.now) (after_list c.args.folder.now c.in-Ok.version) c.in-Ok-read_entries.listed (Err c.in-Err-mark_conffiles.stop) c.in-Ok-read_entries.ensures (
-    reads_stop (λ n. n) (g.S.Shelf.state c.read_entries.new.shelf) (g.S.Shelf.state c.mark_conffiles.new.shelf) (conffiles_in c.args.folder.now c.in-Ok-read_entries.listed) (after_conffiles c.args.folder.now c.in-Ok.version) c.in-Err-mark_conffiles.stop c.in-Err-mark_conffiles.ensures))
-
-pub returns-in-Err-read_scripts : goal.returns-in-Err-read_scripts
-unfolding package_in
-returns-in-Err-read_scripts g c =
-    reads_next (λ n. n) (g.S.Shelf.state c.args.shelf.now) (g.S.Shelf.state c.read_version.new.shelf) (g.S.Shelf.state c.read_scripts.new.shelf) (version_in c.args.folder.now) (after_version c.args.folder.now) c.in-Ok.version (Err c.in-Err-read_scripts.stop) c.in-Ok.ensures (
-    reads_next (λ n. n) (g.S.Shelf.state c.read_version.new.shelf) (g.S.Shelf.state c.read_entries.new.shelf) (g.S.Shelf.state c.read_scripts.new.shelf) (list_in c.args.folder.now) (after_list c.args.folder.now c.in-Ok.version) c.in-Ok-read_entries.listed (Err c.in-Err-read_scripts.stop) c.in-Ok-read_entries.ensures (
-    reads_next (λ n. n) (g.S.Shelf.state c.read_entries.new.shelf) (g.S.Shelf.state c.mark_conffiles.new.shelf) (g.S.Shelf.state c.read_scripts.new.shelf) (conffiles_in c.args.folder.now c.in-Ok-read_entries.listed) (after_conffiles c.args.folder.now c.in-Ok.version) c.in-Ok-mark_conffiles.entries (Err c.in-Err-read_scripts.stop) c.in-Ok-mark_conffiles.ensures (
-    reads_stop (λ n. n) (g.S.Shelf.state c.mark_conffiles.new.shelf) (g.S.Shelf.state c.read_scripts.new.shelf) (scripts_in c.args.folder.now) (after_scripts c.in-Ok.version c.in-Ok-mark_conffiles.entries) c.in-Err-read_scripts.stop c.in-Err-read_scripts.ensures)))
-
-pub returns : goal.returns
-unfolding package_in
-returns g c =
-    let value : Package = record { version = c.in-Ok.version; entries = c.in-Ok-mark_conffiles.entries; scripts = c.in-Ok-read_scripts.scripts } in
-    reads_next (λ n. n) (g.S.Shelf.state c.args.shelf.now) (g.S.Shelf.state c.read_version.new.shelf) (g.S.Shelf.state c.read_scripts.new.shelf) (version_in c.args.folder.now) (after_version c.args.folder.now) c.in-Ok.version (Ok value) c.in-Ok.ensures (
-    reads_next (λ n. n) (g.S.Shelf.state c.read_version.new.shelf) (g.S.Shelf.state c.read_entries.new.shelf) (g.S.Shelf.state c.read_scripts.new.shelf) (list_in c.args.folder.now) (after_list c.args.folder.now c.in-Ok.version) c.in-Ok-read_entries.listed (Ok value) c.in-Ok-read_entries.ensures (
-    reads_next (λ n. n) (g.S.Shelf.state c.read_entries.new.shelf) (g.S.Shelf.state c.mark_conffiles.new.shelf) (g.S.Shelf.state c.read_scripts.new.shelf) (conffiles_in c.args.folder.now c.in-Ok-read_entries.listed) (after_conffiles c.args.folder.now c.in-Ok.version) c.in-Ok-mark_conffiles.entries (Ok value) c.in-Ok-mark_conffiles.ensures (
-    reads_next (λ n. n) (g.S.Shelf.state c.mark_conffiles.new.shelf) (g.S.Shelf.state c.read_scripts.new.shelf) (g.S.Shelf.state c.read_scripts.new.shelf) (scripts_in c.args.folder.now) (after_scripts c.in-Ok.version c.in-Ok-mark_conffiles.entries) c.in-Ok-read_scripts.scripts (Ok value) c.in-Ok-read_scripts.ensures (
-    reads_done (λ n. n) (g.S.Shelf.state c.read_scripts.new.shelf) value))))
+returns-in-Err-read_with g c =
+    reads_next (λ n. n) (g.S.Shelf.state c.args.shelf.now) (g.S.Shelf.state c.read_version.new.shelf) (g.S.Shelf.state c.read_with.new.shelf) (version_in c.args.folder.now) (after_version c.args.folder.now) c.in-Ok.version (Err c.in-Err-read_with.stop) c.in-Ok.ensures c.in-Err-read_with.ensures

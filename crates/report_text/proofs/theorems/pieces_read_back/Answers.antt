@@ -4,7 +4,7 @@ use Rattle.report_text.proofs.theorems.pieces_read_back.Goals as goal
 
 pub returns : goal.returns
 returns c = record {
-  scenarios = λ scenario h. scenario_read scenario;
+  scenarios = scenario_read;
   endings = result_read;
   traces = trace_read;
   calls = call_read;
