@@ -1,0 +1,3 @@
+mod Plans
+mod Solved
+pub mod OnePrediction

@@ -1,0 +1,2 @@
+pub mod PredictionInput
+pub mod Laws

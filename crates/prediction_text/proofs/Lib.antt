@@ -1,0 +1,3 @@
+mod Solved
+mod Adding
+pub mod Telling

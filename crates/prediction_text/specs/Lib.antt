@@ -1,0 +1,3 @@
+pub mod PredictionText
+pub mod Adding
+pub mod Laws

@@ -1,0 +1,8 @@
+use Rattle.std.proofs.Common.{◌≡◌, ◌++◌, drop}
+use Rattle.start_facts.specs.ClauseFacts.{facts_of, facts_behind}
+use Rattle.start_facts.specs.SeenIn.{seen_in}
+use Rattle.start_facts.proofs.clause_facts.facts.Given as goal
+
+abbrev pub invariant-loop-literal : goal.invariant-loop-literal
+invariant-loop-literal l =
+    l.facts ++ facts_behind (seen_in l.seen) (drop l.literal-index l.clause.literals) ≡ facts_of l.clause

@@ -1,0 +1,4 @@
+pub mod PlaceFacts
+pub mod Standings
+pub mod ClauseFacts
+pub mod SeenIn

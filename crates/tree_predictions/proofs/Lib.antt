@@ -1,0 +1,10 @@
+mod Sets
+mod Firsts
+mod Chunked
+mod TextLines
+mod Fronts
+mod InBlock
+mod Reading
+mod SameKinds
+mod Held
+mod Planned
