@@ -1,0 +1,10 @@
+use Rattle.std.proofs.Common.{◌≡◌, ◌++◌, length}
+use Rattle.fact_boxes.specs.Rows.{joined}
+use Rattle.fact_boxes.proofs.rows.joined.Given as goal
+
+abbrev pub invariant-loop-a : goal.invariant-loop-a
+invariant-loop-a l =
+    l.row ++ joined l.a l.b ≡ joined l.fn.a l.fn.b
+
+abbrev pub decreases-loop-a : goal.decreases-loop-a
+decreases-loop-a l = length l.a

@@ -1,0 +1,211 @@
+ghost use Rattle.std.specs.Prelude.{◌≡◌, map, IfOk, OnOk};
+ghost use Rattle.std.specs.List.{list_any};
+ghost use Rattle.fact_boxes.specs.Cells.{leaves};
+ghost use Rattle.fact_boxes.specs.Rows.{any_row, beside_column, clashes, columns_onto, fact_columns, joined, met};
+ghost use Rattle.fact_boxes.specs.Rows.{narrowed, names_of, row_of, same_column, same_names, with_column};
+ghost use Rattle.fact_boxes.specs.Rows.{with_columns};
+
+use crate::cells::{Cell, Column, anything, clash, join, leaves, meet};
+use script_names::{Copied, List, Memory, Name};
+use start_facts::{Fact, PlaceFact};
+use std::alloc::Global;
+
+// Whether these are the same names in the same order.
+fn same_names(a: &[Name], b: &[Name]) -> bool
+    ensures { result ≡ same_names a.now b.now }
+{
+    let mut a = a;
+    let mut b = b;
+    while let [f, more @ ..] = a {
+        match b {
+            [] => return false,
+            [g, rest @ ..] => {
+                if f.as_slice() != g.as_slice() {
+                    return false;
+                }
+                a = more;
+                b = rest;
+            }
+        }
+    }
+    b.is_empty()
+}
+
+// Whether it is the same column.
+fn same_column(a: &Column, b: &Column) -> bool
+    ensures { result ≡ same_column a.now b.now }
+{
+    same_names(a.place.as_slice(), b.place.as_slice())
+        && same_names(a.but.as_slice(), b.but.as_slice())
+}
+
+// Whether a column is there.
+fn has_column(columns: &[Column], column: &Column) -> bool
+    ensures { result ≡ list_any (same_column column.now) columns.now }
+{
+    let mut left = columns;
+    while let [other, rest @ ..] = left {
+        if same_column(column, other) {
+            return true;
+        }
+        left = rest;
+    }
+    false
+}
+
+// One column more, unless it is there.
+fn add_column(columns: &mut List<Column>, column: Column) -> Result<(), Memory>
+    ensures { OnOk result (columns.new ≡ with_column columns.old column) }
+{
+    if has_column(columns.as_slice(), &column) {
+        return Ok(());
+    }
+    columns.add(column)
+}
+
+// The names that a fact is beside.
+fn names_of(alloc: Global, said: &Fact) -> Result<List<Name>, Memory>
+    ensures { IfOk result (λ names. names ≡ names_of said.now) }
+{
+    match said {
+        Fact::Kinds(_) => Ok(List::new(alloc)),
+        Fact::Fence(names) => names.copy(alloc),
+        Fact::Beside(names) => names.copy(alloc),
+        Fact::Target(_) => Ok(List::new(alloc)),
+    }
+}
+
+// The column of entries under other names than these, unless it is there, where there are any.
+fn add_beside(columns: &mut List<Column>, place: List<Name>, but: List<Name>) -> Result<(), Memory>
+    ensures { OnOk result (columns.new ≡ with_columns columns.old (beside_column place but)) }
+{
+    match but.as_slice() {
+        [] => Ok(()),
+        [_, ..] => add_column(columns, Column { place, but }),
+    }
+}
+
+// The columns of a fact, unless they are there.
+fn add_fact(alloc: Global, columns: &mut List<Column>, said: &PlaceFact) -> Result<(), Memory>
+    ensures { OnOk result (columns.new ≡ with_columns columns.old (fact_columns said.now)) }
+{
+    let place = said.place.copy(alloc)?;
+    let but = List::new(alloc);
+    add_column(columns, Column { place, but })?;
+    let place = said.place.copy(alloc)?;
+    let but = names_of(alloc, &said.fact)?;
+    add_beside(columns, place, but)
+}
+
+/// The columns of facts, each unless it is there.
+pub fn add_facts(
+    alloc: Global,
+    columns: &mut List<Column>,
+    said: &[PlaceFact],
+) -> Result<(), Memory>
+    ensures { OnOk result (columns.new ≡ columns_onto columns.old said.now) }
+{
+    let mut left = said;
+    while let [fact, rest @ ..] = left {
+        add_fact(alloc, columns, fact)?;
+        left = rest;
+    }
+    Ok(())
+}
+
+// Everything is left in each column.
+fn any_row(alloc: Global, columns: &[Column]) -> Result<List<Cell>, Memory>
+    ensures { IfOk result (λ row. row ≡ any_row columns.now) }
+{
+    let mut row = List::with_room(alloc, columns.len())?;
+    for _column in columns {
+        row.add(anything())?;
+    }
+    Ok(row)
+}
+
+// What a fact leaves to each column.
+fn leaves_row(alloc: Global, columns: &[Column], said: &PlaceFact) -> Result<List<Cell>, Memory>
+    ensures { IfOk result (λ row. row ≡ map (leaves said.now) columns.now) }
+{
+    let mut row = List::with_room(alloc, columns.len())?;
+    for column in columns {
+        row.add(leaves(said, column))?;
+    }
+    Ok(row)
+}
+
+// What both rows leave.
+fn met(alloc: Global, a: &[Cell], b: &[Cell]) -> Result<List<Cell>, Memory>
+    ensures { IfOk result (λ row. row ≡ met a.now b.now) }
+{
+    let mut row = List::with_room(alloc, a.len())?;
+    let mut a = a;
+    let mut b = b;
+    while let [x, more @ ..] = a {
+        match b {
+            [] => return Ok(row),
+            [y, rest @ ..] => {
+                row.add(meet(*x, *y))?;
+                a = more;
+                b = rest;
+            }
+        }
+    }
+    Ok(row)
+}
+
+/// What one or the other row leaves.
+pub fn joined(alloc: Global, a: &[Cell], b: &[Cell]) -> Result<List<Cell>, Memory>
+    ensures { IfOk result (λ row. row ≡ joined a.now b.now) }
+{
+    let mut row = List::with_room(alloc, a.len())?;
+    let mut a = a;
+    let mut b = b;
+    while let [x, more @ ..] = a {
+        match b {
+            [] => return Ok(row),
+            [y, rest @ ..] => {
+                row.add(join(*x, *y))?;
+                a = more;
+                b = rest;
+            }
+        }
+    }
+    Ok(row)
+}
+
+/// Whether nothing is left by both rows in some column.
+pub fn clashes(a: &[Cell], b: &[Cell]) -> bool
+    ensures { result ≡ clashes a.now b.now }
+{
+    let mut a = a;
+    let mut b = b;
+    while let [x, more @ ..] = a {
+        match b {
+            [] => return false,
+            [y, rest @ ..] => {
+                if clash(*x, *y) {
+                    return true;
+                }
+                a = more;
+                b = rest;
+            }
+        }
+    }
+    false
+}
+
+/// What facts leave.
+pub fn row_of(alloc: Global, columns: &[Column], said: &[PlaceFact]) -> Result<List<Cell>, Memory>
+    ensures { IfOk result (λ row. row ≡ row_of columns.now said.now) }
+{
+    let mut row = any_row(alloc, columns)?;
+    let mut left = said;
+    while let [fact, rest @ ..] = left {
+        let more = leaves_row(alloc, columns, fact)?;
+        row = met(alloc, row.as_slice(), more.as_slice())?;
+        left = rest;
+    }
+    Ok(row)
+}

@@ -1,0 +1,4 @@
+pub mod SameEnds
+pub mod Places
+pub mod Made
+pub mod Claim

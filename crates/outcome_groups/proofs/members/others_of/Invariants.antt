@@ -1,0 +1,6 @@
+use Rattle.std.proofs.Common.{◌≡◌, ◌++◌, drop}
+use Rattle.outcome_groups.specs.Groups.{others_from}
+use Rattle.outcome_groups.proofs.members.others_of.Given as goal
+
+abbrev pub invariant-loop-k : goal.invariant-loop-k
+invariant-loop-k l = l.places ++ others_from l.k l.end (drop l.k l.ends) ≡ others_from 0 l.end l.ends
