@@ -1,0 +1,89 @@
+-- How a run comes to a place: the scripts that are called, and what is done in the step of the place, in words.
+use Rattle.std.specs.Prelude.{ℕ, suc, Bool, true, false, ◌&&◌, ◌==◌, List, [], ◌∷◌, ◌++◌, length, codes}
+use Rattle.std.specs.Prelude.{Option, Some, None, if◌then◌else◌}
+use Rattle.std.specs.List.{flat_map}
+use Rattle.std.specs.Fmt.{decimal}
+use Rattle.script_names.specs.declared.mark.Site.{Site}
+use Rattle.script_names.specs.declared.mark.Mark.{Mark}
+use Rattle.shown_texts.specs.Lines.{line}
+use Rattle.shown_texts.specs.Paths.{path_text}
+use Rattle.shown_texts.specs.Show.{show}
+use Rattle.utility_calls.specs.Acts.{path_of}
+use Rattle.utility_calls.specs.Backs.{names_of}
+use Rattle.utility_calls.specs.declared.deeds.Deed.{Deed}
+use Rattle.utility_calls.specs.declared.deeds.Deed.TheVariants.{Does, Returns, Keeps}
+use Rattle.scenario_runs.specs.declared.call.ScriptCall.{ScriptCall}
+use Rattle.scenario_runs.specs.declared.call.CallEnd.{CallEnd}
+use Rattle.scenario_runs.specs.declared.call.CallEnd.TheVariants as how
+use Rattle.checker_input.specs.declared.sources.Sources.{Sources}
+use Rattle.script_places.specs.ActWords.{act_name, row_words}
+use Rattle.script_places.specs.BackWords.{back_name, back_row_words}
+use Rattle.script_places.specs.MarkedDeeds.{deed_of_mark}
+use Rattle.script_places.specs.Positions.{position_of}
+use Rattle.script_places.specs.StepWords.{script_words}
+use Rattle.explanation.specs.declared.spots.Spot.{Spot}
+use Rattle.explanation.specs.declared.spots.Spot.TheVariants.{InScript, InFiles, Nowhere}
+use Rattle.explanation.specs.Scripts.{script_text}
+
+-- ---- calls
+
+-- a word of a call
+abbrev pub word_text : List ℕ → List ℕ
+word_text word = if length word == 0 then codes " \"\"" else codes " " ++ show word
+
+-- how a call ends
+abbrev pub end_words : CallEnd → List ℕ
+end_words how.Ok = codes "succeeds"
+end_words how.Failed = codes "FAILS"
+end_words how.Ended = codes "is undecided"
+
+-- the line of a call
+unfoldable pub call_line : ScriptCall → List ℕ
+call_line call =
+    line (codes "      " ++ script_words call.side call.script ++ flat_map word_text call.words
+    ++ codes ": " ++ end_words call.how)
+
+-- ---- what is done
+
+-- what was done at a path, with the words of its row
+abbrev pub done_text : List ℕ → List (List ℕ) → List ℕ → List ℕ
+done_text name names words = name ++ codes " " ++ path_text names ++ codes ": " ++ words
+
+-- a deed, by its row
+abbrev pub deed_text : Deed → ℕ → List ℕ
+deed_text (Does act) row = done_text (act_name act) (path_of act).names (row_words act row)
+deed_text (Returns back) row = done_text (back_name back) (names_of back) (back_row_words back row)
+deed_text Keeps row = []
+
+-- the line of a byte, in a script
+abbrev pub line_number : Sources → Spot → ℕ → List ℕ
+line_number sources (InScript side script from) at =
+    codes "line " ++ decimal (position_of (script_text sources side script) at).line ++ codes ": "
+line_number sources (InFiles work from) at = []
+line_number sources Nowhere at = []
+
+-- the line of a deed of the step in which a place is
+unfoldable pub act_line : Sources → Spot → Mark → Deed → List ℕ
+act_line sources spot mark deed =
+    line (codes "        " ++ line_number sources spot mark.site.at ++ deed_text deed mark.row)
+
+-- whether a mark is told at a place: in a script each of its step, and among acts on files that of the place alone
+abbrev pub is_told : Spot → Site → Mark → Bool
+is_told (InScript side script from) site mark = mark.site.step == site.step
+is_told (InFiles work from) site mark = mark.site.step == site.step && mark.site.at == site.at
+is_told Nowhere site mark = false
+
+-- the line of a mark, where its deed is known
+abbrev pub act_of : Sources → Spot → Mark → Option Deed → List ℕ
+act_of sources spot mark None = []
+act_of sources spot mark (Some deed) = act_line sources spot mark deed
+
+-- the line of a mark, where it is told
+abbrev pub told_act : Sources → Spot → Site → Mark → Option Deed → List ℕ
+told_act sources spot site mark deed = if is_told spot site mark then act_of sources spot mark deed else []
+
+-- what is done in the step of a place, by the marks of a run's trace behind the first n, and by the run's deeds
+abbrev pub acts_text : Sources → Spot → Site → List Deed → ℕ → List Mark → List ℕ
+acts_text sources spot site deeds n [] = []
+acts_text sources spot site deeds n (mark ∷ trace) =
+    told_act sources spot site mark (deed_of_mark deeds n) ++ acts_text sources spot site deeds (suc n) trace

@@ -1,0 +1,11 @@
+pub mod Scripts
+pub mod Counting
+pub mod Heads
+pub mod Spots
+pub mod Courses
+pub mod Changes
+pub mod FactTexts
+pub mod ToldTexts
+pub mod GroupTexts
+pub mod Premises
+pub mod Sections

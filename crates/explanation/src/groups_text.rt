@@ -1,0 +1,407 @@
+// What is said of the outcomes that end at one place.
+ghost use Rattle.std.specs.Prelude.{◌≡◌, ◌++◌, IfOk, OnOk, length};
+ghost use Rattle.std.specs.List.{flat_map};
+ghost use Rattle.std.specs.Option.{option_copied};
+ghost use Rattle.scenario_runs.specs.Runs.{scenario_run};
+ghost use Rattle.explanation.specs.GroupTexts.{shown_run, deeds_of, way_words, why_words, ending_words};
+ghost use Rattle.explanation.specs.GroupTexts.{group_head, settled_by, is_open, settled_text, settling_line};
+ghost use Rattle.explanation.specs.GroupTexts.{way_head, change_list};
+ghost use Rattle.explanation.specs.GroupTexts.{way_text, example_text, has_verdict, story_text, first_text};
+ghost use Rattle.explanation.specs.GroupTexts.{first_entry, group_text, if_verdict, severity, place_line, place_unless};
+
+use crate::changes::put_changed;
+use crate::counting::{put_counted, put_numbered};
+use crate::courses::{put_acts, put_calls};
+use crate::spots::{Spot, put_spot, put_written, spot_of};
+use crate::told_text::put_told;
+use checker_input::Sources;
+use dpkg_scenarios::{Ending, Scenario, ending_verdict};
+use feature_trees::Value;
+use outcome_groups::Group;
+use outcome_report::{ReportEntry, ReportPart};
+use scenario_runs::{Job, Replayed, run};
+use script_names::{Bytes, Memory, Site};
+use script_places::{reason_words, scenario_words, settling_words, state_words};
+use std::alloc::Global;
+use utility_calls::deeds::Deed;
+
+// The run from a tree that is shown.
+fn shown_run(alloc: Global, job: &Job, tree: &Value) -> Result<Option<Replayed>, Memory>
+    ensures { IfOk result (λ found. found ≡ shown_run (scenario_run job.now) tree.now) }
+{
+    match tree {
+        Value::Dir(_) => {
+            let replayed = run(alloc, job, tree)?;
+            Ok(Some(replayed))
+        }
+        Value::Absent | Value::Reg | Value::Link(_) | Value::Special(_) => Ok(None),
+    }
+}
+
+// The deeds of a run.
+fn deeds_of(replayed: &Option<Replayed>) -> &[Deed]
+    ensures { result.now ≡ deeds_of replayed.now }
+{
+    match replayed {
+        Some(replayed) => replayed.deeds.as_slice(),
+        None => &[],
+    }
+}
+
+// Whether outcomes end well, with failure, or undecided.
+#[tactic(auto, unfolding(crate::specs::GroupTexts::way_words))]
+fn way_words(ending: Ending) -> &'static [u8]
+    ensures { result.now ≡ way_words ending }
+{
+    match ending {
+        Ending::Done(_) => b": ends well; the package is left ",
+        Ending::Failed(_) => b": failure; the package is left ",
+        Ending::Incomplete(_, _) | Ending::Bound(_) => b": undecided: ",
+    }
+}
+
+// In which state the package is left, or why that is undecided.
+#[tactic(auto, unfolding(crate::specs::GroupTexts::why_words))]
+fn why_words(ending: Ending) -> &'static [u8]
+    ensures { result.now ≡ why_words ending }
+{
+    match ending {
+        Ending::Done(state) => state_words(state),
+        Ending::Failed(state) => state_words(state),
+        Ending::Incomplete(reason, _) => reason_words(reason),
+        Ending::Bound(_) => b"a loop takes more turns than it is given",
+    }
+}
+
+// Adds how outcomes end.
+fn put_ending(text: &mut Bytes, ending: Ending) -> Result<(), Memory>
+    ensures { OnOk result (text.new ≡ text.old ++ ending_words ending) }
+{
+    text.extend(way_words(ending))?;
+    text.extend(why_words(ending))
+}
+
+// Adds the first line of a group: where its outcomes end, how, and how many there are.
+#[tactic(auto, unfolding(crate::specs::GroupTexts::group_head))]
+fn put_group_head(
+    text: &mut Bytes,
+    sources: &Sources,
+    spot: Spot,
+    ending: Ending,
+    count: u64,
+) -> Result<(), Memory>
+    ensures { OnOk result (text.new ≡ text.old ++ group_head sources.now spot ending count) }
+{
+    put_spot(text, sources, spot)?;
+    put_ending(text, ending)?;
+    text.extend(b" (")?;
+    put_counted(text, count)?;
+    text.extend(b")\n")
+}
+
+// What would decide it.
+#[tactic(auto, unfolding(crate::specs::GroupTexts::settled_by))]
+fn settled_by(ending: Ending) -> &'static [u8]
+    ensures { result.now ≡ settled_by ending }
+{
+    match ending {
+        Ending::Done(_) | Ending::Failed(_) => b"",
+        Ending::Incomplete(reason, _) => settling_words(reason),
+        Ending::Bound(_) => b"more turns (--turns)",
+    }
+}
+
+// Whether something is to be decided.
+fn is_open(ending: Ending) -> bool
+    ensures { result ≡ is_open ending }
+{
+    ending_verdict(ending) == 2
+}
+
+// Adds what would decide it, as a line.
+fn put_settled(text: &mut Bytes, ending: Ending) -> Result<(), Memory>
+    ensures { OnOk result (text.new ≡ text.old ++ settled_text ending) }
+{
+    text.extend(b"  What would decide it: ")?;
+    text.extend(settled_by(ending))?;
+    text.extend(b"\n")
+}
+
+// Adds the same, unless nothing is to be decided.
+#[tactic(auto, unfolding(crate::specs::GroupTexts::settling_line))]
+fn put_settling(text: &mut Bytes, ending: Ending) -> Result<(), Memory>
+    ensures { OnOk result (text.new ≡ text.old ++ settling_line ending) }
+{
+    if is_open(ending) {
+        return put_settled(text, ending);
+    }
+    Ok(())
+}
+
+// Adds what is done in the step of a place, where it has a site.
+#[tactic(auto, unfolding(crate::specs::GroupTexts::way_text))]
+fn put_way(
+    text: &mut Bytes,
+    sources: &Sources,
+    spot: Spot,
+    site: Option<Site>,
+    entry: &ReportEntry,
+    deeds: &[Deed],
+) -> Result<(), Memory>
+    ensures { OnOk result (text.new ≡ text.old ++ way_text sources.now spot site entry.now deeds.now) }
+{
+    match site {
+        Some(site) => put_acts(
+            text,
+            sources,
+            spot,
+            site,
+            entry.outcome.trace.as_slice(),
+            deeds,
+        ),
+        None => Ok(()),
+    }
+}
+
+// Adds the line before the calls.
+#[tactic(auto, unfolding(crate::specs::GroupTexts::way_head))]
+fn put_way_head(text: &mut Bytes, number: u32) -> Result<(), Memory>
+    ensures { OnOk result (text.new ≡ text.old ++ way_head number) }
+{
+    put_numbered(
+        text,
+        b"  How the run comes there (outcome ",
+        number,
+        b"):\n",
+    )
+}
+
+// Adds what a run changes.
+#[tactic(auto, unfolding(crate::specs::GroupTexts::change_list))]
+fn put_change_list(
+    alloc: Global,
+    text: &mut Bytes,
+    before: &Value,
+    after: &Value,
+) -> Result<(), Memory>
+    ensures { OnOk result (text.new ≡ text.old ++ change_list before.now after.now) }
+{
+    put_changed(
+        alloc,
+        text,
+        b"  What it changes of one such system (- before, + behind):\n",
+        before,
+        after,
+    )
+}
+
+// Adds how the run comes to a place, from the tree that an outcome shows, and what it changes of that.
+#[tactic(auto, unfolding(crate::specs::GroupTexts::example_text))]
+fn put_example(
+    alloc: Global,
+    text: &mut Bytes,
+    sources: &Sources,
+    spot: Spot,
+    site: Option<Site>,
+    entry: &ReportEntry,
+    deeds: &[Deed],
+) -> Result<(), Memory>
+    ensures { OnOk result (text.new ≡ text.old ++ example_text sources.now spot site entry.now deeds.now) }
+{
+    put_way_head(text, entry.outcome.number)?;
+    put_calls(text, entry.replayed.calls.as_slice())?;
+    put_way(text, sources, spot, site, entry, deeds)?;
+    put_change_list(alloc, text, &entry.outcome.shown, &entry.replayed.after)
+}
+
+// How a scenario ends in the outcomes of a group: 1 where they failed, 2 where they are undecided, else 0.
+fn has_verdict(verdict: u8, group: &Group) -> bool
+    ensures { result ≡ has_verdict verdict group.now }
+{
+    ending_verdict(group.end.ending) == verdict
+}
+
+// Adds what is known of outcomes that are not done: what would decide them, and how one of them comes there.
+fn put_story(
+    alloc: Global,
+    text: &mut Bytes,
+    sources: &Sources,
+    job: &Job,
+    spot: Spot,
+    site: Option<Site>,
+    entry: &ReportEntry,
+) -> Result<(), Memory>
+    ensures { OnOk result
+        (text.new ≡ text.old ++ story_text sources.now (scenario_run job.now) spot site entry.now) }
+{
+    let replayed = shown_run(alloc, job, &entry.outcome.shown)?;
+    put_example(alloc, text, sources, spot, site, entry, deeds_of(&replayed))
+}
+
+// Adds how one of the outcomes of a group comes to its place; of outcomes that are done nothing.
+#[tactic(auto, unfolding(crate::specs::GroupTexts::first_text))]
+fn put_first(
+    alloc: Global,
+    text: &mut Bytes,
+    sources: &Sources,
+    job: &Job,
+    spot: Spot,
+    group: &Group,
+    entries: &[ReportEntry],
+) -> Result<(), Memory>
+    ensures { OnOk result
+        (text.new ≡ text.old ++ first_text sources.now (scenario_run job.now) spot group.now entries.now) }
+{
+    if has_verdict(0, group) {
+        return Ok(());
+    }
+    match first_entry(group.members.as_slice(), entries) {
+        Some(entry) => put_story(alloc, text, sources, job, spot, group.end.site, entry),
+        None => Ok(()),
+    }
+}
+
+// The outcome at the first of these places.
+fn first_entry<'a>(members: &[usize], entries: &'a [ReportEntry]) -> Option<&'a ReportEntry>
+    ensures { option_copied result ≡ first_entry members.now entries.now }
+{
+    match members {
+        [] => None,
+        [first, ..] => entries.get(*first),
+    }
+}
+
+// Adds a group.
+#[tactic(auto, unfolding(crate::specs::GroupTexts::group_text))]
+fn put_group(
+    alloc: Global,
+    text: &mut Bytes,
+    sources: &Sources,
+    job: &Job,
+    part: &ReportPart,
+    group: &Group,
+) -> Result<(), Memory>
+    ensures { OnOk result
+        (text.new ≡ text.old ++ group_text sources.now (scenario_run job.now) part.now group.now) }
+{
+    let spot = spot_of(part.scenario, group.end.site);
+    text.extend(b"\n")?;
+    put_group_head(
+        text,
+        sources,
+        spot,
+        group.end.ending,
+        group.members.len() as u64,
+    )?;
+    put_written(alloc, text, sources, spot)?;
+    put_told(text, group.exactly, group.boxes.as_slice())?;
+    put_settling(text, group.end.ending)?;
+    put_first(
+        alloc,
+        text,
+        sources,
+        job,
+        spot,
+        group,
+        part.entries.as_slice(),
+    )
+}
+
+// Adds a group, if it has this verdict.
+#[tactic(auto, unfolding(crate::specs::GroupTexts::if_verdict))]
+fn put_if(
+    alloc: Global,
+    text: &mut Bytes,
+    sources: &Sources,
+    job: &Job,
+    part: &ReportPart,
+    verdict: u8,
+    group: &Group,
+) -> Result<(), Memory>
+    ensures { OnOk result
+        (text.new ≡ text.old ++ if_verdict sources.now (scenario_run job.now) part.now verdict group.now) }
+{
+    if has_verdict(verdict, group) {
+        return put_group(alloc, text, sources, job, part, group);
+    }
+    Ok(())
+}
+
+/// Adds the groups that have this verdict.
+pub fn put_groups(
+    alloc: Global,
+    text: &mut Bytes,
+    sources: &Sources,
+    job: &Job,
+    part: &ReportPart,
+    verdict: u8,
+    groups: &[Group],
+) -> Result<(), Memory>
+    ensures { OnOk result
+        (text.new ≡ text.old ++ flat_map (if_verdict sources.now (scenario_run job.now) part.now verdict) groups.now) }
+{
+    for group in groups {
+        put_if(alloc, text, sources, job, part, verdict, group)?;
+    }
+    Ok(())
+}
+
+// Adds how a group ends, in a word for editors.
+fn severity(ending: Ending) -> &'static [u8]
+    ensures { result.now ≡ severity ending }
+{
+    match ending {
+        Ending::Done(_) | Ending::Failed(_) => b": error: ",
+        Ending::Incomplete(_, _) | Ending::Bound(_) => b": note: ",
+    }
+}
+
+// Adds the line of a group's place alone.
+#[tactic(auto, unfolding(crate::specs::GroupTexts::place_line))]
+fn put_place(
+    text: &mut Bytes,
+    sources: &Sources,
+    scenario: Scenario,
+    group: &Group,
+) -> Result<(), Memory>
+    ensures { OnOk result (text.new ≡ text.old ++ place_line sources.now scenario group.now) }
+{
+    put_spot(text, sources, spot_of(scenario, group.end.site))?;
+    text.extend(severity(group.end.ending))?;
+    text.extend(scenario_words(scenario))?;
+    put_ending(text, group.end.ending)?;
+    text.extend(b" (")?;
+    put_counted(text, group.members.len() as u64)?;
+    text.extend(b")\n")
+}
+
+// Adds the line of a group's place, unless its outcomes are done.
+#[tactic(auto, unfolding(crate::specs::GroupTexts::place_unless))]
+fn put_place_unless(
+    text: &mut Bytes,
+    sources: &Sources,
+    scenario: Scenario,
+    group: &Group,
+) -> Result<(), Memory>
+    ensures { OnOk result (text.new ≡ text.old ++ place_unless sources.now scenario group.now) }
+{
+    if has_verdict(0, group) {
+        return Ok(());
+    }
+    put_place(text, sources, scenario, group)
+}
+
+/// Adds a line for each place at which outcomes end that are not done.
+pub fn put_places(
+    text: &mut Bytes,
+    sources: &Sources,
+    scenario: Scenario,
+    groups: &[Group],
+) -> Result<(), Memory>
+    ensures { OnOk result (text.new ≡ text.old ++ flat_map (place_unless sources.now scenario) groups.now) }
+{
+    for group in groups {
+        put_place_unless(text, sources, scenario, group)?;
+    }
+    Ok(())
+}

@@ -1,0 +1,21 @@
+//! What there is to say to people of a scenario: how it ends, at which places of which scripts, on which systems, how
+//! the run comes there, and what it changes. It stands on outcome_groups, which joins the outcomes that end alike and
+//! tells on which systems they come, on script_places, which has lines, columns and words, and on outcome_report. Begin
+//! with specs/Sections.antt, and with `put_part`.
+#![tactic(auto)]
+
+mod changes;
+mod counting;
+mod courses;
+mod facts_text;
+mod groups_text;
+mod head;
+mod premises;
+mod scripts;
+mod sections;
+mod spots;
+mod told_text;
+
+pub use premises::put_premises;
+pub use sections::{put_no_start, put_over, put_part};
+pub use spots::Spot;

@@ -1,0 +1,4 @@
+pub mod Added
+pub mod CommandEnds
+pub mod Fitting
+pub mod Widths

@@ -1,0 +1,11 @@
+pub mod Positions
+pub mod CommandEnds
+pub mod SourceLines
+pub mod ActWords
+pub mod BackWords
+pub mod ReasonWords
+pub mod StepWords
+pub mod KindWords
+pub mod MarkedDeeds
+pub mod Unreached
+pub mod Laws
