@@ -6,18 +6,17 @@ use Rattle.checker_io.specs.Sink.{SinkState, Took, TookPrefix}
 use Rattle.command_words.specs.declared.request.Request.{Request}
 use Rattle.command_words.specs.declared.request.Request.TheVariants as words
 use Rattle.checker_input.specs.declared.faults.InputRefusal.{InputRefusal}
-use Rattle.checker_input.specs.declared.task.Task.{Task}
 use Rattle.checker_input.specs.Input.{input}
-use Rattle.checker_input.specs.Laws.{OneAnswer}
 use Rattle.colis_checker.specs.declared.faults.CallRefusal.{CallRefusal}
 use Rattle.colis_checker.specs.declared.faults.CallRefusal.TheVariants.{Usage}
 use Rattle.colis_checker.specs.declared.deliver.Reply.{Reply}
 use Rattle.colis_checker.specs.declared.deliver.Reply.TheVariants.{Text, Refused, ReadFailed, NoMemory}
 use Rattle.colis_checker.specs.ErrorLines.{refusal_line, write_failed_line, no_memory_line}
 use Rattle.colis_checker.specs.Delivery.{LineEnds, Delivers}
-use Rattle.colis_checker.specs.Tasks.{IsTextOf, IsTaskRefusal, CanComplete, MayEnd}
+use Rattle.colis_checker.specs.declared.work.Work.{Work}
+use Rattle.colis_checker.specs.Works.{work_in, IsTextOfWork, IsWorkRefusal, CanCompleteWork, MayEndWork}
 use Rattle.colis_checker.specs.Top.{FilesGive, FilesGiveOver, IsRequestRefusal, IsAnswerText, IsRefusal, IsRefusalLine, Replies, Reported, SaidRefusal, SaidReadFailed, FailedToWrite, RanOut, NoneRose, OverFiles, Completes, Refuses}
-use Rattle.colis_checker.proofs.Refused.{text_small, text_ends, text_or_refusal, refusal_or_complete}
+use Rattle.colis_checker.proofs.Works.{OneWork, work_or_refusal, refused_or_complete, work_small, work_ends}
 use Rattle.colis_checker.proofs.Took.{took_none}
 
 -- words that fit no form
@@ -28,7 +27,7 @@ usage_said given holds word line e is =
     subst P (sym e) (record { refusal = Usage word; is_refusal = refl; line_is = is })
 
 answer_small : {given : Result Request ℕ} {holds : Option Files} {text : List ℕ} {status : ℕ} → IsAnswerText given holds text status → status ≤ 2
-answer_small is = text_small is.task _ _ is.of_task
+answer_small is = work_small is.work _ _ is.of_work
 
 same_none : (old new : SinkState) → new ≡ old → Took old.taken new.taken []
 same_none old new e = let P : SinkState → Type 0 = λ s. Took old.taken s.taken [] in subst P (sym e) (took_none old.taken)
@@ -192,41 +191,41 @@ over_all (words.Load number limit) holds Q q = q
 over_all request None Q q = tt
 over_all request (Some files) Q q = q files
 
--- the files of a request come to one task or refusal
-abbrev IsOnly : Request → Result Task InputRefusal → Files → Type 0
-IsOnly request one files = (other : Result Task InputRefusal) → FilesGiveOver request files other → other ≡ one
+-- the files of a request come to one work or refusal
+abbrev IsOnly : Request → Result Work InputRefusal → Files → Type 0
+IsOnly request one files = (other : Result Work InputRefusal) → FilesGiveOver request files other → other ≡ one
 
-comes_once : OneAnswer → (request : Request) (holds : Option Files) (one : Result Task InputRefusal) → FilesGive request holds one
+comes_once : OneWork → (request : Request) (holds : Option Files) (one : Result Work InputRefusal) → FilesGive request holds one
     → OverFiles request holds (IsOnly request one)
-unfolding input
+unfolding work_in input
 comes_once once (words.Load number limit) holds one is = λ files other gives. sym gives ∙ is.may
 comes_once once request None one is = tt
 comes_once once request (Some files) one is = λ other gives. sym (once request files one other is.told gives)
 
-told_once : OneAnswer → (request : Request) (holds : Option Files) (one : Result Task InputRefusal) (P : Result Task InputRefusal → Type 0) (other : Result Task InputRefusal)
+told_once : OneWork → (request : Request) (holds : Option Files) (one : Result Work InputRefusal) (P : Result Work InputRefusal → Type 0) (other : Result Work InputRefusal)
     → FilesGive request holds one → P one → OverFiles request holds (λ files. FilesGiveOver request files other → P other)
 told_once once request holds one P other is p =
     over_map request holds (IsOnly request one) (λ files. FilesGiveOver request files other → P other)
     (λ files only gives. subst P (sym (only other gives)) p) (comes_once once request holds one is)
 
-pub same_task : {a b : Task} → ◌≡◌ {A = Result Task InputRefusal} (Ok a) (Ok b) → a ≡ b
-same_task e = cc
+pub same_work : {a b : Work} → ◌≡◌ {A = Result Work InputRefusal} (Ok a) (Ok b) → a ≡ b
+same_work e = cc
 
-pub task_or_fault : {a : Task} {fault : InputRefusal} → ◌≡◌ {A = Result Task InputRefusal} (Ok a) (Err fault) → ⊥
-task_or_fault e = cc
+pub work_or_fault : {a : Work} {fault : InputRefusal} → ◌≡◌ {A = Result Work InputRefusal} (Ok a) (Err fault) → ⊥
+work_or_fault e = cc
 
 -- a request whose text was written is not refused
-told_text : OneAnswer → (request : Request) (holds : Option Files) (task : Task) (text : List ℕ) (status : ℕ) (refusal : CallRefusal) (A : Type 0)
-    → FilesGive request holds (Ok task) → IsTextOf task text status
+told_text : OneWork → (request : Request) (holds : Option Files) (work : Work) (text : List ℕ) (status : ℕ) (refusal : CallRefusal) (A : Type 0)
+    → FilesGive request holds (Ok work) → IsTextOfWork work text status
     → OverFiles request holds (λ files. IsRequestRefusal request (FilesGiveOver request files) refusal → A)
-told_text once request holds task text status refusal A is of_task =
-    over_map request holds (IsOnly request (Ok task)) (λ files. IsRequestRefusal request (FilesGiveOver request files) refusal → A)
+told_text once request holds work text status refusal A is of_work =
+    over_map request holds (IsOnly request (Ok work)) (λ files. IsRequestRefusal request (FilesGiveOver request files) refusal → A)
     (λ files only refused. elim refused [
-      | inl a ↦ absurd (task_or_fault (sym (only (Err a.0) a.2)))
-      | inr b ↦ let same = same_task (only (Ok b.0) b.3) in
-          absurd (text_or_refusal task text status b.1 of_task (subst (λ (t : Task). IsTaskRefusal t b.1) same b.4))
+      | inl a ↦ absurd (work_or_fault (sym (only (Err a.0) a.2)))
+      | inr b ↦ let same = same_work (only (Ok b.0) b.3) in
+          absurd (work_or_refusal work text status b.1 of_work (subst (λ (w : Work). IsWorkRefusal w b.1) same b.4))
     ])
-    (comes_once once request holds (Ok task) is)
+    (comes_once once request holds (Ok work) is)
 
 pub same_request : {a b : Request} → ◌≡◌ {A = Result Request ℕ} (Ok a) (Ok b) → a ≡ b
 same_request e = cc
@@ -234,7 +233,7 @@ same_request e = cc
 request_or_word : {a : Request} {word : ℕ} → ◌≡◌ {A = Result Request ℕ} (Ok a) (Err word) → ⊥
 request_or_word e = cc
 
-module _ (once : OneAnswer) (given : Result Request ℕ) (s0 s1 : ShelfState) (o0 o1 e0 e1 : SinkState) (status : ℕ)
+module _ (once : OneWork) (given : Result Request ℕ) (s0 s1 : ShelfState) (o0 o1 e0 e1 : SinkState) (status : ℕ)
     (none : NoneRose s0 s1 o0 o1 e0 e1) (le : status ≤ 6)
     (reported : status ≤ 2 → Reported given s0 s1 o0 o1 e0 e1 status)
     (refused : status ≡ 3 → SaidRefusal given s0 s1 o0 o1 e0 e1)
@@ -244,42 +243,42 @@ module _ (once : OneAnswer) (given : Result Request ℕ) (s0 s1 : ShelfState) (o
   not_failed (inl text) = none.out text.rose
   not_failed (inr line) = none.err line.rose
 
-  -- what is wanted of a task
-  abbrev CompletesWith : Result Task InputRefusal → Type 0
-  CompletesWith (Ok task) = CanComplete task → MayEnd task status ⊎ (status ≡ 6)
+  -- what is wanted of work
+  abbrev CompletesWith : Result Work InputRefusal → Type 0
+  CompletesWith (Ok work) = CanCompleteWork work → MayEndWork work status ⊎ (status ≡ 6)
   CompletesWith (Err fault) = Unit {0}
 
   -- a text is that of the request
   by_text : (request : Request) (text : List ℕ) (wanted : ℕ) → given ≡ Ok request → (is : IsAnswerText given s0.holds text wanted)
-      → FilesGive request s0.holds (Ok is.task) × IsTextOf is.task text wanted
+      → FilesGive request s0.holds (Ok is.work) × IsTextOfWork is.work text wanted
   by_text request text wanted e is =
-      subst (λ (r : Request). FilesGive r s0.holds (Ok is.task) × IsTextOf is.task text wanted) (same_request (sym is.spelled ∙ e)) (is.read, is.of_task)
+      subst (λ (r : Request). FilesGive r s0.holds (Ok is.work) × IsTextOfWork is.work text wanted) (same_request (sym is.spelled ∙ e)) (is.read, is.of_work)
 
   -- a refusal is that of the request
   by_refusal : (request : Request) (refusal : CallRefusal) → given ≡ Ok request → IsRefusal given s0.holds refusal
       → IsRequestRefusal request (FilesGive request s0.holds) refusal
   by_refusal request refusal e is = let P : Result Request ℕ → Type 0 = λ r. IsRefusal r s0.holds refusal in subst P e is
 
-  -- what was refused does not come to a task that can be completed
-  refused_completes : (request : Request) (task : Task) (refusal : CallRefusal) → IsRequestRefusal request (FilesGive request s0.holds) refusal
-      → OverFiles request s0.holds (λ files. FilesGiveOver request files (Ok task) → CanComplete task → MayEnd task status ⊎ (status ≡ 6))
-  refused_completes request task refusal (inl a) = told_once once request s0.holds (Err a.0) CompletesWith (Ok task) a.2 tt
-  refused_completes request task refusal (inr b) =
-      told_once once request s0.holds (Ok b.0) CompletesWith (Ok task) b.3
-      (λ can. absurd (refusal_or_complete b.0 b.1 b.4 can))
+  -- what was refused does not come to work that can be completed
+  refused_completes : (request : Request) (work : Work) (refusal : CallRefusal) → IsRequestRefusal request (FilesGive request s0.holds) refusal
+      → OverFiles request s0.holds (λ files. FilesGiveOver request files (Ok work) → CanCompleteWork work → MayEndWork work status ⊎ (status ≡ 6))
+  refused_completes request work refusal (inl a) = told_once once request s0.holds (Err a.0) CompletesWith (Ok work) a.2 tt
+  refused_completes request work refusal (inr b) =
+      told_once once request s0.holds (Ok b.0) CompletesWith (Ok work) b.3
+      (λ can. absurd (refused_or_complete b.0 b.1 b.4 can))
 
   pub call_complete : Completes given s0 status
-  call_complete request task e = elim (status_cases status le) [
+  call_complete request work e = elim (status_cases status le) [
     | inl a ↦ let said = (reported a).is_text in
-        told_once once request s0.holds (Ok said.task) CompletesWith (Ok task) (by_text request (reported a).text status e said).0
-        (λ can. inl (text_ends said.task _ _ said.of_task))
+        told_once once request s0.holds (Ok said.work) CompletesWith (Ok work) (by_text request (reported a).text status e said).0
+        (λ can. inl (work_ends said.work _ _ said.of_work))
     | inr b ↦ elim b [
-      | inl c ↦ refused_completes request task (refused c).is_line.refusal (by_refusal request (refused c).is_line.refusal e (refused c).is_line.is_refusal)
+      | inl c ↦ refused_completes request work (refused c).is_line.refusal (by_refusal request (refused c).is_line.refusal e (refused c).is_line.is_refusal)
       | inr d ↦ elim d [
         | inl f ↦ absurd (none.shelf (read_failed f).rose)
         | inr g ↦ elim g [
           | inl h ↦ absurd (not_failed (write_failed h))
-          | inr i ↦ over_all request s0.holds (λ files. FilesGiveOver request files (Ok task) → CanComplete task → MayEnd task status ⊎ (status ≡ 6))
+          | inr i ↦ over_all request s0.holds (λ files. FilesGiveOver request files (Ok work) → CanCompleteWork work → MayEndWork work status ⊎ (status ≡ 6))
               (λ files gives can. inr i)
         ]
       ]
@@ -311,7 +310,7 @@ module _ (once : OneAnswer) (given : Result Request ℕ) (s0 s1 : ShelfState) (o
           → OverFiles request s0.holds (λ files. IsRequestRefusal request (FilesGiveOver request files) refusal → (status ≡ 3) ⊎ (status ≡ 6))
       for_requests request refusal e = elim (status_cases status le) [
         | inl a ↦ let said = (reported a).is_text in let text = by_text request (reported a).text status e said in
-            told_text once request s0.holds said.task (reported a).text status refusal ((status ≡ 3) ⊎ (status ≡ 6)) text.0 text.1
+            told_text once request s0.holds said.work (reported a).text status refusal ((status ≡ 3) ⊎ (status ≡ 6)) text.0 text.1
         | inr b ↦ elim b [
           | inl c ↦ over_all request s0.holds (λ files. IsRequestRefusal request (FilesGiveOver request files) refusal → (status ≡ 3) ⊎ (status ≡ 6))
               (λ files refuses. inl c)

@@ -12,14 +12,14 @@ use Rattle.colis_checker.specs.declared.loads.TheConstants.{TURNS}
 use Rattle.colis_checker.specs.Reports.{chosen, AreParts}
 use Rattle.colis_checker.specs.Loads.{AreLoaded, IsLoadOf}
 
-same_packages : {a b : Package} {x y : Option Package} {l m : Base} → a ≡ b → x ≡ y → l ≡ m
-    → ◌≡◌ {A = Packages} (record { new_package = a; old_package = x; base = l })
-    (record { new_package = b; old_package = y; base = m })
-same_packages e f g = rw (e, f, g) refl
+same_packages : {a b : Package} {x y : Option Package} {l m : Base} {s t : List ℕ} → a ≡ b → x ≡ y → l ≡ m → s ≡ t
+    → ◌≡◌ {A = Packages} (record { new_package = a; old_package = x; base = l; name = s })
+    (record { new_package = b; old_package = y; base = m; name = t })
+same_packages e f g h = rw (e, f, g, h) refl
 
 pub one_loaded : (number : ℕ) (one other : Packages) → AreLoaded number one → AreLoaded number other → one ≡ other
 one_loaded number one other x y =
-    same_packages (one_package number one.new_package other.new_package x.made y.made) (x.alone ∙ sym y.alone) (x.on ∙ sym y.on)
+    same_packages (one_package number one.new_package other.new_package x.made y.made) (x.alone ∙ sym y.alone) (x.on ∙ sym y.on) (x.nameless ∙ sym y.nameless)
 
 pub small : (failed unfinished : Bool) → joint_verdict failed unfinished ≤ 2
 small true unfinished = omega arith

@@ -1,28 +1,33 @@
 -- A request is refused for one reason.
-use Rattle.std.proofs.Common.{◌≡◌, ℕ, ◌<◌, List, [], ◌∷◌, ◌++◌, length, Option, None, Result, Ok, Err, inl, inr, sym, ap, subst, ◌∙◌, arith}
+use Rattle.std.proofs.Common.{◌≡◌, ℕ, ◌<◌, List, [], ◌∷◌, ◌++◌, length, Option, Some, None, Result, Ok, Err, inl, inr, sym, ap, subst, ◌∙◌, arith}
 use Rattle.script_names.specs.declared.mark.Mark.{Mark}
+use Rattle.script_names.specs.Paths.{PathParts}
 use Rattle.feature_trees.specs.declared.value.Value.{Value}
 use Rattle.dpkg_scenarios.specs.declared.scenario.Scenario.{Scenario}
 use Rattle.checker_input.specs.declared.faults.InputRefusal.{InputRefusal}
 use Rattle.checker_input.specs.declared.package.Packages.{Packages}
 use Rattle.checker_input.specs.declared.task.Task.{Task}
 use Rattle.checker_input.specs.declared.task.Task.TheVariants as task
-use Rattle.checker_input.specs.Laws.{OneAnswer}
 use Rattle.scenario_runs.specs.declared.replayed.Replayed.{Replayed}
 use Rattle.package_jobs.specs.Written.{written_run}
 use Rattle.package_jobs.specs.StartTrees.{IsStartTree}
 use Rattle.scenario_outcomes.specs.Outcomes.{AreTraces, AreTooMany, SomeStarts}
 use Rattle.colis_checker.specs.declared.faults.Refusal.{Refusal}
-use Rattle.colis_checker.specs.declared.faults.Refusal.TheVariants.{NoStart, Limit}
+use Rattle.colis_checker.specs.declared.faults.Refusal.TheVariants.{NoStart, Limit, Kept}
 use Rattle.colis_checker.specs.declared.faults.CallRefusal.TheVariants.{Input, Task as OfTask}
 use Rattle.colis_checker.specs.Reports.{chosen, CanReport, CanReportAll, IsRefused, IsFirstRefused}
 use Rattle.colis_checker.specs.declared.loads.TheConstants.{TURNS}
 use Rattle.colis_checker.specs.Loads.{IsLoadRefusal}
+use Rattle.colis_checker.specs.Pairs.{IsPairRefusal}
 use Rattle.colis_checker.specs.Tasks.{IsTaskRefusal}
 use Rattle.colis_checker.specs.Laws.{OneRefusal}
 use Rattle.colis_checker.proofs.Loaded.{one_loaded}
-use Rattle.colis_checker.proofs.Refused.{can_or_refused}
-use Rattle.colis_checker.proofs.Calls.{same_task, task_or_fault}
+use Rattle.colis_checker.proofs.Refused.{can_or_refused, no_path}
+use Rattle.colis_checker.specs.declared.work.Work.{Work}
+use Rattle.colis_checker.specs.declared.work.Work.TheVariants as works
+use Rattle.colis_checker.specs.Works.{IsWorkRefusal}
+use Rattle.colis_checker.proofs.Calls.{same_work, work_or_fault}
+use Rattle.colis_checker.proofs.Works.{OneWork}
 
 -- ---- a scenario
 
@@ -48,6 +53,9 @@ module _ (packages : Packages) (turns limit : ℕ) where
   refused_once scenario (NoStart which) (Limit that most) x y = absurd (x.1 (started scenario y.2))
   refused_once scenario (Limit which most) (NoStart that) x y = absurd (y.1 (started scenario x.2))
   refused_once scenario (Limit which most) (Limit that least) x y = same_limit (x.0 ∙ sym y.0) (x.1 ∙ sym y.1)
+  refused_once scenario (Kept path) other x y = absurd x
+  refused_once scenario (NoStart which) (Kept path) x y = absurd y
+  refused_once scenario (Limit which most) (Kept path) x y = absurd y
 
   -- ---- the first of scenarios
 
@@ -77,6 +85,24 @@ module _ (packages : Packages) (turns limit : ℕ) where
       (λ can. can_or_refused packages turns limit y.scenario other can y.refused) in
       refused_once y.scenario one other (subst (λ (s : Scenario). IsRefused packages turns limit s one) same x.refused) y.refused
 
+-- ---- a pair
+
+same_path : {a b : PathParts} → ◌≡◌ {A = Option PathParts} (Some a) (Some b) → a ≡ b
+same_path e = cc
+
+module _ (packages : Packages) (turns limit : ℕ) (scenario : Scenario) where
+  pair_refused_once : (one other : Refusal) → IsPairRefusal packages turns limit scenario one
+      → IsPairRefusal packages turns limit scenario other → one ≡ other
+  pair_refused_once (Kept a) (Kept b) x y = ap Kept (same_path (sym x ∙ y))
+  pair_refused_once (Kept a) (NoStart that) x y = absurd (no_path (sym y.0 ∙ x))
+  pair_refused_once (Kept a) (Limit that least) x y = absurd (no_path (sym y.0 ∙ x))
+  pair_refused_once (NoStart which) (Kept b) x y = absurd (no_path (sym x.0 ∙ y))
+  pair_refused_once (Limit which most) (Kept b) x y = absurd (no_path (sym x.0 ∙ y))
+  pair_refused_once (NoStart which) (NoStart that) x y = first_once packages turns limit (scenario ∷ []) _ _ x.1 y.1
+  pair_refused_once (NoStart which) (Limit that least) x y = first_once packages turns limit (scenario ∷ []) _ _ x.1 y.1
+  pair_refused_once (Limit which most) (NoStart that) x y = first_once packages turns limit (scenario ∷ []) _ _ x.1 y.1
+  pair_refused_once (Limit which most) (Limit that least) x y = first_once packages turns limit (scenario ∷ []) _ _ x.1 y.1
+
 -- ---- a request
 
 load_refused_once : (number limit : ℕ) (one other : Refusal) → IsLoadRefusal number limit one → IsLoadRefusal number limit other
@@ -92,18 +118,25 @@ task_refused_once (task.Check packages scenario turns limit layout) one other x 
 task_refused_once (task.Run packages tree scenario turns) one other x y = absurd x
 task_refused_once (task.Translate script) one other x y = absurd x
 task_refused_once (task.Load number limit) one other x y = load_refused_once number limit one other x y
+task_refused_once (task.Explain packages sources scenario turns limit places) one other x y = absurd x
+task_refused_once (task.Pair packages scenario turns limit) one other x y =
+    pair_refused_once packages turns limit scenario one other x y
 
-same_fault : {a b : InputRefusal} → ◌≡◌ {A = Result Task InputRefusal} (Err a) (Err b) → a ≡ b
+work_refused_once : (what : Work) (one other : Refusal) → IsWorkRefusal what one → IsWorkRefusal what other → one ≡ other
+work_refused_once (works.Task asked) one other x y = task_refused_once asked one other x y
+work_refused_once (works.Predict prediction) one other x y = absurd x
+
+same_fault : {a b : InputRefusal} → ◌≡◌ {A = Result Work InputRefusal} (Err a) (Err b) → a ≡ b
 same_fault e = cc
 
-pub one_refusal : OneAnswer → OneRefusal
+pub one_refusal : OneWork → OneRefusal
 one_refusal once request files one other (inl x) (inl y) =
     let same = same_fault (once request files (Err x.0) (Err y.0) x.2 y.2) in
     x.1 ∙ ap Input same ∙ sym y.1
 one_refusal once request files one other (inl x) (inr y) =
-    absurd (task_or_fault (once request files (Ok y.0) (Err x.0) y.3 x.2))
+    absurd (work_or_fault (once request files (Ok y.0) (Err x.0) y.3 x.2))
 one_refusal once request files one other (inr x) (inl y) =
-    absurd (task_or_fault (once request files (Ok x.0) (Err y.0) x.3 y.2))
+    absurd (work_or_fault (once request files (Ok x.0) (Err y.0) x.3 y.2))
 one_refusal once request files one other (inr x) (inr y) =
-    let same = same_task (once request files (Ok x.0) (Ok y.0) x.3 y.3) in
-    x.2 ∙ ap OfTask (task_refused_once y.0 x.1 y.1 (subst (λ (t : Task). IsTaskRefusal t x.1) same x.4) y.4) ∙ sym y.2
+    let same = same_work (once request files (Ok x.0) (Ok y.0) x.3 y.3) in
+    x.2 ∙ ap OfTask (work_refused_once y.0 x.1 y.1 (subst (λ (w : Work). IsWorkRefusal w x.1) same x.4) y.4) ∙ sym y.2

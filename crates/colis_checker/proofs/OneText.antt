@@ -12,10 +12,13 @@ use Rattle.command_words.specs.declared.request.Layout.TheVariants.{Plain, Brief
 use Rattle.command_words.specs.declared.request.Request.{Request}
 use Rattle.command_words.specs.declared.request.Request.TheVariants as words
 use Rattle.checker_input.specs.declared.package.Packages.{Packages}
+use Rattle.checker_input.specs.declared.asked.Asked.{Asked}
+use Rattle.checker_input.specs.declared.asked.Asked.TheVariants as wanted
+use Rattle.checker_input.specs.declared.faults.InputRefusal.{InputRefusal}
 use Rattle.checker_input.specs.declared.task.Task.{Task}
 use Rattle.checker_input.specs.declared.task.Task.TheVariants as read
 use Rattle.checker_input.specs.Input.{input, packages_in, start_in, translated_in}
-use Rattle.checker_input.specs.Laws.{OneAnswer}
+use Rattle.prediction_input.specs.PredictionInput.{predict_in}
 use Rattle.scenario_runs.specs.declared.replayed.Replayed.{Replayed}
 use Rattle.package_jobs.specs.Written.{written_run}
 use Rattle.package_jobs.specs.StartTrees.{IsStartTree}
@@ -36,42 +39,26 @@ use Rattle.load_summary.specs.Summary.{lines_text}
 use Rattle.colis_checker.specs.declared.loads.TheConstants.{TURNS}
 use Rattle.colis_checker.specs.Reports.{chosen, AreParts}
 use Rattle.colis_checker.specs.Loads.{IsLoadOf}
+use Rattle.colis_checker.specs.declared.work.Work.{Work}
+use Rattle.colis_checker.specs.declared.work.Work.TheVariants as works
 use Rattle.colis_checker.specs.Tasks.{IsRunOf, IsProgramOf, IsTextOf}
+use Rattle.colis_checker.specs.Works.{work_of, work_in, IsTextOfWork}
 use Rattle.colis_checker.specs.Top.{FilesGive, IsAnswerText}
 use Rattle.colis_checker.specs.Laws.{OneReportStatus, OneBriefText, OneStatus, ShowsNoOutcome, OneText}
-use Rattle.colis_checker.proofs.Calls.{same_request, same_task}
+use Rattle.colis_checker.proofs.Calls.{same_request, same_work}
+use Rattle.colis_checker.proofs.Explained.{sections_same}
+use Rattle.colis_checker.proofs.OneReport.{alike, verdicts_alike}
 use Rattle.colis_checker.proofs.InRange.{may_then}
 use Rattle.colis_checker.proofs.Loaded.{one_loaded}
+use Rattle.colis_checker.proofs.OnePrediction.{one_prediction_text}
 use Rattle.colis_checker.proofs.WholeReports.{whole_parts}
+use Rattle.colis_checker.proofs.Works.{OneWork, of_prediction}
 
 -- a scenario, and how its outcomes end
 abbrev Told : Type 0
 Told = Scenario × List (Ending × List Mark)
 
 -- ---- reports
-
--- reports on the same scenarios, with whatever limits, end alike
-parts_alike : (packages : Packages) (turns limit most : ℕ) (scenarios : List Scenario) (one other : List ReportPart)
-    → AreParts packages turns limit scenarios one → AreParts packages turns most scenarios other
-    → map scenario_and_endings one ≡ map scenario_and_endings other
-parts_alike packages turns limit most [] [] [] are same = refl
-parts_alike packages turns limit most [] [] (part ∷ other) are same = absurd same
-parts_alike packages turns limit most [] (part ∷ one) other are same = absurd are
-parts_alike packages turns limit most (scenario ∷ scenarios) [] other are same = absurd are
-parts_alike packages turns limit most (scenario ∷ scenarios) (part ∷ one) [] are same = absurd same
-parts_alike packages turns limit most (scenario ∷ scenarios) (part ∷ one) (peer ∷ other) are same =
-    let first = parts_end_alike (written_run scenario packages turns) (IsStartTree scenario packages) part peer are.0.exact same.0.exact
-    (are.0.of_scenario ∙ sym same.0.of_scenario) in
-    let rest = parts_alike packages turns limit most scenarios one other are.1 same.1 in
-    λ i. first i ∷ rest i
-
-module _ (packages : Packages) (turns limit most : ℕ) (scenarios : List Scenario) (one other : Report)
-    (are : AreParts packages turns limit scenarios one.parts) (same : AreParts packages turns most scenarios other.parts) where
-  alike : map scenario_and_endings one.parts ≡ map scenario_and_endings other.parts
-  alike = parts_alike packages turns limit most scenarios one.parts other.parts are same
-
-  verdicts_alike : verdict_of one ≡ verdict_of other
-  verdicts_alike = verdict_is one ∙ ap verdict_told alike ∙ sym (verdict_is other)
 
 pub one_report_status : OneReportStatus
 one_report_status packages turns limit most scenarios layout peer text other status other_status a b =
@@ -155,6 +142,10 @@ task_status (read.Run packages tree scenario turns) text other status other_stat
 task_status (read.Translate script) text other status other_status a b = a.status_is ∙ sym b.status_is
 task_status (read.Load number limit) text other status other_status a b =
     load_status number limit text other status other_status a b
+task_status (read.Explain packages sources scenario turns limit places) text other status other_status a b =
+    a.status_is ∙ sections_same packages sources turns places limit (chosen scenario) a.sections b.sections a.are b.are ∙ sym b.status_is
+task_status (read.Pair packages scenario turns limit) text other status other_status a b =
+    a.status_is ∙ verdicts_alike packages turns limit limit (scenario ∷ []) a.report b.report a.parts b.parts ∙ sym b.status_is
 
 -- the text of the task shows no clause and no start tree of an outcome
 abbrev ShowsNone : Task → Type 0
@@ -164,23 +155,55 @@ ShowsNone (read.Check packages scenario turns limit Json) = ⊥
 ShowsNone (read.Run packages tree scenario turns) = Unit {0}
 ShowsNone (read.Translate script) = Unit {0}
 ShowsNone (read.Load number limit) = Unit {0}
+ShowsNone (read.Explain packages sources scenario turns limit places) = ⊥
+ShowsNone (read.Pair packages scenario turns limit) = ⊥
+
+-- so does that of what is asked for
+abbrev AskedShowsNone : Asked → Type 0
+AskedShowsNone (wanted.Task task) = ShowsNone task
+AskedShowsNone (wanted.Prediction report trees) = Unit {0}
+
+same_asked : {a b : Asked} → ◌≡◌ {A = Result Asked InputRefusal} (Ok a) (Ok b) → a ≡ b
+same_asked e = cc
 
 -- so it is where its request says so
-shows_none : (request : Request) (asked : Task) → ShowsNoOutcome request → MayAnswer (Ok asked) (input request) → ShowsNone asked
+asked_shows : (request : Request) (what : Asked) → ShowsNoOutcome request → MayAnswer (Ok what) (input request) → AskedShowsNone what
 unfolding input
-shows_none (words.Check folders scenario turns limit Plain) asked shows may = absurd shows
-shows_none (words.Check folders scenario turns limit Json) asked shows may = absurd shows
-shows_none (words.Check folders scenario turns limit Brief) asked shows may =
-    let packages = may_then (packages_in folders) (λ packages. done (Ok (read.Check packages scenario turns limit Brief))) asked may in
-    subst ShowsNone (same_task packages.1) tt
-shows_none (words.Run folders file scenario turns) asked shows may =
-    let packages = may_then (packages_in folders) (λ packages. and_then (start_in file) (λ start. done (Ok (read.Run packages start scenario turns)))) asked may in
-    let start = may_then (start_in file) (λ start. done (Ok (read.Run packages.0 start scenario turns))) asked packages.1 in
-    subst ShowsNone (same_task start.1) tt
-shows_none (words.Translate file) asked shows may =
-    let script = may_then (translated_in file) (λ script. done (Ok (read.Translate script))) asked may in
-    subst ShowsNone (same_task script.1) tt
-shows_none (words.Load number limit) asked shows may = subst ShowsNone (same_task may) tt
+asked_shows (words.Check folders scenario turns limit Plain) what shows may = absurd shows
+asked_shows (words.Check folders scenario turns limit Json) what shows may = absurd shows
+asked_shows (words.Check folders scenario turns limit Brief) what shows may =
+    let packages = may_then (packages_in folders) (λ packages. done (Ok (wanted.Task (read.Check packages scenario turns limit Brief)))) what may in
+    subst AskedShowsNone (same_asked packages.1) tt
+asked_shows (words.Run folders file scenario turns) what shows may =
+    let packages = may_then (packages_in folders) (λ packages. and_then (start_in file) (λ start. done (Ok (wanted.Task (read.Run packages start scenario turns))))) what may in
+    let start = may_then (start_in file) (λ start. done (Ok (wanted.Task (read.Run packages.0 start scenario turns)))) what packages.1 in
+    subst AskedShowsNone (same_asked start.1) tt
+asked_shows (words.Translate file) what shows may =
+    let script = may_then (translated_in file) (λ script. done (Ok (wanted.Task (read.Translate script)))) what may in
+    subst AskedShowsNone (same_asked script.1) tt
+asked_shows (words.Load number limit) what shows may = subst AskedShowsNone (same_asked may) tt
+asked_shows (words.Pair dir other base scenario turns limit) what shows may = absurd shows
+asked_shows (words.Twice dir base turns limit) what shows may = absurd shows
+asked_shows (words.Explain folders scenario turns limit places) what shows may = absurd shows
+asked_shows (words.Predict report trees) what shows may = subst AskedShowsNone (same_asked may) tt
+
+-- the text of the work shows no clause and no start tree of an outcome
+abbrev WorkShowsNone : Work → Type 0
+WorkShowsNone (works.Task task) = ShowsNone task
+WorkShowsNone (works.Predict prediction) = Unit {0}
+
+shows_by : (what : Asked) (done_then : Work) → AskedShowsNone what → MayAnswer (Ok done_then) (work_of what) → WorkShowsNone done_then
+shows_by (wanted.Task task) done_then shows may = subst WorkShowsNone (same_work may) shows
+shows_by (wanted.Prediction report trees) done_then shows may =
+    let prediction = may_then (predict_in report trees) of_prediction done_then may in
+    subst WorkShowsNone (same_work prediction.1) tt
+
+shows_none : (request : Request) (done_then : Work) → ShowsNoOutcome request → MayAnswer (Ok done_then) (work_in request)
+    → WorkShowsNone done_then
+unfolding work_in
+shows_none request done_then shows may =
+    let further = may_then (input request) work_of done_then may in
+    shows_by further.0 done_then (asked_shows request further.0 shows further.2) further.1
 
 task_text : OneBriefText → (asked : Task) (text other : List ℕ) (status other_status : ℕ)
     → ShowsNone asked → IsTextOf asked text status → IsTextOf asked other other_status → text ≡ other
@@ -194,41 +217,57 @@ task_text once (read.Translate script) text other status other_status shows a b 
     program_same_text script text other status other_status a b
 task_text once (read.Load number limit) text other status other_status shows a b =
     load_text number limit text other status other_status a b
+task_text once (read.Pair packages scenario turns limit) text other status other_status shows a b = absurd shows
+task_text once (read.Explain packages sources scenario turns limit places) text other status other_status shows a b = absurd shows
+
+-- ---- work
+
+work_status : (what : Work) (text other : List ℕ) (status other_status : ℕ)
+    → IsTextOfWork what text status → IsTextOfWork what other other_status → status ≡ other_status
+work_status (works.Task task) text other status other_status a b = task_status task text other status other_status a b
+work_status (works.Predict prediction) text other status other_status a b = a.status_is ∙ sym b.status_is
+
+work_text : OneBriefText → (what : Work) (text other : List ℕ) (status other_status : ℕ)
+    → WorkShowsNone what → IsTextOfWork what text status → IsTextOfWork what other other_status → text ≡ other
+work_text once (works.Task task) text other status other_status shows a b =
+    task_text once task text other status other_status shows a b
+work_text once (works.Predict prediction) text other status other_status shows a b =
+    one_prediction_text prediction.report prediction.trees text other a.is_text b.is_text
 
 -- ---- a call
 
--- two answers are of one task of one request
-record OfOneTask (given : Result Request ℕ) (text other : List ℕ) (status other_status : ℕ) : Type 0 where
+-- two answers are of one work of one request
+record OfOneWork (given : Result Request ℕ) (text other : List ℕ) (status other_status : ℕ) : Type 0 where
   request : Request
   spelled : given ≡ Ok request
-  task : Task
-  comes : MayAnswer (Ok task) (input request)
-  first : IsTextOf task text status
-  second : IsTextOf task other other_status
+  work : Work
+  comes : MayAnswer (Ok work) (work_in request)
+  first : IsTextOfWork work text status
+  second : IsTextOfWork work other other_status
 
-of_one_task : OneAnswer → (given : Result Request ℕ) (files : Files) (text other : List ℕ) (status other_status : ℕ)
+of_one_work : OneWork → (given : Result Request ℕ) (files : Files) (text other : List ℕ) (status other_status : ℕ)
     → IsAnswerText given (Some files) text status → IsAnswerText given (Some files) other other_status
-    → OfOneTask given text other status other_status
-of_one_task once given files text other status other_status a b =
-    let moved : FilesGive a.request (Some files) (Ok b.task) =
-    subst (λ (r : Request). FilesGive r (Some files) (Ok b.task)) (same_request (sym b.spelled ∙ a.spelled)) b.read in
-    let same = same_task (once a.request files (Ok b.task) (Ok a.task) moved.told a.read.told) in
+    → OfOneWork given text other status other_status
+of_one_work once given files text other status other_status a b =
+    let moved : FilesGive a.request (Some files) (Ok b.work) =
+    subst (λ (r : Request). FilesGive r (Some files) (Ok b.work)) (same_request (sym b.spelled ∙ a.spelled)) b.read in
+    let same = same_work (once a.request files (Ok b.work) (Ok a.work) moved.told a.read.told) in
     record {
       request = a.request;
       spelled = a.spelled;
-      task = a.task;
+      work = a.work;
       comes = a.read.may;
-      first = a.of_task;
-      second = subst (λ (t : Task). IsTextOf t other other_status) same b.of_task;
+      first = a.of_work;
+      second = subst (λ (w : Work). IsTextOfWork w other other_status) same b.of_work;
     }
 
-pub one_status : OneAnswer → OneStatus
+pub one_status : OneWork → OneStatus
 one_status once given files text other status other_status a b =
-    let both = of_one_task once given files text other status other_status a b in
-    task_status both.task text other status other_status both.first both.second
+    let both = of_one_work once given files text other status other_status a b in
+    work_status both.work text other status other_status both.first both.second
 
-pub one_text : OneAnswer → EndingsTellBriefTexts → OneText
+pub one_text : OneWork → EndingsTellBriefTexts → OneText
 one_text once tell request files text other status other_status shows a b =
-    let both = of_one_task once (Ok request) files text other status other_status a b in
-    task_text (one_brief_text tell) both.task text other status other_status
-    (shows_none both.request both.task (subst ShowsNoOutcome (same_request both.spelled) shows) both.comes) both.first both.second
+    let both = of_one_work once (Ok request) files text other status other_status a b in
+    work_text (one_brief_text tell) both.work text other status other_status
+    (shows_none both.request both.work (subst ShowsNoOutcome (same_request both.spelled) shows) both.comes) both.first both.second

@@ -1,14 +1,16 @@
 -- What is reported is not refused.
-use Rattle.std.proofs.Common.{ℕ, ◌≤◌, List, [], ◌∷◌, ◌++◌, None, subst, arith}
+use Rattle.std.proofs.Common.{◌≡◌, ℕ, ◌≤◌, List, [], ◌∷◌, ◌++◌, Option, Some, None, sym, subst, ◌∙◌, arith}
+use Rattle.script_names.specs.Paths.{PathParts}
 use Rattle.dpkg_scenarios.specs.declared.scenario.Scenario.{Scenario}
 use Rattle.checker_input.specs.declared.package.Packages.{Packages}
 use Rattle.checker_input.specs.declared.task.Task.{Task}
 use Rattle.checker_input.specs.declared.task.Task.TheVariants as task
 use Rattle.outcome_report.specs.declared.outcome_report.ReportPart.{ReportPart}
 use Rattle.colis_checker.specs.declared.faults.Refusal.{Refusal}
-use Rattle.colis_checker.specs.declared.faults.Refusal.TheVariants.{NoStart, Limit}
+use Rattle.colis_checker.specs.declared.faults.Refusal.TheVariants.{NoStart, Limit, Kept}
 use Rattle.colis_checker.specs.Reports.{chosen, CanReport, CanReportAll, IsRefused, AreParts, IsFirstRefused}
 use Rattle.colis_checker.specs.Loads.{IsLoadOf, IsLoadRefusal, CanLoad}
+use Rattle.colis_checker.specs.Pairs.{IsPairOf, IsPairRefusal, CanPair}
 use Rattle.colis_checker.specs.declared.loads.TheConstants.{TURNS}
 use Rattle.colis_checker.specs.Tasks.{IsTextOf, IsTaskRefusal, CanComplete, MayEnd}
 use Rattle.colis_checker.proofs.Loaded.{one_loaded}
@@ -20,6 +22,7 @@ module _ (packages : Packages) (turns limit : ℕ) where
   can_or_refused scenario (NoStart which) can against = against.1 can.starts
   can_or_refused scenario (Limit which most) can against =
       let many = against.2 in let few = can.few many.traces many.are many.differ in let more = many.count in omega arith
+  can_or_refused scenario (Kept path) can against = against
 
   can_at : (before : List Scenario) (scenario : Scenario) (behind : List Scenario)
       → CanReportAll packages turns limit (before ++ scenario ∷ behind) → CanReport packages turns limit scenario
@@ -40,6 +43,9 @@ module _ (packages : Packages) (turns limit : ℕ) where
   parts_can (scenario ∷ scenarios) [] are = absurd are
   parts_can (scenario ∷ scenarios) (part ∷ parts) are = (are.0.bounded, parts_can scenarios parts are.1)
 
+pub no_path : {path : PathParts} → ◌≡◌ {A = Option PathParts} None (Some path) → ⊥
+no_path e = cc
+
 -- a load whose summary was written is not refused
 load_or_refusal : (number limit : ℕ) (text : List ℕ) (status : ℕ) (refusal : Refusal) → IsLoadOf number limit text status
     → IsLoadRefusal number limit refusal → ⊥
@@ -54,6 +60,24 @@ load_refusal_or_complete : (number limit : ℕ) (refusal : Refusal) → IsLoadRe
 load_refusal_or_complete number limit refusal against can =
     none_refused against.packages TURNS limit (chosen None) refusal (can against.packages against.loaded) against.refused
 
+-- a pair whose text was written is not refused
+pair_or_refusal : (packages : Packages) (turns limit : ℕ) (scenario : Scenario) (text : List ℕ) (status : ℕ) (refusal : Refusal)
+    → IsPairOf packages turns limit scenario text status → IsPairRefusal packages turns limit scenario refusal → ⊥
+pair_or_refusal packages turns limit scenario text status (Kept path) is against = no_path (sym is.nothing_kept ∙ against)
+pair_or_refusal packages turns limit scenario text status (NoStart which) is against =
+    none_refused packages turns limit (scenario ∷ []) (NoStart which) (parts_can packages turns limit (scenario ∷ []) is.report.parts is.parts) against.1
+pair_or_refusal packages turns limit scenario text status (Limit which most) is against =
+    none_refused packages turns limit (scenario ∷ []) (Limit which most) (parts_can packages turns limit (scenario ∷ []) is.report.parts is.parts) against.1
+
+-- nor is one that can be completed
+pair_refusal_or_complete : (packages : Packages) (turns limit : ℕ) (scenario : Scenario) (refusal : Refusal)
+    → IsPairRefusal packages turns limit scenario refusal → CanPair packages turns limit scenario → ⊥
+pair_refusal_or_complete packages turns limit scenario (Kept path) against can = no_path (sym can.0 ∙ against)
+pair_refusal_or_complete packages turns limit scenario (NoStart which) against can =
+    none_refused packages turns limit (scenario ∷ []) (NoStart which) can.1 against.1
+pair_refusal_or_complete packages turns limit scenario (Limit which most) against can =
+    none_refused packages turns limit (scenario ∷ []) (Limit which most) can.1 against.1
+
 -- a task whose text was written is not refused
 pub text_or_refusal : (asked : Task) (text : List ℕ) (status : ℕ) (refusal : Refusal)
     → IsTextOf asked text status → IsTaskRefusal asked refusal → ⊥
@@ -62,6 +86,9 @@ text_or_refusal (task.Check packages scenario turns limit layout) text status re
 text_or_refusal (task.Run packages tree scenario turns) text status refusal is against = against
 text_or_refusal (task.Translate script) text status refusal is against = against
 text_or_refusal (task.Load number limit) text status refusal is against = load_or_refusal number limit text status refusal is against
+text_or_refusal (task.Explain packages sources scenario turns limit places) text status refusal is against = against
+text_or_refusal (task.Pair packages scenario turns limit) text status refusal is against =
+    pair_or_refusal packages turns limit scenario text status refusal is against
 
 -- nor is one that can be completed
 pub refusal_or_complete : (asked : Task) (refusal : Refusal) → IsTaskRefusal asked refusal → CanComplete asked → ⊥
@@ -70,12 +97,17 @@ refusal_or_complete (task.Check packages scenario turns limit layout) refusal ag
 refusal_or_complete (task.Run packages tree scenario turns) refusal against can = against
 refusal_or_complete (task.Translate script) refusal against can = against
 refusal_or_complete (task.Load number limit) refusal against can = load_refusal_or_complete number limit refusal against can
+refusal_or_complete (task.Explain packages sources scenario turns limit places) refusal against can = against
+refusal_or_complete (task.Pair packages scenario turns limit) refusal against can =
+    pair_refusal_or_complete packages turns limit scenario refusal against can
 
 pub text_small : (asked : Task) (text : List ℕ) (status : ℕ) → IsTextOf asked text status → status ≤ 2
 text_small (task.Check packages scenario turns limit layout) text status is = is.small
 text_small (task.Run packages tree scenario turns) text status is = is.small
 text_small (task.Translate script) text status is = let none = is.status_is in omega arith
 text_small (task.Load number limit) text status is = is.small
+text_small (task.Explain packages sources scenario turns limit places) text status is = is.small
+text_small (task.Pair packages scenario turns limit) text status is = is.small
 
 -- the status of a task's text is one with which the task may end
 pub text_ends : (asked : Task) (text : List ℕ) (status : ℕ) → IsTextOf asked text status → MayEnd asked status
@@ -83,3 +115,5 @@ text_ends (task.Check packages scenario turns limit layout) text status is = is.
 text_ends (task.Run packages tree scenario turns) text status is = is.small
 text_ends (task.Translate script) text status is = is.status_is
 text_ends (task.Load number limit) text status is = is.small
+text_ends (task.Explain packages sources scenario turns limit places) text status is = is.small
+text_ends (task.Pair packages scenario turns limit) text status is = is.small

@@ -58,7 +58,7 @@ package_field =
     (search (sendable, bytes.the_sync) depth 20, (search (sendable, file_list.the_sync) depth 20, (scripts_field, tt)))
 
 packages_field : IsSync Packages.the_field.row
-packages_field = struct_sync (shape Packages.the_type) (package_field, (let p = package_field in search (sendable, heap.crosses) depth 10, (base.the_field_sync, tt)))
+packages_field = struct_sync (shape Packages.the_type) (package_field, (let p = package_field in search (sendable, heap.crosses) depth 10, (base.the_field_sync, (search (sendable, bytes.the_sync) depth 20, tt))))
 
 pub packages_sync : IsSync Packages.the_row
 packages_sync = recorded_sync Packages.the_field.row _ _ Packages.the_type.to_one packages_field

@@ -6,7 +6,7 @@ use Rattle.feature_trees.specs.declared.value.Value.{Value}
 use Rattle.feature_trees.specs.declared.kind.Kind.TheVariants.{Dir}
 use Rattle.feature_trees.specs.Tree.{kind_of}
 use Rattle.dpkg_scenarios.specs.declared.scenario.Scenario.{Scenario}
-use Rattle.dpkg_scenarios.specs.Scenarios.{all_scenarios}
+use Rattle.dpkg_scenarios.specs.Scenarios.{checked_scenarios}
 use Rattle.checker_input.specs.declared.package.Packages.{Packages}
 use Rattle.scenario_runs.specs.declared.replayed.Replayed.{Replayed}
 use Rattle.package_jobs.specs.StartTrees.{IsStartTree}
@@ -132,7 +132,7 @@ rising_by least (scenario ∷ scenarios) e =
 
 chosen_rise : (which : Option Scenario) → AreRising 0 (chosen which)
 chosen_rise (Some scenario) = (omega arith, tt)
-chosen_rise None = rising_by 0 all_scenarios refl
+chosen_rise None = rising_by 0 checked_scenarios refl
 
 pub whole_reports : WholeReports
 whole_reports packages turns limit which report are =

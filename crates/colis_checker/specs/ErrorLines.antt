@@ -4,15 +4,16 @@ use Rattle.std.specs.Fmt.{decimal}
 use Rattle.shell_syntax.specs.declared.form.Form.{Form as FormName}
 use Rattle.shell_syntax.specs.declared.form.Form.TheVariants as form
 use Rattle.checker_input.specs.declared.faults.FileFault.{FileFault}
-use Rattle.checker_input.specs.declared.faults.FileFault.TheVariants.{Missing, TooLong, Script, Version, Line}
+use Rattle.checker_input.specs.declared.faults.FileFault.TheVariants.{Missing, TooLong, Script, Version, Line, Report}
 use Rattle.checker_input.specs.declared.script.ScriptFault.{ScriptFault}
 use Rattle.checker_input.specs.declared.script.ScriptFault.TheVariants as reason
 use Rattle.dpkg_scenarios.specs.Names.{scenario_name}
 use Rattle.colis_checker.specs.declared.faults.Refusal.{Refusal}
-use Rattle.colis_checker.specs.declared.faults.Refusal.TheVariants.{NoStart, Limit}
+use Rattle.colis_checker.specs.declared.faults.Refusal.TheVariants.{NoStart, Limit, Kept}
 use Rattle.colis_checker.specs.declared.faults.CallRefusal.{CallRefusal}
 use Rattle.colis_checker.specs.declared.faults.CallRefusal.TheVariants.{Usage, Input, Task}
 use Rattle.shown_texts.specs.Lines.{line}
+use Rattle.shown_texts.specs.Paths.{path_text}
 
 -- the name of an unsupported form
 abbrev pub form_name : FormName → List ℕ
@@ -73,19 +74,25 @@ script_line name (reason.Form form at) = form_line name (form_name form) at
 abbrev pub fault_line : List ℕ → ℕ → ℕ → List ℕ
 fault_line name number why = file_line name (codes ": line " ++ decimal number ++ codes ": fault " ++ decimal why)
 
+-- a line on a file, with a number of bytes
+abbrev pub length_line : List ℕ → List ℕ → ℕ → List ℕ
+length_line name fault most = file_line name (fault ++ decimal most ++ codes " bytes")
+
 -- the line of a file that is refused, by its name and what is wrong with it
 abbrev pub input_line : List ℕ → FileFault → List ℕ
 input_line name Missing = file_line name (codes ": missing")
-input_line name TooLong = file_line name (codes ": longer than 1048576 bytes")
+input_line name (TooLong most) = length_line name (codes ": longer than ") most
 input_line name (Script why) = script_line name why
 input_line name (Version number) = place_line name (codes ": bad version in line ") number
 input_line name (Line number why) = fault_line name number why
+input_line name (Report why) = place_line name (codes ": report fault ") why
 
 -- the line of a scenario that is refused
 abbrev pub scenario_line : Refusal → List ℕ
 scenario_line (NoStart scenario) = line (codes "colis: no start tree for " ++ scenario_name scenario)
 scenario_line (Limit scenario limit) =
     line (codes "colis: more than " ++ decimal limit ++ codes " outcomes in " ++ scenario_name scenario)
+scenario_line (Kept path) = line (codes "colis: other package keeps " ++ path_text path.names)
 
 -- the line of a refusal
 abbrev pub refusal_line : CallRefusal → List ℕ

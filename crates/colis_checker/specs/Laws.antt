@@ -1,5 +1,5 @@
 -- The laws that src/theorems.rt proves of reports and refusals.
-use Rattle.std.specs.Prelude.{◌≡◌, ℕ, ◌+◌, false, List, Option, Some, Result, Ok, slice_get}
+use Rattle.std.specs.Prelude.{◌≡◌, ℕ, ◌+◌, false, List, Option, Some, None, Result, Ok, slice_get}
 use Rattle.feature_trees.specs.declared.value.Value.{Value}
 use Rattle.dpkg_scenarios.specs.declared.scenario.Scenario.{Scenario}
 use Rattle.dpkg_scenarios.specs.declared.scenario.Ending.{Ending}
@@ -18,7 +18,13 @@ use Rattle.outcome_report.specs.declared.outcome_report.ReportEntry.{ReportEntry
 use Rattle.outcome_report.specs.declared.outcome_report.ReportPart.{ReportPart}
 use Rattle.outcome_report.specs.declared.outcome_report.Report.{Report}
 use Rattle.outcome_report.specs.Kept.{replay_of}
+use Rattle.outcome_report.specs.OutcomeReport.{outcomes_of}
+use Rattle.outcome_groups.specs.Groups.{groups_of}
+use Rattle.outcome_groups.specs.Told.{AreTold}
 use Rattle.report_text.specs.Whole.{IsWhole}
+use Rattle.tree_predictions.specs.Picks.{IsPick}
+use Rattle.prediction_text.specs.PredictionText.{clauses_of}
+use Rattle.prediction_text.specs.Laws.{PicksRun}
 use Rattle.colis_checker.specs.declared.faults.CallRefusal.{CallRefusal}
 use Rattle.colis_checker.specs.Reports.{AreParts, IsPartOf, IsReportOf, chosen}
 use Rattle.colis_checker.specs.Top.{FilesGiveOver, IsRequestRefusal, IsAnswerText}
@@ -196,9 +202,13 @@ ShowsNoOutcome (words.Check folders scenario turns limit Json) = ⊥
 ShowsNoOutcome (words.Run folders file scenario turns) = Unit {0}
 ShowsNoOutcome (words.Translate file) = Unit {0}
 ShowsNoOutcome (words.Load number limit) = Unit {0}
+ShowsNoOutcome (words.Predict report trees) = Unit {0}
+ShowsNoOutcome (words.Explain folders scenario turns limit places) = ⊥
+ShowsNoOutcome (words.Pair dir other base scenario turns limit) = ⊥
+ShowsNoOutcome (words.Twice dir base turns limit) = ⊥
 
--- over files of the same contents such a request is answered with one text: a brief check, a run, a translation and a
--- load
+-- over files of the same contents such a request is answered with one text: a brief check, a run, a translation, a load
+-- and a prediction
 abbrev pub OneText : Type 0
 OneText =
     (request : Request) (files : Files) (text other : List ℕ) (status other_status : ℕ) → ShowsNoOutcome request
@@ -211,3 +221,24 @@ OneRefusal =
     (request : Request) (files : Files) (one other : CallRefusal)
     → IsRequestRefusal request (FilesGiveOver request files) one
     → IsRequestRefusal request (FilesGiveOver request files) other → one ≡ other
+
+-- ---- what groups and predictions tell of systems
+
+-- the groups of a scenario that is explained are told of its start trees: each meets what is told of the group that its
+-- outcome is in, and where a group is told exactly, no other start tree does
+abbrev pub GroupsTellSystems : Type 0
+GroupsTellSystems =
+    (packages : Packages) (turns limit : ℕ) (scenario : Scenario) (part : ReportPart)
+    → IsPartOf packages turns limit scenario part
+    → AreTold (IsStartTree scenario packages) (outcomes_of part) (groups_of part)
+
+-- what is predicted by the report of a scenario for a start tree is the outcome with which the run from it ends, and
+-- for any other tree none
+abbrev pub PredictionsTellSystems : Type 0
+PredictionsTellSystems =
+    (packages : Packages) (turns limit : ℕ) (scenario : Scenario) (part : ReportPart)
+    → IsPartOf packages turns limit scenario part
+    → (tree : Value) (pick : Option ℕ) → IsPick (clauses_of part) tree pick
+    → (IsStartTree scenario packages tree
+    → PicksRun (written_run scenario packages turns) (outcomes_of part) tree pick)
+    × (¬ (IsStartTree scenario packages tree) → pick ≡ None)

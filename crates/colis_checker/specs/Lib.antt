@@ -1,9 +1,12 @@
 pub mod CommandLine
 pub mod Settled
 pub mod Reports
+pub mod Pairs
 pub mod Accounts
 pub mod Loads
+pub mod Explanations
 pub mod Tasks
+pub mod Works
 pub mod ErrorLines
 pub mod Delivery
 pub mod Top

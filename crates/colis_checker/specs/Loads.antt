@@ -1,5 +1,5 @@
 -- What a load comes to: the summary of the report on a made package; or else which scenario is refused.
-use Rattle.std.specs.Prelude.{◌≡◌, ℕ, ◌≤◌, List, None, Result, Ok, Err}
+use Rattle.std.specs.Prelude.{◌≡◌, ℕ, ◌≤◌, List, [], None, Result, Ok, Err}
 use Rattle.system_base.specs.Bases.{usual}
 use Rattle.checker_input.specs.declared.package.Packages.{Packages}
 use Rattle.load_maker.specs.Loaded.{IsLoaded}
@@ -17,11 +17,13 @@ use Rattle.colis_checker.specs.declared.written.Written.{Written}
 use Rattle.colis_checker.specs.Accounts.{AccountsGive}
 use Rattle.colis_checker.specs.Reports.{chosen, CanReportAll, AreParts, IsFirstRefused}
 
--- the packages of a load: the made package of the number, which is its own old one, on the usual base
+-- the packages of a load: the made package of the number, which is its own old one, on the usual base, and whose name
+-- is not asked for
 pub record AreLoaded (number : ℕ) (packages : Packages) : Type 0 where
   pub made : IsLoaded number packages.new_package
   pub alone : packages.old_package ≡ None
   pub on : packages.base ≡ usual
+  pub nameless : packages.name ≡ []
 
 -- the text sums up the report on the packages of a load, in all scenarios, and the status is its verdict
 pub record IsLoadOf (number limit : ℕ) (text : List ℕ) (status : ℕ) : Type 0 where

@@ -2,7 +2,7 @@
 -- is refused.
 use Rattle.std.specs.Prelude.{◌≡◌, ℕ, ◌≤◌, List, [], ◌∷◌, ◌++◌, Option, Some, None, Result, Ok, Err}
 use Rattle.dpkg_scenarios.specs.declared.scenario.Scenario.{Scenario}
-use Rattle.dpkg_scenarios.specs.Scenarios.{all_scenarios}
+use Rattle.dpkg_scenarios.specs.Scenarios.{checked_scenarios}
 use Rattle.command_words.specs.declared.request.Layout.{Layout}
 use Rattle.command_words.specs.declared.request.Layout.TheVariants.{Plain, Brief, Json}
 use Rattle.checker_input.specs.declared.package.Packages.{Packages}
@@ -19,15 +19,15 @@ use Rattle.report_text.specs.Whole.{IsRepresentable}
 use Rattle.report_text.specs.BriefText.{brief_text}
 use Rattle.report_json.specs.ReportJson.{json_text}
 use Rattle.colis_checker.specs.declared.faults.Refusal.{Refusal}
-use Rattle.colis_checker.specs.declared.faults.Refusal.TheVariants.{NoStart, Limit}
+use Rattle.colis_checker.specs.declared.faults.Refusal.TheVariants.{NoStart, Limit, Kept}
 use Rattle.colis_checker.specs.declared.faults.TaskFault.{TaskFault}
 use Rattle.colis_checker.specs.declared.faults.TaskFault.TheVariants.{Refused, Memory}
 use Rattle.colis_checker.specs.declared.written.Written.{Written}
 
--- the scenarios that are chosen: one, or else all, in the order of their places
+-- the scenarios that are chosen: one, or else all that a check answers for, in the order of their places
 abbrev pub chosen : Option Scenario → List Scenario
 chosen (Some scenario) = scenario ∷ []
-chosen None = all_scenarios
+chosen None = checked_scenarios
 
 -- the text of a report in a layout
 abbrev pub layout_text : Layout → Report → List ℕ
@@ -64,6 +64,7 @@ module _ (packages : Packages) (turns limit : ℕ) where
   IsRefused scenario (Limit which most) =
       (which ≡ scenario) × (most ≡ limit)
       × AreTooMany (written_run scenario packages turns) (IsStartTree scenario packages) limit
+  IsRefused scenario (Kept path) = ⊥
 
   -- ---- scenarios
 

@@ -19,7 +19,9 @@ use Rattle.colis_checker.specs.declared.faults.TaskFault.{TaskFault}
 use Rattle.colis_checker.specs.declared.faults.TaskFault.TheVariants.{Refused, Memory}
 use Rattle.colis_checker.specs.declared.written.Written.{Written}
 use Rattle.colis_checker.specs.Reports.{chosen, CanReportAll, IsFirstRefused, IsReportOf}
+use Rattle.colis_checker.specs.Explanations.{IsExplanationOf}
 use Rattle.colis_checker.specs.Loads.{IsLoadOf, IsLoadRefusal, CanLoad}
+use Rattle.colis_checker.specs.Pairs.{IsPairOf, IsPairRefusal, CanPair}
 
 -- the text is that of the scenario's run from the tree, and the status says how it ended: 0 done, 1 failed, 2
 -- incomplete or bound
@@ -51,15 +53,21 @@ IsTextOf (task.Check packages scenario turns limit layout) text status =
 IsTextOf (task.Run packages tree scenario turns) text status = IsRunOf packages tree scenario turns text status
 IsTextOf (task.Translate script) text status = IsProgramOf script text status
 IsTextOf (task.Load number limit) text status = IsLoadOf number limit text status
+IsTextOf (task.Explain packages sources scenario turns limit places) text status =
+    IsExplanationOf packages sources turns places limit (chosen scenario) text status
+IsTextOf (task.Pair packages scenario turns limit) text status = IsPairOf packages turns limit scenario text status
 
 -- A task is refused so: of the scenarios to be reported, the first that cannot be is refused so, of a load as of a
--- check. A run and a program are never refused.
+-- check; of a pair a file is kept, or else its scenario is refused so. A run, a
+-- program and an explanation are never refused.
 abbrev pub IsTaskRefusal : Task → Refusal → Type 0
 IsTaskRefusal (task.Check packages scenario turns limit layout) refusal =
     IsFirstRefused packages turns limit (chosen scenario) refusal
 IsTaskRefusal (task.Run packages tree scenario turns) refusal = ⊥
 IsTaskRefusal (task.Translate script) refusal = ⊥
 IsTaskRefusal (task.Load number limit) refusal = IsLoadRefusal number limit refusal
+IsTaskRefusal (task.Explain packages sources scenario turns limit places) refusal = ⊥
+IsTaskRefusal (task.Pair packages scenario turns limit) refusal = IsPairRefusal packages turns limit scenario refusal
 
 -- a task is not refused: each scenario to be reported can be
 abbrev pub CanComplete : Task → Type 0
@@ -68,6 +76,8 @@ CanComplete (task.Check packages scenario turns limit layout) =
 CanComplete (task.Run packages tree scenario turns) = Unit {0}
 CanComplete (task.Translate script) = Unit {0}
 CanComplete (task.Load number limit) = CanLoad number limit
+CanComplete (task.Explain packages sources scenario turns limit places) = Unit {0}
+CanComplete (task.Pair packages scenario turns limit) = CanPair packages turns limit scenario
 
 -- a status with which the text of a task is written
 abbrev pub MayEnd : Task → ℕ → Type 0
@@ -75,6 +85,8 @@ MayEnd (task.Check packages scenario turns limit layout) status = status ≤ 2
 MayEnd (task.Run packages tree scenario turns) status = status ≤ 2
 MayEnd (task.Translate script) status = status ≡ 0
 MayEnd (task.Load number limit) status = status ≤ 2
+MayEnd (task.Explain packages sources scenario turns limit places) status = status ≤ 2
+MayEnd (task.Pair packages scenario turns limit) status = status ≤ 2
 
 -- ---- what the code answers
 

@@ -9,45 +9,44 @@ use Rattle.command_words.specs.declared.request.Request.{Request}
 use Rattle.command_words.specs.declared.request.Request.TheVariants as words
 use Rattle.command_words.specs.Words.{form}
 use Rattle.checker_input.specs.declared.faults.InputRefusal.{InputRefusal}
-use Rattle.checker_input.specs.declared.task.Task.{Task}
-use Rattle.checker_input.specs.Input.{input}
 use Rattle.colis_checker.specs.declared.faults.Refusal.{Refusal}
 use Rattle.colis_checker.specs.declared.faults.CallRefusal.{CallRefusal}
 use Rattle.colis_checker.specs.declared.faults.CallRefusal.TheVariants.{Usage, Input, Task as OfTask}
+use Rattle.colis_checker.specs.declared.work.Work.{Work}
 use Rattle.colis_checker.specs.declared.deliver.TheConstants.{REFUSED, OUT_OF_MEMORY}
 use Rattle.colis_checker.specs.declared.deliver.Reply.{Reply}
 use Rattle.colis_checker.specs.declared.deliver.Reply.TheVariants.{Text, Refused, ReadFailed, NoMemory}
-use Rattle.colis_checker.specs.Tasks.{IsTextOf, IsTaskRefusal, CanComplete, MayEnd}
+use Rattle.colis_checker.specs.Works.{work_in, IsTextOfWork, IsWorkRefusal, CanCompleteWork, MayEndWork}
 use Rattle.colis_checker.specs.ErrorLines.{refusal_line, read_failed_line, write_failed_line, no_memory_line}
 
 -- ---- what the files come to
 
--- where the shelf tells, the files of a request come to this task, or to this refusal; elsewhere they may
-abbrev pub FilesGive : Request → Option Files → Result Task InputRefusal → Type 0
-FilesGive request holds result = Answers (λ name. name) holds (input request) result
+-- where the shelf tells, the files of a request come to this work, or to this refusal; elsewhere they may
+abbrev pub FilesGive : Request → Option Files → Result Work InputRefusal → Type 0
+FilesGive request holds result = Answers (λ name. name) holds (work_in request) result
 
 -- files of these contents, by their names, do
-abbrev pub FilesGiveOver : Request → Files → Result Task InputRefusal → Type 0
-FilesGiveOver request files result = IsAnswer files (input request) result
+abbrev pub FilesGiveOver : Request → Files → Result Work InputRefusal → Type 0
+FilesGiveOver request files result = IsAnswer files (work_in request) result
 
--- The refusal of a request, by what its files come to: one of them is refused; or else the task is that they come to.
-abbrev pub IsRequestRefusal : Request → (Result Task InputRefusal → Type 0) → CallRefusal → Type 0
+-- The refusal of a request, by what its files come to: one of them is refused; or else the work is that they come to.
+abbrev pub IsRequestRefusal : Request → (Result Work InputRefusal → Type 0) → CallRefusal → Type 0
 IsRequestRefusal request Gives refusal =
     ((fault : InputRefusal) × (refusal ≡ Input fault) × Gives (Err fault))
-    ⊎ ((task : Task) × (own : Refusal) × (refusal ≡ OfTask own) × Gives (Ok task) × IsTaskRefusal task own)
+    ⊎ ((work : Work) × (own : Refusal) × (refusal ≡ OfTask own) × Gives (Ok work) × IsWorkRefusal work own)
 
 -- ---- what is said
 
 -- In what follows the words were understood as given: a request, or the number of the word at which they are no
 -- command line.
 
--- the text and the status of the task that the request comes to
+-- the text and the status of the work that the request comes to
 pub record IsAnswerText (given : Result Request ℕ) (holds : Option Files) (text : List ℕ) (status : ℕ) : Type 0 where
   pub request : Request
   pub spelled : given ≡ Ok request
-  pub task : Task
-  pub read : FilesGive request holds (Ok task)
-  pub of_task : IsTextOf task text status
+  pub work : Work
+  pub read : FilesGive request holds (Ok work)
+  pub of_work : IsTextOfWork work text status
 
 -- the refusal that the words, or else the request, are answered with
 abbrev pub IsRefusal : Result Request ℕ → Option Files → CallRefusal → Type 0
@@ -65,7 +64,7 @@ pub record IsReadFailedLine (given : Result Request ℕ) (holds : Option Files) 
   pub request : Request
   pub spelled : given ≡ Ok request
   pub file : List ℕ
-  pub asked : Asks (λ name. name) holds (input request) file
+  pub asked : Asks (λ name. name) holds (work_in request) file
   pub failed_is : failed ≡ file
   pub line_is : line ≡ read_failed_line file
 
@@ -179,12 +178,12 @@ abbrev pub OverFiles : Request → Option Files → (Files → Type 0) → Type 
 OverFiles (words.Load number limit) holds P = (files : Files) → P files
 OverFiles request holds P = IfSome holds P
 
--- Where no count rose, and the words and the files give a task that is not refused, its text is written, or memory is
+-- Where no count rose, and the words and the files give work that is not refused, its text is written, or memory is
 -- missing.
 abbrev pub Completes : Result Request ℕ → ShelfState → ℕ → Type 0
-Completes given shelf status = (request : Request) (task : Task) → given ≡ Ok request
-    → OverFiles request shelf.holds (λ files. FilesGiveOver request files (Ok task) → CanComplete task
-    → MayEnd task status ⊎ (status ≡ OUT_OF_MEMORY))
+Completes given shelf status = (request : Request) (work : Work) → given ≡ Ok request
+    → OverFiles request shelf.holds (λ files. FilesGiveOver request files (Ok work) → CanCompleteWork work
+    → MayEndWork work status ⊎ (status ≡ OUT_OF_MEMORY))
 
 -- Where no count rose and a refusal applies, it is answered, or memory is missing.
 abbrev pub Refuses : Result Request ℕ → ShelfState → ℕ → Type 0

@@ -1,17 +1,17 @@
 ghost use Rattle.std.specs.Prelude.{◌≡◌, ◌++◌, IfOk, codes};
 ghost use Rattle.colis_checker.specs.ErrorLines.{form_name, place_line, unsupported, form_line, script_line};
-ghost use Rattle.colis_checker.specs.ErrorLines.{fault_line, input_line, scenario_line};
+ghost use Rattle.colis_checker.specs.ErrorLines.{fault_line, length_line, input_line, scenario_line};
 ghost use Rattle.colis_checker.specs.ErrorLines.{refusal_line as line_of_refusal};
 ghost use Rattle.colis_checker.specs.ErrorLines.{read_failed_line as line_of_failure};
 ghost use Rattle.colis_checker.specs.declared.faults.CallRefusal.TheVariants.{Usage};
-ghost use Rattle.colis_checker.specs.declared.faults.Refusal.TheVariants.{NoStart, Limit};
+ghost use Rattle.colis_checker.specs.declared.faults.Refusal.TheVariants.{NoStart, Limit, Kept};
 
 use crate::faults::{CallRefusal, Refusal};
 use checker_input::{FileFault, ScriptFault};
 use dpkg_scenarios::{Scenario, scenario_name};
-use script_names::{Bytes, Memory};
+use script_names::{Bytes, Memory, Path};
 use shell_syntax::Form;
-use shown_texts::push_number;
+use shown_texts::{push_number, push_path};
 use std::alloc::Global;
 
 // The name of an unsupported form.
@@ -125,20 +125,36 @@ fn fault_line(alloc: Global, name: &str, number: u64, why: u8) -> Result<Bytes, 
     Ok(text)
 }
 
+// The line of a fault in a file, with a number of bytes.
+fn length_line(alloc: Global, name: &str, fault: &[u8], most: usize) -> Result<Bytes, Memory>
+    ensures { IfOk result (λ text. text ≡ length_line name.now fault.now most) }
+{
+    let mut text = file_line(alloc, name, fault)?;
+    push_number(&mut text, most as u64)?;
+    text.extend(b" bytes")?;
+    text.extend(b"\n")?;
+    Ok(text)
+}
+
+// The line of a fault in a file, with the number of a reason.
+fn reason_line(alloc: Global, name: &str, fault: &[u8], why: u8) -> Result<Bytes, Memory>
+    ensures { IfOk result (λ text. text ≡ place_line name.now fault.now why) }
+{
+    let text = number_line(alloc, name, fault, u64::from(why))?;
+    Ok(text)
+}
+
 // The line of a file that is refused, by its name and what is wrong with it.
 fn input_line(alloc: Global, name: &str, fault: FileFault) -> Result<Bytes, Memory>
     ensures { IfOk result (λ text. text ≡ input_line name.now fault) }
 {
     match fault {
         FileFault::Missing => file_line(alloc, name, b": missing\n"),
-        FileFault::TooLong => {
-            let mut text = file_line(alloc, name, b": longer than 1048576 bytes")?;
-            text.extend(b"\n")?;
-            Ok(text)
-        }
+        FileFault::TooLong { most } => length_line(alloc, name, b": longer than ", most),
         FileFault::Script(fault) => script_line(alloc, name, fault),
         FileFault::Version { line } => number_line(alloc, name, b": bad version in line ", line),
         FileFault::Line { line, why } => fault_line(alloc, name, line, why),
+        FileFault::Report { why } => reason_line(alloc, name, b": report fault ", why),
     }
 }
 
@@ -166,6 +182,17 @@ fn limit_line(alloc: Global, scenario: Scenario, limit: u32) -> Result<Bytes, Me
     Ok(text)
 }
 
+// The line of a pair of which a file of the other package is kept.
+fn kept_line(alloc: Global, path: &Path) -> Result<Bytes, Memory>
+    ensures { IfOk result (λ text. text ≡ scenario_line (Kept path.now)) }
+{
+    let mut text = Bytes::new(alloc);
+    text.extend(b"colis: other package keeps ")?;
+    push_path(&mut text, path.names())?;
+    text.extend(b"\n")?;
+    Ok(text)
+}
+
 /// The line of words that are no command line; `word` is the number of the word at which that shows, from 1.
 pub fn usage_line(alloc: Global, word: u64) -> Result<Bytes, Memory>
     ensures { IfOk result (λ text. text ≡ line_of_refusal (Usage word)) }
@@ -178,12 +205,13 @@ pub fn usage_line(alloc: Global, word: u64) -> Result<Bytes, Memory>
 }
 
 // The line of a scenario that is refused.
-fn scenario_line(alloc: Global, refusal: Refusal) -> Result<Bytes, Memory>
-    ensures { IfOk result (λ text. text ≡ scenario_line refusal) }
+fn scenario_line(alloc: Global, refusal: &Refusal) -> Result<Bytes, Memory>
+    ensures { IfOk result (λ text. text ≡ scenario_line refusal.now) }
 {
     match refusal {
-        Refusal::NoStart { scenario } => no_start_line(alloc, scenario),
-        Refusal::Limit { scenario, limit } => limit_line(alloc, scenario, limit),
+        Refusal::NoStart { scenario } => no_start_line(alloc, *scenario),
+        Refusal::Limit { scenario, limit } => limit_line(alloc, *scenario, *limit),
+        Refusal::Kept { path } => kept_line(alloc, path),
     }
 }
 
@@ -194,7 +222,7 @@ pub fn refusal_line(alloc: Global, refusal: &CallRefusal) -> Result<Bytes, Memor
     match refusal {
         CallRefusal::Usage { word } => usage_line(alloc, *word),
         CallRefusal::Input(refused) => input_line(alloc, refused.file.as_str(), refused.fault),
-        CallRefusal::Task(refused) => scenario_line(alloc, *refused),
+        CallRefusal::Task(refused) => scenario_line(alloc, refused),
     }
 }
 

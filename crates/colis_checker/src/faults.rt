@@ -4,7 +4,7 @@ ghost use Rattle.colis_checker.specs.Reports.{task_fault};
 use checker_input::InputRefusal;
 use dpkg_scenarios::Scenario;
 use scenario_outcomes::OutcomesFault;
-use script_names::Memory;
+use script_names::{Memory, Path};
 
 /// Why a call is refused.
 #[derive(Debug, Drop)]
@@ -18,16 +18,18 @@ pub enum CallRefusal {
 }
 
 /// Why a scenario is refused.
-#[derive(Clone, Copy, Debug, PartialEq, Eq)]
+#[derive(Debug, Drop)]
 pub enum Refusal {
     /// No tree of files has what the scenario needs to begin.
     NoStart { scenario: Scenario },
     /// The runs of the scenario have more different traces than the limit.
     Limit { scenario: Scenario, limit: u32 },
+    /// The other package of a pair is to disappear, and this file of it is kept.
+    Kept { path: Path },
 }
 
 /// Why a task, whose files are as they should be, has no text.
-#[derive(Clone, Copy, Debug, PartialEq, Eq)]
+#[derive(Debug, Drop)]
 pub enum TaskFault {
     Refused(Refusal),
     Memory,

@@ -12,7 +12,7 @@ use checker_input::Packages;
 use command_words::USUAL_TURNS;
 use load_maker::load;
 use load_summary::{ScenarioEndings, load_verdict, render_load};
-use script_names::{List, Memory};
+use script_names::{Bytes, List, Memory};
 use std::alloc::Global;
 use std::thread::Threads;
 use system_base::Base;
@@ -31,6 +31,7 @@ fn load_packages(alloc: Global, number: u32) -> Result<Packages, Memory>
         new_package,
         old_package: None,
         base,
+        name: Bytes::new(alloc),
     })
 }
 

@@ -1,16 +1,20 @@
 //! Reads unpacked Debian packages and reports every way in which their maintainer scripts can end, scenario by
-//! scenario, over all file trees that meet stated start conditions; or sums up such a report on a package that it
-//! makes; or runs one scenario from one tree; or translates one script and prints its CoLiS program. Begin with `top`:
-//! its `run_words` is all that the program does, and its `finish` ends the program with the status. What a report says
-//! is in specs/Reports.antt, and what it means in `theorems`.
+//! scenario, over all file trees that meet stated start conditions; or reports so the one scenario of a pair of
+//! packages, or of a package that is configured twice; or sums up such a report on a package that it makes; or explains
+//! to people what such reports say; or runs one scenario from one tree; or translates one script and prints its CoLiS
+//! program; or says which outcome of a report each of many trees has. Begin with `top`: its `run_words` is all that the
+//! program does, and its `finish` ends the program with the status. What a report says is in specs/Reports.antt, and
+//! what it means in `theorems`.
 #![tactic(auto)]
 
 mod account;
 mod command_line;
 mod deliver;
 mod error_lines;
+mod explanations;
 mod faults;
 mod loads;
+mod pairs;
 mod reports;
 mod scenarios;
 mod tasks;
@@ -18,6 +22,7 @@ mod tasks;
 mod tests;
 pub mod theorems;
 mod top;
+mod work;
 mod written;
 
 use case_pool::Open;

@@ -22,8 +22,8 @@ use script_names::{Bytes, List};
 use std::alloc::Global;
 use std::thread::Threads;
 
-// The report on one scenario, or on all; or why the first of them that has none is refused.
-fn make_report<R: Threads + Sync, G: Gate>(
+/// The report on one scenario, or on all; or why the first of them that has none is refused.
+pub fn make_report<R: Threads + Sync, G: Gate>(
     rt: &R,
     alloc: Global,
     gate: &G,
@@ -53,8 +53,8 @@ fn tell_report<R: Threads + Sync, G: Gate>(
     chosen_accounts(rt, alloc, gate, packages, turns, limit, scenario)
 }
 
-// A text of a report, with the report's verdict.
-fn written(report: &Report, text: Bytes) -> Written
+/// A text of a report, with the report's verdict.
+pub fn written(report: &Report, text: Bytes) -> Written
     ensures text { result.text ≡ text }
     ensures status { result.status ≡ verdict_of report.now }
     ensures representable { IsRepresentable report.now }

@@ -11,7 +11,7 @@ use crate::account::Account;
 use crate::faults::{TaskFault, task_fault};
 use case_pool::{Gate, map_jobs};
 use checker_input::Packages;
-use dpkg_scenarios::{Scenario, all_scenarios};
+use dpkg_scenarios::{Scenario, checked_scenarios};
 use package_jobs::{Programs, is_plain, job_with, needs_of, programs_of};
 use script_names::{List, Memory};
 use std::alloc::Global;
@@ -20,13 +20,13 @@ use std::thread::Threads;
 // A package with as many entries at most has few.
 const FEW_ENTRIES: usize = 64;
 
-// The scenarios that are chosen: one, or else all, in the order in which they are reported.
+// The scenarios that are chosen: one, or else all that a check answers for, in the order in which they are reported.
 fn chosen_scenarios(alloc: Global, scenario: Option<Scenario>) -> Result<List<Scenario>, Memory>
     ensures { IfOk result (λ scenarios. scenarios ≡ chosen scenario) }
 {
     match scenario {
         Some(scenario) => List::copies(alloc, &[scenario]),
-        None => List::copies(alloc, all_scenarios()),
+        None => List::copies(alloc, checked_scenarios()),
     }
 }
 
@@ -108,6 +108,27 @@ fn settle<T: Drop, E: Drop>(
         }
     }
     Ok(Ok(values))
+}
+
+/// What is answered of one scenario, or of each: its account, or why there is none.
+pub fn each_account<R: Threads + Sync, G: Gate, A: Account + Send>(
+    rt: &R,
+    alloc: Global,
+    gate: &G,
+    packages: &Packages,
+    programs: &Programs,
+    turns: u32,
+    limit: u32,
+    scenario: Option<Scenario>,
+) -> Result<List<Result<A, TaskFault>>, Memory>
+    requires { AreProgramsOf packages.now programs.now }
+    ensures { IfOk result (AllZip (AccountGives A.tells packages.now turns limit) (chosen scenario)) }
+{
+    let scenarios = chosen_scenarios(alloc, scenario)?;
+    let answers = scenario_accounts(
+        rt, alloc, gate, packages, programs, turns, limit, &scenarios,
+    )?;
+    Ok(answers)
 }
 
 /// The accounts of one scenario, or of all; or why the first of them that has none is refused.

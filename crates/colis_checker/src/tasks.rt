@@ -1,13 +1,18 @@
-//! What is done of each task.
+//! What is done of each task, and of a prediction.
 
-ghost use Rattle.std.specs.Prelude.{◌≡◌, IfOk};
+ghost use Rattle.std.specs.Prelude.{◌≡◌, All, IfOk};
 ghost use Rattle.feature_trees.specs.Sound.{IsTree};
 ghost use Rattle.checker_input.specs.Input.{IsSound};
+ghost use Rattle.prediction_text.specs.PredictionText.{AreSolved};
 ghost use Rattle.colis_checker.specs.Tasks.{IsRunOf, IsProgramOf, TaskGives};
+ghost use Rattle.colis_checker.specs.Works.{IsSoundWork, IsPredictionOf, WorkGives};
 
+use crate::explanations::write_explanation;
 use crate::faults::TaskFault;
 use crate::loads::write_load;
+use crate::pairs::write_pair;
 use crate::reports::write_report;
+use crate::work::Work;
 use crate::written::Written;
 use case_pool::Gate;
 use checker_input::{Packages, Task};
@@ -16,6 +21,8 @@ use dpkg_scenarios::Scenario;
 use feature_trees::Value;
 use outcome_report::run_status;
 use package_jobs::job_of;
+use prediction_input::Prediction;
+use prediction_text::predict_text;
 use report_text::render_run;
 use scenario_runs::run;
 use script_names::Memory;
@@ -88,19 +95,68 @@ fn write_task<R: Threads + Sync, G: Gate>(
             Ok(written)
         }
         Task::Load { number, limit } => write_load(rt, alloc, gate, *number, *limit),
+        Task::Explain {
+            packages,
+            sources,
+            scenario,
+            turns,
+            limit,
+            places,
+        } => {
+            write_explanation(
+                rt, alloc, gate, packages, sources, *scenario, *turns, *limit, *places,
+            )
+        }
+        Task::Pair {
+            packages,
+            scenario,
+            turns,
+            limit,
+        } => write_pair(rt, alloc, gate, packages, *turns, *limit, *scenario),
     }
 }
 
-/// The text of what a task asks for, and the status that goes with it; or why there is none. The task is let go here,
-/// in one place.
+// The text on the trees of a prediction.
+fn write_prediction<R: Threads + Sync>(
+    rt: &R,
+    alloc: Global,
+    prediction: &Prediction,
+) -> Result<Written, Memory>
+    requires { All AreSolved prediction.now.report.parts }
+    ensures { IfOk result (λ written. IsPredictionOf prediction.now written.text written.status) }
+{
+    let text = predict_text(rt, alloc, &prediction.report, &prediction.trees)?;
+    Ok(Written { text, status: 0 })
+}
+
+// The text of work, and the status that goes with it; or why there is none.
+fn write_work<R: Threads + Sync, G: Gate>(
+    rt: &R,
+    alloc: Global,
+    gate: &G,
+    work: &Work,
+) -> Result<Written, TaskFault>
+    requires { IsSoundWork work.now }
+    ensures { WorkGives work.now result }
+{
+    match work {
+        Work::Task(task) => write_task(rt, alloc, gate, task),
+        Work::Predict(prediction) => {
+            let written = write_prediction(rt, alloc, prediction)?;
+            Ok(written)
+        }
+    }
+}
+
+/// The text of work, and the status that goes with it; or why there is none. The work is let go here, in one place.
 pub fn carry_out<R: Threads + Sync, G: Gate>(
     rt: &R,
     alloc: Global,
     gate: &G,
-    task: Task,
+    work: Work,
 ) -> Result<Written, TaskFault>
-    requires { IsSound task }
-    ensures { TaskGives task result }
+    requires { IsSoundWork work }
+    ensures { WorkGives work result }
 {
-    write_task(rt, alloc, gate, &task)
+    write_work(rt, alloc, gate, &work)
 }

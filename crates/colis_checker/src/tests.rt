@@ -4,6 +4,7 @@ mod faults;
 mod limits;
 mod loops;
 mod most_outcomes;
+mod predictions;
 mod scripts;
 mod scripts_made;
 mod seen;

@@ -4,8 +4,8 @@ ghost use Rattle.colis_checker.specs.Laws.{QuietScenario, QuietReport, UnfailedS
 ghost use Rattle.colis_checker.specs.Laws.{FailedScenario, FailedReport, WholeReports};
 ghost use Rattle.colis_checker.specs.Laws.{PlainTextsTellReports, JsonTextsTellReports};
 ghost use Rattle.colis_checker.specs.Laws.{OneReportStatus, OneBriefText, OneStatus, OneText, OneRefusal};
+ghost use Rattle.colis_checker.specs.Laws.{GroupsTellSystems, PredictionsTellSystems};
 
-use checker_input::theorems::one_answer;
 use package_jobs::theorems::more_turns_change_no_written_run;
 use report_json::theorems::json_tells_reports;
 use report_text::theorems::{endings_tell_brief_texts, texts_tell_reports};
@@ -73,19 +73,29 @@ pub fn one_brief_report()
 }
 
 /// The status of a call that is answered with a text follows from its words and from what the files hold. So does the
-/// text of a brief check, of a run, of a translation and of a load.
+/// text of a brief check, of a run, of a translation, of a load and of a prediction.
 pub fn one_text()
     ensures status { OneStatus }
     ensures text { OneText }
 {
     endings_tell_brief_texts();
-    one_answer();
 }
 
 /// A request is refused for one reason: the first file that is at fault, or else the first scenario that cannot be
 /// reported.
 pub fn one_refusal()
     ensures { OneRefusal }
-{
-    one_answer();
-}
+{}
+
+/// What an explanation tells of systems: each start tree of a scenario has the facts that are told of the group which
+/// its outcome is in, and where these are told as exact, no start tree has them whose outcome is in another group. Each
+/// outcome is in one group.
+pub fn groups_tell_systems()
+    ensures { GroupsTellSystems }
+{}
+
+/// What a prediction by a scenario's report tells of systems: for a start tree the outcome with which the run from it
+/// ends, and for any other tree that it is none.
+pub fn predictions_tell_systems()
+    ensures { PredictionsTellSystems }
+{}

@@ -10,10 +10,9 @@ use crate::deliver::{OUT_OF_MEMORY, Reply, deliver};
 use crate::error_lines::{read_failed_line, refusal_line, usage_line};
 use crate::faults::{CallRefusal, TaskFault};
 use crate::tasks::carry_out;
+use crate::work::read_work;
 use crate::written::Written;
 use case_pool::Gate;
-use checker_input::read_task;
-use checker_input::theorems::one_answer;
 use checker_io::{Shelf, Sink, Stop};
 use command_words::theorems::loads_are_small;
 use command_words::{Request, WordsFault, read_words};
@@ -34,8 +33,8 @@ fn reply<R: Threads + Sync, G: Gate, S: Shelf>(
     ensures kept { (S.state shelf.new).holds ≡ (S.state shelf.old).holds }
     ensures replies { Replies (Ok request.now) (S.state shelf.old) (S.state shelf.new) result }
 {
-    match read_task(alloc, request, shelf) {
-        Ok(task) => match carry_out(rt, alloc, gate, task) {
+    match read_work(alloc, request, shelf) {
+        Ok(work) => match carry_out(rt, alloc, gate, work) {
             Ok(Written { text, status }) => Reply::Text { text, status },
             Err(TaskFault::Refused(refusal)) => {
                 match refusal_line(alloc, &CallRefusal::Task(refusal)) {
@@ -94,13 +93,18 @@ pub fn run_words<R: Threads + Sync, G: Gate, S: Shelf, O: Sink, E: Sink>(
     ensures kept { (S.state shelf.new).holds ≡ (S.state shelf.old).holds }
 
     // 0, 1, 2: no read and no write failed, and the text of what the words ask for was written: a report that has, for
-    // each chosen scenario, all ways in which it can end, and the status is its verdict; or the summary of such a
-    // report on a made package; or a run, and the status says how it ended; or a program that does what the script
-    // does, and the status is 0.
+    // each chosen scenario, all ways in which it can end, and the status is its verdict; or such a report on the one
+    // scenario of a pair of packages, of which no file is kept, or of a package that is configured twice; or the
+    // summary of such a report on a made package; or an explanation of each chosen scenario, of all ways in which it
+    // can end or of why it has no report, and the status is 1 where some outcome failed, else 2 where some is undecided
+    // or a scenario has no report; or a run, and the status says how it ended; or a program that does what the script
+    // does, and the status is 0; or a prediction, which outcome of a report each tree has, and the status is 0.
     ensures reported { result ≤ 2 → Reported (form words.now) (S.state shelf.old) (S.state shelf.new)
         (O.state out.old) (O.state out.new) (E.state err.old) (E.state err.new) result }
 
-    // 3: no read and no write failed, and the first refusal was named.
+    // 3: no read and no write failed, and the first refusal was named: of the words; or of a file; or of a pair the
+    // first file that is kept; or of a scenario that is to be reported. Once their files are understood, a prediction,
+    // an explanation, a run and a program are not refused.
     ensures refused { result ≡ 3 → SaidRefusal (form words.now) (S.state shelf.old) (S.state shelf.new)
         (O.state out.old) (O.state out.new) (E.state err.old) (E.state err.new) }
 
@@ -116,8 +120,9 @@ pub fn run_words<R: Threads + Sync, G: Gate, S: Shelf, O: Sink, E: Sink>(
     ensures ran_out { result ≡ 6 → RanOut (form words.now) (S.state shelf.old) (S.state shelf.new)
         (O.state out.old) (O.state out.new) (E.state err.old) (E.state err.new) }
 
-    // Where no count rose, packages are reported or run, a script is translated, and a refusal is named, unless memory
-    // is missing; a made package is reported over any shelf, since no file is read for it.
+    // Where no count rose, packages are reported, explained or run, a script is translated, trees are told apart, and a
+    // refusal is named, unless memory is missing; a made package is reported over any shelf, since no file is read for
+    // it.
     ensures complete { NoneRose (S.state shelf.old) (S.state shelf.new)
         (O.state out.old) (O.state out.new) (E.state err.old) (E.state err.new)
         → Completes (form words.now) (S.state shelf.old) result }
@@ -125,7 +130,6 @@ pub fn run_words<R: Threads + Sync, G: Gate, S: Shelf, O: Sink, E: Sink>(
         (O.state out.old) (O.state out.new) (E.state err.old) (E.state err.new)
         → Refuses (form words.now) (S.state shelf.old) result }
 {
-    one_answer();
     let reply = answer(rt, alloc, gate, words, shelf);
     deliver(&reply, out, err)
 }

@@ -685,6 +685,76 @@ verdict 1
     ),
 ];
 
+// What is said to people of QUESTION's package, of one that has nothing, and of scenarios with too many outcomes.
+const EXPLAINED: &[Called] = &[
+    Called(
+        &[
+            "explain",
+            "p",
+            "--scenario",
+            "install",
+            "--base",
+            "b",
+            "--places",
+        ],
+        QUESTION,
+        (
+            1,
+            b"p/postinst:3:1: note: the installation: undecided: a link stands there or on the way, and it is not \
+              followed here (1 outcome)\n\
+              p/postinst:3:1: error: the installation: failure; the package is left unpacked, but its configuration \
+              failed (1 outcome)\n",
+            b"",
+        ),
+    ),
+    Called(
+        &[
+            "explain",
+            "p",
+            "--scenario",
+            "install",
+            "--base",
+            "b",
+            "--limit",
+            "2",
+        ],
+        QUESTION,
+        (
+            2,
+            b"p 0, install: NOT EXAMINED
+There are more than 2 outcomes. More are looked at with --limit; a base that says more leaves fewer.
+
+Premises: b, 0 known places, 0 known links, 0 own folders, 0 stated commands
+Not looked at: contents, modes and owners of files.
+",
+            b"",
+        ),
+    ),
+    Called(
+        &["explain", "p", "--scenario", "purge-later"],
+        NOTHING,
+        (
+            0,
+            b"p 0, purge-later: ends well
+1 outcome: 0 failing, 0 undecided, 1 ending well
+
+p: ends well; the package is left not installed (1 outcome)
+  On every system that meets the premises.
+
+Premises: the usual base, 13 known places, 0 known links, 0 own folders, 0 stated commands
+  fits: what stands where the package's files go fits them
+Not looked at: contents, modes and owners of files.
+",
+            b"",
+        ),
+    ),
+];
+
+#[test]
+fn packages_are_explained(rt: HostRuntime) -> Result<(), Fail> {
+    see_all(&rt, EXPLAINED)
+}
+
 // Reports that are not brief.
 #[test]
 fn reports_without_scripts(rt: HostRuntime) -> Result<(), Fail> {

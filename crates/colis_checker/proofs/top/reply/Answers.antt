@@ -17,7 +17,7 @@ returns-in-Ok-refusal_line-clause-replies g c =
       record {
         refusal = _;
         is_refusal =
-            inr (c.in-Ok.task, c.in-Err-Refused-carry_out.refusal, refl, reads.ends.1, (rw c.in-Err-Refused-carry_out.field-0-is at c.in-Err-Refused-carry_out.ensures));
+            inr (c.in-Ok.work, c.in-Err-Refused-carry_out.refusal, refl, reads.ends.1, (rw c.in-Err-Refused-carry_out.field-0-is at c.in-Err-Refused-carry_out.ensures));
         line_is = c.in-Ok-refusal_line.ensures;
       },
     )
