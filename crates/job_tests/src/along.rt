@@ -2,9 +2,9 @@
 //! A nothing, R a regular file, L a link, F, S, B and C a special file, D a directory; or, behind `=`, the names that its
 //! entries may have; or, behind `>`, the target of the link there.
 
-use crate::answers::{File, answer};
+use crate::answers::{File, Sought, is_said};
 use dpkg_scenarios::Scenario;
-use std::test::Fail;
+use std::alloc::Global;
 
 const LINE: &str = "check p --base b";
 
@@ -30,7 +30,8 @@ type Row = (
     &'static str,
 );
 
-const LINKED: &[Row] = &[
+const ROWS: &[Row] = &[
+    // known links
     // A link stands at its path, with its target, and leads to a directory.
     (
         Scenario::Install,
@@ -109,9 +110,7 @@ const LINKED: &[Row] = &[
         b"link /a b\nlink /b a\n",
         "/a>b /a: /b>a /b: ",
     ),
-];
-
-const OWNED: &[Row] = &[
+    // folders that hold no foreign entry
     // The names are those of all entries below, whether the folders between are listed or not.
     (
         Scenario::Remove,
@@ -196,9 +195,7 @@ const OWNED: &[Row] = &[
         b"link /a b\nlink /b a\nown\n",
         "/a>b /a: /b>a /b: ",
     ),
-];
-
-const REMOVED: &[Row] = &[
+    // a removal that took the package away
     // Nothing is left of the package but its configuration files, the folders on the way to one, and what is a directory
     // of the base.
     (
@@ -265,34 +262,15 @@ const REMOVED: &[Row] = &[
     ),
 ];
 
-// The files of a row.
-fn files(row: &Row) -> [File; 3] {
-    [("p/list", row.1), ("p/conffiles", row.2), ("b", row.3)]
+// Whether the start trees of a row need what the row says.
+fn is_needed(alloc: Global, row: &Row) -> bool {
+    let files: [File; 3] = [("p/list", row.1), ("p/conffiles", row.2), ("b", row.3)];
+    is_said(alloc, Sought::Answer, row.0, LINE, &files, &[], row.4)
 }
 
 #[test]
-fn links_stand_in_start_trees(rt: HostRuntime) -> Result<(), Fail> {
-    for row in LINKED {
-        let text = answer(rt.alloc(), row.0, LINE, &files(row), &[])?;
-        assert!(rt; text.as_slice() == row.4.as_bytes(), "{:?}", row.3);
+fn start_trees_need_along_links(rt: HostRuntime) {
+    for row in ROWS {
+        assert!(rt; is_needed(rt.alloc(), row), "{:?}", row.3);
     }
-    Ok(())
-}
-
-#[test]
-fn own_folders_hold_all_entries_below(rt: HostRuntime) -> Result<(), Fail> {
-    for row in OWNED {
-        let text = answer(rt.alloc(), row.0, LINE, &files(row), &[])?;
-        assert!(rt; text.as_slice() == row.4.as_bytes(), "{:?}", row.3);
-    }
-    Ok(())
-}
-
-#[test]
-fn a_removal_took_the_package_away(rt: HostRuntime) -> Result<(), Fail> {
-    for row in REMOVED {
-        let text = answer(rt.alloc(), row.0, LINE, &files(row), &[])?;
-        assert!(rt; text.as_slice() == row.4.as_bytes(), "{:?}", row.3);
-    }
-    Ok(())
 }

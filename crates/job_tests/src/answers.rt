@@ -1,16 +1,16 @@
 //! Packages from files in memory, what a scenario needs for them, and its runs.
 
-use checker_input::{Packages, Task, read_task};
+use checker_input::{Asked, Packages, Task, read_task};
 use checker_io::MemShelf;
 use command_words::{Request, read_words};
 use dpkg_scenarios::{Ending, Scenario};
 use feature_trees::{Kind, Kinds, Special, Value};
-use outcome_report::{Report, ReportEntry, make_part};
+use outcome_report::{Report, ReportEntry, ReportPart, make_part};
 use package_jobs::{job_of, needs_of};
 use report_text::{render_brief, render_run};
 use scenario_outcomes::OutcomesFault;
 use scenario_runs::{Job, Replayed, run};
-use script_names::{Bytes, Copied, List, Memory, Name, Path, Text};
+use script_names::{Boxed, Bytes, Copied, List, Memory, Name, Path, Text};
 use start_trees::{Need, Wanted};
 use std::alloc::Global;
 
@@ -28,10 +28,10 @@ fn words(alloc: Global, line: &str) -> Result<List<Text>, Memory> {
 }
 
 // The request that the words of a line spell.
-fn request(alloc: Global, line: &str) -> Result<Request, Memory> {
+fn request(alloc: Global, line: &str) -> Result<Boxed<Request>, Memory> {
     let words = words(alloc, line)?;
     match read_words(alloc, &words) {
-        Ok(request) => Ok(request),
+        Ok(request) => Boxed::new(alloc, request),
         Err(_) => Err(Memory),
     }
 }
@@ -119,6 +119,28 @@ fn needed(alloc: Global, scenario: Scenario, packages: &Packages) -> Result<Byte
     needs_text(alloc, needs.as_slice())
 }
 
+// The job of a scenario.
+fn job(
+    alloc: Global,
+    scenario: Scenario,
+    packages: &Packages,
+    turns: u32,
+) -> Result<Boxed<Job>, Memory> {
+    let job = job_of(alloc, scenario, packages, turns)?;
+    Boxed::new(alloc, job)
+}
+
+// The run of a job from a tree.
+fn run_from(alloc: Global, job: &Job, tree: &Value) -> Result<Boxed<Replayed>, Memory> {
+    match tree {
+        Value::Dir(_) => {
+            let replayed = run(alloc, job, tree)?;
+            Boxed::new(alloc, replayed)
+        }
+        Value::Absent | Value::Reg | Value::Link(_) | Value::Special(_) => Err(Memory),
+    }
+}
+
 // The text of a scenario's run from a tree, with one turn of loops.
 fn ran(
     alloc: Global,
@@ -126,32 +148,23 @@ fn ran(
     packages: &Packages,
     tree: &Value,
 ) -> Result<Bytes, Memory> {
-    match tree {
-        Value::Dir(_) => {
-            let job = job_of(alloc, scenario, packages, 1)?;
-            let replayed = run(alloc, &job, tree)?;
-            render_run(alloc, &replayed)
-        }
-        Value::Absent | Value::Reg | Value::Link(_) | Value::Special(_) => Err(Memory),
-    }
+    let job = job(alloc, scenario, packages, 1)?;
+    let replayed = run_from(alloc, job.get(), tree)?;
+    render_run(alloc, replayed.get())
 }
 
-// The text of a copy of a run.
-fn copied_text(alloc: Global, replayed: &Replayed) -> Result<Bytes, Memory> {
-    let copy = replayed.copy(alloc)?;
-    render_run(alloc, &copy)
+// A copy of the packages.
+fn copied(alloc: Global, packages: &Packages) -> Result<Boxed<Packages>, Memory> {
+    let copy = packages.copy(alloc)?;
+    Boxed::new(alloc, copy)
 }
 
-// The text of the run of a copy of a job.
-fn copied_run(alloc: Global, job: &Job, tree: &Value) -> Result<Bytes, Memory> {
-    match tree {
-        Value::Dir(_) => {
-            let copy = job.copy(alloc)?;
-            let replayed = run(alloc, &copy, tree)?;
-            copied_text(alloc, &replayed)
-        }
-        Value::Absent | Value::Reg | Value::Link(_) | Value::Special(_) => Err(Memory),
-    }
+// The text of a copy of the run of a copy of a job.
+fn copied_run(alloc: Global, job: &Boxed<Job>, tree: &Value) -> Result<Bytes, Memory> {
+    let copy = job.copy(alloc)?;
+    let replayed = run_from(alloc, copy.get(), tree)?;
+    let other = replayed.copy(alloc)?;
+    render_run(alloc, other.get())
 }
 
 // The same text, by copies of the packages, of the job and of the run.
@@ -161,8 +174,8 @@ fn ran_by_copies(
     packages: &Packages,
     tree: &Value,
 ) -> Result<Bytes, Memory> {
-    let copy = packages.copy(alloc)?;
-    let job = job_of(alloc, scenario, &copy, 1)?;
+    let copy = copied(alloc, packages)?;
+    let job = job(alloc, scenario, copy.get(), 1)?;
     copied_run(alloc, &job, tree)
 }
 
@@ -181,60 +194,41 @@ fn task_text(alloc: Global, scenario: Scenario, task: &Task) -> Result<Bytes, Me
         Task::Run { packages, tree, .. } => ran(alloc, scenario, packages, tree),
         Task::Translate { .. } => Err(Memory),
         Task::Load { .. } => Err(Memory),
+        Task::Explain { .. } => Err(Memory),
+        Task::Pair { packages, .. } => needed(alloc, scenario, packages),
     }
-}
-
-// The same; the task is let go here, in one place.
-fn told(alloc: Global, scenario: Scenario, task: Task) -> Result<Bytes, Memory> {
-    task_text(alloc, scenario, &task)
 }
 
 // The task of the request of a line over these files, where those of the second list stand in the place of those of the
 // first.
-fn task(alloc: Global, line: &str, files: &[File], others: &[File]) -> Result<Task, Memory> {
+fn task(alloc: Global, line: &str, files: &[File], others: &[File]) -> Result<Boxed<Task>, Memory> {
     let request = request(alloc, line)?;
     let mut shelf = shelf(alloc, files, others)?;
-    match read_task(alloc, &request, &mut shelf) {
-        Ok(task) => Ok(task),
+    match read_task(alloc, request.get(), &mut shelf) {
+        Ok(Asked::Task(task)) => Boxed::new(alloc, task),
+        Ok(Asked::Prediction { .. }) => Err(Memory),
         Err(_) => Err(Memory),
     }
 }
 
-/// What is said of a scenario for the request of a line over these files, where those of the second list stand in the
-/// place of those of the first.
-pub(crate) fn answer(
+// The outcomes of a scenario, in a list of their own, with 100 turns of loops and a limit of 1,000; or why there are
+// none.
+fn parts(
     alloc: Global,
     scenario: Scenario,
-    line: &str,
-    files: &[File],
-    others: &[File],
-) -> Result<Bytes, Memory> {
-    let task = task(alloc, line, files, others)?;
-    told(alloc, scenario, task)
-}
-
-/// The text of a run for the request of a line over these files, by copies of all that it goes through.
-pub(crate) fn answer_by_copies(
-    alloc: Global,
-    scenario: Scenario,
-    line: &str,
-    files: &[File],
-    others: &[File],
-) -> Result<Bytes, Memory> {
-    let task = task(alloc, line, files, others)?;
-    copied_task_text(alloc, scenario, &task)
+    packages: &Packages,
+) -> Result<List<ReportPart>, OutcomesFault> {
+    let job = job(alloc, scenario, packages, 100)?;
+    let needs = needs_of(alloc, scenario, packages)?;
+    let mut parts = List::new(alloc);
+    parts.add(make_part(alloc, job.get(), &needs, 1000)?)?;
+    Ok(parts)
 }
 
 // The brief report on a scenario, or why there is none.
 fn reported(alloc: Global, scenario: Scenario, packages: &Packages) -> Result<Bytes, Memory> {
-    let job = job_of(alloc, scenario, packages, 100)?;
-    let needs = needs_of(alloc, scenario, packages)?;
-    match make_part(alloc, &job, &needs, 1000) {
-        Ok(part) => {
-            let mut parts = List::new(alloc);
-            parts.add(part)?;
-            render_brief(alloc, &Report { parts })
-        }
+    match parts(alloc, scenario, packages) {
+        Ok(parts) => render_brief(alloc, &Report { parts }),
         Err(OutcomesFault::NoStart) => Bytes::from_slice(alloc, b"no start"),
         Err(OutcomesFault::Over) => Bytes::from_slice(alloc, b"limit"),
         Err(OutcomesFault::Memory) => Err(Memory),
@@ -249,17 +243,82 @@ fn task_report(alloc: Global, scenario: Scenario, task: &Task) -> Result<Bytes, 
     }
 }
 
-/// The brief report on a scenario for the request of a line over these files, with 100 turns of loops and a limit of
-/// 1,000 outcomes.
-pub(crate) fn report(
+/// What is asked of a scenario for a request.
+#[derive(Clone, Copy)]
+pub(crate) enum Sought {
+    /// What it needs, or the text of its run.
+    Answer,
+    /// The text of its run, by copies of all that it goes through.
+    ByCopies,
+    /// The brief report, with 100 turns of loops and a limit of 1,000 outcomes.
+    Report,
+}
+
+/// What is said of a scenario for the request of a line over these files, where those of the second list stand in the
+/// place of those of the first.
+pub(crate) fn said(
     alloc: Global,
+    asked: Sought,
     scenario: Scenario,
     line: &str,
     files: &[File],
     others: &[File],
 ) -> Result<Bytes, Memory> {
     let task = task(alloc, line, files, others)?;
-    task_report(alloc, scenario, &task)
+    match asked {
+        Sought::Answer => task_text(alloc, scenario, task.get()),
+        Sought::ByCopies => copied_task_text(alloc, scenario, task.get()),
+        Sought::Report => task_report(alloc, scenario, task.get()),
+    }
+}
+
+/// Whether this is said of a scenario for the request of a line over these files, where those of the second list stand
+/// in the place of those of the first; not for want of memory.
+pub(crate) fn is_said(
+    alloc: Global,
+    asked: Sought,
+    scenario: Scenario,
+    line: &str,
+    files: &[File],
+    others: &[File],
+    wanted: &str,
+) -> bool {
+    match said(alloc, asked, scenario, line, files, others) {
+        Ok(text) => text.as_slice() == wanted.as_bytes(),
+        Err(_) => false,
+    }
+}
+
+/// Whether what is said begins so.
+pub(crate) fn begins_so(
+    alloc: Global,
+    asked: Sought,
+    scenario: Scenario,
+    line: &str,
+    files: &[File],
+    others: &[File],
+    front: &str,
+) -> bool {
+    match said(alloc, asked, scenario, line, files, others) {
+        Ok(text) => text.as_slice().starts_with(front.as_bytes()),
+        Err(_) => false,
+    }
+}
+
+/// Whether what is said ends so.
+pub(crate) fn ends_so(
+    alloc: Global,
+    asked: Sought,
+    scenario: Scenario,
+    line: &str,
+    files: &[File],
+    others: &[File],
+    end: &str,
+) -> bool {
+    match said(alloc, asked, scenario, line, files, others) {
+        Ok(text) => text.as_slice().ends_with(end.as_bytes()),
+        Err(_) => false,
+    }
 }
 
 // Whether the outcome of an entry is failed.
@@ -287,6 +346,14 @@ fn fail_back(entries: &[ReportEntry], failed: usize) -> bool {
     left == 0
 }
 
+// Whether these parts are one of so many outcomes, of which so many fail, each of which leaves the tree that it shows.
+fn part_fails_back(parts: &[ReportPart], all: usize, failed: usize) -> bool {
+    match parts {
+        [part] => part.entries.len() == all && fail_back(part.entries.as_slice(), failed),
+        _ => false,
+    }
+}
+
 // Whether a scenario has so many outcomes, and so many of them fail, each of which leaves the tree that it shows.
 fn task_fails_back(
     alloc: Global,
@@ -294,24 +361,18 @@ fn task_fails_back(
     task: &Task,
     all: usize,
     failed: usize,
-) -> Result<bool, Memory> {
+) -> bool {
     match task {
-        Task::Check { packages, .. } => {
-            let job = job_of(alloc, scenario, packages, 100)?;
-            let needs = needs_of(alloc, scenario, packages)?;
-            match make_part(alloc, &job, &needs, 1000) {
-                Ok(part) => {
-                    Ok(part.entries.len() == all && fail_back(part.entries.as_slice(), failed))
-                }
-                Err(_) => Err(Memory),
-            }
-        }
-        _ => Err(Memory),
+        Task::Check { packages, .. } => match parts(alloc, scenario, packages) {
+            Ok(parts) => part_fails_back(parts.as_slice(), all, failed),
+            Err(_) => false,
+        },
+        _ => false,
     }
 }
 
 /// Whether a scenario has so many outcomes for the request of a line over these files, and so many of them fail, each of
-/// which leaves the tree that it shows.
+/// which leaves the tree that it shows; not for want of memory.
 pub(crate) fn fails_back(
     alloc: Global,
     scenario: Scenario,
@@ -319,7 +380,9 @@ pub(crate) fn fails_back(
     files: &[File],
     all: usize,
     failed: usize,
-) -> Result<bool, Memory> {
-    let task = task(alloc, line, files, &[])?;
-    task_fails_back(alloc, scenario, &task, all, failed)
+) -> bool {
+    match task(alloc, line, files, &[]) {
+        Ok(task) => task_fails_back(alloc, scenario, task.get(), all, failed),
+        Err(_) => false,
+    }
 }

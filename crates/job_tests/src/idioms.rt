@@ -1,14 +1,10 @@
 //! What maintainers write with `cp`, `chmod`, `chown`, `chgrp`, `install -d`, `unlink`, `basename` and `dirname`, with
 //! all outcomes, worked by hand from the rows of the acts.
 
-use crate::answers::{File, report};
-use dpkg_scenarios::Scenario;
-use std::test::Fail;
-
-const FILES: &[File] = &[("p/list", b"")];
+use crate::stated::Row;
 
 // A base, the package's postinst, and the brief report.
-const ROWS: &[(&[u8], &[u8], &str)] = &[
+pub(crate) const IDIOMS: &[Row] = &[
     // A mode is set.
     (
         b"dir /srv\n",
@@ -193,19 +189,3 @@ verdict 2
 ",
     ),
 ];
-
-#[test]
-fn idioms_have_these_outcomes(rt: HostRuntime) -> Result<(), Fail> {
-    for row in ROWS {
-        let others = [("b", row.0), ("p/postinst", row.1)];
-        let line = "check p --base b";
-        let text = report(rt.alloc(), Scenario::Install, line, FILES, &others)?;
-        assert!(rt;
-            text.as_slice() == row.2.as_bytes(),
-            "{:?} {:?}",
-            row.0,
-            row.1
-        );
-    }
-    Ok(())
-}

@@ -1,9 +1,8 @@
 //! Outcomes on a system with known links, and by `own` and `removed`.
 
-use crate::answers::{File, report};
+use crate::answers::{File, Sought, begins_so, is_said};
 use dpkg_scenarios::Scenario;
-use script_names::Bytes;
-use std::test::Fail;
+use std::alloc::Global;
 
 const LINE: &str = "check p --base b";
 
@@ -48,14 +47,25 @@ verdict 2
     ),
 ];
 
+// Whether a script follows the link as its row says.
+fn script_follows(alloc: Global, row: &(&'static [u8], &str)) -> bool {
+    let files: [File; 3] = [("p/list", b""), ("b", LINKED), ("p/postinst", row.0)];
+    is_said(
+        alloc,
+        Sought::Report,
+        Scenario::Install,
+        LINE,
+        &files,
+        &[],
+        row.1,
+    )
+}
+
 #[test]
-fn scripts_follow_known_links(rt: HostRuntime) -> Result<(), Fail> {
+fn scripts_follow_known_links(rt: HostRuntime) {
     for row in SCRIPTS {
-        let files: &[File] = &[("p/list", b""), ("b", LINKED), ("p/postinst", row.0)];
-        let text = report(rt.alloc(), Scenario::Install, LINE, files, &[])?;
-        assert!(rt; text.as_slice() == row.1.as_bytes(), "{:?}", row.0);
+        assert!(rt; script_follows(rt.alloc(), row), "{:?}", row.0);
     }
-    Ok(())
 }
 
 // A scenario, the list of a package, its configuration files, a base, and the brief report.
@@ -173,14 +183,17 @@ verdict 0
     ),
 ];
 
+// Whether the files of a row follow the links as the row says.
+fn files_follow(alloc: Global, row: &Row) -> bool {
+    let files: [File; 3] = [("p/list", row.1), ("p/conffiles", row.2), ("b", row.3)];
+    is_said(alloc, Sought::Report, row.0, LINE, &files, &[], row.4)
+}
+
 #[test]
-fn files_follow_known_links(rt: HostRuntime) -> Result<(), Fail> {
+fn files_follow_known_links(rt: HostRuntime) {
     for row in ROWS {
-        let files: &[File] = &[("p/list", row.1), ("p/conffiles", row.2), ("b", row.3)];
-        let text = report(rt.alloc(), row.0, LINE, files, &[])?;
-        assert!(rt; text.as_slice() == row.4.as_bytes(), "{:?}", row.3);
+        assert!(rt; files_follow(rt.alloc(), row), "{:?}", row.3);
     }
-    Ok(())
 }
 
 // Forty folders, twenty side by side with one in each, and two configuration files.
@@ -197,18 +210,37 @@ const FOLDERS: &[File] = &[
     ("p/conffiles", b"/srv/f00/d/a.conf\n/srv/f01/d/b.conf\n"),
 ];
 
-// Whether a text begins with another.
-fn begins(text: &Bytes, front: &str) -> bool {
-    text.as_slice().starts_with(front.as_bytes())
+// Whether the report on the removal of the folders under a base begins so.
+fn removal_begins(alloc: Global, base: &'static [u8], front: &str) -> bool {
+    let base: [File; 1] = [("b", base)];
+    begins_so(
+        alloc,
+        Sought::Report,
+        Scenario::PurgeLater,
+        LINE,
+        FOLDERS,
+        &base,
+        front,
+    )
+}
+
+// Whether the report on the removal of the folders under a base is this one.
+fn removal_is(alloc: Global, base: &'static [u8], wanted: &str) -> bool {
+    let base: [File; 1] = [("b", base)];
+    is_said(
+        alloc,
+        Sought::Report,
+        Scenario::PurgeLater,
+        LINE,
+        FOLDERS,
+        &base,
+        wanted,
+    )
 }
 
 #[test]
-fn folders_that_a_removal_took_are_no_question(rt: HostRuntime) -> Result<(), Fail> {
-    let gone: &[File] = &[("b", b"dir /srv\nown\nremoved\n")];
-    let text = report(rt.alloc(), Scenario::PurgeLater, LINE, FOLDERS, gone)?;
-    assert!(rt; begins(&text, "colis brief 2\nscenario purge-later outcomes 9\n"));
-    let owned: &[File] = &[("b", b"dir /srv\nown\n")];
-    let text = report(rt.alloc(), Scenario::PurgeLater, LINE, FOLDERS, owned)?;
-    assert!(rt; text.as_slice() == b"limit".as_slice());
-    Ok(())
+fn folders_that_a_removal_took_are_no_question(rt: HostRuntime) {
+    let front = "colis brief 2\nscenario purge-later outcomes 9\n";
+    assert!(rt; removal_begins(rt.alloc(), b"dir /srv\nown\nremoved\n", front));
+    assert!(rt; removal_is(rt.alloc(), b"dir /srv\nown\n", "limit"));
 }

@@ -1,9 +1,8 @@
 //! What start trees need. Behind a path stand the kinds that it may have: A nothing, R a regular file, L a link, O
 //! another thing, D a directory; or, behind `=`, the names that its entries may have.
 
-use crate::answers::{File, answer};
+use crate::answers::{File, Sought, is_said};
 use dpkg_scenarios::Scenario;
-use std::test::Fail;
 
 const FILES: &[File] = &[
     (
@@ -146,10 +145,20 @@ const ROWS: &[(Scenario, &str, &[File], &str)] = &[
 ];
 
 #[test]
-fn start_trees_need(rt: HostRuntime) -> Result<(), Fail> {
+fn start_trees_need(rt: HostRuntime) {
     for row in ROWS {
-        let text = answer(rt.alloc(), row.0, row.1, FILES, row.2)?;
-        assert!(rt; text.as_slice() == row.3.as_bytes(), "{}", row.3);
+        assert!(rt;
+            is_said(
+                rt.alloc(),
+                Sought::Answer,
+                row.0,
+                row.1,
+                FILES,
+                row.2,
+                row.3
+            ),
+            "{}",
+            row.3
+        );
     }
-    Ok(())
 }

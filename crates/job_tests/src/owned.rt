@@ -1,9 +1,8 @@
 //! Packages whose folders hold no foreign entry, by a line of the base, with all their outcomes.
 
-use crate::answers::{File, answer, report};
+use crate::answers::{File, Sought, begins_so, is_said};
 use dpkg_scenarios::Scenario;
-use script_names::Bytes;
-use std::test::Fail;
+use std::alloc::Global;
 
 const CONFIGURED: &[File] = &[
     ("p/list", b"/.\n/etc\n/etc/foo\n/etc/foo/a.conf\n"),
@@ -23,7 +22,9 @@ const FOLDERS: &[File] = &[(
 const LINE: &str = "check p --base b";
 
 // A scenario, a base, and the brief report on the package with a configuration file.
-const ROWS: &[(Scenario, &[u8], &str)] = &[
+type Row = (Scenario, &'static [u8], &'static str);
+
+const ROWS: &[Row] = &[
     (
         Scenario::Purge,
         b"dir /etc\nfits\n",
@@ -77,53 +78,79 @@ verdict 0
     ),
 ];
 
-#[test]
-fn a_folder_without_foreign_entries_goes(rt: HostRuntime) -> Result<(), Fail> {
-    for row in ROWS {
-        let text = report(rt.alloc(), row.0, LINE, CONFIGURED, &[("b", row.1)])?;
-        assert!(rt; text.as_slice() == row.2.as_bytes(), "{:?}", row.1);
-    }
-    Ok(())
+// Whether the report of a row is the row's.
+fn is_reported(alloc: Global, row: &Row) -> bool {
+    let base: [File; 1] = [("b", row.1)];
+    is_said(alloc, Sought::Report, row.0, LINE, CONFIGURED, &base, row.2)
 }
 
 #[test]
-fn a_run_leaves_no_folder_without_foreign_entries(rt: HostRuntime) -> Result<(), Fail> {
-    let files: &[File] = &[
-        ("b", b"dir /etc\nown\n"),
-        ("t", b"d /etc\nd /etc/foo\nf /etc/foo/a.conf\n"),
-    ];
-    let line = "run p --base b --scenario purge --tree t";
-    let text = answer(rt.alloc(), Scenario::Purge, line, CONFIGURED, files)?;
-    let wanted = "result done Not-Installed
+fn a_folder_without_foreign_entries_goes(rt: HostRuntime) {
+    for row in ROWS {
+        assert!(rt; is_reported(rt.alloc(), row), "{:?}", row.1);
+    }
+}
+
+const GONE: &[File] = &[
+    ("b", b"dir /etc\nown\n"),
+    ("t", b"d /etc\nd /etc/foo\nf /etc/foo/a.conf\n"),
+];
+
+const PURGE: &str = "run p --base b --scenario purge --tree t";
+
+const PURGED: &str = "result done Not-Installed
 trace 2:0:67 4:0:68 4:1:68
 after
 d /etc
 ";
-    assert!(rt; text.as_slice() == wanted.as_bytes());
-    Ok(())
-}
-
-// Whether a text begins with another.
-fn begins(text: &Bytes, front: &str) -> bool {
-    text.as_slice().starts_with(front.as_bytes())
-}
 
 #[test]
-fn forty_folders_are_removed_in_one_way(rt: HostRuntime) -> Result<(), Fail> {
-    let owned: &[File] = &[("b", b"dir /srv\nown\n")];
-    let text = report(rt.alloc(), Scenario::Remove, LINE, FOLDERS, owned)?;
+fn a_run_leaves_no_folder_without_foreign_entries(rt: HostRuntime) {
     assert!(rt;
-        begins(
-            &text,
-            "\
+        is_said(
+            rt.alloc(),
+            Sought::Answer,
+            Scenario::Purge,
+            PURGE,
+            CONFIGURED,
+            GONE,
+            PURGED
+        )
+    );
+}
+
+const OWNED: &[File] = &[("b", b"dir /srv\nown\n")];
+
+const OPEN: &[File] = &[("b", b"dir /srv\n")];
+
+const ONE_WAY: &str = "\
 colis brief 2
 scenario remove outcomes 1
 outcome 1 done Not-Installed
-"
+";
+
+#[test]
+fn forty_folders_are_removed_in_one_way(rt: HostRuntime) {
+    assert!(rt;
+        begins_so(
+            rt.alloc(),
+            Sought::Report,
+            Scenario::Remove,
+            LINE,
+            FOLDERS,
+            OWNED,
+            ONE_WAY
         )
     );
-    let open: &[File] = &[("b", b"dir /srv\n")];
-    let text = report(rt.alloc(), Scenario::Remove, LINE, FOLDERS, open)?;
-    assert!(rt; text.as_slice() == b"limit".as_slice());
-    Ok(())
+    assert!(rt;
+        is_said(
+            rt.alloc(),
+            Sought::Report,
+            Scenario::Remove,
+            LINE,
+            FOLDERS,
+            OPEN,
+            "limit"
+        )
+    );
 }

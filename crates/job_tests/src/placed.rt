@@ -124,6 +124,26 @@ fn put_act(text: &mut Bytes, act: &Act) -> Result<(), Memory> {
     text.extend(b" ")
 }
 
+// The acts of a step.
+fn acts_of(
+    alloc: Global,
+    scenario: Scenario,
+    work: StepWork,
+    old: &List<Entry>,
+    base: &Base,
+) -> Result<List<Act>, LineFault> {
+    let new = entries(alloc, PACKAGE, CONFFILES)?;
+    let kept = base_paths(alloc, base)?;
+    Ok(file_acts(alloc, scenario, work, &new, old, base, &kept)?)
+}
+
+fn put_acts(text: &mut Bytes, acts: &[Act]) -> Result<(), Memory> {
+    for act in acts {
+        put_act(text, act)?;
+    }
+    Ok(())
+}
+
 // The acts of a step as a text.
 fn acts_text(
     alloc: Global,
@@ -132,13 +152,9 @@ fn acts_text(
     old: &List<Entry>,
     base: &Base,
 ) -> Result<Bytes, LineFault> {
-    let new = entries(alloc, PACKAGE, CONFFILES)?;
-    let kept = base_paths(alloc, base)?;
-    let acts = file_acts(alloc, scenario, work, &new, old, base, &kept)?;
+    let acts = acts_of(alloc, scenario, work, old, base)?;
     let mut text = Bytes::new(alloc);
-    for act in acts.as_slice() {
-        put_act(&mut text, act)?;
-    }
+    put_acts(&mut text, acts.as_slice())?;
     Ok(text)
 }
 

@@ -1,9 +1,9 @@
 //! What `plain` makes known of the paths that scripts name, and of the outcomes that it leaves. Needs are written as in
 //! the rows of needs.rt.
 
-use crate::answers::{File, answer, report};
+use crate::answers::{File, Sought, ends_so, is_said};
 use dpkg_scenarios::Scenario;
-use std::test::Fail;
+use std::alloc::Global;
 
 const FILES: &[File] = &[("p/list", b"/.\n"), ("o/list", b"/.\n"), ("b", b"plain\n")];
 
@@ -110,14 +110,25 @@ const SCRIPTS: &[(&[u8], &str)] = &[
     ),
 ];
 
+// Whether a script needs what its row says.
+fn script_needs(alloc: Global, row: &(&'static [u8], &str)) -> bool {
+    let script: [File; 1] = [("p/postinst", row.0)];
+    is_said(
+        alloc,
+        Sought::Answer,
+        Scenario::Install,
+        ALONE,
+        FILES,
+        &script,
+        row.1,
+    )
+}
+
 #[test]
-fn scripts_need_what_their_commands_take(rt: HostRuntime) -> Result<(), Fail> {
+fn scripts_need_what_their_commands_take(rt: HostRuntime) {
     for row in SCRIPTS {
-        let script = [("p/postinst", row.0)];
-        let text = answer(rt.alloc(), Scenario::Install, ALONE, FILES, &script)?;
-        assert!(rt; text.as_slice() == row.1.as_bytes(), "{:?}", row.0);
+        assert!(rt; script_needs(rt.alloc(), row), "{:?}", row.0);
     }
-    Ok(())
 }
 
 // A scenario, the words of the request, scripts and perhaps another base, and what is needed.
@@ -241,12 +252,22 @@ const ROWS: &[(Scenario, &str, &[File], &str)] = &[
 ];
 
 #[test]
-fn scenarios_need_what_their_packages_scripts_take(rt: HostRuntime) -> Result<(), Fail> {
+fn scenarios_need_what_their_packages_scripts_take(rt: HostRuntime) {
     for row in ROWS {
-        let text = answer(rt.alloc(), row.0, row.1, FILES, row.2)?;
-        assert!(rt; text.as_slice() == row.3.as_bytes(), "{}", row.3);
+        assert!(rt;
+            is_said(
+                rt.alloc(),
+                Sought::Answer,
+                row.0,
+                row.1,
+                FILES,
+                row.2,
+                row.3
+            ),
+            "{}",
+            row.3
+        );
     }
-    Ok(())
 }
 
 // A postinst, and the end of the brief report on its installation under `dir /etc`, without `plain` and with it.
@@ -263,22 +284,32 @@ const REPORTS: &[(&[u8], &str, &str)] = &[
     ),
 ];
 
+// Whether the report on the installation with a script under a base ends so.
+fn report_ends(alloc: Global, base: &'static [u8], script: &'static [u8], end: &str) -> bool {
+    let others: [File; 2] = [("b", base), ("p/postinst", script)];
+    ends_so(
+        alloc,
+        Sought::Report,
+        Scenario::Install,
+        ALONE,
+        FILES,
+        &others,
+        end,
+    )
+}
+
 #[test]
-fn commands_meet_what_they_take(rt: HostRuntime) -> Result<(), Fail> {
+fn commands_meet_what_they_take(rt: HostRuntime) {
     for row in REPORTS {
-        let without = [("b", b"dir /etc\n".as_slice()), ("p/postinst", row.0)];
-        let text = report(rt.alloc(), Scenario::Install, ALONE, FILES, &without)?;
-        assert!(rt; text.as_slice().ends_with(row.1.as_bytes()), "{:?}", row.0);
-        let with = [
-            ("b", b"dir /etc\nplain\n".as_slice()),
-            ("p/postinst", row.0),
-        ];
-        let text = report(rt.alloc(), Scenario::Install, ALONE, FILES, &with)?;
         assert!(rt;
-            text.as_slice().ends_with(row.2.as_bytes()),
+            report_ends(rt.alloc(), b"dir /etc\n", row.0, row.1),
+            "{:?}",
+            row.0
+        );
+        assert!(rt;
+            report_ends(rt.alloc(), b"dir /etc\nplain\n", row.0, row.2),
             "{:?} plain",
             row.0
         );
     }
-    Ok(())
 }

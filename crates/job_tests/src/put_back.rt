@@ -1,11 +1,10 @@
 //! Unpackings that fail at the first, at a middle or at the last entry of a list, worked by hand: the tree after is the
 //! tree before, but for what the scripts did. The new package has version 2, the old one version 1 and lists nothing.
 
-use crate::answers::{File, answer, answer_by_copies, fails_back};
+use crate::answers::{File, Sought, fails_back, is_said};
 use dpkg_scenarios::Scenario;
 use script_names::{Bytes, Memory};
 use std::alloc::Global;
-use std::test::Fail;
 
 // A scenario, in which an unpacking fails: its ending, the steps that call preinst, unpack and put back, each as it is
 // written in a trace, and the call of preinst.
@@ -217,8 +216,15 @@ fn put_run(text: &mut Bytes, row: &Row, course: &Course) -> Result<(), Memory> {
 
 const RUN: &str = "run p --old o --scenario install --tree t";
 
-// Whether the run of a row in a course has its text.
-fn is_put_back(alloc: Global, row: &Row, course: &Course) -> Result<bool, Memory> {
+// The text of the run of a row in a course.
+fn run_text(alloc: Global, row: &Row, course: &Course) -> Result<Bytes, Memory> {
+    let mut wanted = Bytes::new(alloc);
+    put_run(&mut wanted, row, course)?;
+    Ok(wanted)
+}
+
+// Whether the run of a row in a course has this text.
+fn is_run(alloc: Global, row: &Row, course: &Course, wanted: &str) -> bool {
     let files: [File; 6] = [
         ("p/control", b"Version: 2\n"),
         ("p/list", row.0),
@@ -227,28 +233,37 @@ fn is_put_back(alloc: Global, row: &Row, course: &Course) -> Result<bool, Memory
         ("o/list", b"/.\n"),
         ("t", row.1),
     ];
-    let mut wanted = Bytes::new(alloc);
-    put_run(&mut wanted, row, course)?;
-    let text = answer(alloc, course.0, RUN, &files, &[])?;
-    Ok(text.as_slice() == wanted.as_slice())
+    is_said(alloc, Sought::Answer, course.0, RUN, &files, &[], wanted)
+}
+
+// Whether the run of a row in a course has its text.
+fn is_put_back(alloc: Global, row: &Row, course: &Course) -> bool {
+    match run_text(alloc, row, course) {
+        Ok(wanted) => is_run(
+            alloc,
+            row,
+            course,
+            str::from_utf8(wanted.as_slice()).unwrap_or(""),
+        ),
+        Err(_) => false,
+    }
 }
 
 // Whether the runs of all rows in a course have their texts.
-fn are_put_back(alloc: Global, course: &Course) -> Result<bool, Memory> {
+fn are_put_back(alloc: Global, course: &Course) -> bool {
     for row in ROWS {
-        if !is_put_back(alloc, row, course)? {
-            return Ok(false);
+        if !is_put_back(alloc, row, course) {
+            return false;
         }
     }
-    Ok(true)
+    true
 }
 
 #[test]
-fn runs_leave_the_tree_as_it_was(rt: HostRuntime) -> Result<(), Fail> {
+fn runs_leave_the_tree_as_it_was(rt: HostRuntime) {
     for course in COURSES {
-        assert!(rt; are_put_back(rt.alloc(), course)?, "{}", course.1);
+        assert!(rt; are_put_back(rt.alloc(), course), "{}", course.1);
     }
-    Ok(())
 }
 
 // The list of a package, how many outcomes it has in each course, whatever the tree is, and how many of them fail.
@@ -272,36 +287,32 @@ const CHECKS: &[(&[u8], usize, usize)] = &[
 const CHECK: &str = "check p --old o --base b";
 
 // Whether a package has so many outcomes in each course, and so many of them fail, each back on the tree that it shows.
-fn all_fail_back(
-    alloc: Global,
-    list: &'static [u8],
-    all: usize,
-    failed: usize,
-) -> Result<bool, Memory> {
+fn all_fail_back(alloc: Global, list: &'static [u8], all: usize, failed: usize) -> bool {
     let files: [File; 3] = [("p/list", list), ("o/list", b"/.\n"), ("b", b"")];
     for course in COURSES {
-        if !fails_back(alloc, course.0, CHECK, &files, all, failed)? {
-            return Ok(false);
+        if !fails_back(alloc, course.0, CHECK, &files, all, failed) {
+            return false;
         }
     }
-    Ok(true)
+    true
 }
 
 #[test]
-fn outcomes_leave_the_tree_as_it_was(rt: HostRuntime) -> Result<(), Fail> {
+fn outcomes_leave_the_tree_as_it_was(rt: HostRuntime) {
     for row in CHECKS {
         assert!(rt;
-            all_fail_back(rt.alloc(), row.0, row.1, row.2)?,
+            all_fail_back(rt.alloc(), row.0, row.1, row.2),
             "{:?}",
             row.0
         );
     }
-    Ok(())
 }
 
 // An upgrade in which the old postrm fails and then the new one: the new postrm, the list of the new package, the tree
 // before, and the text of the run.
-const UPGRADES: &[(&[u8], &[u8], &[u8], &str)] = &[
+type Upgrade = (&'static [u8], &'static [u8], &'static [u8], &'static str);
+
+const UPGRADES: &[Upgrade] = &[
     // All that was unpacked is put back.
     (
         b"#!/bin/sh\n[ \"$1\" = abort-upgrade ]\n",
@@ -378,7 +389,7 @@ l /srv x
 ];
 
 // Where the old preinst fails in between, nothing is put back.
-const KEPT: &[(&[u8], &[u8], &[u8], &str)] = &[(
+const KEPT: &[Upgrade] = &[(
     b"#!/bin/sh\n[ \"$1\" = abort-upgrade ]\n",
     b"/srv/a\n/srv/d/\n",
     b"d /srv\nl /srv/a x\n",
@@ -396,46 +407,45 @@ d /srv/d
 
 const FAILS: &[u8] = b"#!/bin/sh\nexit 1\n";
 
-// The files of such an upgrade.
-fn upgrade_of(postrm: &'static [u8], list: &'static [u8], tree: &'static [u8]) -> [File; 7] {
-    [
+const PREINST_FAILS: &[File] = &[("o/preinst", FAILS)];
+
+// Whether such an upgrade, also with these files, has the text of its row.
+fn is_undone(alloc: Global, asked: Sought, row: &Upgrade, more: &[File]) -> bool {
+    let files: [File; 7] = [
         ("p/control", b"Version: 2\n"),
-        ("p/list", list),
-        ("p/postrm", postrm),
+        ("p/list", row.1),
+        ("p/postrm", row.0),
         ("o/control", b"Version: 1\n"),
         ("o/list", b"/.\n"),
         ("o/postrm", FAILS),
-        ("t", tree),
-    ]
+        ("t", row.2),
+    ];
+    is_said(alloc, asked, Scenario::Upgrade, RUN, &files, more, row.3)
 }
 
 #[test]
-fn upgrades_are_undone(rt: HostRuntime) -> Result<(), Fail> {
+fn upgrades_are_undone(rt: HostRuntime) {
     for row in UPGRADES {
-        let files = upgrade_of(row.0, row.1, row.2);
-        let text = answer(rt.alloc(), Scenario::Upgrade, RUN, &files, &[])?;
-        assert!(rt; text.as_slice() == row.3.as_bytes(), "{}", row.3);
+        assert!(rt;
+            is_undone(rt.alloc(), Sought::Answer, row, &[]),
+            "{}",
+            row.3
+        );
+        assert!(rt;
+            is_undone(rt.alloc(), Sought::ByCopies, row, &[]),
+            "{}",
+            row.3
+        );
     }
-    Ok(())
 }
 
 #[test]
-fn copies_are_undone(rt: HostRuntime) -> Result<(), Fail> {
-    for row in UPGRADES {
-        let files = upgrade_of(row.0, row.1, row.2);
-        let text = answer_by_copies(rt.alloc(), Scenario::Upgrade, RUN, &files, &[])?;
-        assert!(rt; text.as_slice() == row.3.as_bytes(), "{}", row.3);
-    }
-    Ok(())
-}
-
-#[test]
-fn nothing_is_put_back_where_preinst_fails(rt: HostRuntime) -> Result<(), Fail> {
+fn nothing_is_put_back_where_preinst_fails(rt: HostRuntime) {
     for row in KEPT {
-        let files = upgrade_of(row.0, row.1, row.2);
-        let more: [File; 1] = [("o/preinst", FAILS)];
-        let text = answer(rt.alloc(), Scenario::Upgrade, RUN, &files, &more)?;
-        assert!(rt; text.as_slice() == row.3.as_bytes(), "{}", row.3);
+        assert!(rt;
+            is_undone(rt.alloc(), Sought::Answer, row, PREINST_FAILS),
+            "{}",
+            row.3
+        );
     }
-    Ok(())
 }

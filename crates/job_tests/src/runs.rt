@@ -1,9 +1,8 @@
 //! Runs of jobs whose scripts all succeed. Each script makes a file whose name tells whose script it is, its name and
 //! its first two words; the new package has version 2, the old one version 1.
 
-use crate::answers::{File, answer, answer_by_copies};
+use crate::answers::{File, Sought, is_said};
 use dpkg_scenarios::Scenario;
-use std::test::Fail;
 
 const RUN: &str = "run p --old o --scenario install --tree t";
 
@@ -120,33 +119,50 @@ f /srv/n-postrm-purge-
 ];
 
 #[test]
-fn jobs_are_run(rt: HostRuntime) -> Result<(), Fail> {
+fn jobs_and_their_copies_are_run(rt: HostRuntime) {
     for row in RUNS {
-        let text = answer(rt.alloc(), row.0, RUN, FILES, row.1)?;
-        assert!(rt; text.as_slice() == row.2.as_bytes(), "{}", row.2);
+        assert!(rt;
+            is_said(rt.alloc(), Sought::Answer, row.0, RUN, FILES, row.1, row.2),
+            "{}",
+            row.2
+        );
+        assert!(rt;
+            is_said(
+                rt.alloc(),
+                Sought::ByCopies,
+                row.0,
+                RUN,
+                FILES,
+                row.1,
+                row.2
+            ),
+            "{}",
+            row.2
+        );
     }
-    Ok(())
 }
 
-#[test]
-fn copies_are_run(rt: HostRuntime) -> Result<(), Fail> {
-    for row in RUNS {
-        let text = answer_by_copies(rt.alloc(), row.0, RUN, FILES, row.1)?;
-        assert!(rt; text.as_slice() == row.2.as_bytes(), "{}", row.2);
-    }
-    Ok(())
-}
+const PLAIN: &[File] = &[
+    ("p/list", b"/srv/c\n/srv/n\n"),
+    ("t", b"d /srv\nf /srv/n\n"),
+];
+
+const REMOVAL: &str = "run p --scenario install --tree t";
+
+const REMOVED: &str = "result done Not-Installed\ntrace 2:0:68 2:1:68\nafter\nd /srv\n";
 
 // Of a package without configuration files and postrm nothing is left.
 #[test]
-fn a_plain_package_leaves_nothing(rt: HostRuntime) -> Result<(), Fail> {
-    let files: [File; 2] = [
-        ("p/list", b"/srv/c\n/srv/n\n"),
-        ("t", b"d /srv\nf /srv/n\n"),
-    ];
-    let line = "run p --scenario install --tree t";
-    let text = answer(rt.alloc(), Scenario::Remove, line, &files, &[])?;
-    let want = "result done Not-Installed\ntrace 2:0:68 2:1:68\nafter\nd /srv\n";
-    assert!(rt; text.as_slice() == want.as_bytes());
-    Ok(())
+fn a_plain_package_leaves_nothing(rt: HostRuntime) {
+    assert!(rt;
+        is_said(
+            rt.alloc(),
+            Sought::Answer,
+            Scenario::Remove,
+            REMOVAL,
+            PLAIN,
+            &[],
+            REMOVED
+        )
+    );
 }

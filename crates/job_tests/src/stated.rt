@@ -1,14 +1,17 @@
 //! Scripts under stated calls, with all their outcomes: a base says of some commands how their calls end. The script is
 //! the package's postinst, and nothing stands at the paths that it makes files at.
 
-use crate::answers::{File, report};
+use crate::answers::{File, Sought, is_said};
+use crate::idioms::IDIOMS;
 use dpkg_scenarios::Scenario;
-use std::test::Fail;
+use std::alloc::Global;
 
 const FILES: &[File] = &[("p/list", b"")];
 
-// A base, a script, and the brief report.
-const ROWS: &[(&[u8], &[u8], &str)] = &[
+/// A base, a script, and the brief report.
+pub(crate) type Row = (&'static [u8], &'static [u8], &'static str);
+
+const ROWS: &[Row] = &[
     // The command succeeds, or fails, or nothing is stated of it.
     (
         b"dir /srv\nabsent /srv/a\nabsent /srv/b\ncall x ok\n",
@@ -196,18 +199,31 @@ const ROWS: &[(&[u8], &[u8], &str)] = &[
     ),
 ];
 
+// Whether the installation of a row has the row's brief report.
+fn is_reported(alloc: Global, row: &Row) -> bool {
+    let others = [("b", row.0), ("p/postinst", row.1)];
+    let line = "check p --base b";
+    is_said(
+        alloc,
+        Sought::Report,
+        Scenario::Install,
+        line,
+        FILES,
+        &others,
+        row.2,
+    )
+}
+
 #[test]
-fn stated_calls_end_as_stated(rt: HostRuntime) -> Result<(), Fail> {
+fn stated_calls_end_as_stated(rt: HostRuntime) {
     for row in ROWS {
-        let others = [("b", row.0), ("p/postinst", row.1)];
-        let line = "check p --base b";
-        let text = report(rt.alloc(), Scenario::Install, line, FILES, &others)?;
-        assert!(rt;
-            text.as_slice() == row.2.as_bytes(),
-            "{:?} {:?}",
-            row.0,
-            row.1
-        );
+        assert!(rt; is_reported(rt.alloc(), row), "{:?} {:?}", row.0, row.1);
     }
-    Ok(())
+}
+
+#[test]
+fn idioms_have_these_outcomes(rt: HostRuntime) {
+    for row in IDIOMS {
+        assert!(rt; is_reported(rt.alloc(), row), "{:?} {:?}", row.0, row.1);
+    }
 }

@@ -1,9 +1,9 @@
 //! Runs of jobs of which steps fail. The packages have all scripts, which do nothing but where a row has others; the
 //! new package has version 2, the old one version 1. The texts are those of runs without their last lines.
 
-use crate::answers::{File, answer};
+use crate::answers::{File, Sought, said};
 use dpkg_scenarios::Scenario;
-use std::test::Fail;
+use std::alloc::Global;
 
 const RUN: &str = "run p --old o --scenario install --tree t";
 
@@ -34,7 +34,9 @@ const FILES: &[File] = &[
 ];
 
 // A scenario, the files in which the packages or the tree differ, how the run ends, and the calls.
-const STEPS: &[(Scenario, &[File], &str, &str)] = &[
+type Step = (Scenario, &'static [File], &'static str, &'static str);
+
+const STEPS: &[Step] = &[
     (
         Scenario::Install,
         &[("p/preinst", FAILS)],
@@ -371,12 +373,17 @@ fn is_run(text: &str, ending: &str, calls: &str) -> bool {
     first.strip_prefix("result ") == Some(ending) && told == calls
 }
 
-#[test]
-fn steps_fail(rt: HostRuntime) -> Result<(), Fail> {
-    for row in STEPS {
-        let text = answer(rt.alloc(), row.0, RUN, FILES, row.1)?;
-        let text = str::from_utf8(text.as_slice()).unwrap_or("");
-        assert!(rt; is_run(text, row.2, row.3), "{} {}", row.2, row.3);
+// Whether the run of a row ends so, with these calls.
+fn runs_so(alloc: Global, row: &Step) -> bool {
+    match said(alloc, Sought::Answer, row.0, RUN, FILES, row.1) {
+        Ok(text) => is_run(str::from_utf8(text.as_slice()).unwrap_or(""), row.2, row.3),
+        Err(_) => false,
     }
-    Ok(())
+}
+
+#[test]
+fn steps_fail(rt: HostRuntime) {
+    for row in STEPS {
+        assert!(rt; runs_so(rt.alloc(), row), "{} {}", row.2, row.3);
+    }
 }

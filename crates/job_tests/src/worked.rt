@@ -1,11 +1,9 @@
 //! Runs of jobs whose scripts fail where the tree says so, worked by hand from Debian Policy, 6.5 to 6.8, each with its
 //! trace, its calls and the tree after. The new package has version 2, the old one version 1; neither lists a file.
 
-use crate::answers::{File, answer};
+use crate::answers::{File, Sought, is_said};
 use dpkg_scenarios::Scenario;
-use script_names::Memory;
 use std::alloc::Global;
-use std::test::Fail;
 
 const RUN: &str = "run p --old o --scenario install --tree t";
 
@@ -28,7 +26,8 @@ const FILES: &[File] = &[
 // A scenario, the tree before, and the text of the run.
 type Row = (Scenario, &'static [u8], &'static str);
 
-const INSTALLING: &[Row] = &[
+const ROWS: &[Row] = &[
+    // installations
     (
         Scenario::Install,
         b"",
@@ -117,9 +116,7 @@ after
 f /new-postinst-configure
 ",
     ),
-];
-
-const UPGRADING: &[Row] = &[
+    // upgrades
     (
         Scenario::Upgrade,
         b"",
@@ -273,9 +270,7 @@ after
 f /new-postinst-configure
 ",
     ),
-];
-
-const REMOVING: &[Row] = &[
+    // removals
     (
         Scenario::Remove,
         b"",
@@ -398,37 +393,17 @@ f /new-postrm-purge
     ),
 ];
 
-// Whether the runs of the rows have their texts.
-fn are_run(alloc: Global, rows: &[Row]) -> Result<bool, Memory> {
-    for row in rows {
-        let tree: [File; 1] = [("t", row.1)];
-        let text = answer(alloc, row.0, RUN, FILES, &tree)?;
-        if text.as_slice() != row.2.as_bytes() {
-            return Ok(false);
-        }
+// Whether the run of a row has its text.
+fn is_run(alloc: Global, row: &Row) -> bool {
+    let tree: [File; 1] = [("t", row.1)];
+    is_said(alloc, Sought::Answer, row.0, RUN, FILES, &tree, row.2)
+}
+
+#[test]
+fn runs_are_as_worked(rt: HostRuntime) {
+    for row in ROWS {
+        assert!(rt; is_run(rt.alloc(), row), "{}", row.2);
     }
-    Ok(true)
-}
-
-#[test]
-fn installations_are_as_worked(rt: HostRuntime) -> Result<(), Fail> {
-    let same = are_run(rt.alloc(), INSTALLING)?;
-    assert!(rt; same);
-    Ok(())
-}
-
-#[test]
-fn upgrades_are_as_worked(rt: HostRuntime) -> Result<(), Fail> {
-    let same = are_run(rt.alloc(), UPGRADING)?;
-    assert!(rt; same);
-    Ok(())
-}
-
-#[test]
-fn removals_are_as_worked(rt: HostRuntime) -> Result<(), Fail> {
-    let same = are_run(rt.alloc(), REMOVING)?;
-    assert!(rt; same);
-    Ok(())
 }
 
 const EMPTY: &[File] = &[
@@ -544,10 +519,12 @@ d /srv
 ];
 
 #[test]
-fn other_runs_are_as_worked(rt: HostRuntime) -> Result<(), Fail> {
+fn other_runs_are_as_worked(rt: HostRuntime) {
     for row in OTHERS {
-        let text = answer(rt.alloc(), row.0, RUN, EMPTY, row.1)?;
-        assert!(rt; text.as_slice() == row.2.as_bytes(), "{}", row.2);
+        assert!(rt;
+            is_said(rt.alloc(), Sought::Answer, row.0, RUN, EMPTY, row.1, row.2),
+            "{}",
+            row.2
+        );
     }
-    Ok(())
 }

@@ -33,18 +33,19 @@ fn is_read(alloc: Global, bytes: &[u8], is_name: bool) -> Result<bool, Memory> {
 }
 
 #[test]
-fn names_are_read(rt: HostRuntime) -> Result<(), Fail> {
+fn names_are_read(rt: HostRuntime) {
     for row in NAMES {
-        assert!(rt; is_read(rt.alloc(), row.0, row.1)?, "{row:?}");
+        assert!(rt;
+            matches!(is_read(rt.alloc(), row.0, row.1), Ok(true)),
+            "{row:?}"
+        );
     }
-    Ok(())
 }
 
 #[test]
-fn names_have_at_most_255_bytes(rt: HostRuntime) -> Result<(), Fail> {
-    assert!(rt; is_read(rt.alloc(), &[b'n'; 255], true)?);
-    assert!(rt; is_read(rt.alloc(), &[b'n'; 256], false)?);
-    Ok(())
+fn names_have_at_most_255_bytes(rt: HostRuntime) {
+    assert!(rt; matches!(is_read(rt.alloc(), &[b'n'; 255], true), Ok(true)));
+    assert!(rt; matches!(is_read(rt.alloc(), &[b'n'; 256], false), Ok(true)));
 }
 
 fn list_grows(alloc: Global) -> Result<bool, Memory> {
@@ -68,10 +69,9 @@ fn bytes_grow(alloc: Global) -> Result<bool, Memory> {
 }
 
 #[test]
-fn lists_and_bytes_grow(rt: HostRuntime) -> Result<(), Fail> {
-    assert!(rt; list_grows(rt.alloc())?);
-    assert!(rt; bytes_grow(rt.alloc())?);
-    Ok(())
+fn lists_and_bytes_grow(rt: HostRuntime) {
+    assert!(rt; matches!(list_grows(rt.alloc()), Ok(true)));
+    assert!(rt; matches!(bytes_grow(rt.alloc()), Ok(true)));
 }
 
 // A copy, made with ample memory, is there and equals its source.

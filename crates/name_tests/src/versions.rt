@@ -4,7 +4,6 @@
 use debian_versions::comparison;
 use script_names::{Bytes, List, Memory};
 use std::alloc::Global;
-use std::test::Fail;
 
 // Two versions with an operator between them, and the answer.
 const COMPARISONS: &str = "\
@@ -162,32 +161,46 @@ fn word_for(answer: Option<bool>) -> &'static str {
     }
 }
 
-// Whether the fields are answered so, behind these that each has.
-fn is_answered(alloc: Global, first: &[&str], row: &str, wanted: &str) -> Result<bool, Memory> {
+// The fields of a row, behind those that each row has.
+fn fields(alloc: Global, first: &str, row: &str) -> Result<List<Bytes>, Memory> {
     let mut fields = List::new(alloc);
-    for field in first {
-        fields.add(Bytes::from_slice(alloc, field.as_bytes())?)?;
+    if !first.is_empty() {
+        add_fields(alloc, &mut fields, first)?;
     }
     add_fields(alloc, &mut fields, row)?;
-    Ok(word_for(comparison(alloc, fields.as_slice())?) == wanted)
+    Ok(fields)
+}
+
+// Whether fields are answered so.
+fn have_answer(alloc: Global, fields: &[Bytes], wanted: &str) -> bool {
+    match comparison(alloc, fields) {
+        Ok(answer) => word_for(answer) == wanted,
+        Err(_) => false,
+    }
+}
+
+// Whether the fields of a row are answered so, behind those that each row has.
+fn is_answered(alloc: Global, first: &str, row: &str, wanted: &str) -> bool {
+    match fields(alloc, first, row) {
+        Ok(fields) => have_answer(alloc, fields.as_slice(), wanted),
+        Err(_) => false,
+    }
 }
 
 #[test]
-fn versions_are_compared(rt: HostRuntime) -> Result<(), Fail> {
+fn versions_are_compared(rt: HostRuntime) {
     for row in COMPARISONS.lines() {
         let (fields, wanted) = answer_behind(row);
         assert!(rt;
-            is_answered(rt.alloc(), &["dpkg", "--compare-versions"], fields, wanted)?,
+            is_answered(rt.alloc(), "dpkg,--compare-versions", fields, wanted),
             "{row}"
         );
     }
-    Ok(())
 }
 
 #[test]
-fn others_are_no_comparisons(rt: HostRuntime) -> Result<(), Fail> {
+fn others_are_no_comparisons(rt: HostRuntime) {
     for row in OTHERS.lines() {
-        assert!(rt; is_answered(rt.alloc(), &[], row, "none")?, "{row}");
+        assert!(rt; is_answered(rt.alloc(), "", row, "none"), "{row}");
     }
-    Ok(())
 }

@@ -5,13 +5,12 @@ ghost use Rattle.tree_clauses.specs.Plain.{IsPlain};
 
 use crate::call_words::call_cases;
 use crate::clause_texts::has_clause;
-use crate::stores::shows;
+use crate::steps::shows;
 use clause_solver::Store;
-use script_names::{Bytes, Memory};
+use script_names::{Boxed, Bytes, Memory};
 use shown_texts::push_number;
 use std::alloc::Global;
-use std::test::Fail;
-use tree_clauses::{Case, ClauseFault};
+use tree_clauses::Case;
 
 // Calls with the row that each takes, from all trees on; a call behind them; and the rows that are left of it.
 const LEFT: &str = "; | mkdir /a | 67 68
@@ -73,20 +72,33 @@ fn is_number(alloc: Global, number: u8, text: &str) -> Result<bool, Memory> {
     Ok(shown.as_slice() == text.as_bytes())
 }
 
-// Whether something is left of the store with the case.
-fn is_left(store: &Store, made: &Case) -> Result<bool, Memory>
+// The store with the case, if anything is left of it.
+fn added(alloc: Global, store: &Store, made: &Case) -> Result<Option<Boxed<Store>>, Memory>
     requires { IsPlain made.now }
 {
-    let added = store.add_case(made)?;
+    match store.add_case(made)? {
+        Some(new) => {
+            let new = Boxed::new(alloc, new)?;
+            Ok(Some(new))
+        }
+        None => Ok(None),
+    }
+}
+
+// Whether something is left of the store with the case.
+fn is_left(alloc: Global, store: &Store, made: &Case) -> Result<bool, Memory>
+    requires { IsPlain made.now }
+{
+    let added = added(alloc, store, made)?;
     Ok(added.is_some())
 }
 
 // The rows of the cases that are left, each with a blank before it.
-fn put_rows(rows: &mut Bytes, store: &Store, list: &[Case]) -> Result<(), Memory>
+fn put_rows(alloc: Global, rows: &mut Bytes, store: &Store, list: &[Case]) -> Result<(), Memory>
     requires { All IsPlain list.now }
 {
     for made in list {
-        if is_left(store, made)? {
+        if is_left(alloc, store, made)? {
             rows.extend(b" ")?;
             push_number(rows, u64::from(made.row))?;
         }
@@ -94,60 +106,85 @@ fn put_rows(rows: &mut Bytes, store: &Store, list: &[Case]) -> Result<(), Memory
     Ok(())
 }
 
-// Whether these rows are left of a call.
-fn are_left(alloc: Global, store: &Store, call: &str, wanted: &str) -> Result<bool, Memory> {
+// The rows that are left of a call.
+fn rows_text(alloc: Global, store: &Store, call: &str) -> Result<Bytes, Memory> {
     let list = call_cases(alloc, call)?;
     let mut rows = Bytes::new(alloc);
-    put_rows(&mut rows, store, list.as_slice())?;
-    Ok(rows.as_slice() == wanted.as_bytes())
+    put_rows(alloc, &mut rows, store, list.as_slice())?;
+    Ok(rows)
+}
+
+// Whether these rows are left of a call.
+fn are_left(alloc: Global, store: &Store, call: &str, wanted: &str) -> bool {
+    match rows_text(alloc, store, call) {
+        Ok(rows) => rows.as_slice() == wanted.as_bytes(),
+        Err(_) => false,
+    }
 }
 
 // The store with the case of a row; none where no case has the row, or nothing is left.
-fn with_row(alloc: Global, store: &Store, list: &[Case], row: &str) -> Result<Option<Store>, Memory>
+fn with_row(
+    alloc: Global,
+    store: &Store,
+    list: &[Case],
+    row: &str,
+) -> Result<Option<Boxed<Store>>, Memory>
     requires { All IsPlain list.now }
 {
     for made in list {
         if is_number(alloc, made.row, row)? {
-            return store.add_case(made);
+            return added(alloc, store, made);
         }
     }
     Ok(None)
 }
 
 // The store with the case of a row of a call.
-fn with_call(alloc: Global, store: &Store, call: &str, row: &str) -> Result<Option<Store>, Memory> {
+fn with_call(
+    alloc: Global,
+    store: &Store,
+    call: &str,
+    row: &str,
+) -> Result<Option<Boxed<Store>>, Memory> {
     let list = call_cases(alloc, call)?;
     with_row(alloc, store, list.as_slice(), row)
 }
 
-// The store behind calls, each with the row that it takes, from all trees on.
-fn store_behind(alloc: Global, calls: &str) -> Result<Store, Fail> {
-    let mut store = Store::start(alloc)?;
+// All trees.
+fn start(alloc: Global) -> Result<Boxed<Store>, Memory> {
+    let store = Store::start(alloc)?;
+    Boxed::new(alloc, store)
+}
+
+// The store behind calls, each with the row that it takes, from all trees on; none where nothing is left of a row.
+fn store_behind(alloc: Global, calls: &str) -> Result<Option<Boxed<Store>>, Memory> {
+    let mut store = start(alloc)?;
     for call in calls.split(';') {
         if let Some((text, row)) = call.trim().rsplit_once(' ') {
-            match with_call(alloc, &store, text, row)? {
+            match with_call(alloc, store.get(), text, row)? {
                 Some(new) => store = new,
-                None => return Err(Fail::from("nothing is left of a row")),
+                None => return Ok(None),
             }
         }
     }
-    Ok(store)
+    Ok(Some(store))
 }
 
 // Whether the rows of a line are left of its call.
-fn is_line_left(alloc: Global, line: &str) -> Result<bool, Fail> {
+fn is_line_left(alloc: Global, line: &str) -> bool {
     let (calls, rest) = line.split_once(" | ").unwrap_or(("", ""));
     let (call, rows) = rest.split_once(" |").unwrap_or(("", "none"));
-    let store = store_behind(alloc, calls)?;
-    Ok(are_left(alloc, &store, call, rows)?)
+    match store_behind(alloc, calls) {
+        Ok(Some(store)) => are_left(alloc, store.get(), call, rows),
+        _ => false,
+    }
 }
 
 #[test]
-fn rows_are_left(rt: HostRuntime) -> Result<(), Fail> {
+fn rows_are_left(rt: HostRuntime) {
     for line in LEFT.lines() {
-        assert!(rt; is_line_left(rt.alloc(), line)?, "{line}");
+        assert!(rt; is_line_left(rt.alloc(), line), "{line}");
     }
-    Ok(())
 }
 
 // The text of a row, behind what it begins with.
@@ -160,29 +197,40 @@ fn text_of(alloc: Global, begin: &[u8], row: &str) -> Result<Bytes, Memory> {
 }
 
 // Whether a store's clause has the text of a row, and is read as it was printed.
-fn has_row(alloc: Global, store: &Store, row: &str) -> Result<bool, ClauseFault> {
-    let wanted = text_of(alloc, b"clause start v0 ", row)?;
-    has_clause(alloc, store, wanted.as_slice())
+fn has_row(alloc: Global, store: &Store, row: &str) -> bool {
+    match text_of(alloc, b"clause start v0 ", row) {
+        Ok(wanted) => has_clause(alloc, store, wanted.as_slice()),
+        Err(_) => false,
+    }
 }
 
 // Whether a store shows the tree of a row.
-fn shows_row(alloc: Global, store: &mut Store, row: &str) -> Result<bool, Memory> {
-    let wanted = text_of(alloc, b"", row)?;
-    shows(alloc, store, wanted.as_slice())
+fn shows_row(alloc: Global, store: &mut Store, row: &str) -> bool {
+    match text_of(alloc, b"", row) {
+        Ok(wanted) => shows(alloc, store, wanted.as_slice()),
+        Err(_) => false,
+    }
+}
+
+// Whether a store has the clause and the tree of a row.
+fn comes_to(alloc: Global, store: Boxed<Store>, clause: &str, tree: &str) -> bool {
+    let mut store = store.into_inner();
+    has_row(alloc, &store, clause) && shows_row(alloc, &mut store, tree)
 }
 
 // Whether the store behind the calls of a line has the clause and the tree of the line.
-fn is_line(alloc: Global, line: &str) -> Result<bool, Fail> {
+fn is_line(alloc: Global, line: &str) -> bool {
     let (calls, rest) = line.split_once(" -> ").unwrap_or(("", ""));
     let (clause, tree) = rest.split_once(" ->").unwrap_or(("", "none"));
-    let mut store = store_behind(alloc, calls)?;
-    Ok(has_row(alloc, &store, clause)? && shows_row(alloc, &mut store, tree.trim())?)
+    match store_behind(alloc, calls) {
+        Ok(Some(store)) => comes_to(alloc, store, clause, tree.trim()),
+        _ => false,
+    }
 }
 
 #[test]
-fn clauses_of_stores(rt: HostRuntime) -> Result<(), Fail> {
+fn clauses_of_stores(rt: HostRuntime) {
     for line in CLAUSES.lines() {
-        assert!(rt; is_line(rt.alloc(), line)?, "{line}");
+        assert!(rt; is_line(rt.alloc(), line), "{line}");
     }
-    Ok(())
 }

@@ -5,7 +5,7 @@ ghost use Rattle.tree_clauses.specs.Plain.{IsPlain};
 ghost use Rattle.utility_calls.specs.Backs.{names_of};
 
 use act_cases::{back_cases, cases};
-use script_names::{Bytes, List, Memory, Path, PathFault};
+use script_names::{Boxed, Bytes, List, Memory, Path, PathFault, Reason};
 use std::alloc::Global;
 use tree_clauses::Case;
 use utility_calls::acts::Act;
@@ -56,29 +56,44 @@ fn plan_cases(alloc: Global, planned: &Planned) -> Result<List<Case>, Memory>
     }
 }
 
+// The plan of a call.
+fn plan_of(alloc: Global, text: &str) -> Result<Boxed<Planned>, Memory> {
+    let list = words(alloc, text)?;
+    if list.len() == 0 {
+        return Boxed::new(alloc, Planned::Unspecified(Reason::Empty));
+    }
+    let planned = plan(alloc, &list)?;
+    Boxed::new(alloc, planned)
+}
+
 /// The cases of the last act of a call's first operand; none where the call has no act.
 pub(crate) fn call_cases(alloc: Global, text: &str) -> Result<List<Case>, Memory>
     ensures { IfOk result (All IsPlain) }
 {
-    let list = words(alloc, text)?;
-    if list.len() == 0 {
-        return Ok(List::new(alloc));
-    }
-    let planned = plan(alloc, &list)?;
-    plan_cases(alloc, &planned)
+    let planned = plan_of(alloc, text)?;
+    plan_cases(alloc, planned.get())
 }
 
-// The act of a package manager that a word names; a link leads to `t`.
-fn placed(alloc: Global, name: &[u8], p: Path) -> Result<Option<Act>, Memory> {
+// An act behind a pointer.
+fn boxed(alloc: Global, act: Act) -> Result<Option<Boxed<Act>>, Memory> {
+    let act = Boxed::new(alloc, act)?;
+    Ok(Some(act))
+}
+
+// The link to `t` that a package manager places.
+fn link(alloc: Global, p: Path) -> Result<Option<Boxed<Act>>, Memory> {
+    let target = Bytes::from_slice(alloc, b"t")?;
+    boxed(alloc, Act::PlaceLink { p, target })
+}
+
+// The act of a package manager that a word names.
+fn placed(alloc: Global, name: &str, p: Path) -> Result<Option<Boxed<Act>>, Memory> {
     match name {
-        b"PlaceFile" => Ok(Some(Act::PlaceFile(p))),
-        b"PlaceConf" => Ok(Some(Act::PlaceConf(p))),
-        b"Discard" => Ok(Some(Act::Discard(p))),
-        b"DiscardDir" => Ok(Some(Act::DiscardDir(p))),
-        b"PlaceLink" => {
-            let target = Bytes::from_slice(alloc, b"t")?;
-            Ok(Some(Act::PlaceLink { p, target }))
-        }
+        "PlaceFile" => boxed(alloc, Act::PlaceFile(p)),
+        "PlaceConf" => boxed(alloc, Act::PlaceConf(p)),
+        "Discard" => boxed(alloc, Act::Discard(p)),
+        "DiscardDir" => boxed(alloc, Act::DiscardDir(p)),
+        "PlaceLink" => link(alloc, p),
         _ => Ok(None),
     }
 }
@@ -89,8 +104,8 @@ pub(crate) fn placed_cases(alloc: Global, text: &str) -> Result<List<Case>, Path
 {
     let (name, path) = text.split_once(' ').unwrap_or(("", "/"));
     let p = Path::read(alloc, path.as_bytes())?;
-    match placed(alloc, name.as_bytes(), p)? {
-        Some(act) => Ok(act_cases(alloc, &act)?),
+    match placed(alloc, name, p)? {
+        Some(act) => Ok(act_cases(alloc, act.get())?),
         None => Ok(List::new(alloc)),
     }
 }

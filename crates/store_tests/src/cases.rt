@@ -2,12 +2,12 @@
 //! the trees that take it.
 
 use crate::call_words::{call_cases, placed_cases, returned_cases};
-use crate::clause_texts::has_text;
-use script_names::{Copied, Done, Reason};
+use crate::clause_texts::{clause_of, has_text};
+use crate::copied::COPIES;
+use script_names::{Done, Reason};
 use std::alloc::Global;
 use std::process::Abort;
-use std::test::Fail;
-use tree_clauses::{Case, Clause, ClauseFault, Var};
+use tree_clauses::Case;
 
 /// A call or an act of a package manager, a row of its last act, the answer there, how many further variables the case
 /// has, and its clause.
@@ -602,86 +602,79 @@ fn answer_text(answer: Done) -> &'static str {
 }
 
 // Whether the case is the row's, and its clause is read as it was printed.
-fn is_case(alloc: Global, made: &Case, row: &Printed) -> Result<bool, ClauseFault> {
+fn is_case(alloc: Global, made: &Case, row: &Printed) -> bool {
     if answer_text(made.done) != row.2 || made.locals != row.3 {
-        return Ok(false);
+        return false;
     }
-    let made = made.copy(alloc)?;
-    let clause = Clause {
-        literals: made.literals,
-        start: Var(0),
-        now: made.root,
-    };
-    has_text(alloc, &clause, row.4.as_bytes())
+    match clause_of(alloc, made) {
+        Ok(clause) => has_text(alloc, clause.get(), row.4.as_bytes()),
+        Err(_) => false,
+    }
 }
 
 // Whether one of the cases is the row's.
-fn one_is(alloc: Global, list: &[Case], row: &Printed) -> Result<bool, ClauseFault> {
+fn one_is(alloc: Global, list: &[Case], row: &Printed) -> bool {
     let mut found = false;
     for made in list {
         if made.row == row.1 {
-            if found || !is_case(alloc, made, row)? {
-                return Ok(false);
+            if found || !is_case(alloc, made, row) {
+                return false;
             }
             found = true;
         }
     }
-    Ok(found)
+    found
 }
 
 // Whether one of the cases of a call is the row's.
-fn call_has(alloc: Global, row: &Printed) -> Result<bool, Fail> {
-    let list = call_cases(alloc, row.0)?;
-    Ok(one_is(alloc, list.as_slice(), row)?)
+fn call_has(alloc: Global, row: &Printed) -> bool {
+    match call_cases(alloc, row.0) {
+        Ok(list) => one_is(alloc, list.as_slice(), row),
+        Err(_) => false,
+    }
 }
 
 // Whether one of the cases of an act of a package manager is the row's.
-fn placed_has(alloc: Global, row: &Printed) -> Result<bool, Fail> {
-    let list = placed_cases(alloc, row.0)?;
-    Ok(one_is(alloc, list.as_slice(), row)?)
+fn placed_has(alloc: Global, row: &Printed) -> bool {
+    match placed_cases(alloc, row.0) {
+        Ok(list) => one_is(alloc, list.as_slice(), row),
+        Err(_) => false,
+    }
 }
 
 // Whether one of the cases of a back is the row's.
-fn back_has(alloc: Global, row: &Printed) -> Result<bool, Fail> {
-    let list = returned_cases(alloc, row.0)?;
-    Ok(one_is(alloc, list.as_slice(), row)?)
+fn back_has(alloc: Global, row: &Printed) -> bool {
+    match returned_cases(alloc, row.0) {
+        Ok(list) => one_is(alloc, list.as_slice(), row),
+        Err(_) => false,
+    }
 }
 
-/// Each call of a table has its case.
-pub(crate) fn expect_calls<R: Abort + AllocGlobal>(rt: &R, rows: &[Printed]) -> Result<(), Fail> {
+// Each call of a table has its case.
+fn expect_calls<R: Abort + AllocGlobal>(rt: &R, rows: &[Printed]) {
     for row in rows {
-        assert!(rt; call_has(rt.alloc(), row)?, "{}", row.0);
+        assert!(rt; call_has(rt.alloc(), row), "{}", row.0);
     }
-    Ok(())
 }
 
 #[test]
-fn cases_of_questions(rt: HostRuntime) -> Result<(), Fail> {
-    expect_calls(&rt, QUESTIONS)
+fn cases_of_calls(rt: HostRuntime) {
+    expect_calls(&rt, QUESTIONS);
+    expect_calls(&rt, CHANGES);
+    expect_calls(&rt, MOVES);
+    expect_calls(&rt, COPIES);
 }
 
 #[test]
-fn cases_of_changes(rt: HostRuntime) -> Result<(), Fail> {
-    expect_calls(&rt, CHANGES)
-}
-
-#[test]
-fn cases_of_moves(rt: HostRuntime) -> Result<(), Fail> {
-    expect_calls(&rt, MOVES)
-}
-
-#[test]
-fn cases_of_a_package_manager(rt: HostRuntime) -> Result<(), Fail> {
+fn cases_of_a_package_manager(rt: HostRuntime) {
     for row in PLACED {
-        assert!(rt; placed_has(rt.alloc(), row)?, "{}", row.0);
+        assert!(rt; placed_has(rt.alloc(), row), "{}", row.0);
     }
-    Ok(())
 }
 
 #[test]
-fn cases_of_backs(rt: HostRuntime) -> Result<(), Fail> {
+fn cases_of_backs(rt: HostRuntime) {
     for row in BACKS {
-        assert!(rt; back_has(rt.alloc(), row)?, "{}", row.0);
+        assert!(rt; back_has(rt.alloc(), row), "{}", row.0);
     }
-    Ok(())
 }

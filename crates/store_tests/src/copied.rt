@@ -1,9 +1,9 @@
 //! Cases of the setting of a mode and of copies: the row, its answer, and the clause of the trees that take it.
 
-use crate::cases::{Printed, expect_calls};
-use std::test::Fail;
+use crate::cases::Printed;
 
-const COPIES: &[Printed] = &[
+/// Rows of `chmod` and `cp`.
+pub(crate) const COPIES: &[Printed] = &[
     (
         "chmod 755 /a",
         67,
@@ -134,8 +134,3 @@ kind v2 link
 ",
     ),
 ];
-
-#[test]
-fn cases_of_copies(rt: HostRuntime) -> Result<(), Fail> {
-    expect_calls(&rt, COPIES)
-}

@@ -4,11 +4,12 @@
 ghost use Rattle.std.specs.Prelude.{◌<◌, ◌≤◌, IfOk, IfSome, IsTrue};
 ghost use Rattle.clause_solver.specs.Stands.{Alive};
 
+use crate::steps::Step::{Filled, LeavesNothing, ShowsAnother};
+use crate::steps::{Step, is_done_alone};
 use clause_solver::Store;
 use feature_trees::{Kind, Kinds, Special, Value, print_tree};
 use script_names::{Bytes, Memory, Name, NameFault};
 use std::alloc::Global;
-use std::test::Fail;
 use tree_clauses::Var;
 
 // A store in which x is a directory, and the variable of x without an entry; none where x is no directory.
@@ -43,16 +44,15 @@ fn can_be_filled(s: &mut Store, x: Var, f: &Name, closed: bool) -> Result<bool, 
     }
 }
 
-// The store in which an entry of `/srv` is of one of these kinds, and the variable of `/srv`.
-fn open_store(alloc: Global, srv: &Name, a: &Name, kinds: Kinds) -> Result<(Store, Var), Memory>
-    ensures { IfOk result (λ found. found.1.0 < found.0.count) }
+// Lets an entry of `/srv` be of one of these kinds; the variable of `/srv`.
+fn opened(s: &mut Store, srv: &Name, a: &Name, kinds: Kinds) -> Result<Var, Memory>
+    ensures { IfOk result (λ x. x.0 < s.new.count) }
 {
-    let mut s = Store::start(alloc)?;
     let now = s.now();
     let x = s.child(now, srv)?;
     let y = s.child(x, a)?;
     s.limit(y, kinds)?;
-    Ok((s, x))
+    Ok(x)
 }
 
 // Whether the value is a directory with another entry than this one.
@@ -71,9 +71,9 @@ fn names(alloc: Global, second: &[u8]) -> Result<(Name, Name), NameFault> {
 }
 
 // Whether the shown tree has another entry where `/srv` without an entry that is absent is to have one.
-fn another_is_shown(alloc: Global, srv: &Name, a: &Name) -> Result<bool, Memory> {
-    let (mut s, x) = open_store(alloc, srv, a, Kinds::of(Kind::Absent))?;
-    let left = can_be_filled(&mut s, x, a, false)?;
+fn another_is_shown(alloc: Global, s: &mut Store, srv: &Name, a: &Name) -> Result<bool, Memory> {
+    let x = opened(s, srv, a, Kinds::of(Kind::Absent))?;
+    let left = can_be_filled(s, x, a, false)?;
     if !left {
         return Ok(false);
     }
@@ -81,68 +81,38 @@ fn another_is_shown(alloc: Global, srv: &Name, a: &Name) -> Result<bool, Memory>
     Ok(has_another(tree.entry(srv), a))
 }
 
-#[test]
-fn shows_another_entry(rt: HostRuntime) -> Result<(), Fail> {
-    let (srv, a) = names(rt.alloc(), b"a")?;
-    assert!(rt; another_is_shown(rt.alloc(), &srv, &a)?);
-    Ok(())
+/// Whether the shown tree has another entry than `/srv/a` where `/srv` without `/srv/a`, which is absent, is to have
+/// one.
+pub(crate) fn shows_another(alloc: Global, s: &mut Store) -> bool {
+    match names(alloc, b"a") {
+        Ok((srv, a)) => matches!(another_is_shown(alloc, s, &srv, &a), Ok(true)),
+        Err(_) => false,
+    }
 }
 
 // Whether something is left where `/srv` without an entry that is absent is empty, and is to have an entry.
-fn is_anything_left(alloc: Global, srv: &Name, a: &Name) -> Result<bool, Memory> {
-    let (mut s, x) = open_store(alloc, srv, a, Kinds::of(Kind::Absent))?;
-    can_be_filled(&mut s, x, a, true)
+fn is_anything_left(s: &mut Store, srv: &Name, a: &Name) -> Result<bool, Memory> {
+    let x = opened(s, srv, a, Kinds::of(Kind::Absent))?;
+    can_be_filled(s, x, a, true)
 }
 
-#[test]
-fn knows_that_nothing_is_left(rt: HostRuntime) -> Result<(), Fail> {
-    let (srv, a) = names(rt.alloc(), b"a")?;
-    assert!(rt; !is_anything_left(rt.alloc(), &srv, &a)?);
-    Ok(())
+/// Whether nothing is left where `/srv` without `/srv/a`, which is absent, is empty, and is to have an entry.
+pub(crate) fn leaves_nothing(alloc: Global, s: &mut Store) -> bool {
+    match names(alloc, b"a") {
+        Ok((srv, a)) => matches!(is_anything_left(s, &srv, &a), Ok(false)),
+        Err(_) => false,
+    }
 }
-
-// Where `/srv` is not empty: two kinds of which `/srv/b` has one, and the shown tree. An entry is made up only where
-// `/srv/b` cannot stand there.
-const FILLED: &[(Kind, Kind, &str)] = &[
-    (Kind::Reg, Kind::Reg, "d /srv\nf /srv/b\n"),
-    (Kind::Link, Kind::Link, "d /srv\nl /srv/b x\n"),
-    (
-        Kind::Special(Special::Fifo),
-        Kind::Absent,
-        "d /srv\np /srv/b\n",
-    ),
-    (
-        Kind::Absent,
-        Kind::Special(Special::Socket),
-        "d /srv\ns /srv/b\n",
-    ),
-    (
-        Kind::Special(Special::Block),
-        Kind::Absent,
-        "d /srv\nb /srv/b\n",
-    ),
-    (
-        Kind::Absent,
-        Kind::Special(Special::Char),
-        "d /srv\nc /srv/b\n",
-    ),
-    (
-        Kind::Special(Special::Char),
-        Kind::Special(Special::Socket),
-        "d /srv\ns /srv/b\n",
-    ),
-    (Kind::Absent, Kind::Reg, "d /srv\nf /srv/b\n"),
-    (Kind::Reg, Kind::Dir, "d /srv\nd /srv/b\n"),
-    (
-        Kind::Absent,
-        Kind::Absent,
-        "d /srv\nf /srv/aaaaaaaaaaaaaaaaaaaaaaaaaaaaaaaa\n",
-    ),
-];
 
 // The shown tree where `/srv` is not empty and an entry of it is of one of these kinds; no text where no tree is so.
-fn filled_tree(alloc: Global, srv: &Name, b: &Name, kinds: Kinds) -> Result<Bytes, Memory> {
-    let (mut s, x) = open_store(alloc, srv, b, kinds)?;
+fn filled_tree(
+    alloc: Global,
+    s: &mut Store,
+    srv: &Name,
+    b: &Name,
+    kinds: Kinds,
+) -> Result<Bytes, Memory> {
+    let x = opened(s, srv, b, kinds)?;
     let left = s.not_empty(x)?;
     if !left {
         return Ok(Bytes::new(alloc));
@@ -152,23 +122,64 @@ fn filled_tree(alloc: Global, srv: &Name, b: &Name, kinds: Kinds) -> Result<Byte
     Ok(text)
 }
 
-// Whether the shown tree of a row is the row's.
-fn is_filled(
-    alloc: Global,
-    srv: &Name,
-    b: &Name,
-    row: &(Kind, Kind, &str),
-) -> Result<bool, Memory> {
-    let kinds = Kinds::either(Kinds::of(row.0), Kinds::of(row.1));
-    let text = filled_tree(alloc, srv, b, kinds)?;
-    Ok(text.as_slice() == row.2.as_bytes())
+// The same of `/srv/b`.
+fn filled_text(alloc: Global, s: &mut Store, kinds: Kinds) -> Result<Bytes, NameFault> {
+    let (srv, b) = names(alloc, b"b")?;
+    Ok(filled_tree(alloc, s, &srv, &b, kinds)?)
 }
 
-#[test]
-fn shows_an_entry_that_is_known(rt: HostRuntime) -> Result<(), Fail> {
-    let (srv, b) = names(rt.alloc(), b"b")?;
-    for row in FILLED {
-        assert!(rt; is_filled(rt.alloc(), &srv, &b, row)?, "{row:?}");
+/// Whether the shown tree where `/srv` is not empty and `/srv/b` is of one of two kinds is this one.
+pub(crate) fn is_filled(alloc: Global, s: &mut Store, one: Kind, other: Kind, text: &str) -> bool {
+    let kinds = Kinds::either(Kinds::of(one), Kinds::of(other));
+    match filled_text(alloc, s, kinds) {
+        Ok(shown) => shown.as_slice() == text.as_bytes(),
+        Err(_) => false,
     }
-    Ok(())
+}
+
+// In `Filled`, an entry is made up only where `/srv/b` cannot stand there.
+const STEPS: &[Step] = &[
+    ShowsAnother,
+    LeavesNothing,
+    Filled(Kind::Reg, Kind::Reg, "d /srv\nf /srv/b\n"),
+    Filled(Kind::Link, Kind::Link, "d /srv\nl /srv/b x\n"),
+    Filled(
+        Kind::Special(Special::Fifo),
+        Kind::Absent,
+        "d /srv\np /srv/b\n",
+    ),
+    Filled(
+        Kind::Absent,
+        Kind::Special(Special::Socket),
+        "d /srv\ns /srv/b\n",
+    ),
+    Filled(
+        Kind::Special(Special::Block),
+        Kind::Absent,
+        "d /srv\nb /srv/b\n",
+    ),
+    Filled(
+        Kind::Absent,
+        Kind::Special(Special::Char),
+        "d /srv\nc /srv/b\n",
+    ),
+    Filled(
+        Kind::Special(Special::Char),
+        Kind::Special(Special::Socket),
+        "d /srv\ns /srv/b\n",
+    ),
+    Filled(Kind::Absent, Kind::Reg, "d /srv\nf /srv/b\n"),
+    Filled(Kind::Reg, Kind::Dir, "d /srv\nd /srv/b\n"),
+    Filled(
+        Kind::Absent,
+        Kind::Absent,
+        "d /srv\nf /srv/aaaaaaaaaaaaaaaaaaaaaaaaaaaaaaaa\n",
+    ),
+];
+
+#[test]
+fn emptied_directories_are_filled(rt: HostRuntime) {
+    for step in STEPS {
+        assert!(rt; is_done_alone(rt.alloc(), step));
+    }
 }

@@ -19,6 +19,8 @@ mod returned;
 #[cfg(test)]
 mod starts;
 #[cfg(test)]
+mod steps;
+#[cfg(test)]
 mod stores;
 #[cfg(test)]
 mod taken;

@@ -5,16 +5,14 @@ use crate::call_words::returned_cases;
 use feature_trees::{Value, read_tree};
 use script_names::{Copied, List, Memory, Name, NameFault};
 use std::alloc::Global;
-use std::process::Abort;
-use std::test::Fail;
 use tree_clauses::{Case, Clause, Literal, Var, meets};
 
 // A back by its kind and its path, the row that it takes, and one tree with three in it: the kept tree at `/k`, the tree
 // now at `/n`, and the tree that is left at `/u`.
 type Returned = (&'static str, u8, &'static str);
 
-// Directories.
-const FOLDERS: &[Returned] = &[
+const BACKS: &[Returned] = &[
+    // directories
     ("Folder /l/a", 1, "d /k\nd /n\nl /n/l t\nd /u\nl /u/l t"),
     (
         "Folder /d/l/a",
@@ -40,10 +38,7 @@ const FOLDERS: &[Returned] = &[
         69,
         "d /k\nl /k/a t\nd /n\nd /n/a\nd /n/a/b\nd /u\nd /u/a",
     ),
-];
-
-// Files and links.
-const FILES: &[Returned] = &[
+    // files and links
     ("File /l/a", 1, "d /k\nd /n\nl /n/l t\nd /u\nl /u/l t"),
     ("File /a/b", 66, "d /k\nd /k/a\nl /k/a/b t\nd /n\nd /u"),
     ("File /a/b", 66, "d /k\nd /n\nf /n/a\nd /u\nf /u/a"),
@@ -132,23 +127,25 @@ fn one_leads(alloc: Global, list: &[Case], tree: &Value, row: u8) -> Result<bool
     Ok(found)
 }
 
-// Whether a back takes its row, and leaves its tree.
-fn is_returned(alloc: Global, row: &Returned) -> Result<bool, Fail> {
-    let list = returned_cases(alloc, row.0)?;
-    let tree = read_tree(alloc, row.2.as_bytes())?;
-    Ok(one_leads(alloc, list.as_slice(), &tree, row.1)?)
+// Whether of the cases of a back one leads on from a tree, that of the row.
+fn back_leads(alloc: Global, row: &Returned, tree: &Value) -> bool {
+    match returned_cases(alloc, row.0) {
+        Ok(list) => matches!(one_leads(alloc, list.as_slice(), tree, row.1), Ok(true)),
+        Err(_) => false,
+    }
 }
 
-// Each back of a table takes its row, and leaves its tree.
-fn expect_backs<R: Abort + AllocGlobal>(rt: &R, rows: &[Returned]) -> Result<(), Fail> {
-    for row in rows {
-        assert!(rt; is_returned(rt.alloc(), row)?, "{} {}", row.0, row.1);
+// Whether a back takes its row, and leaves its tree.
+fn is_returned(alloc: Global, row: &Returned) -> bool {
+    match read_tree(alloc, row.2.as_bytes()) {
+        Ok(tree) => back_leads(alloc, row, &tree),
+        Err(_) => false,
     }
-    Ok(())
 }
 
 #[test]
-fn one_case_of_a_back_leads_on(rt: HostRuntime) -> Result<(), Fail> {
-    expect_backs(&rt, FOLDERS)?;
-    expect_backs(&rt, FILES)
+fn one_case_of_a_back_leads_on(rt: HostRuntime) {
+    for row in BACKS {
+        assert!(rt; is_returned(rt.alloc(), row), "{} {}", row.0, row.1);
+    }
 }

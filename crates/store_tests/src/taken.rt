@@ -3,12 +3,12 @@
 //! one, and some of links on the way.
 
 use crate::call_words::{call_cases, placed_cases};
+use crate::clause_texts::clause_of;
 use feature_trees::{Value, read_tree};
-use script_names::{Copied, Memory};
+use script_names::Memory;
 use std::alloc::Global;
 use std::process::Abort;
-use std::test::Fail;
-use tree_clauses::{Case, Clause, Var, meets};
+use tree_clauses::{Case, meets};
 
 // The tree of these tests: `d` is a directory, `f` a file, `l` a link, `p` a pipe, `s` a socket, `b` a
 // block device, `c` a character device.
@@ -250,13 +250,8 @@ const PLACED: &[Taken] = &[
 
 // Whether the case holds on a tree.
 fn holds(alloc: Global, made: &Case, tree: &Value) -> Result<bool, Memory> {
-    let made = made.copy(alloc)?;
-    let clause = Clause {
-        literals: made.literals,
-        start: Var(0),
-        now: made.root,
-    };
-    Ok(meets(alloc, &clause, tree)? == Some(true))
+    let clause = clause_of(alloc, made)?;
+    Ok(meets(alloc, clause.get(), tree)? == Some(true))
 }
 
 // Whether of these cases one holds on the tree, that of the row.
@@ -273,58 +268,50 @@ fn one_holds(alloc: Global, list: &[Case], tree: &Value, row: u8) -> Result<bool
 }
 
 // Whether of these cases one holds on the tree of the tests, that of the row.
-fn is_taken(alloc: Global, list: &[Case], row: u8) -> Result<bool, Fail> {
-    let tree = read_tree(alloc, SAMPLE.as_bytes())?;
-    Ok(one_holds(alloc, list, &tree, row)?)
+fn is_taken(alloc: Global, list: &[Case], row: u8) -> bool {
+    match read_tree(alloc, SAMPLE.as_bytes()) {
+        Ok(tree) => matches!(one_holds(alloc, list, &tree, row), Ok(true)),
+        Err(_) => false,
+    }
 }
 
 // Whether a call takes its row.
-fn call_takes(alloc: Global, row: &Taken) -> Result<bool, Fail> {
-    let list = call_cases(alloc, row.0)?;
-    is_taken(alloc, list.as_slice(), row.1)
+fn call_takes(alloc: Global, row: &Taken) -> bool {
+    match call_cases(alloc, row.0) {
+        Ok(list) => is_taken(alloc, list.as_slice(), row.1),
+        Err(_) => false,
+    }
 }
 
 // Whether an act of a package manager takes its row.
-fn placed_takes(alloc: Global, row: &Taken) -> Result<bool, Fail> {
-    let list = placed_cases(alloc, row.0)?;
-    is_taken(alloc, list.as_slice(), row.1)
+fn placed_takes(alloc: Global, row: &Taken) -> bool {
+    match placed_cases(alloc, row.0) {
+        Ok(list) => is_taken(alloc, list.as_slice(), row.1),
+        Err(_) => false,
+    }
 }
 
 // Each call of a table takes its row.
-fn expect_calls<R: Abort + AllocGlobal>(rt: &R, rows: &[Taken]) -> Result<(), Fail> {
+fn expect_calls<R: Abort + AllocGlobal>(rt: &R, rows: &[Taken]) {
     for row in rows {
-        assert!(rt; call_takes(rt.alloc(), row)?, "{}", row.0);
+        assert!(rt; call_takes(rt.alloc(), row), "{}", row.0);
     }
-    Ok(())
 }
 
 #[test]
-fn one_case_of_a_question_holds(rt: HostRuntime) -> Result<(), Fail> {
-    expect_calls(&rt, QUESTIONS)
+fn one_case_of_a_call_holds(rt: HostRuntime) {
+    expect_calls(&rt, QUESTIONS);
+    expect_calls(&rt, PLACES);
+    expect_calls(&rt, MADE);
+    expect_calls(&rt, MOVED);
+    expect_calls(&rt, ATTRS);
+    expect_calls(&rt, COPIED);
+    expect_calls(&rt, COPIED_DEEP);
 }
 
 #[test]
-fn one_case_of_a_change_holds(rt: HostRuntime) -> Result<(), Fail> {
-    expect_calls(&rt, PLACES)?;
-    expect_calls(&rt, MADE)
-}
-
-#[test]
-fn one_case_of_a_move_holds(rt: HostRuntime) -> Result<(), Fail> {
-    expect_calls(&rt, MOVED)
-}
-
-#[test]
-fn one_case_of_a_copy_holds(rt: HostRuntime) -> Result<(), Fail> {
-    expect_calls(&rt, ATTRS)?;
-    expect_calls(&rt, COPIED)?;
-    expect_calls(&rt, COPIED_DEEP)
-}
-
-#[test]
-fn one_case_of_a_package_manager_holds(rt: HostRuntime) -> Result<(), Fail> {
+fn one_case_of_a_package_manager_holds(rt: HostRuntime) {
     for row in PLACED {
-        assert!(rt; placed_takes(rt.alloc(), row)?, "{}", row.0);
+        assert!(rt; placed_takes(rt.alloc(), row), "{}", row.0);
     }
-    Ok(())
 }

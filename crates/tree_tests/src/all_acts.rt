@@ -1,10 +1,6 @@
-use concrete_utils::steps::act;
-use feature_trees::{Entries, Special, Value};
-use script_names::{Bytes, Copied, Done, List, Memory, Path, Reason};
-use std::alloc::Global;
-use std::test::Fail;
-use utility_calls::acts::Act;
-use utility_calls::calls::{Planned, plan};
+//! The row that each act takes on a tree, its answer, and what it leaves there.
+
+use crate::trials::{Taken, Trial, call_takes, copy_takes, placed_takes};
 
 // What stands on the tree of the tests: `d` a directory, `f` a file, `l` a link, `p` a pipe, `s` a socket, `b` a block
 // device, `c` a character device.
@@ -32,200 +28,8 @@ f /x/g/a
 l /y
 l /x/o";
 
-// A value of the kind that a letter names; a link leads to `t`.
-fn value(alloc: Global, letter: &[u8]) -> Result<Value, Memory> {
-    match letter {
-        b"d" => Ok(Value::Dir(Entries::new(alloc))),
-        b"f" => Ok(Value::Reg),
-        b"l" => Ok(Value::Link(Bytes::from_slice(alloc, b"t")?)),
-        b"p" => Ok(Value::Special(Special::Fifo)),
-        b"s" => Ok(Value::Special(Special::Socket)),
-        b"b" => Ok(Value::Special(Special::Block)),
-        b"c" => Ok(Value::Special(Special::Char)),
-        _ => Ok(Value::Absent),
-    }
-}
-
-// Puts a value on a tree, by a letter and a path.
-fn put_one(alloc: Global, tree: &mut Value, letter: &str, path: &str) -> Result<(), Fail> {
-    let p = Path::read(alloc, path.as_bytes())?;
-    if p.names().is_empty() {
-        return Err(Fail::from("the root"));
-    }
-    tree.put(&p, value(alloc, letter.as_bytes())?)?;
-    Ok(())
-}
-
-// Puts what a text names on a tree: a letter and a path, and further ones behind a comma.
-pub(crate) fn put_all(alloc: Global, tree: &mut Value, text: &str) -> Result<(), Fail> {
-    for part in text.split(',') {
-        if let Some((letter, path)) = part.split_once(' ') {
-            put_one(alloc, tree, letter, path)?;
-        }
-    }
-    Ok(())
-}
-
-// Puts what stands on the tree of the tests.
-fn fill(alloc: Global, tree: &mut Value) -> Result<(), Fail> {
-    for line in SAMPLE.lines() {
-        put_all(alloc, tree, line)?;
-    }
-    Ok(())
-}
-
-// The tree of the tests.
-fn sample(alloc: Global) -> Result<Value, Fail> {
-    let mut tree = Value::Dir(Entries::new(alloc));
-    fill(alloc, &mut tree)?;
-    Ok(tree)
-}
-
-// Whether a tree is that of the tests with what a text names.
-fn is_left(alloc: Global, tree: &Value, text: &str) -> Result<bool, Fail> {
-    let mut left = sample(alloc)?;
-    put_all(alloc, &mut left, text)?;
-    Ok(tree.equal(&left))
-}
-
-pub(crate) fn answer_text(answer: Done) -> &'static str {
-    match answer {
-        Done::Ok => "ok",
-        Done::Failed => "failed",
-        Done::Stopped(Reason::Link) => "link",
-        Done::Stopped(Reason::Slash) => "slash",
-        Done::Stopped(Reason::Run) => "run",
-        Done::Stopped(Reason::Same) => "same",
-        Done::Stopped(Reason::Conffile) => "conffile",
-        Done::Stopped(Reason::Call) => "call",
-        Done::Stopped(_) => "another",
-    }
-}
-
-// A call, the row that its last act takes on the tree of the tests, the answer, and what is put there then.
-type Taken = (&'static str, u8, &'static str, &'static str);
-
-// Whether the act takes the row on the tree of the tests, answers so, and leaves this tree.
-fn takes(alloc: Global, a: &Act, row: &Taken) -> Result<bool, Fail> {
-    if !a.is_performed() {
-        return Ok(false);
-    }
-    let mut tree = sample(alloc)?;
-    let (number, answer) = act(alloc, a, &mut tree)?;
-    if number != row.1 || answer_text(answer) != row.2 {
-        return Ok(false);
-    }
-    is_left(alloc, &tree, row.3)
-}
-
-pub(crate) fn words(alloc: Global, text: &str) -> Result<List<Bytes>, Memory> {
-    let mut all = List::new(alloc);
-    for part in text.split(' ') {
-        let word = Bytes::from_slice(alloc, part.as_bytes())?;
-        all.add(word)?;
-    }
-    Ok(all)
-}
-
-// Whether the last act of each operand takes the row.
-fn all_take(alloc: Global, all: &[List<Act>], row: &Taken) -> Result<bool, Fail> {
-    for acts in all {
-        if let Some(last) = acts.as_slice().last() {
-            if !takes(alloc, last, row)? {
-                return Ok(false);
-            }
-        }
-    }
-    Ok(true)
-}
-
-// Whether the act of a plan, or the last act of each operand, takes the row.
-fn plan_takes(alloc: Global, planned: &Planned, row: &Taken) -> Result<bool, Fail> {
-    match planned {
-        Planned::Ask { act, negate: _ } => takes(alloc, act, row),
-        Planned::Change(all) => all_take(alloc, all.as_slice(), row),
-        _ => Ok(false),
-    }
-}
-
-// Whether the last act of a call takes the row.
-fn call_takes(alloc: Global, row: &Taken) -> Result<bool, Fail> {
-    let list = words(alloc, row.0)?;
-    if list.len() == 0 {
-        return Ok(false);
-    }
-    let planned = plan(alloc, &list)?;
-    plan_takes(alloc, &planned, row)
-}
-
-// The act that a word names: one of a package manager, `test -x` where it is taken that a regular file may be run, or
-// the setting of a mode.
-pub(crate) fn place(alloc: Global, name: &[u8], p: Path) -> Result<Act, Memory> {
-    match name {
-        b"CanRunFile" => Ok(Act::CanRun { p, runs: true }),
-        b"Attr" => Ok(Act::Attr(p)),
-        b"EnsureDir" => Ok(Act::EnsureDir(p)),
-        b"PlaceFile" => Ok(Act::PlaceFile(p)),
-        b"PlaceConf" => Ok(Act::PlaceConf(p)),
-        b"Discard" => Ok(Act::Discard(p)),
-        b"DiscardDir" => Ok(Act::DiscardDir(p)),
-        _ => {
-            let target = Bytes::from_slice(alloc, b"t")?;
-            Ok(Act::PlaceLink { p, target })
-        }
-    }
-}
-
-// Whether a word names the copying of directories too.
-fn is_deep(name: &[u8]) -> bool {
-    match name {
-        b"CopyDeep" => true,
-        _ => false,
-    }
-}
-
-// The copying that a word and two paths name.
-fn copying(alloc: Global, name: &str, first: &str, second: &str) -> Result<Act, Fail> {
-    let a = Path::read(alloc, first.as_bytes())?;
-    let b = Path::read(alloc, second.as_bytes())?;
-    let deep = is_deep(name.as_bytes());
-    Ok(Act::Copy { a, b, deep })
-}
-
-// The act that a word and a path name.
-fn placing(alloc: Global, name: &str, path: &str) -> Result<Act, Fail> {
-    let p = Path::read(alloc, path.as_bytes())?;
-    Ok(place(alloc, name.as_bytes(), p)?)
-}
-
-// The act that a row names, by a word and one path or two.
-pub(crate) fn placed(alloc: Global, text: &str) -> Result<Act, Fail> {
-    let (name, paths) = text.split_once(' ').unwrap_or(("", "/"));
-    match paths.split_once(' ') {
-        Some((first, second)) => copying(alloc, name, first, second),
-        None => placing(alloc, name, paths),
-    }
-}
-
-// Whether the act that a row names takes the row.
-fn placed_takes(alloc: Global, row: &Taken) -> Result<bool, Fail> {
-    let a = placed(alloc, row.0)?;
-    takes(alloc, &a, row)
-}
-
-// A copy of the act that a row names.
-pub(crate) fn placed_copy(alloc: Global, text: &str) -> Result<Act, Fail> {
-    let a = placed(alloc, text)?;
-    Ok(a.copy(alloc)?)
-}
-
-// Whether the copy of the act takes the row.
-fn copy_takes(alloc: Global, row: &Taken) -> Result<bool, Fail> {
-    let twin = placed_copy(alloc, row.0)?;
-    takes(alloc, &twin, row)
-}
-
-const QUESTIONS: &[Taken] = &[
+const CALLS: &[Taken] = &[
+    // questions
     ("test -e /l", 65, "link", ""),
     ("test -e /n", 66, "failed", ""),
     ("test -e /f", 67, "ok", ""),
@@ -267,9 +71,7 @@ const QUESTIONS: &[Taken] = &[
     ("test -e /f/", 64, "slash", ""),
     ("test -h /l/", 64, "slash", ""),
     ("test -e /n/", 66, "failed", ""),
-];
-
-const CHANGES: &[Taken] = &[
+    // changes
     ("mkdir /l/a", 1, "link", ""),
     ("mkdir /f/", 64, "slash", ""),
     ("mkdir /f/a", 66, "failed", ""),
@@ -315,9 +117,7 @@ const CHANGES: &[Taken] = &[
     ("ln -sf t /n", 69, "ok", "l /n"),
     ("ln -sf e /d", 72, "failed", ""),
     ("ln -sf t /e", 73, "ok", "l /e/t"),
-];
-
-const MOVES: &[Taken] = &[
+    // moves
     ("mv /l/a /n", 1, "link", ""),
     ("mv /f /l/a", 129, "link", ""),
     ("mv /f /d/l/a", 130, "link", ""),
@@ -349,6 +149,7 @@ const MOVES: &[Taken] = &[
 ];
 
 const PLACES: &[Taken] = &[
+    // what a package manager does
     ("PlaceFile /l/a", 1, "link", ""),
     ("PlaceFile /f/a", 66, "failed", ""),
     ("PlaceFile /d", 67, "failed", ""),
@@ -370,9 +171,7 @@ const PLACES: &[Taken] = &[
     ("DiscardDir /f", 66, "ok", ""),
     ("DiscardDir /d", 67, "ok", ""),
     ("DiscardDir /e", 68, "ok", "- /e"),
-];
-
-const ATTRS: &[Taken] = &[
+    // the setting of a mode
     ("Attr /l", 65, "link", ""),
     ("Attr /n", 66, "failed", ""),
     ("Attr /f/a", 66, "failed", ""),
@@ -388,9 +187,7 @@ const ATTRS: &[Taken] = &[
     ("Attr /l/", 64, "slash", ""),
     ("Attr /n/", 66, "failed", ""),
     ("Attr /d/", 67, "ok", ""),
-];
-
-const RUNS: &[Taken] = &[
+    // `test -x` where it is taken that a regular file may be run
     ("CanRunFile /l", 65, "link", ""),
     ("CanRunFile /n", 66, "failed", ""),
     ("CanRunFile /f/a", 66, "failed", ""),
@@ -409,52 +206,32 @@ const RUNS: &[Taken] = &[
 ];
 
 #[test]
-fn questions_take_each_row(rt: HostRuntime) -> Result<(), Fail> {
-    for row in QUESTIONS {
-        assert!(rt; call_takes(rt.alloc(), row)?, "{}", row.0);
+fn calls_take_each_row(rt: HostRuntime) {
+    for row in CALLS {
+        assert!(rt;
+            matches!(
+                call_takes(rt.alloc(), row.0, &Trial::Whole(SAMPLE, row)),
+                Ok(true)
+            ),
+            "{}",
+            row.0
+        );
     }
-    Ok(())
 }
 
 #[test]
-fn changes_take_each_row(rt: HostRuntime) -> Result<(), Fail> {
-    for row in CHANGES {
-        assert!(rt; call_takes(rt.alloc(), row)?, "{}", row.0);
-    }
-    Ok(())
-}
-
-#[test]
-fn moves_take_each_row(rt: HostRuntime) -> Result<(), Fail> {
-    for row in MOVES {
-        assert!(rt; call_takes(rt.alloc(), row)?, "{}", row.0);
-    }
-    Ok(())
-}
-
-#[test]
-fn test_x_takes_each_row_where_files_run(rt: HostRuntime) -> Result<(), Fail> {
-    for row in RUNS {
-        assert!(rt; placed_takes(rt.alloc(), row)?, "{}", row.0);
-        assert!(rt; copy_takes(rt.alloc(), row)?, "{}", row.0);
-    }
-    Ok(())
-}
-
-#[test]
-fn chmod_takes_each_row(rt: HostRuntime) -> Result<(), Fail> {
-    for row in ATTRS {
-        assert!(rt; placed_takes(rt.alloc(), row)?, "{}", row.0);
-        assert!(rt; copy_takes(rt.alloc(), row)?, "{}", row.0);
-    }
-    Ok(())
-}
-
-#[test]
-fn a_package_manager_takes_each_row(rt: HostRuntime) -> Result<(), Fail> {
+fn places_take_each_row(rt: HostRuntime) {
     for row in PLACES {
-        assert!(rt; placed_takes(rt.alloc(), row)?, "{}", row.0);
-        assert!(rt; copy_takes(rt.alloc(), row)?, "{}", row.0);
+        let trial = Trial::Whole(SAMPLE, row);
+        assert!(rt;
+            matches!(placed_takes(rt.alloc(), row.0, &trial), Ok(true)),
+            "{}",
+            row.0
+        );
+        assert!(rt;
+            matches!(copy_takes(rt.alloc(), row.0, &trial), Ok(true)),
+            "{}",
+            row.0
+        );
     }
-    Ok(())
 }

@@ -1,11 +1,9 @@
 //! The row that each copying takes on a tree, its answer, and what it leaves there.
 
-use crate::all_acts::{answer_text, placed, placed_copy, put_all};
-use concrete_utils::steps::act;
-use feature_trees::{Entries, Value};
+use crate::trials::{Taken, Trial, copy_takes, is_left, perform, placed, placed_takes, sample};
+use feature_trees::Value;
+use script_names::PathFault;
 use std::alloc::Global;
-use std::test::Fail;
-use utility_calls::acts::Act;
 
 // What stands on the tree of the tests, by the letters of the tests of all acts. The names in `/s` and `/t` stand in
 // `/d` too, as a link, a socket, a directory and a regular file.
@@ -31,57 +29,7 @@ f /f
 l /l
 p /p";
 
-// Puts what stands on the tree of the tests.
-fn fill(alloc: Global, tree: &mut Value) -> Result<(), Fail> {
-    for line in SAMPLE.lines() {
-        put_all(alloc, tree, line)?;
-    }
-    Ok(())
-}
-
-// The tree of the tests.
-fn sample(alloc: Global) -> Result<Value, Fail> {
-    let mut tree = Value::Dir(Entries::new(alloc));
-    fill(alloc, &mut tree)?;
-    Ok(tree)
-}
-
-// Whether a tree is that of the tests with what a text names.
-fn is_left(alloc: Global, tree: &Value, text: &str) -> Result<bool, Fail> {
-    let mut left = sample(alloc)?;
-    put_all(alloc, &mut left, text)?;
-    Ok(tree.equal(&left))
-}
-
-// A copying, the row that it takes on the tree of the tests, the answer, and what is put there then.
-type Taken = (&'static str, u8, &'static str, &'static str);
-
-// Whether the act takes the row on the tree of the tests, answers so, and leaves this tree.
-fn takes(alloc: Global, a: &Act, row: &Taken) -> Result<bool, Fail> {
-    if !a.is_performed() {
-        return Ok(false);
-    }
-    let mut tree = sample(alloc)?;
-    let (number, answer) = act(alloc, a, &mut tree)?;
-    if number != row.1 || answer_text(answer) != row.2 {
-        return Ok(false);
-    }
-    is_left(alloc, &tree, row.3)
-}
-
-// Whether the act that a row names takes the row.
-fn row_takes(alloc: Global, row: &Taken) -> Result<bool, Fail> {
-    let a = placed(alloc, row.0)?;
-    takes(alloc, &a, row)
-}
-
-// Whether the copy of the act takes the row.
-fn twin_takes(alloc: Global, row: &Taken) -> Result<bool, Fail> {
-    let twin = placed_copy(alloc, row.0)?;
-    takes(alloc, &twin, row)
-}
-
-const PLAIN: &[Taken] = &[
+const COPIES: &[Taken] = &[
     ("Copy /l/a /n", 1, "link", ""),
     ("Copy /f/ /n", 64, "slash", ""),
     ("Copy /l /n", 65, "link", ""),
@@ -108,9 +56,7 @@ const PLAIN: &[Taken] = &[
     ("Copy /s/g /d", 75, "failed", ""),
     ("Copy /p /n", 82, "run", ""),
     ("Copy /d/o /l/a", 82, "run", ""),
-];
-
-const DEEP: &[Taken] = &[
+    // with `-r`
     ("CopyDeep /l/a /n", 1, "link", ""),
     ("CopyDeep /f/ /n", 64, "slash", ""),
     ("CopyDeep /l /n", 65, "link", ""),
@@ -145,42 +91,37 @@ const DEEP: &[Taken] = &[
 ];
 
 #[test]
-fn cp_takes_each_row(rt: HostRuntime) -> Result<(), Fail> {
-    for row in PLAIN {
-        assert!(rt; row_takes(rt.alloc(), row)?, "{}", row.0);
-        assert!(rt; twin_takes(rt.alloc(), row)?, "{}", row.0);
+fn copies_take_each_row(rt: HostRuntime) {
+    for row in COPIES {
+        let trial = Trial::Whole(SAMPLE, row);
+        assert!(rt;
+            matches!(placed_takes(rt.alloc(), row.0, &trial), Ok(true)),
+            "{}",
+            row.0
+        );
+        assert!(rt;
+            matches!(copy_takes(rt.alloc(), row.0, &trial), Ok(true)),
+            "{}",
+            row.0
+        );
     }
-    Ok(())
 }
 
-#[test]
-fn cp_r_takes_each_row(rt: HostRuntime) -> Result<(), Fail> {
-    for row in DEEP {
-        assert!(rt; row_takes(rt.alloc(), row)?, "{}", row.0);
-        assert!(rt; twin_takes(rt.alloc(), row)?, "{}", row.0);
-    }
-    Ok(())
-}
-
-// Does the act that a text names.
-fn does(alloc: Global, tree: &mut Value, text: &str) -> Result<bool, Fail> {
-    let a = placed(alloc, text)?;
-    if !a.is_performed() {
-        return Ok(false);
-    }
-    act(alloc, &a, tree)?;
-    Ok(true)
-}
-
-// Whether acts that a text names, one behind a comma, leave this tree.
-fn all_leave(alloc: Global, texts: &str, left: &str) -> Result<bool, Fail> {
-    let mut tree = sample(alloc)?;
+// Does the acts that a text names, one behind a comma.
+fn do_all(alloc: Global, tree: &mut Value, texts: &str) -> Result<bool, PathFault> {
     for text in texts.split(',') {
-        if !does(alloc, &mut tree, text)? {
+        let a = placed(alloc, text)?;
+        if perform(alloc, a.get(), tree)?.is_none() {
             return Ok(false);
         }
     }
-    is_left(alloc, &tree, left)
+    Ok(true)
+}
+
+// Whether acts that a text names leave this tree.
+fn all_leave(alloc: Global, texts: &str, left: &str) -> Result<bool, PathFault> {
+    let mut tree = sample(alloc, SAMPLE)?;
+    Ok(do_all(alloc, &mut tree, texts)? && is_left(alloc, &tree, SAMPLE, left)?)
 }
 
 // Acts, and what is put on the tree of the tests then.
@@ -198,9 +139,12 @@ const APART: &[(&str, &str)] = &[
 ];
 
 #[test]
-fn a_copy_stays_where_its_source_changes(rt: HostRuntime) -> Result<(), Fail> {
+fn a_copy_stays_where_its_source_changes(rt: HostRuntime) {
     for row in APART {
-        assert!(rt; all_leave(rt.alloc(), row.0, row.1)?, "{}", row.0);
+        assert!(rt;
+            matches!(all_leave(rt.alloc(), row.0, row.1), Ok(true)),
+            "{}",
+            row.0
+        );
     }
-    Ok(())
 }

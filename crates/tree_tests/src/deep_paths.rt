@@ -1,6 +1,6 @@
 use concrete_utils::steps::act;
 use feature_trees::{Entries, Value};
-use script_names::{Bytes, Done, List, Name, NameFault, Path, Reason};
+use script_names::{Boxed, Bytes, Done, List, Name, NameFault, Path, Reason};
 use std::alloc::Global;
 use std::test::Fail;
 use utility_calls::acts::Act;
@@ -34,8 +34,8 @@ fn put(alloc: Global, tree: &mut Value, count: usize, is_dir: bool) -> Result<()
 
 // The row that the test for something at the path of 64 names takes on the tree, and its answer.
 fn taken(alloc: Global, tree: &mut Value) -> Result<(u8, Done), NameFault> {
-    let exists = Act::Exists(deep(alloc, 64)?);
-    Ok(act(alloc, &exists, tree)?)
+    let exists = Boxed::new(alloc, Act::Exists(deep(alloc, 64)?))?;
+    Ok(act(alloc, exists.get(), tree)?)
 }
 
 // Puts directories at the paths of up to 64 names.
@@ -55,14 +55,29 @@ fn takes_link(alloc: Global, tree: &mut Value, row: &(usize, u8)) -> Result<bool
     Ok(taken(alloc, tree)? == (row.1, Done::Stopped(Reason::Link)))
 }
 
+// Whether each row is taken where its link stands on the tree.
+fn links_are_met(alloc: Global, tree: &mut Value) -> Result<bool, Fail> {
+    for row in LINKS {
+        if !takes_link(alloc, tree, row)? {
+            return Ok(false);
+        }
+    }
+    Ok(true)
+}
+
+// Whether nothing stands at the path before directories are put there, the last one then, and links stop it.
+fn are_taken(alloc: Global, tree: &mut Value) -> Result<bool, Fail> {
+    if taken(alloc, tree)? != (66, Done::Failed) {
+        return Ok(false);
+    }
+    fill(alloc, tree)?;
+    Ok(taken(alloc, tree)? == (67, Done::Ok) && links_are_met(alloc, tree)?)
+}
+
 #[test]
 fn takes_rows_of_the_longest_path(rt: HostRuntime) -> Result<(), Fail> {
     let mut tree = Value::Dir(Entries::new(rt.alloc()));
-    assert!(rt; taken(rt.alloc(), &mut tree)? == (66, Done::Failed));
-    fill(rt.alloc(), &mut tree)?;
-    assert!(rt; taken(rt.alloc(), &mut tree)? == (67, Done::Ok));
-    for row in LINKS {
-        assert!(rt; takes_link(rt.alloc(), &mut tree, row)?, "{row:?}");
-    }
+    let are_taken = are_taken(rt.alloc(), &mut tree)?;
+    assert!(rt; are_taken);
     Ok(())
 }

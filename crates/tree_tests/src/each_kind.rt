@@ -1,109 +1,8 @@
 //! The row that each act takes at each kind of thing.
 
-use crate::all_acts::{placed, words};
-use concrete_utils::steps::act;
-use feature_trees::{Value, read_tree};
-use script_names::{Bytes, List, Memory};
-use std::alloc::Global;
-use std::test::Fail;
-use utility_calls::acts::Act;
-use utility_calls::calls::{Planned, plan};
+use crate::trials::{AtEach, Trial, call_takes, placed_takes};
 
-// The kinds, each by the letter of its line in the text of a tree; `-` is nothing.
-const KINDS: &[u8] = b"-flpsbcd";
-
-// A call, the text of a tree, a path, and the rows that the call's last act takes on the tree with a thing of each kind
-// at the path.
-type Taken = (&'static str, &'static str, &'static str, &'static [u8]);
-
-// Appends the line of a thing at a path, by its letter.
-fn put_line(text: &mut Bytes, letter: u8, path: &str) -> Result<(), Memory> {
-    if letter == b'-' {
-        return Ok(());
-    }
-    text.push(letter)?;
-    text.push(b' ')?;
-    text.extend(path.as_bytes())?;
-    if letter == b'l' {
-        text.extend(b" t")?;
-    }
-    text.push(b'\n')
-}
-
-// The text of a row's tree, with a thing at the row's path.
-fn text_with(alloc: Global, row: &Taken, letter: u8) -> Result<Bytes, Memory> {
-    let mut text = Bytes::from_slice(alloc, row.1.as_bytes())?;
-    put_line(&mut text, letter, row.2)?;
-    Ok(text)
-}
-
-// The tree of a row, with a thing at the row's path.
-fn tree_with(alloc: Global, row: &Taken, letter: u8) -> Result<Value, Fail> {
-    let text = text_with(alloc, row, letter)?;
-    Ok(read_tree(alloc, text.as_slice())?)
-}
-
-// Whether the act takes that row of the table on a row's tree with a thing at the row's path.
-fn takes(alloc: Global, a: &Act, row: &Taken, letter: u8, wanted: u8) -> Result<bool, Fail> {
-    if !a.is_performed() {
-        return Ok(false);
-    }
-    let mut tree = tree_with(alloc, row, letter)?;
-    let (number, _answer) = act(alloc, a, &mut tree)?;
-    Ok(number == wanted)
-}
-
-// Whether the act takes the row of each kind.
-fn takes_each(alloc: Global, a: &Act, row: &Taken) -> Result<bool, Fail> {
-    if row.3.len() != KINDS.len() {
-        return Ok(false);
-    }
-    for (letter, wanted) in KINDS.iter().zip(row.3.iter()) {
-        if !takes(alloc, a, row, *letter, *wanted)? {
-            return Ok(false);
-        }
-    }
-    Ok(true)
-}
-
-// Whether the last act of each operand takes the row of each kind.
-fn all_take(alloc: Global, all: &[List<Act>], row: &Taken) -> Result<bool, Fail> {
-    for acts in all {
-        if let Some(last) = acts.as_slice().last() {
-            if !takes_each(alloc, last, row)? {
-                return Ok(false);
-            }
-        }
-    }
-    Ok(true)
-}
-
-// Whether the act of a plan, or the last act of each operand, takes the row of each kind.
-fn plan_takes(alloc: Global, planned: &Planned, row: &Taken) -> Result<bool, Fail> {
-    match planned {
-        Planned::Ask { act, negate: _ } => takes_each(alloc, act, row),
-        Planned::Change(all) => all_take(alloc, all.as_slice(), row),
-        Planned::Known(_) | Planned::Print(_) | Planned::Unspecified(_) => Ok(false),
-    }
-}
-
-// Whether the last act of a call takes the row of each kind.
-fn call_takes(alloc: Global, row: &Taken) -> Result<bool, Fail> {
-    let list = words(alloc, row.0)?;
-    if list.len() == 0 {
-        return Ok(false);
-    }
-    let planned = plan(alloc, &list)?;
-    plan_takes(alloc, &planned, row)
-}
-
-// Whether the act that a row names takes the row of each kind.
-fn placed_takes(alloc: Global, row: &Taken) -> Result<bool, Fail> {
-    let a = placed(alloc, row.0)?;
-    takes_each(alloc, &a, row)
-}
-
-const CALLS: &[Taken] = &[
+const CALLS: &[AtEach] = &[
     ("test -e /a", "", "/a", &[66, 67, 65, 67, 67, 67, 67, 67]),
     ("test -f /a", "", "/a", &[66, 67, 65, 66, 66, 66, 66, 66]),
     ("test -d /a", "", "/a", &[66, 66, 65, 66, 66, 66, 66, 67]),
@@ -128,10 +27,7 @@ const CALLS: &[Taken] = &[
     ("touch /a", "", "/a", &[67, 67, 65, 68, 68, 68, 68, 68]),
     ("ln -s t /a", "", "/a", &[68, 67, 65, 67, 67, 67, 67, 71]),
     ("ln -sf t /a", "", "/a", &[69, 69, 65, 69, 69, 69, 69, 73]),
-];
-
-// What stands below the path.
-const BELOW: &[Taken] = &[
+    // what stands below the path
     (
         "mv /z /z/a",
         "d /z\n",
@@ -198,9 +94,7 @@ const BELOW: &[Taken] = &[
         "/w/z",
         &[73, 74, 74, 74, 74, 74, 74, 76],
     ),
-];
-
-const MOVES: &[Taken] = &[
+    // moves
     ("mv /z /a", "", "/a", &[66, 66, 66, 66, 66, 66, 66, 66]),
     (
         "mv /z /a",
@@ -253,22 +147,19 @@ const MOVES: &[Taken] = &[
     ),
 ];
 
-const PLACES: &[Taken] = &[
+const PLACES: &[AtEach] = &[
+    // what a package manager does
     ("PlaceFile /a", "", "/a", &[68, 68, 68, 68, 68, 68, 68, 67]),
     ("PlaceLink /a", "", "/a", &[68, 68, 68, 68, 68, 68, 68, 67]),
     ("PlaceConf /a", "", "/a", &[68, 68, 69, 69, 69, 69, 69, 67]),
     ("Discard /a", "", "/a", &[68, 68, 68, 68, 68, 68, 68, 67]),
     ("DiscardDir /a", "", "/a", &[66, 66, 66, 66, 66, 66, 66, 68]),
     ("PlaceFile /a/b", "", "/a", &[66, 66, 1, 66, 66, 66, 66, 68]),
-];
-
-const ATTRS: &[Taken] = &[
+    // the setting of a mode
     ("Attr /a", "", "/a", &[66, 67, 65, 67, 67, 67, 67, 67]),
     ("Attr /a/", "", "/a", &[66, 64, 64, 64, 64, 64, 64, 67]),
     ("Attr /a/b", "", "/a", &[66, 66, 1, 66, 66, 66, 66, 66]),
-];
-
-const COPIES: &[Taken] = &[
+    // copies
     ("Copy /z /a", "", "/a", &[66, 66, 66, 66, 66, 66, 66, 66]),
     (
         "Copy /z /a",
@@ -489,10 +380,7 @@ const COPIES: &[Taken] = &[
         "/z",
         &[66, 64, 64, 64, 64, 64, 64, 77],
     ),
-];
-
-// `test -x` where it is taken that a regular file may be run.
-const RUNS: &[Taken] = &[
+    // `test -x` where it is taken that a regular file may be run
     ("CanRunFile /a", "", "/a", &[66, 67, 65, 68, 68, 68, 68, 67]),
     (
         "CanRunFile /a/",
@@ -509,57 +397,25 @@ const RUNS: &[Taken] = &[
 ];
 
 #[test]
-fn calls_take_a_row_at_each_kind(rt: HostRuntime) -> Result<(), Fail> {
+fn calls_take_a_row_at_each_kind(rt: HostRuntime) {
     for row in CALLS {
-        assert!(rt; call_takes(rt.alloc(), row)?, "{}", row.0);
+        assert!(rt;
+            matches!(call_takes(rt.alloc(), row.0, &Trial::Each(row)), Ok(true)),
+            "{} {}",
+            row.0,
+            row.1
+        );
     }
-    Ok(())
 }
 
 #[test]
-fn what_stands_below_is_of_each_kind(rt: HostRuntime) -> Result<(), Fail> {
-    for row in BELOW {
-        assert!(rt; call_takes(rt.alloc(), row)?, "{} {}", row.0, row.1);
-    }
-    Ok(())
-}
-
-#[test]
-fn moves_take_a_row_at_each_kind(rt: HostRuntime) -> Result<(), Fail> {
-    for row in MOVES {
-        assert!(rt; call_takes(rt.alloc(), row)?, "{} {}", row.0, row.1);
-    }
-    Ok(())
-}
-
-#[test]
-fn test_x_takes_a_row_at_each_kind_where_files_run(rt: HostRuntime) -> Result<(), Fail> {
-    for row in RUNS {
-        assert!(rt; placed_takes(rt.alloc(), row)?, "{}", row.0);
-    }
-    Ok(())
-}
-
-#[test]
-fn chmod_takes_a_row_at_each_kind(rt: HostRuntime) -> Result<(), Fail> {
-    for row in ATTRS {
-        assert!(rt; placed_takes(rt.alloc(), row)?, "{}", row.0);
-    }
-    Ok(())
-}
-
-#[test]
-fn copies_take_a_row_at_each_kind(rt: HostRuntime) -> Result<(), Fail> {
-    for row in COPIES {
-        assert!(rt; placed_takes(rt.alloc(), row)?, "{} {}", row.0, row.1);
-    }
-    Ok(())
-}
-
-#[test]
-fn a_package_manager_takes_a_row_at_each_kind(rt: HostRuntime) -> Result<(), Fail> {
+fn places_take_a_row_at_each_kind(rt: HostRuntime) {
     for row in PLACES {
-        assert!(rt; placed_takes(rt.alloc(), row)?, "{}", row.0);
+        assert!(rt;
+            matches!(placed_takes(rt.alloc(), row.0, &Trial::Each(row)), Ok(true)),
+            "{} {}",
+            row.0,
+            row.1
+        );
     }
-    Ok(())
 }

@@ -1,5 +1,4 @@
 use crate::plans::is_planned;
-use std::test::Fail;
 
 // Calls of `unlink`, `install -d`, `chmod`, `chown`, `chgrp`, `cp`, `basename` and `dirname`, and what each comes to.
 const ROWS: &str = "unlink /a -> ;,Remove /a
@@ -310,9 +309,8 @@ dirname -- -> call
 dirname - -> .|";
 
 #[test]
-fn plans_further_rows(rt: HostRuntime) -> Result<(), Fail> {
+fn plans_further_rows(rt: HostRuntime) {
     for row in ROWS.lines() {
-        assert!(rt; is_planned(rt.alloc(), row)?, "{row}");
+        assert!(rt; matches!(is_planned(rt.alloc(), row), Ok(true)), "{row}");
     }
-    Ok(())
 }

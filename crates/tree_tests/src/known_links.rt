@@ -1,13 +1,13 @@
-use crate::all_acts::placed;
-use crate::plans::{put_act, put_path, put_plan, words};
+use crate::plans::{plan_of, put_act, put_path, put_plan};
+use crate::trials::placed;
 use link_walks::{KnownLink, Reached, follow, follow_act, reach};
-use script_names::{Bytes, List, Path};
+use script_names::{Boxed, Bytes, List, Memory, Path, PathFault};
 use std::alloc::Global;
-use std::test::Fail;
-use utility_calls::calls::plan;
+use utility_calls::acts::Act;
+use utility_calls::calls::Planned;
 
 // Known links as a text has them: a path, a space and a target, and further ones behind a comma.
-fn links(alloc: Global, text: &str) -> Result<List<KnownLink>, Fail> {
+fn links(alloc: Global, text: &str) -> Result<List<KnownLink>, PathFault> {
     let mut all = List::new(alloc);
     for part in text.split(',') {
         if let Some((at, target)) = part.split_once(' ') {
@@ -23,54 +23,82 @@ fn links(alloc: Global, text: &str) -> Result<List<KnownLink>, Fail> {
 // Known links, what is done, and what it comes to along them.
 type Row = (&'static str, &'static str, &'static str);
 
+// What the plan of a call is along known links.
+fn followed_plan(alloc: Global, links: &[KnownLink], call: &str) -> Result<Boxed<Planned>, Memory> {
+    let planned = plan_of(alloc, call)?;
+    let there = follow(alloc, links, planned.into_inner())?;
+    Boxed::new(alloc, there)
+}
+
 // Whether the plan of a call comes to what the row says.
-fn call_comes(alloc: Global, row: &Row) -> Result<bool, Fail> {
+fn call_comes(alloc: Global, row: &Row) -> Result<bool, PathFault> {
     let links = links(alloc, row.0)?;
-    let list = words(alloc, row.1)?;
-    if list.len() == 0 {
-        return Ok(false);
-    }
-    let planned = plan(alloc, &list)?;
-    let there = follow(alloc, links.as_slice(), planned)?;
+    let there = followed_plan(alloc, links.as_slice(), row.1)?;
     let mut text = Bytes::new(alloc);
-    put_plan(&mut text, &there)?;
+    put_plan(&mut text, there.get())?;
     Ok(text.as_slice() == row.2.as_bytes())
+}
+
+// What the act of a package manager is along known links.
+fn followed_act(alloc: Global, links: &[KnownLink], text: &str) -> Result<Boxed<Act>, PathFault> {
+    let act = placed(alloc, text)?;
+    let there = follow_act(alloc, links, act.into_inner())?;
+    Ok(Boxed::new(alloc, there)?)
 }
 
 // Whether the act of a package manager comes to what the row says.
-fn place_comes(alloc: Global, row: &Row) -> Result<bool, Fail> {
+fn place_comes(alloc: Global, row: &Row) -> Result<bool, PathFault> {
     let links = links(alloc, row.0)?;
-    let act = placed(alloc, row.1)?;
-    let there = follow_act(alloc, links.as_slice(), act)?;
+    let there = followed_act(alloc, links.as_slice(), row.1)?;
     let mut text = Bytes::new(alloc);
-    put_act(&mut text, &there)?;
+    put_act(&mut text, there.get())?;
     Ok(text.as_slice() == row.2.as_bytes())
 }
 
-// Where a path leads, its last name taken too; a blocked one behind `!`.
-fn path_leads(alloc: Global, row: &Row) -> Result<bool, Fail> {
-    let links = links(alloc, row.0)?;
-    let path = Path::read(alloc, row.1.as_bytes())?;
-    let mut text = Bytes::new(alloc);
-    match reach(alloc, links.as_slice(), &path, true)? {
-        Reached::At(end) => put_path(&mut text, &end)?,
+// Where a path leads; a blocked one behind `!`.
+fn put_reached(text: &mut Bytes, reached: &Reached) -> Result<(), Memory> {
+    match reached {
+        Reached::At(end) => put_path(text, end),
         Reached::Blocked(at) => {
             text.push(b'!')?;
-            put_path(&mut text, &at)?;
+            put_path(text, at)
         }
     }
+}
+
+// Where a path leads along known links, its last name taken too, as a text.
+fn reached_text(alloc: Global, links: &[KnownLink], at: &str) -> Result<Bytes, PathFault> {
+    let path = Path::read(alloc, at.as_bytes())?;
+    let reached = reach(alloc, links, &path, true)?;
+    let mut text = Bytes::new(alloc);
+    put_reached(&mut text, &reached)?;
+    Ok(text)
+}
+
+// Whether a path leads where the row says.
+fn path_leads(alloc: Global, row: &Row) -> Result<bool, PathFault> {
+    let links = links(alloc, row.0)?;
+    let text = reached_text(alloc, links.as_slice(), row.1)?;
     Ok(text.as_slice() == row.2.as_bytes())
 }
 
-// The place of the known link at a path with a target; `none` where there is no such link.
-fn link_leads(alloc: Global, row: &Row) -> Result<bool, Fail> {
-    let at = Path::read(alloc, row.0.as_bytes())?;
+// The place of the known link at a path with a target, as a text; `none` where there is no such link.
+fn place_text(alloc: Global, at: &str, target: &str) -> Result<Bytes, PathFault> {
+    let at = Path::read(alloc, at.as_bytes())?;
     let mut text = Bytes::new(alloc);
-    match KnownLink::new(alloc, at, row.1.as_bytes())? {
+    match KnownLink::new(alloc, at, target.as_bytes())? {
         Some(link) => put_path(&mut text, link.place())?,
         None => text.extend(b"none")?,
     }
-    Ok(text.as_slice() == row.2.as_bytes())
+    Ok(text)
+}
+
+// Whether the known link at a path with a target leads where the row says.
+fn link_leads(alloc: Global, row: &Row) -> bool {
+    match place_text(alloc, row.0, row.1) {
+        Ok(text) => text.as_slice() == row.2.as_bytes(),
+        Err(_) => false,
+    }
 }
 
 // The links of a system with a merged /usr.
@@ -222,33 +250,44 @@ const PLACES: &[Row] = &[
 ];
 
 #[test]
-fn links_are_known(rt: HostRuntime) -> Result<(), Fail> {
+fn links_are_known(rt: HostRuntime) {
     for row in LINKS {
-        assert!(rt; link_leads(rt.alloc(), row)?, "{} {}", row.0, row.1);
+        assert!(rt; link_leads(rt.alloc(), row), "{} {}", row.0, row.1);
     }
-    Ok(())
 }
 
 #[test]
-fn paths_lead_along_links(rt: HostRuntime) -> Result<(), Fail> {
+fn paths_lead_along_links(rt: HostRuntime) {
     for row in PATHS {
-        assert!(rt; path_leads(rt.alloc(), row)?, "{} {}", row.0, row.1);
+        assert!(rt;
+            matches!(path_leads(rt.alloc(), row), Ok(true)),
+            "{} {}",
+            row.0,
+            row.1
+        );
     }
-    Ok(())
 }
 
 #[test]
-fn calls_go_along_links(rt: HostRuntime) -> Result<(), Fail> {
+fn calls_go_along_links(rt: HostRuntime) {
     for row in CALLS {
-        assert!(rt; call_comes(rt.alloc(), row)?, "{} {}", row.0, row.1);
+        assert!(rt;
+            matches!(call_comes(rt.alloc(), row), Ok(true)),
+            "{} {}",
+            row.0,
+            row.1
+        );
     }
-    Ok(())
 }
 
 #[test]
-fn a_package_manager_goes_along_links(rt: HostRuntime) -> Result<(), Fail> {
+fn a_package_manager_goes_along_links(rt: HostRuntime) {
     for row in PLACES {
-        assert!(rt; place_comes(rt.alloc(), row)?, "{} {}", row.0, row.1);
+        assert!(rt;
+            matches!(place_comes(rt.alloc(), row), Ok(true)),
+            "{} {}",
+            row.0,
+            row.1
+        );
     }
-    Ok(())
 }

@@ -1,15 +1,11 @@
-//! Tests of feature_trees, tree_clauses, utility_calls, link_walks and concrete_utils. They stand apart from these
-//! crates, so that no crate is proved twice.
+//! Tests of utility_calls, link_walks and concrete_utils. They stand apart from these crates, so that no crate is proved
+//! twice.
 #![tactic(auto)]
 
 #[cfg(test)]
 mod all_acts;
 #[cfg(test)]
 mod backs;
-#[cfg(test)]
-mod clause_texts;
-#[cfg(test)]
-mod clauses;
 #[cfg(test)]
 mod copies;
 #[cfg(test)]
@@ -25,6 +21,4 @@ mod plans;
 #[cfg(test)]
 mod stated;
 #[cfg(test)]
-mod tree_texts;
-#[cfg(test)]
-mod trees;
+mod trials;

@@ -1,7 +1,6 @@
 use feature_trees::Special;
-use script_names::{Bytes, List, Memory, Path, Reason};
+use script_names::{Boxed, Bytes, List, Memory, Path, Reason};
 use std::alloc::Global;
-use std::test::Fail;
 use utility_calls::acts::Act;
 use utility_calls::calls::{Planned, plan};
 
@@ -41,7 +40,7 @@ fn word(alloc: Global, text: &[u8]) -> Result<Bytes, Memory> {
 }
 
 // The words of a row.
-pub(crate) fn words(alloc: Global, text: &str) -> Result<List<Bytes>, Memory> {
+fn words(alloc: Global, text: &str) -> Result<List<Bytes>, Memory> {
     let mut all = List::new(alloc);
     for part in text.split(' ') {
         let one = word(alloc, part.as_bytes())?;
@@ -498,14 +497,21 @@ echo a\\b -> echo
 echo a b\\n -> echo
 echo a - -> a -|";
 
+/// The plan of a call.
+pub(crate) fn plan_of(alloc: Global, call: &str) -> Result<Boxed<Planned>, Memory> {
+    let list = words(alloc, call)?;
+    if list.len() == 0 {
+        return Boxed::new(alloc, Planned::Unspecified(Reason::Empty));
+    }
+    let planned = plan(alloc, &list)?;
+    Boxed::new(alloc, planned)
+}
+
 // The text of the plan of a call.
 fn plan_text(alloc: Global, call: &str) -> Result<Bytes, Memory> {
-    let list = words(alloc, call)?;
+    let planned = plan_of(alloc, call)?;
     let mut text = Bytes::new(alloc);
-    if list.len() > 0 {
-        let planned = plan(alloc, &list)?;
-        put_plan(&mut text, &planned)?;
-    }
+    put_plan(&mut text, planned.get())?;
     Ok(text)
 }
 
@@ -517,9 +523,8 @@ pub(crate) fn is_planned(alloc: Global, row: &str) -> Result<bool, Memory> {
 }
 
 #[test]
-fn plans_each_row(rt: HostRuntime) -> Result<(), Fail> {
+fn plans_each_row(rt: HostRuntime) {
     for row in ROWS.lines() {
-        assert!(rt; is_planned(rt.alloc(), row)?, "{row}");
+        assert!(rt; matches!(is_planned(rt.alloc(), row), Ok(true)), "{row}");
     }
-    Ok(())
 }

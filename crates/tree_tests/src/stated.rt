@@ -60,7 +60,7 @@ fn fault(alloc: Global, name: &[u8]) -> Option<StatedFault> {
 }
 
 #[test]
-fn names_can_be_stated(rt: HostRuntime) -> Result<(), Fail> {
+fn names_can_be_stated(rt: HostRuntime) {
     for name in NAMES {
         assert!(rt; can_be_stated(name));
         assert!(rt; fault(rt.alloc(), name) == None);
@@ -69,7 +69,6 @@ fn names_can_be_stated(rt: HostRuntime) -> Result<(), Fail> {
         assert!(rt; !can_be_stated(name));
         assert!(rt; fault(rt.alloc(), name) == Some(StatedFault::NoName));
     }
-    Ok(())
 }
 
 // Three calls: one that succeeds, one that asks a path, and one that fails.

@@ -3,7 +3,6 @@
 use feature_trees::{Kind, Kinds, Special, Version};
 use script_names::{Bytes, Copied, List, Memory, Name, NameFault};
 use std::alloc::Global;
-use std::test::Fail;
 use tree_clauses::{Clause, Literal, Var, print_clause, print_literal, put_clause};
 
 fn names(alloc: Global, words: &[&[u8]]) -> Result<List<Name>, NameFault> {
@@ -90,11 +89,10 @@ const PRINTED: &[(u32, u32, &str)] = &[
 ];
 
 #[test]
-fn prints_clauses(rt: HostRuntime) -> Result<(), Fail> {
+fn prints_clauses(rt: HostRuntime) {
     for row in PRINTED {
-        assert!(rt; prints(rt.alloc(), row)?, "{}", row.2);
+        assert!(rt; matches!(prints(rt.alloc(), row), Ok(true)), "{}", row.2);
     }
-    Ok(())
 }
 
 // Whether the literal at a place has this line in a version.
@@ -130,21 +128,28 @@ const VERSIONS: &[(u32, &str, &str)] = &[
 ];
 
 #[test]
-fn prints_literals_of_each_version(rt: HostRuntime) -> Result<(), Fail> {
+fn prints_literals_of_each_version(rt: HostRuntime) {
     for row in VERSIONS {
         assert!(rt;
-            has_line(rt.alloc(), Version::First, row.0, row.1)?,
+            matches!(has_line(rt.alloc(), Version::First, row.0, row.1), Ok(true)),
             "{}",
             row.1
         );
         assert!(rt;
-            has_line(rt.alloc(), Version::Second, row.0, row.2)?,
+            matches!(
+                has_line(rt.alloc(), Version::Second, row.0, row.2),
+                Ok(true)
+            ),
             "{}",
             row.2
         );
     }
-    assert!(rt; has_line(rt.alloc(), Version::Second, 9, "kind v1 block,char")?);
-    Ok(())
+    assert!(rt;
+        matches!(
+            has_line(rt.alloc(), Version::Second, 9, "kind v1 block,char"),
+            Ok(true)
+        )
+    );
 }
 
 // The clause of a literal for a set of these kinds, behind one for all kinds.
@@ -212,12 +217,17 @@ const NOT_FIRST: &[Kinds] = &[
 ];
 
 #[test]
-fn the_first_version_has_all_four_or_none(rt: HostRuntime) -> Result<(), Fail> {
+fn the_first_version_has_all_four_or_none(rt: HostRuntime) {
     for kinds in FIRST {
-        assert!(rt; is_first(rt.alloc(), *kinds)?, "{kinds:?}");
+        assert!(rt;
+            matches!(is_first(rt.alloc(), *kinds), Ok(true)),
+            "{kinds:?}"
+        );
     }
     for kinds in NOT_FIRST {
-        assert!(rt; !is_first(rt.alloc(), *kinds)?, "{kinds:?}");
+        assert!(rt;
+            matches!(is_first(rt.alloc(), *kinds), Ok(false)),
+            "{kinds:?}"
+        );
     }
-    Ok(())
 }
