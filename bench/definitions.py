@@ -127,7 +127,7 @@ def page(crates, cited, within, places):
             lines += ["Word|File|Calls", "---|---|---"]
         for key in own:
             calls = list(dict.fromkeys(call for _, call in sorted(cited[key], key=lambda c: c[0] != crate)))
-            shown = ", ".join(f"`{call}`" for call in calls[:2]) + (".." if len(calls) > 2 else "")
+            shown = ", ".join(f"`{call}`" for call in calls[:1]) + (".." if len(calls) > 1 else "")
             lines.append(f"`{key[2]}`|{key[1]}|{shown}")
         files = dict.fromkeys(key[1] for key in inside)
         parts = [f + ": " + ", ".join(f"`{key[2]}`" for key in inside if key[1] == f) for f in files]

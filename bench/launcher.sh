@@ -149,23 +149,34 @@ refused 'colis check empty' 3 'colis: empty/list: missing' \
 refused 'colis check foo.deb' 3 'colis: foo.deb/list: missing' \
     'foo.deb/list: foo.deb: this is a file, and a package is a folder here; colis-unpack FILE.deb DIR makes it'
 refused 'colis translate none' 3 'colis: none: missing' 'none: there is no such file'
+echo '{}' >report
+refused 'colis predict report none' 3 'colis: report: report fault 2' 'report: this is no report of check --json'
+echo '{"colis":2,"scenarios":[],"verdict":0}' >report
+refused 'colis predict report none' 3 'colis: none: missing' 'none: there is no such file'
+printf 'tree a\nd /srv\ntree a\n' >mine
+refused 'colis predict report mine' 3 'colis: mine: line 3: fault 5' 'mine:3: tree a   (an earlier tree has this name)'
+echo 'd /srv' >mine
+refused 'colis predict report mine' 3 'colis: mine: line 1: fault 4' \
+    'mine:1: d /srv   (no line "tree NAME" stands before it)'
 refused 'colis translate p' 4 'colis: p: read failed' 'p: this is a folder, and a file is read here'
 
 # ---- words
 
 refused 'colis chek p' 3 'colis: usage: word 1' \
-    'chek is no command; the commands are check, run, translate and load (colis --help)'
+    'chek is no command; the commands are check, run, predict, translate and load (colis --help)'
 refused "colis '\\033[31m'" 3 'colis: usage: word 1' \
-    '\033[31m is no command; the commands are check, run, translate and load (colis --help)'
+    '\033[31m is no command; the commands are check, run, predict, translate and load (colis --help)'
 refused "colis check p '\\033'" 3 'colis: usage: word 3' '\033 is one word too many (colis --help)'
 refused "colis check '\\033'" 3 'colis: \033/list: missing' '\033/list: there is no folder \033'
-refused 'colis' 3 'colis: usage: word 1' 'the commands are check, run, translate and load (colis --help)'
+refused 'colis' 3 'colis: usage: word 1' 'the commands are check, run, predict, translate and load (colis --help)'
 refused 'colis check' 3 'colis: usage: word 2' 'check takes a folder (colis --help)'
 refused 'colis check p q' 3 'colis: usage: word 3' 'q is one word too many (colis --help)'
 refused 'colis check p --help' 3 'colis: usage: word 3' \
     '--help is no option of check, or stands there twice (colis --help)'
 refused 'colis check p --turns' 3 'colis: usage: word 4' '--turns takes a number from 1 to 10000 (colis --help)'
 refused 'colis check p --turns x' 3 'colis: usage: word 4' '--turns takes a number from 1 to 10000 (colis --help)'
+refused 'colis predict report' 3 'colis: usage: word 3' \
+    'predict takes a report of check --json and a file of trees (colis --help)'
 refused 'colis run p --scenario install' 3 'colis: usage: word 5' \
     'run takes a folder, --scenario NAME and --tree FILE (colis --help)'
 refused "colis check \$(printf 'p\\377')" 3 'colis: usage: word 1' \

@@ -536,6 +536,12 @@ END
         "$program" run "$top/examples/logwatcher" --scenario purge --tree "$tree" | sed '/^after$/,$d' >"run.$tree"
     done
     same 'the run from these places' run.out <run.all
+    { echo 'tree all' && cat all && echo 'tree some' && cat out; } >trees
+    for name in all some; do
+        echo "$name outcome $(sed -n 's/^result //p' run.all)"
+    done >wanted
+    "$program" predict report trees | sed -n '3,$s/ outcome [0-9]* / outcome /p' |
+        same 'the outcomes of both, by the report' wanted
 fi
 
 # ---- words

@@ -133,7 +133,7 @@ form() {
 fault() {
     case $1:$2 in
     list:1) echo 'a line is a path of 64 names at most, as /usr/bin/foo, /var/lib/foo/ or /etc/foo -> bar' ;;
-    list:2 | conffiles:2 | tree:2) echo 'an earlier line names this path' ;;
+    list:2 | conffiles:2 | tree:2 | trees:2) echo 'an earlier line names this path' ;;
     list:3) echo 'of a link and a path below it the list may have one alone' ;;
     conffiles:1) echo 'a line is a path of 64 names at most, as /etc/foo' ;;
     conffiles:3) echo 'the list has no file of this name' ;;
@@ -141,15 +141,29 @@ fault() {
     base:1) echo 'a base has no such line, or the command cannot be stated: see docs/FORMATS.md' ;;
     base:2) echo 'an earlier line states this command, or the target is not names with one / between them' ;;
     tree:1) echo 'a line is d, f, p, s, b or c PATH, or l PATH TARGET' ;;
-    tree:3) echo 'no earlier line says that its parent is a directory' ;;
+    trees:1) echo 'a line is tree NAME, of 1 to 255 bytes, or d, f, p, s, b or c PATH, or l PATH TARGET' ;;
+    tree:3 | trees:3) echo 'no earlier line says that its parent is a directory' ;;
+    trees:4) echo 'no line "tree NAME" stands before it' ;;
+    trees:5) echo 'an earlier tree has this name' ;;
     *) echo 'the line is not of the form' ;;
     esac
 }
 
-# kind FILE WORD ..: what a file with faults in lines is: the base or the tree that the words name, else by its name.
+# What is wrong with a report, by the number of the fault.
+report_fault() {
+    case $1 in
+    1) echo 'this is no JSON' ;;
+    2) echo 'this is no report of check --json' ;;
+    *) echo 'a clause of this report is not in solved order, as those of check --json are' ;;
+    esac
+}
+
+# kind FILE WORD ..: what a file with faults in lines is: the base or the tree that the words name, the trees of a
+# prediction, else by its name.
 kind() {
     file=$1
     shift
+    [ "${1-}" != predict ] || { echo trees && return; }
     option=
     for word in "$@"; do
         case $option$word in
@@ -211,7 +225,7 @@ usage() {
     are_texts "$@" || { echo 'a word has bytes that are no UTF-8 text' && return; }
     if [ "$number" -eq 1 ]; then
         [ "$count" -eq 0 ] || printf '%s is no command; ' "$(text "$command")"
-        echo 'the commands are check, run, translate and load'
+        echo 'the commands are check, run, predict, translate and load'
         return
     fi
     shift "$((number - 2))"
@@ -226,6 +240,7 @@ usage() {
         case $command in
         check) echo 'check takes a folder' ;;
         run) echo 'run takes a folder, --scenario NAME and --tree FILE' ;;
+        predict) echo 'predict takes a report of check --json and a file of trees' ;;
         translate) echo 'translate takes a file' ;;
         load) echo 'load takes a number from 1 to 500' ;;
         esac
@@ -260,6 +275,7 @@ case $why in
     name=${name%: line *}
     at_line "$name" "$number" "$(fault "$(kind "$name" "$@")" "$place")"
     ;;
+'report fault '[0-9]*) say "$name" "$(report_fault "$place")" ;;
 'word '[0-9]*) printf '%s (colis --help)\n' "$(usage "$place" "$@")" ;;
 'unsupported '*' at '[0-9]*)
     why=${why#unsupported }
@@ -283,7 +299,7 @@ case $why in
     at_byte "$name" 0 'the first line is #!/bin/sh, #!/bin/dash or #!/bin/bash, perhaps with -e'
     ;;
 missing) say "$name" "$(missing "$name")" ;;
-'longer than 1048576 bytes') say "$name" 'files of 1048576 bytes at most are read' ;;
+'longer than '*' bytes') say "$name" "files of ${why#longer than } at most are read" ;;
 'read failed') say "$name" "$(unread "$name")" ;;
 'no start tree for '*)
     echo "no tree is both as the base says and as the package's files are before it (START CONDITIONS in the manual)"
