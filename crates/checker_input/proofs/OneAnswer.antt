@@ -30,8 +30,8 @@ use Rattle.checker_input.specs.declared.read_file.TheConstants.{MAX_FILE}
 use Rattle.checker_input.specs.declared.script.ScriptFault.{ScriptFault}
 use Rattle.checker_input.specs.Lines.{LinesCome, TreeComes}
 use Rattle.checker_input.specs.Script.{TextComes}
-use Rattle.checker_input.specs.Input.{BaseComes, ConffilesCome, ControlComes, ListComes, NamedControlComes, OfFile, ScriptComes, ScriptReads, StartComes, TranslatedComes, base_in, conffiles_in, file_in, file_within, input, list_in, old_in, one_file, package_in, packages_in, refused, script_in, scripts_in, start_in, translated_in, version_in, named_control_of, named_control_in, named_package_in, package_with, pair_in, twice_in, KeptComes, kept_in, kept_old_in, kept_package_in, kept_script_in, kept_scripts_in}
-use Rattle.checker_input.proofs.Plans.{after_old_package, after_packages, before_start, after_start, after_translated, after_postrm, after_prerm, after_postinst, after_preinst, after_scripts, after_conffiles, after_list, after_version, after_new, after_old, after_base, after_named, after_control, after_other, after_own, after_pair_base, after_alone, after_twice_base, after_pair, after_kept, after_kept_base, after_kept_old, after_kept_new, after_kept_old_package, after_kept_version, after_kept_list, after_kept_conffiles, after_kept_scripts, after_kept_preinst, after_kept_postinst, after_kept_prerm, after_kept_postrm}
+use Rattle.checker_input.specs.Input.{BaseComes, ConffilesCome, ControlComes, ListComes, NamedControlComes, OfFile, ScriptReads, StartComes, TranslatedComes, base_in, conffiles_in, file_in, file_within, input, list_in, one_file, packages_in, refused, start_in, translated_in, version_in, named_control_of, named_control_in, named_package_in, pair_in, twice_in, KeptComes, kept_in, kept_old_in, kept_package_in, kept_script_in, kept_scripts_in, kept_with}
+use Rattle.checker_input.proofs.Plans.{after_packages, before_start, after_start, after_translated, after_named, after_control, after_other, after_own, after_pair_base, after_alone, after_twice_base, after_pair, after_kept, after_kept_base, after_kept_old, after_kept_new, after_kept_old_package, after_kept_version, after_kept_list, after_kept_conffiles, after_kept_scripts, after_kept_preinst, after_kept_postinst, after_kept_prerm, after_kept_postrm, after_read}
 use Rattle.checker_input.specs.declared.sources.KeptScript.{KeptScript}
 use Rattle.checker_input.proofs.OneScript.{text_once}
 
@@ -85,24 +85,6 @@ reads_once text r s x y =
     let a = is_script text r x in
     let b = is_script text s y in
     a.2 ∙ ap as_script (text_once text a.0 b.0 a.1 b.1) ∙ sym b.2
-
--- a script that is there
-abbrev there : Result Script FileFault → Result (Option Script) FileFault
-there (Ok script) = Ok (Some script)
-there (Err wrong) = Err wrong
-
-is_there : (text : List ℕ) (r : Result (Option Script) FileFault) → ScriptComes (Some text) r
-    → (w : Result Script FileFault) × ScriptReads text w × (r ≡ there w)
-is_there text (Ok None) is = absurd is
-is_there text (Ok (Some script)) is = (Ok script, is, refl)
-is_there text (Err wrong) is = (Err wrong, is, refl)
-
-script_once : Once ScriptComes
-script_once None r s x y = x ∙ sym y
-script_once (Some text) r s x y =
-    let a = is_there text r x in
-    let b = is_there text s y in
-    a.2 ∙ ap there (reads_once text a.0 b.0 a.1 b.1) ∙ sym b.2
 
 same_kept : (text : List ℕ) (a b : Script) → a ≡ b → ◌≡◌ {A = Result KeptScript FileFault} (Ok (record { script = Some a; text = Some text })) (Ok (record { script = Some b; text = Some text }))
 same_kept text a b e = let f : Script → Result KeptScript FileFault = λ s. Ok (record { script = Some s; text = Some text }) in ap f e
@@ -162,18 +144,6 @@ file_single most name comes single =
 one_file_single : {V : Type 0} (name : List ℕ) (comes : Comes V FileFault) → Once comes → IsSingle (one_file name comes)
 one_file_single name comes single = file_single MAX_FILE name comes single
 
-script_single : (folder : List ℕ) (kind : ScriptKind) → IsSingle (script_in folder kind)
-unfolding script_in
-script_single folder kind = one_file_single (file_in folder (of_package.Script kind)) ScriptComes script_once
-
-scripts_single : (folder : List ℕ) → IsSingle (scripts_in folder)
-unfolding scripts_in
-scripts_single folder =
-    single_next (script_in folder Preinst) (after_preinst folder) (script_single folder Preinst) (λ preinst.
-    single_next (script_in folder Postinst) (after_postinst folder preinst) (script_single folder Postinst) (λ postinst.
-    single_next (script_in folder Prerm) (after_prerm folder preinst postinst) (script_single folder Prerm) (λ prerm.
-    single_next (script_in folder Postrm) (after_postrm preinst postinst prerm) (script_single folder Postrm) (λ postrm. tt))))
-
 version_single : (folder : List ℕ) → IsSingle (version_in folder)
 unfolding version_in
 version_single folder = one_file_single (file_in folder of_package.Control) ControlComes control_once
@@ -187,58 +157,6 @@ unfolding conffiles_in
 conffiles_single folder entries =
     one_file_single (file_in folder of_package.Conffiles) (ConffilesCome entries) (conffiles_once entries)
 
-with_single : (folder version : List ℕ) → IsSingle (package_with folder version)
-unfolding package_with
-with_single folder version =
-    single_next (list_in folder) (after_list folder version) (list_single folder) (λ listed.
-    single_next (conffiles_in folder listed) (after_conffiles folder version) (conffiles_single folder listed) (λ entries.
-    single_next (scripts_in folder) (after_scripts version entries) (scripts_single folder) (λ scripts. tt)))
-
-package_single : (folder : List ℕ) → IsSingle (package_in folder)
-unfolding package_in
-package_single folder =
-    single_next (version_in folder) (after_version folder) (version_single folder) (λ version. with_single folder version)
-
-named_control_single : (folder : List ℕ) → IsSingle (named_control_in folder)
-unfolding named_control_in
-named_control_single folder = one_file_single (file_in folder of_package.Control) NamedControlComes named_control_once
-
-named_package_single : (folder : List ℕ) → IsSingle (named_package_in folder)
-unfolding named_package_in
-named_package_single folder =
-    single_next (named_control_in folder) (after_control folder) (named_control_single folder) (λ control.
-    single_next (package_with folder control.version) (after_named control.name) (with_single folder control.version) (λ own. tt))
-
-old_single : (named : Option (List ℕ)) → IsSingle (old_in named)
-unfolding old_in
-old_single None = tt
-old_single (Some folder) = single_next (package_in folder) after_old_package (package_single folder) (λ own. tt)
-
-base_single : (named : Option (List ℕ)) → IsSingle (base_in named)
-unfolding base_in
-base_single None = tt
-base_single (Some name) = one_file_single name BaseComes base_once
-
-packages_single : (folders : Folders) → IsSingle (packages_in folders)
-unfolding packages_in
-packages_single folders =
-    single_next (base_in folders.base) (after_base folders.old folders.dir) (base_single folders.base) (λ base.
-    single_next (old_in folders.old) (after_old folders.dir base) (old_single folders.old) (λ before.
-    single_next (package_in folders.dir) (after_new base before) (package_single folders.dir) (λ own. tt)))
-
-pair_single : (dir other : List ℕ) (base : Option (List ℕ)) → IsSingle (pair_in dir other base)
-unfolding pair_in
-pair_single dir other named =
-    single_next (base_in named) (after_pair_base dir other) (base_single named) (λ base.
-    single_next (named_package_in dir) (after_own other base) (named_package_single dir) (λ own.
-    single_next (package_in other) (after_other base own) (package_single other) (λ before. tt)))
-
-twice_single : (dir : List ℕ) (base : Option (List ℕ)) → IsSingle (twice_in dir base)
-unfolding twice_in
-twice_single dir named =
-    single_next (base_in named) (after_twice_base dir) (base_single named) (λ base.
-    single_next (named_package_in dir) (after_alone base) (named_package_single dir) (λ own. tt))
-
 kept_script_single : (folder : List ℕ) (kind : ScriptKind) → IsSingle (kept_script_in folder kind)
 unfolding kept_script_in
 kept_script_single folder kind = one_file_single (file_in folder (of_package.Script kind)) KeptComes kept_once
@@ -251,13 +169,32 @@ kept_scripts_single folder =
     single_next (kept_script_in folder Prerm) (after_kept_prerm folder preinst postinst) (kept_script_single folder Prerm) (λ prerm.
     single_next (kept_script_in folder Postrm) (after_kept_postrm preinst postinst prerm) (kept_script_single folder Postrm) (λ postrm. tt))))
 
+kept_with_single : (folder version : List ℕ) → IsSingle (kept_with folder version)
+unfolding kept_with
+kept_with_single folder version =
+    single_next (list_in folder) (after_kept_list folder version) (list_single folder) (λ listed.
+    single_next (conffiles_in folder listed) (after_kept_conffiles folder version) (conffiles_single folder listed) (λ entries.
+    single_next (kept_scripts_in folder) (after_kept_scripts version entries) (kept_scripts_single folder) (λ kept. tt)))
+
 kept_package_single : (folder : List ℕ) → IsSingle (kept_package_in folder)
 unfolding kept_package_in
 kept_package_single folder =
-    single_next (version_in folder) (after_kept_version folder) (version_single folder) (λ version.
-    single_next (list_in folder) (after_kept_list folder version) (list_single folder) (λ listed.
-    single_next (conffiles_in folder listed) (after_kept_conffiles folder version) (conffiles_single folder listed) (λ entries.
-    single_next (kept_scripts_in folder) (after_kept_scripts version entries) (kept_scripts_single folder) (λ kept. tt))))
+    single_next (version_in folder) (after_kept_version folder) (version_single folder) (λ version. kept_with_single folder version)
+
+named_control_single : (folder : List ℕ) → IsSingle (named_control_in folder)
+unfolding named_control_in
+named_control_single folder = one_file_single (file_in folder of_package.Control) NamedControlComes named_control_once
+
+named_package_single : (folder : List ℕ) → IsSingle (named_package_in folder)
+unfolding named_package_in
+named_package_single folder =
+    single_next (named_control_in folder) (after_control folder) (named_control_single folder) (λ control.
+    single_next (kept_with folder control.version) (after_named control.name) (kept_with_single folder control.version) (λ own. tt))
+
+base_single : (named : Option (List ℕ)) → IsSingle (base_in named)
+unfolding base_in
+base_single None = tt
+base_single (Some name) = one_file_single name BaseComes base_once
 
 kept_old_single : (named : Option (List ℕ)) → IsSingle (kept_old_in named)
 unfolding kept_old_in
@@ -270,6 +207,23 @@ kept_single folders =
     single_next (base_in folders.base) (after_kept_base folders) (base_single folders.base) (λ base.
     single_next (kept_old_in folders.old) (after_kept_old folders base) (kept_old_single folders.old) (λ before.
     single_next (kept_package_in folders.dir) (after_kept_new folders base before) (kept_package_single folders.dir) (λ own. tt)))
+
+packages_single : (folders : Folders) → IsSingle (packages_in folders)
+unfolding packages_in
+packages_single folders = single_next (kept_in folders) after_read (kept_single folders) (λ kept. tt)
+
+pair_single : (dir other : List ℕ) (base : Option (List ℕ)) → IsSingle (pair_in dir other base)
+unfolding pair_in
+pair_single dir other named =
+    single_next (base_in named) (after_pair_base dir other) (base_single named) (λ base.
+    single_next (named_package_in dir) (after_own other base) (named_package_single dir) (λ own.
+    single_next (kept_package_in other) (after_other base own) (kept_package_single other) (λ before. tt)))
+
+twice_single : (dir : List ℕ) (base : Option (List ℕ)) → IsSingle (twice_in dir base)
+unfolding twice_in
+twice_single dir named =
+    single_next (base_in named) (after_twice_base dir) (base_single named) (λ base.
+    single_next (named_package_in dir) (after_alone base) (named_package_single dir) (λ own. tt))
 
 start_single : (name : List ℕ) → IsSingle (start_in name)
 unfolding start_in
@@ -293,8 +247,8 @@ input_single (request.Pair dir other base scenario turns limit) =
 input_single (request.Twice dir base turns limit) =
     single_next (twice_in dir base) (after_pair Twice turns limit) (twice_single dir base) (λ packages. tt)
 input_single (request.Predict report trees) = tt
-input_single (request.Explain folders scenario turns limit places) =
-    single_next (kept_in folders) (after_kept scenario turns limit places) (kept_single folders) (λ kept. tt)
+input_single (request.Explain folders scenario turns limit view) =
+    single_next (kept_in folders) (after_kept scenario turns limit view) (kept_single folders) (λ kept. tt)
 
 pub one_answer : (asked : Request) (files : Files) (r s : Result Asked InputRefusal)
     → IsAnswer files (input asked) r → IsAnswer files (input asked) s → r ≡ s

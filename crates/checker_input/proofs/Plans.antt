@@ -1,17 +1,16 @@
 -- The readings of a package, of packages and of a request, step by step.
-use Rattle.std.proofs.Common.{ℕ, Bool, List, [], Option, Some, None, Ok}
+use Rattle.std.proofs.Common.{ℕ, List, [], Option, Some, None, Ok}
 use Rattle.checker_io.specs.Reading.{done, and_then}
 use Rattle.command_words.specs.declared.request.Folders.{Folders}
 use Rattle.command_words.specs.declared.request.Layout.{Layout}
+use Rattle.command_words.specs.declared.request.View.{View}
 use Rattle.dpkg_scenarios.specs.declared.scenario.Scenario.{Scenario}
 use Rattle.dpkg_scenarios.specs.declared.scenario.ScriptKind.TheVariants.{Postinst, Prerm, Postrm}
-use Rattle.dpkg_scenarios.specs.declared.scripts.Scripts.{Scripts}
 use Rattle.system_base.specs.declared.base.Base.{Base}
 use Rattle.package_lists.specs.Entries.{EntryParts}
 use Rattle.shell_syntax.specs.declared.script.Script.{Script}
 use Rattle.checker_input.specs.declared.asked.Asked.{Asked}
 use Rattle.checker_input.specs.declared.asked.Asked.TheVariants as asked
-use Rattle.checker_input.specs.declared.package.Package.{Package}
 use Rattle.checker_input.specs.declared.control.Control.{Control}
 use Rattle.checker_input.specs.declared.package.NamedPackage.{NamedPackage}
 use Rattle.checker_input.specs.declared.package.Packages.{Packages}
@@ -22,59 +21,23 @@ use Rattle.checker_input.specs.declared.sources.KeptOld.{KeptOld}
 use Rattle.checker_input.specs.declared.sources.Kept.{Kept}
 use Rattle.checker_input.specs.declared.task.Task.TheVariants as task
 use Rattle.feature_trees.specs.declared.value.Value.{Value}
-use Rattle.checker_input.specs.Input.{Input, script_in, scripts_in, list_in, conffiles_in, package_in, old_in, start_in, kept_script_in, kept_apart, kept_scripts_in, kept_of, kept_package_in, kept_some, kept_old_in, kept_all, package_with, named_package_in}
+use Rattle.checker_input.specs.Input.{Input, conffiles_in, start_in, kept_script_in, kept_apart, kept_scripts_in, kept_of, kept_with, kept_package_in, kept_some, kept_old_in, kept_all, named_package_in}
 
--- ---- what follows each file of a package
+-- ---- what follows a control file with a name
 
-abbrev pub after_postrm : Option Script → Option Script → Option Script → Option Script → Input (Scripts Script)
-after_postrm preinst postinst prerm postrm = done (Ok (record { preinst = preinst; postinst = postinst; prerm = prerm; postrm = postrm }))
-
-abbrev pub after_prerm : List ℕ → Option Script → Option Script → Option Script → Input (Scripts Script)
-after_prerm folder preinst postinst prerm = and_then (script_in folder Postrm) (after_postrm preinst postinst prerm)
-
-abbrev pub after_postinst : List ℕ → Option Script → Option Script → Input (Scripts Script)
-after_postinst folder preinst postinst = and_then (script_in folder Prerm) (after_prerm folder preinst postinst)
-
-abbrev pub after_preinst : List ℕ → Option Script → Input (Scripts Script)
-after_preinst folder preinst = and_then (script_in folder Postinst) (after_postinst folder preinst)
-
-abbrev pub after_scripts : List ℕ → List EntryParts → Scripts Script → Input Package
-after_scripts version entries scripts = done (Ok (record { version = version; entries = entries; scripts = scripts }))
-
-abbrev pub after_conffiles : List ℕ → List ℕ → List EntryParts → Input Package
-after_conffiles folder version entries = and_then (scripts_in folder) (after_scripts version entries)
-
-abbrev pub after_list : List ℕ → List ℕ → List EntryParts → Input Package
-after_list folder version listed = and_then (conffiles_in folder listed) (after_conffiles folder version)
-
-abbrev pub after_version : List ℕ → List ℕ → Input Package
-after_version folder version = package_with folder version
-
-abbrev pub after_named : List ℕ → Package → Input NamedPackage
-after_named name own = done (Ok (record { name = name; own = own }))
+abbrev pub after_named : List ℕ → KeptPackage → Input NamedPackage
+after_named name kept = done (Ok (record { name = name; own = kept.own }))
 
 abbrev pub after_control : List ℕ → Control → Input NamedPackage
-after_control folder control = and_then (package_with folder control.version) (after_named control.name)
+after_control folder control = and_then (kept_with folder control.version) (after_named control.name)
 
--- ---- what follows each package
+-- ---- what follows each package of a pair
 
-abbrev pub after_old_package : Package → Input (Option Package)
-after_old_package own = done (Ok (Some own))
-
-abbrev pub after_new : Base → Option Package → Package → Input Packages
-after_new base before own = done (Ok (record { new_package = own; old_package = before; base = base; name = [] }))
-
-abbrev pub after_old : List ℕ → Base → Option Package → Input Packages
-after_old folder base before = and_then (package_in folder) (after_new base before)
-
-abbrev pub after_base : Option (List ℕ) → List ℕ → Base → Input Packages
-after_base old folder base = and_then (old_in old) (after_old folder base)
-
-abbrev pub after_other : Base → NamedPackage → Package → Input Packages
-after_other base own before = done (Ok (record { new_package = own.own; old_package = Some before; base = base; name = own.name }))
+abbrev pub after_other : Base → NamedPackage → KeptPackage → Input Packages
+after_other base own before = done (Ok (record { new_package = own.own; old_package = Some before.own; base = base; name = own.name }))
 
 abbrev pub after_own : List ℕ → Base → NamedPackage → Input Packages
-after_own other base own = and_then (package_in other) (after_other base own)
+after_own other base own = and_then (kept_package_in other) (after_other base own)
 
 abbrev pub after_pair_base : List ℕ → List ℕ → Base → Input Packages
 after_pair_base dir other base = and_then (named_package_in dir) (after_own other base)
@@ -85,7 +48,7 @@ after_alone base own = done (Ok (record { new_package = own.own; old_package = N
 abbrev pub after_twice_base : List ℕ → Base → Input Packages
 after_twice_base dir base = and_then (named_package_in dir) (after_alone base)
 
--- ---- the same, with the texts of scripts
+-- ---- what follows each file of a package, and each package, with the texts of scripts
 
 abbrev pub after_kept_postrm : KeptScript → KeptScript → KeptScript → KeptScript → Input KeptScripts
 after_kept_postrm preinst postinst prerm postrm = done (Ok (kept_apart preinst postinst prerm postrm))
@@ -109,7 +72,7 @@ abbrev pub after_kept_list : List ℕ → List ℕ → List EntryParts → Input
 after_kept_list folder version listed = and_then (conffiles_in folder listed) (after_kept_conffiles folder version)
 
 abbrev pub after_kept_version : List ℕ → List ℕ → Input KeptPackage
-after_kept_version folder version = and_then (list_in folder) (after_kept_list folder version)
+after_kept_version folder version = kept_with folder version
 
 abbrev pub after_kept_old_package : KeptPackage → Input KeptOld
 after_kept_old_package own = done (Ok (kept_some own))
@@ -123,10 +86,13 @@ after_kept_old folders base before = and_then (kept_package_in folders.dir) (aft
 abbrev pub after_kept_base : Folders → Base → Input Kept
 after_kept_base folders base = and_then (kept_old_in folders.old) (after_kept_old folders base)
 
+abbrev pub after_read : Kept → Input Packages
+after_read kept = done (Ok kept.packages)
+
 -- ---- what follows the packages
 
-abbrev pub after_kept : Option Scenario → ℕ → ℕ → Bool → Kept → Input Asked
-after_kept scenario turns limit places kept = done (Ok (asked.Task (task.Explain kept.packages kept.sources scenario turns limit places)))
+abbrev pub after_kept : Option Scenario → ℕ → ℕ → View → Kept → Input Asked
+after_kept scenario turns limit view kept = done (Ok (asked.Task (task.Explain kept.packages kept.sources scenario turns limit view)))
 
 abbrev pub after_packages : Option Scenario → ℕ → ℕ → Layout → Packages → Input Asked
 after_packages scenario turns limit layout packages = done (Ok (asked.Task (task.Check packages scenario turns limit layout)))

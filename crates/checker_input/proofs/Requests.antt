@@ -1,11 +1,12 @@
 -- What is read by whether something is named, and by the request.
-use Rattle.std.proofs.Common.{◌≡◌, ℕ, Bool, List, Option, Some, None, Result, Ok, Err, sym, subst}
+use Rattle.std.proofs.Common.{◌≡◌, ℕ, List, Option, Some, None, Result, Ok, Err, sym, subst}
 use Rattle.checker_io.specs.Reading.{done}
 use Rattle.checker_io.specs.Shelf.{ShelfState}
 use Rattle.checker_io.specs.declared.stop.Stop.{Stop}
 use Rattle.checker_io.proofs.Readings.{reads_done, reads_next, reads_stop}
 use Rattle.command_words.specs.declared.request.Folders.{Folders}
 use Rattle.command_words.specs.declared.request.Layout.{Layout}
+use Rattle.command_words.specs.declared.request.View.{View}
 use Rattle.command_words.specs.declared.request.Request.{Request}
 use Rattle.command_words.specs.declared.request.Request.TheVariants as request
 use Rattle.dpkg_scenarios.specs.declared.scenario.Scenario.{Scenario}
@@ -17,13 +18,12 @@ use Rattle.shell_syntax.specs.declared.script.Script.{Script}
 use Rattle.checker_input.specs.declared.asked.Asked.{Asked}
 use Rattle.checker_input.specs.declared.asked.Asked.TheVariants.{Prediction, Task as AskedTask}
 use Rattle.checker_input.specs.declared.faults.InputRefusal.{InputRefusal}
-use Rattle.checker_input.specs.declared.package.Package.{Package}
 use Rattle.checker_input.specs.declared.package.Packages.{Packages}
 use Rattle.checker_input.specs.declared.sources.KeptPackage.{KeptPackage}
 use Rattle.checker_input.specs.declared.sources.Kept.{Kept}
 use Rattle.checker_input.specs.declared.task.Task.TheVariants as task
-use Rattle.checker_input.specs.Input.{BaseComes, ReadsInput, base_in, input, old_in, one_file, package_in, packages_in, pair_in, twice_in, start_in, translated_in, kept_in, kept_none, kept_old_in, kept_package_in, kept_some}
-use Rattle.checker_input.proofs.Plans.{after_old_package, after_packages, after_pair, after_start, after_translated, before_start, after_kept, after_kept_old_package}
+use Rattle.checker_input.specs.Input.{BaseComes, ReadsInput, base_in, input, one_file, packages_in, pair_in, twice_in, start_in, translated_in, kept_in, kept_none, kept_old_in, kept_package_in, kept_some}
+use Rattle.checker_input.proofs.Plans.{after_packages, after_pair, after_start, after_translated, before_start, after_kept, after_kept_old_package}
 
 module _ (s t u : ShelfState) where
   -- ---- the base
@@ -40,23 +40,6 @@ module _ (s t u : ShelfState) where
   base_named named file result some reads = subst (λ (n : Option (List ℕ)). ReadsInput s t (base_in n) result) (sym some) reads
 
   -- ---- the old package
-
-  pub old_none : (named : Option (List ℕ)) → named ≡ None → ReadsInput s s (old_in named) (Ok None)
-  unfolding old_in
-  old_none named none = subst (λ (n : Option (List ℕ)). ReadsInput s s (old_in n) (Ok None)) (sym none) (reads_done (λ n. n) s None)
-
-  pub old_some : (named : Option (List ℕ)) (folder : List ℕ) (own : Package) → named ≡ Some folder → ReadsInput s t (package_in folder) (Ok own)
-      → ReadsInput s t (old_in named) (Ok (Some own))
-  unfolding old_in
-  old_some named folder own some reads =
-      subst (λ (n : Option (List ℕ)). ReadsInput s t (old_in n) (Ok (Some own))) (sym some)
-      (reads_next (λ n. n) s t t (package_in folder) after_old_package own (Ok (Some own)) reads (reads_done (λ n. n) t (Some own)))
-
-  pub old_stops : (named : Option (List ℕ)) (folder : List ℕ) (stop : Stop (List ℕ) InputRefusal) → named ≡ Some folder
-      → ReadsInput s t (package_in folder) (Err stop) → ReadsInput s t (old_in named) (Err stop)
-  unfolding old_in
-  old_stops named folder stop some reads =
-      subst (λ (n : Option (List ℕ)). ReadsInput s t (old_in n) (Err stop)) (sym some) (reads_stop (λ n. n) s t (package_in folder) after_old_package stop reads)
 
   pub kept_old_none : (named : Option (List ℕ)) → named ≡ None → ReadsInput s s (kept_old_in named) (Ok kept_none)
   unfolding kept_old_in
@@ -131,21 +114,21 @@ module _ (s t u : ShelfState) where
 
   -- ---- a request for an explanation
 
-  module _ (asked : Request) (folders : Folders) (scenario : Option Scenario) (turns limit : ℕ) (places : Bool)
-      (is : asked ≡ request.Explain folders scenario turns limit places) where
+  module _ (asked : Request) (folders : Folders) (scenario : Option Scenario) (turns limit : ℕ) (view : View)
+      (is : asked ≡ request.Explain folders scenario turns limit view) where
     pub explain_ok : (kept : Kept) → ReadsInput s t (kept_in folders) (Ok kept)
-        → ReadsInput s t (input asked) (Ok (AskedTask (task.Explain kept.packages kept.sources scenario turns limit places)))
+        → ReadsInput s t (input asked) (Ok (AskedTask (task.Explain kept.packages kept.sources scenario turns limit view)))
     unfolding input
     explain_ok kept reads =
-        let asks = AskedTask (task.Explain kept.packages kept.sources scenario turns limit places) in
+        let asks = AskedTask (task.Explain kept.packages kept.sources scenario turns limit view) in
         subst (λ (r : Request). ReadsInput s t (input r) (Ok asks)) (sym is)
-        (reads_next (λ n. n) s t t (kept_in folders) (after_kept scenario turns limit places) kept (Ok asks) reads (reads_done (λ n. n) t asks))
+        (reads_next (λ n. n) s t t (kept_in folders) (after_kept scenario turns limit view) kept (Ok asks) reads (reads_done (λ n. n) t asks))
 
     pub explain_stops : (stop : Stop (List ℕ) InputRefusal) → ReadsInput s t (kept_in folders) (Err stop) → ReadsInput s t (input asked) (Err stop)
     unfolding input
     explain_stops stop reads =
         subst (λ (r : Request). ReadsInput s t (input r) (Err stop)) (sym is)
-        (reads_stop (λ n. n) s t (kept_in folders) (after_kept scenario turns limit places) stop reads)
+        (reads_stop (λ n. n) s t (kept_in folders) (after_kept scenario turns limit view) stop reads)
 
   -- ---- a request for a load
 

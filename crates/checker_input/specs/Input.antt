@@ -12,7 +12,6 @@ use Rattle.command_words.specs.declared.request.Request.TheVariants as request
 use Rattle.dpkg_scenarios.specs.declared.scenario.Scenario.TheVariants.{Twice}
 use Rattle.dpkg_scenarios.specs.declared.scenario.ScriptKind.{ScriptKind}
 use Rattle.dpkg_scenarios.specs.declared.scenario.ScriptKind.TheVariants.{Preinst, Postinst, Prerm, Postrm}
-use Rattle.dpkg_scenarios.specs.declared.scripts.Scripts.{Scripts}
 use Rattle.dpkg_scenarios.specs.Names.{script_name}
 use Rattle.feature_trees.specs.declared.value.Value.{Value}
 use Rattle.feature_trees.specs.Sound.{IsTree}
@@ -34,7 +33,6 @@ use Rattle.checker_input.specs.declared.faults.FileFault.TheVariants as fault
 use Rattle.checker_input.specs.declared.faults.InputRefusal.{InputRefusal}
 use Rattle.checker_input.specs.declared.names.PackageFile.{PackageFile}
 use Rattle.checker_input.specs.declared.names.PackageFile.TheVariants as of_package
-use Rattle.checker_input.specs.declared.package.Package.{Package}
 use Rattle.checker_input.specs.declared.package.NamedPackage.{NamedPackage}
 use Rattle.checker_input.specs.declared.package.Packages.{Packages}
 use Rattle.checker_input.specs.declared.read_file.Found.{Found}
@@ -96,13 +94,6 @@ abbrev pub ScriptReads : List ℕ → Result Script FileFault → Type 0
 ScriptReads text (Ok script) = IsAccepted text script
 ScriptReads text (Err wrong) = (why : ScriptFault) × IsUnaccepted text why × (wrong ≡ fault.Script why)
 
--- a script of a package: an accepted script; none, where there is no such file
-abbrev pub ScriptComes : Comes (Option Script) FileFault
-ScriptComes None came = came ≡ Ok None
-ScriptComes (Some text) (Ok None) = ⊥
-ScriptComes (Some text) (Ok (Some script)) = ScriptReads text (Ok script)
-ScriptComes (Some text) (Err wrong) = ScriptReads text (Err wrong)
-
 -- a script that is accepted, with its text
 abbrev pub IsKept : List ℕ → KeptScript → Type 0
 IsKept text kept =
@@ -136,7 +127,8 @@ abbrev pub Input : Type 0 → Type 1
 Input A = Asking (List ℕ) InputRefusal A
 
 -- a reading that was carried out on a shelf
-abbrev pub ReadsInput : {A : Type 0} → ShelfState → ShelfState → Input A → Result A (Stop (List ℕ) InputRefusal) → Type 0
+abbrev pub ReadsInput : {A : Type 0} → ShelfState → ShelfState → Input A → Result A (Stop (List ℕ) InputRefusal)
+    → Type 0
 ReadsInput old new plan result = Reads (λ name. name) old new plan result
 
 -- the refusal of a file: its name, and what is wrong with it
@@ -156,17 +148,6 @@ file_within most name comes = file_of name most (refused name (fault.TooLong mos
 abbrev pub one_file : {V : Type 0} → List ℕ → Comes V FileFault → Input V
 one_file name comes = file_within MAX_FILE name comes
 
--- a script of a package
-unfoldable pub script_in : List ℕ → ScriptKind → Input (Option Script)
-script_in folder kind = one_file (file_in folder (of_package.Script kind)) ScriptComes
-
--- the scripts of a package, in this order
-unfoldable pub scripts_in : List ℕ → Input (Scripts Script)
-scripts_in folder =
-    and_then (script_in folder Preinst) (λ preinst. and_then (script_in folder Postinst) (λ postinst.
-    and_then (script_in folder Prerm) (λ prerm. and_then (script_in folder Postrm) (λ postrm.
-    done (Ok (record { preinst = preinst; postinst = postinst; prerm = prerm; postrm = postrm }))))))
-
 -- the version of a package
 unfoldable pub version_in : List ℕ → Input (List ℕ)
 version_in folder = one_file (file_in folder of_package.Control) ControlComes
@@ -178,56 +159,6 @@ list_in folder = one_file (file_in folder of_package.List) ListComes
 -- the files of a package, with its configuration files marked among these
 unfoldable pub conffiles_in : List ℕ → List EntryParts → Input (List EntryParts)
 conffiles_in folder entries = one_file (file_in folder of_package.Conffiles) (ConffilesCome entries)
-
--- the package in a folder that has this version: its files, its configuration files, its scripts
-unfoldable pub package_with : List ℕ → List ℕ → Input Package
-package_with folder version =
-    and_then (list_in folder) (λ listed. and_then (conffiles_in folder listed) (λ entries.
-    and_then (scripts_in folder) (λ scripts.
-    done (Ok (record { version = version; entries = entries; scripts = scripts })))))
-
--- the package in a folder: its version, and all else
-unfoldable pub package_in : List ℕ → Input Package
-package_in folder = and_then (version_in folder) (λ version. package_with folder version)
-
--- the version and the name of a package
-unfoldable pub named_control_in : List ℕ → Input Control
-named_control_in folder = one_file (file_in folder of_package.Control) NamedControlComes
-
--- the package in a folder, with its name
-unfoldable pub named_package_in : List ℕ → Input NamedPackage
-named_package_in folder =
-    and_then (named_control_in folder) (λ control. and_then (package_with folder control.version) (λ own.
-    done (Ok (record { name = control.name; own = own }))))
-
--- the old package, where one is named
-unfoldable pub old_in : Option (List ℕ) → Input (Option Package)
-old_in None = done (Ok None)
-old_in (Some folder) = and_then (package_in folder) (λ own. done (Ok (Some own)))
-
--- the base: where none is named, the usual one, which is in no file
-unfoldable pub base_in : Option (List ℕ) → Input Base
-base_in None = done (Ok usual)
-base_in (Some name) = one_file name BaseComes
-
--- the base, the old package, the new one, whose name is not asked for
-unfoldable pub packages_in : Folders → Input Packages
-packages_in folders =
-    and_then (base_in folders.base) (λ base. and_then (old_in folders.old) (λ before.
-    and_then (package_in folders.dir) (λ own.
-    done (Ok (record { new_package = own; old_package = before; base = base; name = [] })))))
-
--- the base, the new package with its name, the other one
-unfoldable pub pair_in : List ℕ → List ℕ → Option (List ℕ) → Input Packages
-pair_in dir other base =
-    and_then (base_in base) (λ base. and_then (named_package_in dir) (λ own. and_then (package_in other) (λ before.
-    done (Ok (record { new_package = own.own; old_package = Some before; base = base; name = own.name })))))
-
--- the base, the package with its name
-unfoldable pub twice_in : List ℕ → Option (List ℕ) → Input Packages
-twice_in dir base =
-    and_then (base_in base) (λ base. and_then (named_package_in dir) (λ own.
-    done (Ok (record { new_package = own.own; old_package = None; base = base; name = own.name }))))
 
 -- a script of a package, with its text
 unfoldable pub kept_script_in : List ℕ → ScriptKind → Input KeptScript
@@ -245,7 +176,7 @@ kept_apart preinst postinst prerm postrm = record {
   texts = record { preinst = preinst.text; postinst = postinst.text; prerm = prerm.text; postrm = postrm.text };
 }
 
--- the scripts of a package, with their texts, in the order of the scripts alone
+-- the scripts of a package, with their texts, in this order
 unfoldable pub kept_scripts_in : List ℕ → Input KeptScripts
 kept_scripts_in folder =
     and_then (kept_script_in folder Preinst) (λ preinst. and_then (kept_script_in folder Postinst) (λ postinst.
@@ -257,17 +188,36 @@ abbrev pub kept_of : List ℕ → List EntryParts → KeptScripts → KeptPackag
 kept_of version entries kept =
     record { own = record { version = version; entries = entries; scripts = kept.scripts }; texts = kept.texts }
 
--- the package in a folder, with the texts of its scripts
-unfoldable pub kept_package_in : List ℕ → Input KeptPackage
-kept_package_in folder =
-    and_then (version_in folder) (λ version. and_then (list_in folder) (λ listed.
-    and_then (conffiles_in folder listed) (λ entries. and_then (kept_scripts_in folder) (λ kept.
-    done (Ok (kept_of version entries kept))))))
+-- the package in a folder that has this version: its files, its configuration files, its scripts with their texts
+unfoldable pub kept_with : List ℕ → List ℕ → Input KeptPackage
+kept_with folder version =
+    and_then (list_in folder) (λ listed. and_then (conffiles_in folder listed) (λ entries.
+    and_then (kept_scripts_in folder) (λ kept. done (Ok (kept_of version entries kept)))))
 
--- that there is no old package, and that there is one
+-- the package in a folder: its version, and all else
+unfoldable pub kept_package_in : List ℕ → Input KeptPackage
+kept_package_in folder = and_then (version_in folder) (λ version. kept_with folder version)
+
+-- the version and the name of a package
+unfoldable pub named_control_in : List ℕ → Input Control
+named_control_in folder = one_file (file_in folder of_package.Control) NamedControlComes
+
+-- the package in a folder, with its name
+unfoldable pub named_package_in : List ℕ → Input NamedPackage
+named_package_in folder =
+    and_then (named_control_in folder) (λ control. and_then (kept_with folder control.version) (λ kept.
+    done (Ok (record { name = control.name; own = kept.own }))))
+
+-- the base: where none is named, the usual one, which is in no file
+unfoldable pub base_in : Option (List ℕ) → Input Base
+base_in None = done (Ok usual)
+base_in (Some name) = one_file name BaseComes
+
+-- that there is no old package
 abbrev pub kept_none : KeptOld
 kept_none = record { own = None; texts = None }
 
+-- that there is one
 abbrev pub kept_some : KeptPackage → KeptOld
 kept_some own = record { own = Some own.own; texts = Some own.texts }
 
@@ -288,6 +238,22 @@ unfoldable pub kept_in : Folders → Input Kept
 kept_in folders =
     and_then (base_in folders.base) (λ base. and_then (kept_old_in folders.old) (λ before.
     and_then (kept_package_in folders.dir) (λ own. done (Ok (kept_all folders base before own)))))
+
+-- the same without where they come from: the new package's name is not asked for
+unfoldable pub packages_in : Folders → Input Packages
+packages_in folders = and_then (kept_in folders) (λ kept. done (Ok kept.packages))
+
+-- the base, the new package with its name, the other one
+unfoldable pub pair_in : List ℕ → List ℕ → Option (List ℕ) → Input Packages
+pair_in dir other base =
+    and_then (base_in base) (λ base. and_then (named_package_in dir) (λ own. and_then (kept_package_in other) (λ before.
+    done (Ok (record { new_package = own.own; old_package = Some before.own; base = base; name = own.name })))))
+
+-- the base, the package with its name
+unfoldable pub twice_in : List ℕ → Option (List ℕ) → Input Packages
+twice_in dir base =
+    and_then (base_in base) (λ base. and_then (named_package_in dir) (λ own.
+    done (Ok (record { new_package = own.own; old_package = None; base = base; name = own.name }))))
 
 -- the tree of a run
 unfoldable pub start_in : List ℕ → Input Value
@@ -314,9 +280,9 @@ input (request.Pair dir other base scenario turns limit) =
 input (request.Twice dir base turns limit) =
     and_then (twice_in dir base) (λ packages. done (Ok (asked.Task (task.Pair packages Twice turns limit))))
 input (request.Predict report trees) = done (Ok (asked.Prediction report trees))
-input (request.Explain folders scenario turns limit places) =
+input (request.Explain folders scenario turns limit view) =
     and_then (kept_in folders) (λ kept.
-    done (Ok (asked.Task (task.Explain kept.packages kept.sources scenario turns limit places))))
+    done (Ok (asked.Task (task.Explain kept.packages kept.sources scenario turns limit view))))
 
 -- ---- what holds of a task
 
@@ -334,7 +300,7 @@ IsInRange (request.Load number limit) = (1 ≤ number) × (number ≤ MOST_LOAD)
 IsInRange (request.Pair dir other base scenario turns limit) = Unit {0}
 IsInRange (request.Twice dir base turns limit) = Unit {0}
 IsInRange (request.Predict report trees) = Unit {0}
-IsInRange (request.Explain folders scenario turns limit places) = Unit {0}
+IsInRange (request.Explain folders scenario turns limit view) = Unit {0}
 
 -- the tree of a run is a tree of files
 abbrev pub HasTree : Task → Type 0
@@ -343,7 +309,7 @@ HasTree (task.Run packages tree scenario turns) = IsTree tree
 HasTree (task.Translate script) = Unit {0}
 HasTree (task.Load number limit) = Unit {0}
 HasTree (task.Pair packages scenario turns limit) = Unit {0}
-HasTree (task.Explain packages sources scenario turns limit places) = Unit {0}
+HasTree (task.Explain packages sources scenario turns limit view) = Unit {0}
 
 -- the tree of a run is a tree of files, and the number of a load is from 1 to MOST_LOAD
 abbrev pub IsSound : Task → Type 0
@@ -352,7 +318,7 @@ IsSound (task.Run packages tree scenario turns) = IsTree tree
 IsSound (task.Translate script) = Unit {0}
 IsSound (task.Load number limit) = (1 ≤ number) × (number ≤ MOST_LOAD)
 IsSound (task.Pair packages scenario turns limit) = Unit {0}
-IsSound (task.Explain packages sources scenario turns limit places) = Unit {0}
+IsSound (task.Explain packages sources scenario turns limit view) = Unit {0}
 
 -- ---- what the code answers
 

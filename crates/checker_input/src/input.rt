@@ -1,24 +1,22 @@
 ghost use Rattle.std.specs.Prelude.{◌≡◌, IfOk};
 ghost use Rattle.feature_trees.specs.Sound.{IsTree};
-ghost use Rattle.checker_input.specs.Input.{ReadsInput, base_in, old_in, packages_in, start_in, translated_in, input};
+ghost use Rattle.checker_input.specs.Input.{ReadsInput, base_in, start_in, translated_in, input};
 ghost use Rattle.checker_input.specs.declared.asked.Asked.TheVariants.{Prediction};
 ghost use Rattle.checker_input.specs.Input.{OfTask, HasTree, IsInRange, IsSound};
 
 use crate::asked::Asked;
 use crate::faults::InputRefusal;
-use crate::package::{Package, Packages};
 use crate::read_file::{of_file, read_named};
-use crate::read_kept::read_kept;
-use crate::read_package::read_package;
+use crate::read_kept::{read_kept, read_packages};
 use crate::read_pair::{read_pair, read_twice};
 use crate::sources::Kept;
 use crate::task::Task;
 use crate::understand::{named_base, start_tree, translated_script};
 use checker_io::{Shelf, Stop};
-use command_words::{Folders, Request};
+use command_words::Request;
 use dpkg_scenarios::Scenario;
 use feature_trees::Value;
-use script_names::{Bytes, Copied, Memory, Text};
+use script_names::{Copied, Memory, Text};
 use shell_forms::Accepted;
 use std::alloc::Global;
 use system_base::Base;
@@ -45,51 +43,6 @@ pub fn read_base<S: Shelf>(
             of_file(found.name, came)
         }
     }
-}
-
-// The old package, where one is named.
-fn read_old<S: Shelf>(
-    alloc: Global,
-    named: &Option<Text>,
-    shelf: &mut S,
-) -> Result<Option<Package>, Stop<Text, InputRefusal>>
-    ensures { ReadsInput (S.state shelf.old) (S.state shelf.new) (old_in named.now) result }
-{
-    match named {
-        None => Ok(None),
-        Some(folder) => match read_package(alloc, folder, shelf) {
-            Ok(own) => Ok(Some(own)),
-            Err(stop) => Err(stop),
-        },
-    }
-}
-
-// The packages of folders, and the base.
-fn read_packages<S: Shelf>(
-    alloc: Global,
-    folders: &Folders,
-    shelf: &mut S,
-) -> Result<Packages, Stop<Text, InputRefusal>>
-    ensures { ReadsInput (S.state shelf.old) (S.state shelf.new) (packages_in folders.now) result }
-{
-    let base = match read_base(alloc, &folders.base, shelf) {
-        Ok(base) => base,
-        Err(stop) => return Err(stop),
-    };
-    let old_package = match read_old(alloc, &folders.old, shelf) {
-        Ok(before) => before,
-        Err(stop) => return Err(stop),
-    };
-    let new_package = match read_package(alloc, &folders.dir, shelf) {
-        Ok(own) => own,
-        Err(stop) => return Err(stop),
-    };
-    Ok(Packages {
-        new_package,
-        old_package,
-        base,
-        name: Bytes::new(alloc),
-    })
 }
 
 // The tree of a run, in the file of this name.
@@ -231,7 +184,7 @@ pub fn read_task<S: Shelf>(
             scenario,
             turns,
             limit,
-            places,
+            view,
         } => match read_kept(alloc, folders, shelf) {
             Ok(kept) => {
                 let Kept { packages, sources } = kept;
@@ -241,7 +194,7 @@ pub fn read_task<S: Shelf>(
                     scenario: *scenario,
                     turns: *turns,
                     limit: *limit,
-                    places: *places,
+                    view: *view,
                 }))
             }
             Err(stop) => Err(stop),

@@ -1,7 +1,7 @@
-//! Packages with the texts of their scripts, which are read in the order of packages alone.
+//! Packages with the texts of their scripts.
 
 ghost use Rattle.checker_input.specs.Input.{ReadsInput, kept_script_in, kept_scripts_in, kept_package_in, kept_old_in};
-ghost use Rattle.checker_input.specs.Input.{kept_in};
+ghost use Rattle.checker_input.specs.Input.{kept_in, kept_with, packages_in};
 
 use crate::faults::InputRefusal;
 use crate::input::read_base;
@@ -75,8 +75,8 @@ fn read_kept_scripts<S: Shelf>(
     })
 }
 
-// The package in a folder, with the texts of its scripts.
-fn read_kept_package<S: Shelf>(
+/// The package in a folder, with the texts of its scripts.
+pub(crate) fn read_kept_package<S: Shelf>(
     alloc: Global,
     folder: &Text,
     shelf: &mut S,
@@ -87,6 +87,21 @@ fn read_kept_package<S: Shelf>(
         Ok(version) => version,
         Err(stop) => return Err(stop),
     };
+    match read_kept_with(alloc, folder, version, shelf) {
+        Ok(own) => Ok(own),
+        Err(stop) => Err(stop),
+    }
+}
+
+/// The package in a folder that has this version, with the texts of its scripts.
+pub(crate) fn read_kept_with<S: Shelf>(
+    alloc: Global,
+    folder: &Text,
+    version: Bytes,
+    shelf: &mut S,
+) -> Result<KeptPackage, Stop<Text, InputRefusal>>
+    ensures { ReadsInput (S.state shelf.old) (S.state shelf.new) (kept_with folder.now version) result }
+{
     let listed = match read_entries(alloc, folder, shelf) {
         Ok(listed) => listed,
         Err(stop) => return Err(stop),
@@ -168,4 +183,18 @@ pub fn read_kept<S: Shelf>(
             old_texts: before.texts,
         },
     })
+}
+
+/// The packages of folders, and the base.
+pub fn read_packages<S: Shelf>(
+    alloc: Global,
+    folders: &Folders,
+    shelf: &mut S,
+) -> Result<Packages, Stop<Text, InputRefusal>>
+    ensures { ReadsInput (S.state shelf.old) (S.state shelf.new) (packages_in folders.now) result }
+{
+    match read_kept(alloc, folders, shelf) {
+        Ok(kept) => Ok(kept.packages),
+        Err(stop) => Err(stop),
+    }
 }

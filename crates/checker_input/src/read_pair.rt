@@ -7,7 +7,7 @@ use crate::input::read_base;
 use crate::names::PackageFile;
 use crate::package::{NamedPackage, Packages};
 use crate::read_file::{of_file, read_own};
-use crate::read_package::{read_package, read_with};
+use crate::read_kept::{read_kept_package, read_kept_with};
 use crate::understand::named_control;
 use checker_io::{Shelf, Stop};
 use script_names::Text;
@@ -42,8 +42,11 @@ fn read_named_package<S: Shelf>(
         Err(stop) => return Err(stop),
     };
     let Control { version, name } = control;
-    match read_with(alloc, folder, version, shelf) {
-        Ok(own) => Ok(NamedPackage { name, own }),
+    match read_kept_with(alloc, folder, version, shelf) {
+        Ok(kept) => Ok(NamedPackage {
+            name,
+            own: kept.own,
+        }),
         Err(stop) => Err(stop),
     }
 }
@@ -66,14 +69,14 @@ pub fn read_pair<S: Shelf>(
         Ok(named) => named,
         Err(stop) => return Err(stop),
     };
-    let before = match read_package(alloc, other, shelf) {
+    let before = match read_kept_package(alloc, other, shelf) {
         Ok(before) => before,
         Err(stop) => return Err(stop),
     };
     let NamedPackage { name, own } = named;
     Ok(Packages {
         new_package: own,
-        old_package: Some(before),
+        old_package: Some(before.own),
         base,
         name,
     })

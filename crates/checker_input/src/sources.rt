@@ -1,4 +1,4 @@
-//! What is kept of the files of packages that are to be explained: beside what is read of them, the scripts' texts.
+//! What is kept of the files of packages: beside what is read of them, the texts of the scripts, for explanations.
 
 use crate::package::{Package, Packages};
 use command_words::Folders;

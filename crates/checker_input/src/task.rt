@@ -1,6 +1,6 @@
 use crate::package::Packages;
 use crate::sources::Sources;
-use command_words::Layout;
+use command_words::{Layout, View};
 use dpkg_scenarios::Scenario;
 use feature_trees::Value;
 use shell_forms::Accepted;
@@ -41,14 +41,14 @@ pub enum Task {
         turns: u32,
         limit: u32,
     },
-    /// What there is to say of packages to people, in one scenario or in all six: the whole text, or a line for each
-    /// place alone; `turns` and `limit` are those of a check.
+    /// What there is to say of packages to people, in one scenario or in all six, in a view; `turns` and `limit` are
+    /// those of a check.
     Explain {
         packages: Packages,
         sources: Sources,
         scenario: Option<Scenario>,
         turns: u32,
         limit: u32,
-        places: bool,
+        view: View,
     },
 }

@@ -2,7 +2,7 @@
 
 ghost use Rattle.std.specs.Prelude.{IfOk};
 ghost use Rattle.feature_trees.specs.Sound.{IsTree};
-ghost use Rattle.checker_input.specs.Input.{ControlComes, ListComes, ConffilesCome, ScriptComes, BaseComes};
+ghost use Rattle.checker_input.specs.Input.{ControlComes, ListComes, ConffilesCome, BaseComes};
 ghost use Rattle.checker_input.specs.Input.{NamedControlComes, KeptComes};
 ghost use Rattle.checker_input.specs.Input.{StartComes, TranslatedComes};
 ghost use Rattle.checker_input.specs.Lines.{AreFew};
@@ -104,28 +104,6 @@ pub fn marked_entries(
                 Ok(()) => Ok(Ok(FileList::new(marked))),
                 Err(LineFault::Line { line, why }) => { Ok(Err(FileFault::Line { line, why })) }
                 Err(LineFault::Memory) => Err(Memory),
-            }
-        }
-    }
-}
-
-/// The script of a package; none, where there is no such file.
-pub fn package_script(
-    alloc: Global,
-    script: &Option<Bytes>,
-) -> Result<Result<Slot<Accepted>, FileFault>, Memory>
-    ensures { IfOk result (ScriptComes script.now) }
-{
-    match script {
-        None => Ok(Ok(Slot::empty(alloc))),
-        Some(text) => {
-            let came = read_script(alloc, text.as_slice())?;
-            match came {
-                Ok(script) => {
-                    let script = Slot::new(alloc, script)?;
-                    Ok(Ok(script))
-                }
-                Err(fault) => Ok(Err(FileFault::Script(fault))),
             }
         }
     }

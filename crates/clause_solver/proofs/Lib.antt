@@ -26,7 +26,6 @@ pub mod Moved
 pub mod Falling
 pub mod Deciding
 pub mod Redecided
-pub mod SameKinds
 pub mod ListSteps
 pub mod Excluded
 pub mod Filled

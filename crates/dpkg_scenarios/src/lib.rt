@@ -23,5 +23,5 @@ pub use names::{pair_named, scenario_name, scenario_named, script_name};
 pub use said::Said;
 pub use scenario::{Ending, Scenario, ScriptKind, Side, State, StepNext, StepWork};
 pub use scripts::Scripts;
-pub use steps::{next, work};
+pub use steps::{next, work, work_at};
 pub use verdicts::{Judged, ending_verdict, joint_verdict, verdict_on};

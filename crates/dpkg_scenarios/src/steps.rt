@@ -1,5 +1,6 @@
-ghost use Rattle.std.specs.Prelude.{◌≡◌, Some, if◌then◌else◌};
+ghost use Rattle.std.specs.Prelude.{◌≡◌, Some, length, IfSome, if◌then◌else◌};
 ghost use Rattle.dpkg_scenarios.specs.Lines.{then_of};
+ghost use Rattle.dpkg_scenarios.specs.Scenarios.{table};
 ghost use Rattle.dpkg_scenarios.specs.Steps.{IsStep, work_of, next_of};
 
 use crate::scenario::{Ending, Scenario, State, StepNext, StepWork};
@@ -11,6 +12,35 @@ pub fn work(scenario: Scenario, step: u16) -> StepWork
     ensures { work_of scenario step ≡ Some result }
 {
     line_of(scenario, step).work
+}
+
+// How many steps a scenario has.
+fn step_count(scenario: Scenario) -> u16
+    ensures { result ≡ length (table scenario) }
+{
+    match scenario {
+        Scenario::Install => 5,
+        Scenario::InstallAgain => 5,
+        Scenario::Upgrade => 14,
+        Scenario::Remove => 4,
+        Scenario::Purge => 6,
+        Scenario::PurgeLater => 2,
+        Scenario::InFavour => 9,
+        Scenario::Deconfigure => 7,
+        Scenario::Disappear => 6,
+        Scenario::Twice => 2,
+    }
+}
+
+/// What is done in the step of a number; None exactly where the scenario has no such step.
+pub fn work_at(scenario: Scenario, step: u16) -> Option<StepWork>
+    ensures done { result ≡ work_of scenario step }
+    ensures within { IfSome result (λ done. IsStep scenario step) }
+{
+    if step < 1 || step > step_count(scenario) {
+        return None;
+    }
+    Some(work(scenario, step))
 }
 
 /// What follows a step of a scenario, by whether the step succeeded (Debian Policy, 6.6 to 6.8, with the unwinding of

@@ -1,8 +1,7 @@
 -- What one fact leaves fits where the fact holds, and what cells have together fits where they do.
-use Rattle.std.proofs.Common.{◌≡◌, ◌≢◌, ℕ, zero, suc, ◌<◌, ◌⊎◌, inl, inr, Bool, true, false, IsTrue, List, [], ◌∷◌, ◌++◌, length}
+use Rattle.std.proofs.Common.{◌≡◌, ◌≢◌, ℕ, ◌⊎◌, inl, inr, Bool, true, false, IsTrue, List, [], ◌∷◌, ◌++◌}
 use Rattle.std.proofs.Common.{Option, Some, None, refl, sym, ap, subst, arith, ◌∙◌}
 use Rattle.std.specs.Prelude.{not, ◌||◌, ◌&&◌, if◌then◌else◌, Contains, All}
-use Rattle.std.specs.List.{list_any, list_all}
 use Rattle.std.specs.Str.{bytes_eq}
 use Rattle.std.proofs.lemmas.List.Elements.{All-nil, All-cons, All-head, All-tail, All-append}
 use Rattle.std.proofs.lemmas.Slice.Eq.{bytes_eq-Decides}
@@ -15,13 +14,16 @@ use Rattle.feature_trees.specs.declared.value.Value.TheVariants as value
 use Rattle.feature_trees.specs.Kinds.{has as has_kind, all, both, either, of}
 use Rattle.feature_trees.specs.Tree.{at, entry, kind_of}
 use Rattle.feature_trees.proofs.Laws.{at-append}
+use Rattle.tree_clauses.specs.NameSets.{is_among}
+use Rattle.tree_clauses.proofs.AgreeingEntries.{among_iff}
+use Rattle.tree_clauses.proofs.Orders.{contains_cases, contains_nothing}
 use Rattle.start_facts.specs.declared.fact.Fact.{Fact}
 use Rattle.start_facts.specs.declared.fact.Fact.TheVariants as fact
 use Rattle.start_facts.specs.declared.fact.PlaceFact.{PlaceFact}
 use Rattle.start_facts.specs.PlaceFacts.{Says, Holds}
 use Rattle.fact_boxes.specs.declared.cells.Column.{Column}
 use Rattle.fact_boxes.specs.declared.cells.Cell.{Cell}
-use Rattle.fact_boxes.specs.Cells.{anything, nothing, is_among, are_among, left_here, shuts, left_below, behind, beside}
+use Rattle.fact_boxes.specs.Cells.{anything, nothing, are_among, left_here, shuts, left_below, behind, beside}
 use Rattle.fact_boxes.specs.Cells.{leaves, meet, join, share, clash, are_all, is_anything, unless, told}
 use Rattle.fact_boxes.specs.Holds.{Fits}
 
@@ -56,12 +58,6 @@ pub not_false : (a : Bool) → not a ≡ false → a ≡ true
 not_false true e = refl
 not_false false e = cc
 
-pub has_head : {X : Type 0} (x : X) (xs : List X) → Contains (x ∷ xs) x
-has_head x xs = (0, omega arith, refl)
-
-pub has_tail : {X : Type 0} (x y : X) (xs : List X) → Contains xs y → Contains (x ∷ xs) y
-has_tail x y xs c = (suc c.0, (let w = c.1 in omega arith), c.2)
-
 pub or_false : (a b : Bool) → (a || b) ≡ false → (a ≡ false) × (b ≡ false)
 or_false true b e = cc
 or_false false b e = (refl, e)
@@ -84,35 +80,10 @@ all_right P (x ∷ xs) ys every = all_right P xs ys (All-tail P x (xs ++ ys) eve
 
 -- ---- names
 
-among_has : (names : List (List ℕ)) (f : List ℕ) → is_among names f ≡ true → Contains names f
-among_has [] f e = cc
-among_has (g ∷ names) f e = elim (or_true (bytes_eq g f) (is_among names f) e) [
-  | inl same ↦ subst (λ h. Contains (g ∷ names) h) ((bytes_eq-Decides g f).0 same) (has_head g names)
-  | inr more ↦ has_tail g f names (among_has names f more)
-]
-
-pub has_cases : {X : Type 0} (x y : X) (xs : List X) → Contains (x ∷ xs) y → (x ≡ y) ⊎ Contains xs y
-has_cases x y xs (zero, w, e) = inl e
-has_cases x y xs (suc k, w, e) = inr (k, omega arith, e)
-
-pub nothing_had : {X : Type 0} (y : X) → ¬ (Contains [] y)
-nothing_had y c = let w = c.1 in absurd (omega arith)
-
-has_among : (names : List (List ℕ)) (f : List ℕ) → Contains names f → is_among names f ≡ true
-has_among [] f c = absurd (nothing_had f c)
-has_among (g ∷ names) f c = elim (has_cases g f names c) [
-  | inl same ↦ ap (λ b. b || is_among names f) ((bytes_eq-Decides g f).1 same)
-  | inr more ↦ ap (λ b. bytes_eq g f || b) (has_among names f more) ∙ either_way (bytes_eq g f)
-]
-  where
-    either_way : (b : Bool) → (b || true) ≡ true
-    either_way true = refl
-    either_way false = refl
-
 all_among : (others names : List (List ℕ)) → are_among others names ≡ true → (f : List ℕ) → Contains names f → Contains others f
-all_among others [] e f c = absurd (nothing_had f c)
-all_among others (g ∷ names) e f c = elim (has_cases g f names c) [
-  | inl same ↦ subst (λ h. Contains others h) same (among_has others g (both_true (is_among others g) (are_among others names) e).0)
+all_among others [] e f c = absurd (contains_nothing f c)
+all_among others (g ∷ names) e f c = elim (contains_cases g f names c) [
+  | inl same ↦ subst (λ h. Contains others h) same ((among_iff others g).0 (both_true (is_among others g) (are_among others names) e).0)
   | inr more ↦ all_among others names (both_true (is_among others g) (are_among others names) e).1 f more
 ]
 
@@ -171,7 +142,7 @@ here_fits (fact.Target target) but v says = record {
 
 shut_entry : (said : Fact) (f : List ℕ) (v : Value) → Says said v → shuts said f ≡ true → entry v f ≡ value.Absent
 shut_entry (fact.Kinds kinds) f v says e = no_entry v kinds (not_true _ e) says f
-shut_entry (fact.Fence names) f v says e = says f (λ c. differ (sym (has_among names f c) ∙ not_true _ e))
+shut_entry (fact.Fence names) f v says e = says f (λ c. differ (sym ((among_iff names f).1 c) ∙ not_true _ e))
 shut_entry (fact.Beside names) f v says e = cc
 shut_entry (fact.Target target) f v says e = ap (λ (w : Value). entry w f) says
 

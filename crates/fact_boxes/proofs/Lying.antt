@@ -1,50 +1,45 @@
 -- Trees lie in rows and boxes.
-use Rattle.std.proofs.Common.{◌≡◌, ℕ, zero, suc, ◌<◌, ◌⊎◌, inl, inr, Bool, true, false, IsTrue, List, [], ◌∷◌, ◌++◌, length, map}
-use Rattle.std.proofs.Common.{refl, sym, ap, subst, arith, ◌∙◌}
-use Rattle.std.specs.Prelude.{not, ◌||◌, ◌&&◌, if◌then◌else◌, nat_lt, nat_le, Contains, All, slice_set}
-use Rattle.std.specs.List.{list_any, list_all, filter}
+use Rattle.std.proofs.Common.{◌≡◌, ℕ, zero, suc, ◌⊎◌, inl, inr, Bool, true, false, List, [], ◌∷◌, length, map}
+use Rattle.std.proofs.Common.{refl, sym, subst, arith}
+use Rattle.std.specs.Prelude.{not, ◌&&◌, if◌then◌else◌, nat_lt, nat_le, Contains, All}
+use Rattle.std.specs.List.{list_all, filter}
 use Rattle.std.proofs.lemmas.Bool.{ltb-true, leb-true}
 use Rattle.std.proofs.lemmas.List.Elements.{All-head, All-tail}
 use Rattle.feature_trees.specs.declared.value.Value.{Value}
 use Rattle.feature_trees.specs.Tree.{at}
+use Rattle.tree_clauses.proofs.Orders.{contains_cases, contains_nothing}
 use Rattle.start_facts.specs.declared.fact.PlaceFact.{PlaceFact}
 use Rattle.start_facts.specs.PlaceFacts.{Holds}
 use Rattle.fact_boxes.specs.declared.boxes.TheConstants.{MOST_BOXES, MOST_MEMBERS}
 use Rattle.fact_boxes.specs.declared.cells.Column.{Column}
 use Rattle.fact_boxes.specs.declared.cells.Cell.{Cell}
-use Rattle.fact_boxes.specs.Cells.{anything, leaves, meet, join, clash}
-use Rattle.fact_boxes.specs.Rows.{Row, met, joined, clashes, any_row, narrowed, row_of, row_at}
+use Rattle.fact_boxes.specs.Cells.{anything, leaves, meet, clash}
+use Rattle.fact_boxes.specs.Rows.{Row, joined, clashes, narrowed, row_of, row_at}
 use Rattle.fact_boxes.specs.Boxes.{tells, hull_of, with_row, boxes_onto, without, is_needed, differs, needed, numbers_to}
 use Rattle.fact_boxes.specs.Boxes.{numbers_below, shortened, all_shortened, boxes_else, boxes_beside, boxes_of}
 use Rattle.fact_boxes.specs.Holds.{Fits, IsRow, LiesIn, LiesInSome}
 use Rattle.fact_boxes.specs.Laws.{FactsAreRows, FactsLie, BoxesAreMet, BoxesAreApart, ToldIsFit}
 use Rattle.fact_boxes.proofs.Holding.{anything_fits, leaves_fit, meet_fits, join_fits_left, join_fits_right, clash_apart}
-use Rattle.fact_boxes.proofs.Holding.{told_holds, told_fits, differ, both_true, or_true, has_cases, nothing_had}
+use Rattle.fact_boxes.proofs.Holding.{told_holds, told_fits, differ, both_true, or_true}
 
 module _ (tree : Value) where
   -- ---- rows
 
-  any_lies : (columns : List Column) → LiesIn tree columns (any_row columns)
-  any_lies [] = tt
-  any_lies (column ∷ columns) = (anything_fits (at tree column.place) column.but, any_lies columns)
-
-  leaves_lie : (columns : List Column) (said : PlaceFact) → Holds tree said → LiesIn tree columns (map (leaves said) columns)
-  leaves_lie [] said holds = tt
-  leaves_lie (column ∷ columns) said holds = (leaves_fit tree said column holds, leaves_lie columns said holds)
-
-  met_lies : (columns : List Column) (a b : Row) → LiesIn tree columns a → LiesIn tree columns b → LiesIn tree columns (met a b)
-  met_lies [] a b p q = tt
-  met_lies (column ∷ columns) [] b p q = tt
-  met_lies (column ∷ columns) (x ∷ a) [] p q = tt
-  met_lies (column ∷ columns) (x ∷ a) (y ∷ b) p q = (meet_fits (at tree column.place) column.but x y p.0 q.0, met_lies columns a b p.1 q.1)
-
-  narrowed_lies : (columns : List Column) (row : Row) (facts : List PlaceFact) → LiesIn tree columns row → All (Holds tree) facts
-      → LiesIn tree columns (narrowed columns row facts)
-  narrowed_lies columns row [] lies all = lies
-  narrowed_lies columns row (said ∷ facts) lies all =
-      narrowed_lies columns (met row (map (leaves said) columns)) facts
-      (met_lies columns row (map (leaves said) columns) lies (leaves_lie columns said (All-head (Holds tree) said facts all)))
+  narrowed_fits : (column : Column) (cell : Cell) (facts : List PlaceFact) → Fits (at tree column.place) column.but cell
+      → All (Holds tree) facts → Fits (at tree column.place) column.but (narrowed column cell facts)
+  narrowed_fits column cell [] fits all = fits
+  narrowed_fits column cell (said ∷ facts) fits all =
+      narrowed_fits column (meet cell (leaves said column)) facts
+      (meet_fits (at tree column.place) column.but cell (leaves said column) fits
+      (leaves_fit tree said column (All-head (Holds tree) said facts all)))
       (All-tail (Holds tree) said facts all)
+
+  row_lies : (columns : List Column) (facts : List PlaceFact) → All (Holds tree) facts → LiesIn tree columns (row_of columns facts)
+  row_lies [] facts all = tt
+  row_lies (column ∷ columns) facts all = (
+    narrowed_fits column anything facts (anything_fits (at tree column.place) column.but) all,
+    row_lies columns facts all,
+  )
 
   joined_left : (columns : List Column) (a b : Row) → LiesIn tree columns a → LiesIn tree columns (joined a b)
   joined_left [] a b p = tt
@@ -104,8 +99,8 @@ module _ (tree : Value) where
 
     hull_has : (row : Row) (members : List ℕ) (m : ℕ) → Contains members m → LiesIn tree columns (row_at rows m)
         → LiesIn tree columns (hull_of rows row members)
-    hull_has row [] m c p = absurd (nothing_had m c)
-    hull_has row (n ∷ members) m c p = step (has_cases n m members c) (hull_has (joined row (row_at rows n)) members m)
+    hull_has row [] m c p = absurd (contains_nothing m c)
+    hull_has row (n ∷ members) m c p = step (contains_cases n m members c) (hull_has (joined row (row_at rows n)) members m)
       where
         step : (n ≡ m) ⊎ Contains members m
             → (Contains members m → LiesIn tree columns (row_at rows m) → LiesIn tree columns (hull_of rows (joined row (row_at rows n)) members))
@@ -158,10 +153,10 @@ module _ (tree : Value) where
     onto_has : (outs : List ℕ) (boxes : List Row) (members : List ℕ) (m : ℕ) → Contains members m → LiesIn tree columns (row_at rows m)
         → nat_le (length (boxes_onto rows outs boxes members)) MOST_BOXES ≡ true
         → LiesInSome tree columns (boxes_onto rows outs boxes members)
-    onto_has outs boxes [] m c p few = absurd (nothing_had m c)
+    onto_has outs boxes [] m c p few = absurd (contains_nothing m c)
     onto_has outs boxes (n ∷ members) m c p few =
         step (nat_lt MOST_BOXES (length boxes)) refl few (onto_has outs (with_row rows outs (row_at rows n) boxes) members m)
-        (onto_keeps outs (with_row rows outs (row_at rows n) boxes) members) (has_cases n m members c)
+        (onto_keeps outs (with_row rows outs (row_at rows n) boxes) members) (contains_cases n m members c)
       where
         step : (b : Bool) → nat_lt MOST_BOXES (length boxes) ≡ b
             → nat_le (length (if b then boxes else boxes_onto rows outs (with_row rows outs (row_at rows n) boxes) members)) MOST_BOXES ≡ true
@@ -197,10 +192,10 @@ module _ (tree : Value) where
 
     of_has : (members outs : List ℕ) (m : ℕ) → Contains members m → LiesIn tree columns (row_at rows m)
         → LiesInSome tree columns (boxes_of rows members outs)
-    of_has [] outs m c p = absurd (nothing_had m c)
+    of_has [] outs m c p = absurd (contains_nothing m c)
     of_has (n ∷ members) outs m c p =
         all_shortened_lie outs (boxes_beside rows (n ∷ members) outs (hull_of rows (row_at rows n) members))
-        (beside_has (n ∷ members) outs (hull_of rows (row_at rows n) members) m c p (hull (has_cases n m members c)))
+        (beside_has (n ∷ members) outs (hull_of rows (row_at rows n) members) m c p (hull (contains_cases n m members c)))
       where
         hull : (n ≡ m) ⊎ Contains members m → LiesIn tree columns (hull_of rows (row_at rows n) members)
         hull (inl same) = hull_keeps (row_at rows n) members (subst (λ k. LiesIn tree columns (row_at rows k)) (sym same) p)
@@ -209,8 +204,8 @@ module _ (tree : Value) where
     -- ---- outsiders
 
     tells_one : (outs : List ℕ) (box : Row) (o : ℕ) → tells rows outs box ≡ true → Contains outs o → clashes box (row_at rows o) ≡ true
-    tells_one [] box o e c = absurd (nothing_had o c)
-    tells_one (n ∷ outs) box o e c = elim (has_cases n o outs c) [
+    tells_one [] box o e c = absurd (contains_nothing o c)
+    tells_one (n ∷ outs) box o e c = elim (contains_cases n o outs c) [
       | inl same ↦ subst (λ k. clashes box (row_at rows k) ≡ true) same (both_true (clashes box (row_at rows n)) _ e).0
       | inr more ↦ tells_one outs box o (both_true (clashes box (row_at rows n)) _ e).1 more
     ]
@@ -222,26 +217,12 @@ module _ (tree : Value) where
         apart columns box (row_at rows o) few here p (tells_one outs box o (both_true (tells rows outs box) _ e).0 c)
     none_lies outs (box ∷ boxes) o e c few p (inr more) = none_lies outs boxes o (both_true (tells rows outs box) _ e).1 c few p more
 
-met_row : (columns : List Column) (a b : Row) → IsRow columns a → IsRow columns (met a b)
-met_row [] [] b few = tt
-met_row [] (x ∷ a) b few = absurd few
-met_row (column ∷ columns) [] b few = tt
-met_row (column ∷ columns) (x ∷ a) [] few = tt
-met_row (column ∷ columns) (x ∷ a) (y ∷ b) few = met_row columns a b few
-
-any_is_row : (columns : List Column) → IsRow columns (any_row columns)
-any_is_row [] = tt
-any_is_row (column ∷ columns) = any_is_row columns
-
-narrowed_row : (columns : List Column) (row : Row) (facts : List PlaceFact) → IsRow columns row → IsRow columns (narrowed columns row facts)
-narrowed_row columns row [] few = few
-narrowed_row columns row (said ∷ facts) few = narrowed_row columns (met row (map (leaves said) columns)) facts (met_row columns row (map (leaves said) columns) few)
-
 pub facts_are_rows : FactsAreRows
-facts_are_rows columns facts = narrowed_row columns (any_row columns) facts (any_is_row columns)
+facts_are_rows [] facts = tt
+facts_are_rows (column ∷ columns) facts = facts_are_rows columns facts
 
 pub facts_lie : FactsLie
-facts_lie tree columns facts all = narrowed_lies tree columns (any_row columns) facts (any_lies tree columns) all
+facts_lie tree columns facts all = row_lies tree columns facts all
 
 pub boxes_met : BoxesAreMet
 boxes_met tree columns rows members outs m c p = of_has tree columns rows members outs m c p

@@ -1,11 +1,12 @@
 -- What facts leave to places: which kinds of things may stand there, and whether anything may stand in them.
-use Rattle.std.specs.Prelude.{ℕ, Bool, true, false, not, ◌&&◌, ◌||◌, List, [], ◌∷◌, ◌++◌, map}
+use Rattle.std.specs.Prelude.{ℕ, Bool, true, false, not, ◌&&◌, ◌||◌, List, [], ◌∷◌, ◌++◌}
 use Rattle.std.specs.Prelude.{Option, Some, None, if◌then◌else◌}
-use Rattle.std.specs.List.{list_any, list_all}
+use Rattle.std.specs.List.{list_all}
 use Rattle.std.specs.Str.{bytes_eq}
 use Rattle.feature_trees.specs.declared.kind.Kind.TheVariants as kind
 use Rattle.feature_trees.specs.declared.kind.Kinds.{Kinds}
 use Rattle.feature_trees.specs.Kinds.{all, of, both, either}
+use Rattle.tree_clauses.specs.NameSets.{is_among}
 use Rattle.start_facts.specs.declared.fact.Fact.{Fact}
 use Rattle.start_facts.specs.declared.fact.Fact.TheVariants as fact
 use Rattle.start_facts.specs.declared.fact.PlaceFact.{PlaceFact}
@@ -21,10 +22,6 @@ anything = record { kinds = all; none = true; some = true }
 -- nothing stands there
 abbrev pub nothing : Cell
 nothing = record { kinds = of kind.Absent; none = true; some = false }
-
--- a name is among these
-abbrev pub is_among : List (List ℕ) → List ℕ → Bool
-is_among names f = list_any (λ g. bytes_eq g f) names
 
 -- each of the names is among others
 abbrev pub are_among : List (List ℕ) → List (List ℕ) → Bool

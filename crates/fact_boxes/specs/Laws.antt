@@ -1,5 +1,5 @@
 -- What holds of rows and boxes.
-use Rattle.std.specs.Prelude.{◌≡◌, ◌↔◌, ℕ, true, List, IsTrue, All, Contains}
+use Rattle.std.specs.Prelude.{◌↔◌, ℕ, List, IsTrue, All, Contains}
 use Rattle.std.specs.List.{list_all}
 use Rattle.feature_trees.specs.declared.value.Value.{Value}
 use Rattle.feature_trees.specs.Tree.{at}

@@ -1,27 +1,25 @@
 -- Columns, and the row of each outcome: what its facts leave to each column.
-use Rattle.std.specs.Prelude.{ℕ, Bool, true, false, not, ◌&&◌, ◌||◌, List, [], ◌∷◌, ◌++◌, map, slice_index_or}
+use Rattle.std.specs.Prelude.{ℕ, Bool, true, false, ◌&&◌, ◌||◌, List, [], ◌∷◌, ◌++◌, map, slice_index_or}
 use Rattle.std.specs.Prelude.{Option, Some, None, if◌then◌else◌}
-use Rattle.std.specs.List.{list_any, list_all, filter, flat_map}
-use Rattle.std.specs.Str.{bytes_eq}
+use Rattle.std.specs.List.{list_any}
 use Rattle.start_facts.specs.declared.fact.Fact.{Fact}
 use Rattle.start_facts.specs.declared.fact.Fact.TheVariants as fact
 use Rattle.start_facts.specs.declared.fact.PlaceFact.{PlaceFact}
 use Rattle.fact_boxes.specs.declared.cells.Column.{Column}
 use Rattle.fact_boxes.specs.declared.cells.Cell.{Cell}
-use Rattle.fact_boxes.specs.Cells.{anything, leaves, meet, join, clash, within}
+use Rattle.fact_boxes.specs.Cells.{anything, behind, leaves, meet, join, clash}
 
 -- ---- columns
 
--- the same names in the same order
-abbrev pub same_names : List (List ℕ) → List (List ℕ) → Bool
-same_names [] [] = true
-same_names [] (g ∷ gs) = false
-same_names (f ∷ fs) [] = false
-same_names (f ∷ fs) (g ∷ gs) = bytes_eq f g && same_names fs gs
+-- no name follows: the names are the same
+abbrev pub are_same : Option (List (List ℕ)) → Bool
+are_same None = false
+are_same (Some []) = true
+are_same (Some (f ∷ names)) = false
 
 -- the same column
 abbrev pub same_column : Column → Column → Bool
-same_column a b = same_names a.place b.place && same_names a.but b.but
+same_column a b = are_same (behind a.place b.place) && are_same (behind a.but b.but)
 
 -- the column of entries under other names than these, where there are any
 abbrev pub beside_column : List (List ℕ) → List (List ℕ) → List Column
@@ -64,12 +62,6 @@ columns_of columns (facts ∷ lists) = columns_of (columns_onto columns facts) l
 abbrev pub Row : Type 0
 Row = List Cell
 
--- what both rows leave, column by column
-abbrev pub met : Row → Row → Row
-met [] ys = []
-met (a ∷ xs) [] = []
-met (a ∷ xs) (b ∷ ys) = meet a b ∷ met xs ys
-
 -- what one or the other leaves, column by column
 abbrev pub joined : Row → Row → Row
 joined [] ys = []
@@ -82,18 +74,14 @@ clashes [] ys = false
 clashes (a ∷ xs) [] = false
 clashes (a ∷ xs) (b ∷ ys) = clash a b || clashes xs ys
 
--- everything is left
-abbrev pub any_row : List Column → Row
-any_row columns = map (λ column. anything) columns
+-- what further facts leave of a column's cell
+abbrev pub narrowed : Column → Cell → List PlaceFact → Cell
+narrowed column cell [] = cell
+narrowed column cell (said ∷ facts) = narrowed column (meet cell (leaves said column)) facts
 
--- what further facts leave of a row
-abbrev pub narrowed : List Column → Row → List PlaceFact → Row
-narrowed columns row [] = row
-narrowed columns row (said ∷ facts) = narrowed columns (met row (map (leaves said) columns)) facts
-
--- what facts leave
+-- what facts leave to each column
 abbrev pub row_of : List Column → List PlaceFact → Row
-row_of columns facts = narrowed columns (any_row columns) facts
+row_of columns facts = map (λ column. narrowed column anything facts) columns
 
 -- the row at a place
 abbrev pub row_at : List Row → ℕ → Row

@@ -1,10 +1,10 @@
 ghost use Rattle.std.specs.Prelude.{◌≡◌, ◌++◌, OnOk, Some};
-ghost use Rattle.std.specs.List.{list_any, list_all};
 ghost use Rattle.std.specs.Option.{option_copied};
-ghost use Rattle.fact_boxes.specs.Cells.{anything, are_all, are_among, beside, clash, is_among, join, leaves};
+ghost use Rattle.fact_boxes.specs.Cells.{anything, are_all, are_among, beside, clash, join, leaves};
 ghost use Rattle.fact_boxes.specs.Cells.{left_below, left_here, meet, nothing, share, shuts, told, unless, within};
 ghost use Rattle.fact_boxes.specs.Cells.{behind, follows, is_anything};
 ghost use Rattle.start_facts.specs.declared.fact.Fact.TheVariants as Fact;
+ghost use Rattle.tree_clauses.specs.NameSets.{is_among};
 
 use feature_trees::{Kind, Kinds};
 use script_names::{Copied, List, Memory, Name};
@@ -149,8 +149,8 @@ fn left_below(said: &Fact, but: &[Name], below: Option<&[Name]>) -> Cell
     }
 }
 
-// The names that follow others.
-fn behind<'a>(above: &[Name], names: &'a [Name]) -> Option<&'a [Name]>
+/// The names that follow others.
+pub(crate) fn behind<'a>(above: &[Name], names: &'a [Name]) -> Option<&'a [Name]>
     ensures { option_copied result ≡ behind above.now names.now }
 {
     let mut above = above;

@@ -1,34 +1,24 @@
-ghost use Rattle.std.specs.Prelude.{◌≡◌, map, IfOk, OnOk};
+ghost use Rattle.std.specs.Prelude.{◌≡◌, IfOk, OnOk};
 ghost use Rattle.std.specs.List.{list_any};
-ghost use Rattle.fact_boxes.specs.Cells.{leaves};
-ghost use Rattle.fact_boxes.specs.Rows.{any_row, beside_column, clashes, columns_onto, fact_columns, joined, met};
-ghost use Rattle.fact_boxes.specs.Rows.{narrowed, names_of, row_of, same_column, same_names, with_column};
+ghost use Rattle.fact_boxes.specs.Cells.{anything, behind};
+ghost use Rattle.fact_boxes.specs.Rows.{are_same, beside_column, clashes, columns_onto, fact_columns, joined};
+ghost use Rattle.fact_boxes.specs.Rows.{narrowed, names_of, row_of, same_column, with_column};
 ghost use Rattle.fact_boxes.specs.Rows.{with_columns};
 
-use crate::cells::{Cell, Column, anything, clash, join, leaves, meet};
+use crate::cells::{Cell, Column, anything, behind, clash, join, leaves, meet};
 use script_names::{Copied, List, Memory, Name};
 use start_facts::{Fact, PlaceFact};
 use std::alloc::Global;
 
 // Whether these are the same names in the same order.
 fn same_names(a: &[Name], b: &[Name]) -> bool
-    ensures { result ≡ same_names a.now b.now }
+    ensures { result ≡ are_same (behind a.now b.now) }
 {
-    let mut a = a;
-    let mut b = b;
-    while let [f, more @ ..] = a {
-        match b {
-            [] => return false,
-            [g, rest @ ..] => {
-                if f.as_slice() != g.as_slice() {
-                    return false;
-                }
-                a = more;
-                b = rest;
-            }
-        }
+    match behind(a, b) {
+        None => false,
+        Some([]) => true,
+        Some([_, ..]) => false,
     }
-    b.is_empty()
 }
 
 // Whether it is the same column.
@@ -113,48 +103,6 @@ pub fn add_facts(
     Ok(())
 }
 
-// Everything is left in each column.
-fn any_row(alloc: Global, columns: &[Column]) -> Result<List<Cell>, Memory>
-    ensures { IfOk result (λ row. row ≡ any_row columns.now) }
-{
-    let mut row = List::with_room(alloc, columns.len())?;
-    for _column in columns {
-        row.add(anything())?;
-    }
-    Ok(row)
-}
-
-// What a fact leaves to each column.
-fn leaves_row(alloc: Global, columns: &[Column], said: &PlaceFact) -> Result<List<Cell>, Memory>
-    ensures { IfOk result (λ row. row ≡ map (leaves said.now) columns.now) }
-{
-    let mut row = List::with_room(alloc, columns.len())?;
-    for column in columns {
-        row.add(leaves(said, column))?;
-    }
-    Ok(row)
-}
-
-// What both rows leave.
-fn met(alloc: Global, a: &[Cell], b: &[Cell]) -> Result<List<Cell>, Memory>
-    ensures { IfOk result (λ row. row ≡ met a.now b.now) }
-{
-    let mut row = List::with_room(alloc, a.len())?;
-    let mut a = a;
-    let mut b = b;
-    while let [x, more @ ..] = a {
-        match b {
-            [] => return Ok(row),
-            [y, rest @ ..] => {
-                row.add(meet(*x, *y))?;
-                a = more;
-                b = rest;
-            }
-        }
-    }
-    Ok(row)
-}
-
 /// What one or the other row leaves.
 pub fn joined(alloc: Global, a: &[Cell], b: &[Cell]) -> Result<List<Cell>, Memory>
     ensures { IfOk result (λ row. row ≡ joined a.now b.now) }
@@ -196,16 +144,26 @@ pub fn clashes(a: &[Cell], b: &[Cell]) -> bool
     false
 }
 
-/// What facts leave.
+// What facts leave to a column.
+fn narrowed(column: &Column, said: &[PlaceFact]) -> Cell
+    ensures { result ≡ narrowed column.now anything said.now }
+{
+    let mut cell = anything();
+    let mut left = said;
+    while let [fact, rest @ ..] = left {
+        cell = meet(cell, leaves(fact, column));
+        left = rest;
+    }
+    cell
+}
+
+/// What facts leave to each column.
 pub fn row_of(alloc: Global, columns: &[Column], said: &[PlaceFact]) -> Result<List<Cell>, Memory>
     ensures { IfOk result (λ row. row ≡ row_of columns.now said.now) }
 {
-    let mut row = any_row(alloc, columns)?;
-    let mut left = said;
-    while let [fact, rest @ ..] = left {
-        let more = leaves_row(alloc, columns, fact)?;
-        row = met(alloc, row.as_slice(), more.as_slice())?;
-        left = rest;
+    let mut row = List::with_room(alloc, columns.len())?;
+    for column in columns {
+        row.add(narrowed(column, said))?;
     }
     Ok(row)
 }

@@ -14,6 +14,7 @@ pub mod ClauseLaw
 pub mod PlainCases
 pub mod KindSets
 pub mod KindWords
+pub mod SameKinds
 pub mod ToldLines
 pub mod Below
 pub mod AgreeingEntries

@@ -1,7 +1,7 @@
 -- What is answered of chunks, one after the other.
-use Rattle.std.proofs.Common.{◌≡◌, ℕ, ◌+◌, ◌-◌, ◌<◌, ◌≤◌, zero, suc, List, [], ◌∷◌, ◌++◌, All, length, map, take, drop, get_or, Bor, refl, sym, subst, ap, ◌∙◌, arith}
+use Rattle.std.proofs.Common.{◌≡◌, ℕ, ◌+◌, ◌-◌, ◌<◌, ◌≤◌, zero, suc, List, [], ◌∷◌, ◌++◌, All, length, map, drop, refl, sym, subst, ap, ◌∙◌, arith}
 use Rattle.std.specs.List.{AllZip, flat_map}
-use Rattle.std.proofs.lemmas.List.{append-nil, map-append, take-append-drop, drop-drop, drop_all}
+use Rattle.std.proofs.lemmas.List.{map-append, take-append-drop, drop-drop, drop_all}
 use Rattle.tree_predictions.specs.declared.chunks.Chunk.{Chunk}
 use Rattle.tree_predictions.specs.Chunks.{Follow, IsWithin, part}
 

@@ -1,5 +1,5 @@
 -- What stands at places of borrowed values, and the first of them of which something holds.
-use Rattle.std.proofs.Common.{◌≡◌, ℕ, ◌+◌, ◌<◌, ◌≤◌, zero, List, All, length, map, get_or, Bor, refl, sym, subst, ap, ◌∙◌, inl, inr, arith}
+use Rattle.std.proofs.Common.{◌≡◌, ℕ, ◌+◌, ◌<◌, ◌≤◌, List, All, length, map, get_or, Bor, sym, subst, ap, ◌∙◌, inl, inr, arith}
 use Rattle.std.specs.List.{AllWithin, HoldsAt}
 use Rattle.std.proofs.lemmas.List.{get_or-map, length-map}
 use Rattle.tree_clauses.specs.declared.clause.Clause.{Clause}

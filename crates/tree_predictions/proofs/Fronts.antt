@@ -1,5 +1,5 @@
 -- The lines before the first that begins a tree.
-use Rattle.std.proofs.Common.{◌≡◌, ℕ, ◌+◌, ◌-◌, ◌<◌, ◌≤◌, Bool, true, false, List, [], ◌∷◌, ◌++◌, All, length, take, drop, refl, sym, subst, ap, ap₂, ◌∙◌, inl, inr, arith}
+use Rattle.std.proofs.Common.{◌≡◌, ℕ, ◌+◌, ◌-◌, ◌<◌, Bool, false, List, [], ◌∷◌, ◌++◌, All, length, take, refl, sym, subst, ap, ap₂, ◌∙◌, inl, inr, arith}
 use Rattle.std.specs.Prelude.{◌||◌}
 use Rattle.std.specs.List.{list_any}
 use Rattle.std.proofs.Math.Seq.{take-append_seam}
@@ -8,7 +8,7 @@ use Rattle.std.proofs.lemmas.List.Folds.{list_any-append}
 use Rattle.script_names.specs.Ascii.{newline}
 use Rattle.feature_trees.specs.TreeLines.{text_lines}
 use Rattle.tree_predictions.specs.NamedTrees.{is_head}
-use Rattle.tree_predictions.specs.Blocks.{CutsLine, IsApart, IsFront, AreAtHead}
+use Rattle.tree_predictions.specs.Blocks.{CutsLine, IsApart, IsFront}
 use Rattle.tree_predictions.proofs.TextLines.{is_newline, line_first, line_alone}
 
 -- before the first line there is none

@@ -1,5 +1,5 @@
 -- The lines of one tree of many, and what its own text says.
-use Rattle.std.proofs.Common.{◌≡◌, ℕ, ◌+◌, ◌<◌, Bool, true, false, List, [], ◌∷◌, ◌++◌, length, Option, Some, None, Result, Ok, Err, refl, sym, subst, ap, ap₂, ◌∙◌, arith}
+use Rattle.std.proofs.Common.{◌≡◌, ℕ, ◌+◌, ◌<◌, Bool, true, false, List, [], ◌∷◌, ◌++◌, length, Some, None, Result, Ok, Err, refl, ap, ◌∙◌, arith}
 use Rattle.std.specs.Prelude.{◌||◌, if◌then◌else◌}
 use Rattle.std.specs.List.{list_any}
 use Rattle.feature_trees.specs.declared.value.Value.{Value}
@@ -10,9 +10,8 @@ use Rattle.feature_trees.specs.Tree.{at, put, has_parents}
 use Rattle.feature_trees.specs.TreeLines.{is_there, line_says}
 use Rattle.feature_trees.specs.TreeLines.{with_line as with_tree_line, with_lines as with_tree_lines, and_then as then_tree}
 use Rattle.tree_predictions.specs.declared.named_tree.NamedTree.{NamedTree}
-use Rattle.tree_predictions.specs.declared.fault.TreesFault.{TreesFault}
 use Rattle.tree_predictions.specs.declared.fault.TreesFault.TheVariants.{Line, Memory}
-use Rattle.tree_predictions.specs.NamedTrees.{is_head, begun, head_name, named, and_then, in_last, with_line, with_lines}
+use Rattle.tree_predictions.specs.NamedTrees.{is_head, begun, head_name, named, and_then, in_last, with_lines}
 
 -- ---- the number of a line
 

@@ -5,6 +5,5 @@ mod TextLines
 mod Fronts
 mod InBlock
 mod Reading
-mod SameKinds
 mod Held
 mod Planned

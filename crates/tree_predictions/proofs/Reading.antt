@@ -1,6 +1,6 @@
 -- From the first line of many trees to the last.
-use Rattle.std.proofs.Common.{◌≡◌, ℕ, ◌+◌, ◌<◌, Bool, true, false, List, [], ◌∷◌, ◌++◌, length, Result, Ok, Err, IsTrue, refl, sym, subst, ap, ap₂, ◌∙◌, arith}
-use Rattle.std.specs.Prelude.{◌||◌, not, if◌then◌else◌}
+use Rattle.std.proofs.Common.{◌≡◌, ℕ, ◌+◌, ◌<◌, Bool, true, false, List, [], ◌∷◌, ◌++◌, length, Result, Ok, Err, refl, sym, subst, ap, ap₂, ◌∙◌, arith}
+use Rattle.std.specs.Prelude.{not, if◌then◌else◌}
 use Rattle.std.specs.List.{list_any}
 use Rattle.feature_trees.specs.declared.value.Value.TheVariants.{Dir}
 use Rattle.tree_predictions.specs.declared.named_tree.NamedTree.{NamedTree}
@@ -8,12 +8,11 @@ use Rattle.tree_predictions.specs.declared.fault.TreesFault.{TreesFault}
 use Rattle.tree_predictions.specs.declared.fault.TreesFault.TheVariants.{Line, Memory}
 use Rattle.tree_predictions.specs.NamedTrees.{is_head, is_tree_name, is_named, begun, head_name, and_then, in_last, with_line, with_lines, IsAnswer}
 use Rattle.feature_trees.specs.declared.value.Value.{Value}
-use Rattle.feature_trees.specs.declared.read.TreeFault.{TreeFault}
 use Rattle.feature_trees.specs.declared.read.TreeFault.TheVariants as tree
 use Rattle.feature_trees.specs.TreeLines.{text_lines}
 use Rattle.feature_trees.specs.TreeLines.{with_lines as with_tree_lines}
 use Rattle.feature_trees.specs.Sound.{IsTree}
-use Rattle.std.proofs.Common.{All, get_or, zero, suc, ◌≤◌}
+use Rattle.std.proofs.Common.{All, zero, suc, ◌≤◌}
 use Rattle.tree_predictions.specs.declared.lines.Block.{Block}
 use Rattle.tree_predictions.specs.Blocks.{CutsLine, IsBlock, AreAtHead}
 use Rattle.tree_predictions.specs.NamedTrees.{named, trees_of}

@@ -1,5 +1,5 @@
 -- Clauses in their order, each with what it asks beyond the clause before it.
-use Rattle.std.specs.Prelude.{◌≡◌, ℕ, ◌≤◌, List, [], ◌∷◌, ◌++◌, length, map, take, false}
+use Rattle.std.specs.Prelude.{◌≡◌, ◌≤◌, List, [], ◌∷◌, ◌++◌, length, map, take, false}
 use Rattle.feature_trees.specs.declared.value.Value.{Value}
 use Rattle.tree_clauses.specs.declared.clause.Clause.{Clause}
 use Rattle.tree_predictions.specs.declared.looks.Look.{Look}

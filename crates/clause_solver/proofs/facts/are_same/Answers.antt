@@ -1,5 +1,5 @@
 use Rattle.std.proofs.Common.{◌∙◌, sym}
-use Rattle.clause_solver.proofs.SameKinds.{same_kinds}
+use Rattle.tree_clauses.proofs.SameKinds.{same_kinds}
 use Rattle.clause_solver.proofs.facts.are_same.Goals as goal
 
 pub returns : goal.returns

@@ -1,4 +1,4 @@
-use Rattle.std.proofs.Common.{◌≡◌, ◌++◌, length}
+use Rattle.std.proofs.Common.{◌≡◌, ◌++◌}
 use Rattle.fact_boxes.specs.Boxes.{numbers_below}
 use Rattle.fact_boxes.proofs.boxes.numbers_below.Given as goal
 

@@ -1,5 +1,5 @@
 use Rattle.std.proofs.Common.{◌≡◌, length}
-use Rattle.fact_boxes.specs.Cells.{is_among}
+use Rattle.tree_clauses.specs.NameSets.{is_among}
 use Rattle.fact_boxes.proofs.cells.is_among.Given as goal
 
 abbrev pub invariant-loop-left : goal.invariant-loop-left

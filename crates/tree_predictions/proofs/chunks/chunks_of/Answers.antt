@@ -1,4 +1,4 @@
-use Rattle.std.proofs.Common.{◌≡◌, ◌≤◌, ◌+◌, List, [], ◌∷◌, ◌++◌, refl, subst, sym, arith}
+use Rattle.std.proofs.Common.{[], subst, arith}
 use Rattle.std.proofs.lemmas.List.{append-nil}
 use Rattle.tree_predictions.specs.Chunks.{Follow}
 use Rattle.tree_predictions.proofs.chunks.chunks_of.Goals as goal

@@ -1,5 +1,5 @@
 use Rattle.std.proofs.Common.{◌∙◌, sym}
-use Rattle.tree_predictions.proofs.SameKinds.{same_kinds}
+use Rattle.tree_clauses.proofs.SameKinds.{same_kinds}
 use Rattle.tree_predictions.proofs.looks.same_kinds.Goals as goal
 
 pub returns : goal.returns

@@ -1,7 +1,7 @@
-use Rattle.std.proofs.Common.{◌≡◌, ◌+◌, ◌≤◌, [], false, refl, sym, subst, ap, ◌∙◌, arith}
+use Rattle.std.proofs.Common.{◌+◌, [], false, sym, ap, ◌∙◌, arith}
 use Rattle.tree_clauses.specs.Literals.{CoversTree}
 use Rattle.tree_clauses.specs.Solved.{IsSolved}
-use Rattle.tree_predictions.specs.Plans.{clauses_of, looks_behind, IsHeld}
+use Rattle.tree_predictions.specs.Plans.{clauses_of, looks_behind}
 use Rattle.tree_predictions.proofs.Firsts.{one_more, of_one, is_first, of_all}
 use Rattle.tree_predictions.proofs.Planned.{next, clause_at, clause_within, count_of, true_false}
 use Rattle.tree_predictions.proofs.picks.pick.Goals as goal

@@ -1,5 +1,4 @@
-use Rattle.std.proofs.Common.{◌≡◌, ◌+◌, ◌∷◌, [], ◌++◌, map, take, sym, subst, ap, ◌∙◌}
-use Rattle.std.specs.List.{AllZip}
+use Rattle.std.proofs.Common.{◌+◌, ◌∷◌, [], ◌++◌, map, take, sym, subst, ap, ◌∙◌}
 use Rattle.std.proofs.lemmas.List.{map_more}
 use Rattle.std.proofs.lemmas.Slice.Zip.{all_zipped_more}
 use Rattle.tree_predictions.specs.Picks.{IsPick, ArePicks}

@@ -1,4 +1,4 @@
-use Rattle.std.proofs.Common.{◌≡◌, ◌≤◌, ◌+◌, [], ◌∷◌, ◌++◌, length, map, take, sym, subst, ap, ap₂, ◌∙◌}
+use Rattle.std.proofs.Common.{◌≤◌, ◌+◌, [], ◌∷◌, ◌++◌, length, sym, subst, ap, ap₂, ◌∙◌}
 use Rattle.std.proofs.lemmas.List.{append-nil, map_more, map_push}
 use Rattle.tree_predictions.specs.declared.plan.Step.{Step}
 use Rattle.tree_predictions.specs.Looks.{AreNecessary}

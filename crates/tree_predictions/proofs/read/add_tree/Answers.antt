@@ -1,4 +1,4 @@
-use Rattle.std.proofs.Common.{◌≡◌, ◌+◌, ◌<◌, ◌^◌, All, Err, Fits, w64, length, sym, subst, ap, ap₂, ◌∙◌, arith}
+use Rattle.std.proofs.Common.{◌+◌, All, Err, Fits, w64, sym, subst, ap, ap₂, ◌∙◌, arith}
 use Rattle.feature_trees.specs.Sound.{IsTree}
 use Rattle.feature_trees.specs.declared.read.TreeFault.TheVariants.{Line as Faulty}
 use Rattle.feature_trees.specs.TreeLines.{text_lines, tree_of}

@@ -1,4 +1,4 @@
-use Rattle.std.proofs.Common.{◌≡◌, ◌+◌, ◌≤◌, ◌<◌, Err, length, sym, subst, ◌∙◌, arith}
+use Rattle.std.proofs.Common.{Err, sym, subst, arith}
 use Rattle.tree_predictions.specs.NamedTrees.{trees_of, IsAnswer}
 use Rattle.tree_predictions.proofs.Fronts.{shorter}
 use Rattle.tree_predictions.proofs.Reading.{goes_on, fails, no_start}
