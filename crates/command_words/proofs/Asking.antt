@@ -1,6 +1,6 @@
 -- The request that settings make, and the one that their texts ask for.
 use Rattle.std.proofs.Common.{◌≡◌, ℕ, zero, suc, Bool, true, false, List, [], ◌∷◌, Option, Some, None, refl, sym, ap, subst, ◌∙◌, codes}
-use Rattle.std.specs.Prelude.{if◌then◌else◌, ◌||◌}
+use Rattle.std.specs.Prelude.{if◌then◌else◌, ◌&&◌, ◌||◌}
 use Rattle.std.specs.Option.{is_some, option_and_then, unwrap_or}
 use Rattle.std.specs.Str.{bytes_eq}
 use Rattle.std.proofs.lemmas.Slice.Eq.{bytes_eq-Decides}
@@ -13,18 +13,20 @@ use Rattle.command_words.specs.declared.setting.Setting.{Setting}
 use Rattle.command_words.specs.declared.request.Folders.{Folders}
 use Rattle.command_words.specs.declared.request.Layout.{Layout}
 use Rattle.command_words.specs.declared.request.Layout.TheVariants.{Plain, Brief, Json}
+use Rattle.command_words.specs.declared.request.View.{View}
+use Rattle.command_words.specs.declared.request.View.TheVariants.{Text, Places, Outcome}
 use Rattle.command_words.specs.declared.request.Request.{Request}
 use Rattle.command_words.specs.declared.request.Request.TheVariants.{Check, Run, Translate, Load, Predict, Explain, Pair, Twice}
 use Rattle.command_words.specs.declared.limits.TheConstants.{MOST_LOAD, MOST_TURNS, MOST_LIMIT}
 use Rattle.command_words.specs.declared.limits.TheConstants.{USUAL_TURNS, USUAL_LIMIT}
-use Rattle.command_words.specs.Fields.{takes, fields_of, names_of, most, texts, first, behind, given, command_name}
+use Rattle.command_words.specs.Fields.{takes, fields_of, names_of, most, texts, first, behind, given, is_given, command_name}
 use Rattle.dpkg_scenarios.specs.Names.{scenario_named, pair_named}
 use Rattle.command_words.specs.Values.{number_in, is_value}
-use Rattle.command_words.specs.Requests.{number_or, scenario_said, layout_by, folders_said, check_of, explain_of, run_from, load_by, predict_by}
+use Rattle.command_words.specs.Requests.{number_or, scenario_said, layout_by, view_by, folders_said, check_of, explain_of, run_from, load_by, predict_by}
 use Rattle.command_words.specs.Requests.{pair_said, pair_from, twice_of, request_by, request_of}
-use Rattle.command_words.specs.CommandLines.{Texts, listed, IsNumberOr, IsNumber, IsScenarioOr, IsScenario, layout_words, places_words, NoOthers, NamesFolders}
+use Rattle.command_words.specs.CommandLines.{Texts, listed, IsNumberOr, IsNumber, IsScenarioOr, IsScenario, layout_words, view_words, IsOutcomeOf, NoOthers, NamesFolders}
 use Rattle.command_words.specs.CommandLines.{AsksCheck, AsksRun, AsksTranslate, AsksLoad, AsksPredict, AsksExplain, AsksPair, AsksTwice, Asks, command_of}
-use Rattle.command_words.proofs.Fitting.{OneOf, FewOf, Suits, AllFit, fit_once, ones_fit, Each, of_all}
+use Rattle.command_words.proofs.Fitting.{OneOf, FewOf, Suits, EachFits, AllFit, lays_out_twice, fit_once, ones_fit, Each, of_all}
 use Rattle.command_words.proofs.Results.{differ, is_no, in_some}
 
 abbrev pub command_at : Request → Command
@@ -33,7 +35,7 @@ command_at (Run folders tree chosen turns) = command.Run
 command_at (Translate file) = command.Translate
 command_at (Load number limit) = command.Load
 command_at (Predict report trees) = command.Predict
-command_at (Explain folders chosen turns limit alone) = command.Explain
+command_at (Explain folders chosen turns limit view) = command.Explain
 command_at (Pair dir other base chosen turns limit) = command.Pair
 command_at (Twice dir base turns limit) = command.Twice
 
@@ -43,7 +45,7 @@ commands (Run folders tree chosen turns) = refl
 commands (Translate file) = refl
 commands (Load number limit) = refl
 commands (Predict report trees) = refl
-commands (Explain folders chosen turns limit alone) = refl
+commands (Explain folders chosen turns limit view) = refl
 commands (Pair dir other base chosen turns limit) = refl
 commands (Twice dir base turns limit) = refl
 
@@ -66,7 +68,7 @@ few_none (suc n) P (t ∷ ts) never h = absurd (never t h.0)
 
 not_taken : (command : Command) (said : List Setting) (f : Field) → takes command f ≡ false → AllFit command said → texts f said ≡ []
 not_taken command said f never fit =
-    few_none (most command f) (Suits command f) (texts f said) (λ t h. differ (sym h.0 ∙ never)) (fit f)
+    few_none (most command f) (Suits command f) (texts f said) (λ t h. differ (sym h.0 ∙ never)) (fit.few f)
 
 -- ---- scenarios, numbers, layouts
 
@@ -135,14 +137,44 @@ layout_first Plain = refl
 layout_first Brief = refl
 layout_first Json = refl
 
-places_listed : (ts : Texts) → OneOf (Suits command.Explain field.Layout) ts → ts ≡ places_words (is_some (first ts))
-places_listed [] h = refl
-places_listed (t ∷ []) h = ap (λ w. w ∷ []) ((bytes_eq-Decides t (codes "--places")).0 h.1)
-places_listed (t ∷ u ∷ more) h = absurd h
+-- the texts for a word and for a number are those of a view
+pub record AreOfView (ts us : Texts) (view : View) : Type 0 where
+  pub of_layout : ts ≡ view_words view
+  pub of_outcome : IsOutcomeOf view us
 
-places_first : (alone : Bool) → is_some (first (places_words alone)) ≡ alone
-places_first true = refl
-places_first false = refl
+view_listed : (ts us : Texts) → OneOf (Suits command.Explain field.Layout) ts → OneOf (Suits command.Explain field.Outcome) us
+    → (is_some (first ts) && is_some (first us)) ≡ false → AreOfView ts us (view_by (first ts) (first us))
+view_listed [] [] h k once = record { of_layout = refl; of_outcome = refl }
+view_listed [] (u ∷ []) h k once =
+    record { of_layout = refl; of_outcome = number_by (number_in MOST_LIMIT u) 1 k.1 }
+view_listed [] (u ∷ v ∷ more) h k once = absurd k
+view_listed (t ∷ []) [] h k once =
+    record { of_layout = ap (λ w. w ∷ []) ((bytes_eq-Decides t (codes "--places")).0 h.1); of_outcome = refl }
+view_listed (t ∷ []) (u ∷ us) h k once = absurd (differ once)
+view_listed (t ∷ w ∷ more) us h k once = absurd h
+
+-- the text of a number
+named_first : (most usual : ℕ) (ts : Texts) (n : ℕ) → IsNumber most ts n → view_by None (first ts) ≡ Outcome (number_or MOST_LIMIT 1 (first ts))
+named_first most usual [] n h = absurd h
+named_first most usual (t ∷ []) n h = refl
+named_first most usual (t ∷ u ∷ more) n h = absurd h
+
+number_of_text : (most usual : ℕ) (ts : Texts) (n : ℕ) → IsNumber most ts n → number_or most usual (first ts) ≡ n
+number_of_text most usual [] n h = absurd h
+number_of_text most usual (t ∷ []) n h = ap (λ o. unwrap_or o usual) h
+number_of_text most usual (t ∷ u ∷ more) n h = absurd h
+
+view_first : (view : View) (us : Texts) → IsOutcomeOf view us → view_by (first (view_words view)) (first us) ≡ view
+view_first Text us h = ap (λ ts. view_by None (first ts)) h
+view_first Places us h = refl
+view_first (Outcome number) us h =
+    named_first MOST_LIMIT 1 us number h ∙ ap Outcome (number_of_text MOST_LIMIT 1 us number h)
+
+-- a view has a word or a number
+view_once : (view : View) (ts us : Texts) → ts ≡ view_words view → IsOutcomeOf view us → (is_some (first ts) && is_some (first us)) ≡ false
+view_once Text ts us e h = ap (λ l. is_some (first l) && is_some (first us)) e
+view_once Places ts us e h = (λ i. is_some (first (e i)) && is_some (first (h i)))
+view_once (Outcome number) ts us e h = ap (λ l. is_some (first l) && is_some (first us)) e
 
 -- ---- what settings that fit ask for
 
@@ -170,12 +202,15 @@ asks_check dir said fit named =
 asks_explain : (dir : List ℕ) (said : List Setting) → AllFit command.Explain said → texts field.Named said ≡ dir ∷ []
     → Asks (λ f. texts f said) (explain_of dir said)
 asks_explain dir said fit named =
+    let views = view_listed (texts field.Layout said) (texts field.Outcome said) (fit_once command.Explain said field.Layout refl fit)
+    (fit_once command.Explain said field.Outcome refl fit) fit.once in
     record {
       of_folders = names_folders command.Explain dir said fit named;
       of_scenario = scenario_listed scenario_named (λ t. takes command.Explain field.Scenario ≡ true) (texts field.Scenario said) (fit_once command.Explain said field.Scenario refl fit);
       of_turns = number_listed (λ t. takes command.Explain field.Turns ≡ true) MOST_TURNS USUAL_TURNS (texts field.Turns said) (fit_once command.Explain said field.Turns refl fit);
       of_limit = number_listed (λ t. takes command.Explain field.Limit ≡ true) MOST_LIMIT USUAL_LIMIT (texts field.Limit said) (fit_once command.Explain said field.Limit refl fit);
-      of_layout = places_listed (texts field.Layout said) (fit_once command.Explain said field.Layout refl fit);
+      of_layout = views.of_layout;
+      of_outcome = views.of_outcome;
       of_others = λ f never. not_taken command.Explain said f never fit;
     }
 
@@ -307,7 +342,7 @@ asked_by command.Load said request (Some name) fit named e =
     asked_load name said request (number_in MOST_LOAD name) fit (named_once command.Load said name refl fit named) refl e
 asked_by command.Predict said request (Some report) fit named e =
     asks_predict report said request fit
-    (names_two (Suits command.Predict field.Named) (texts field.Named said) report request (fit field.Named) named e)
+    (names_two (Suits command.Predict field.Named) (texts field.Named said) report request (fit.few field.Named) named e)
 asked_by command.Explain said request (Some dir) fit named e =
     subst (IsAsked command.Explain said) (in_some e)
     (record { is = refl; asks = asks_explain dir said fit (named_once command.Explain said dir refl fit named) })
@@ -368,18 +403,19 @@ module _ (said : List Setting) where
       let most = number_first MOST_LIMIT USUAL_LIMIT (texts field.Limit said) limit asks.of_limit in
       number_named said (texts field.Named said) number asks.of_number ∙ (λ i. Some (Load number (most i)))
 
-  made_explain : (folders : Folders) (chosen : Option Scenario) (turns limit : ℕ) (alone : Bool)
-      → AsksExplain (λ f. texts f said) folders chosen turns limit alone
-      → request_of command.Explain said ≡ Some (Explain folders chosen turns limit alone)
-  made_explain folders chosen turns limit alone asks =
+  made_explain : (folders : Folders) (chosen : Option Scenario) (turns limit : ℕ) (view : View)
+      → AsksExplain (λ f. texts f said) folders chosen turns limit view
+      → request_of command.Explain said ≡ Some (Explain folders chosen turns limit view)
+  made_explain folders chosen turns limit view asks =
       let named = ap first asks.of_folders.dir in
       let dirs = folders_made folders asks.of_folders in
       let scenarios = scenario_first scenario_named (texts field.Scenario said) chosen asks.of_scenario in
       let turn = number_first MOST_TURNS USUAL_TURNS (texts field.Turns said) turns asks.of_turns in
       let most = number_first MOST_LIMIT USUAL_LIMIT (texts field.Limit said) limit asks.of_limit in
-      let layouts = ap (λ ts. is_some (first ts)) asks.of_layout ∙ places_first alone in
+      let views = ap (λ ts. view_by (first ts) (given field.Outcome said)) asks.of_layout
+      ∙ view_first view (texts field.Outcome said) asks.of_outcome in
       ap (request_by command.Explain said) named
-      ∙ (λ i. Some (Explain (dirs i) (scenarios i) (turn i) (most i) (layouts i)))
+      ∙ (λ i. Some (Explain (dirs i) (scenarios i) (turn i) (most i) (views i)))
 
   made_pair : (dir other : List ℕ) (base : Option (List ℕ)) (chosen : Scenario) (turns limit : ℕ)
       → AsksPair (λ f. texts f said) dir other base chosen turns limit
@@ -413,7 +449,7 @@ module _ (said : List Setting) where
   made (Predict report trees) asks =
       ap (request_by command.Predict said) (ap first asks.of_files)
       ∙ ap (predict_by report) (ap (λ ts. first (behind ts)) asks.of_files)
-  made (Explain folders chosen turns limit alone) asks = made_explain folders chosen turns limit alone asks
+  made (Explain folders chosen turns limit view) asks = made_explain folders chosen turns limit view asks
   made (Pair dir other base chosen turns limit) asks = made_pair dir other base chosen turns limit asks
   made (Twice dir base turns limit) asks = made_twice dir base turns limit asks
 
@@ -422,6 +458,10 @@ module _ (said : List Setting) where
 -- of each field that the command takes, one text at most
 abbrev OnesFit : Command → List Setting → Type 0
 OnesFit command said = Each (λ f. OneOf (Suits command f) (texts f said)) (fields_of command)
+
+never_both : (a : Bool) {b : Bool} → b ≡ false → (a && b) ≡ false
+never_both true h = h
+never_both false h = refl
 
 module _ (c : Command) (f : Field) where
   fits_none : (ts : Texts) → ts ≡ [] → OneOf (Suits c f) ts
@@ -457,9 +497,17 @@ module _ (named : List ℕ → Option Scenario) (X : List ℕ → Type 0) (x : (
   fits_chosen (t ∷ []) s h = (x t, ap is_some h)
   fits_chosen (t ∷ u ∷ more) s h = absurd h
 
-fits_places : (ts : Texts) (alone : Bool) → ts ≡ places_words alone → OneOf (Suits command.Explain field.Layout) ts
-fits_places ts true e = fits_one command.Explain field.Layout ts (codes "--places") e refl refl
-fits_places ts false e = fits_none command.Explain field.Layout ts e
+fits_view : (ts : Texts) (view : View) → ts ≡ view_words view → OneOf (Suits command.Explain field.Layout) ts
+fits_view ts Text e = fits_none command.Explain field.Layout ts e
+fits_view ts Places e = fits_one command.Explain field.Layout ts (codes "--places") e refl refl
+fits_view ts (Outcome number) e = fits_none command.Explain field.Layout ts e
+
+fits_outcome : (ts : Texts) (view : View) → IsOutcomeOf view ts → OneOf (Suits command.Explain field.Outcome) ts
+fits_outcome ts Text h = fits_none command.Explain field.Outcome ts h
+fits_outcome ts Places h = fits_none command.Explain field.Outcome ts h
+fits_outcome [] (Outcome number) h = absurd h
+fits_outcome (t ∷ []) (Outcome number) h = (refl, ap is_some h)
+fits_outcome (t ∷ u ∷ more) (Outcome number) h = absurd h
 
 fits_layout : (ts : Texts) (layout : Layout) → ts ≡ layout_words layout → OneOf (Suits command.Check field.Layout) ts
 fits_layout ts Plain e = fits_none command.Check field.Layout ts e
@@ -529,9 +577,9 @@ module _ (said : List Setting) where
     ),
   )
 
-  explain_fits : (folders : Folders) (chosen : Option Scenario) (turns limit : ℕ) (alone : Bool)
-      → AsksExplain (λ f. texts f said) folders chosen turns limit alone → OnesFit command.Explain said
-  explain_fits folders chosen turns limit alone asks = (
+  explain_fits : (folders : Folders) (chosen : Option Scenario) (turns limit : ℕ) (view : View)
+      → AsksExplain (λ f. texts f said) folders chosen turns limit view → OnesFit command.Explain said
+  explain_fits folders chosen turns limit view asks = (
     fits_one command.Explain field.Named (texts field.Named said) folders.dir asks.of_folders.dir refl refl,
     (
       fits_listed command.Explain field.Old (texts field.Old said) folders.old asks.of_folders.old refl (λ t. refl),
@@ -544,8 +592,11 @@ module _ (said : List Setting) where
             (
               fits_number (λ t. takes command.Explain field.Limit ≡ true) MOST_LIMIT USUAL_LIMIT (texts field.Limit said) limit (λ t. refl) asks.of_limit,
               (
-                fits_places (texts field.Layout said) alone asks.of_layout,
-                tt,
+                fits_view (texts field.Layout said) view asks.of_layout,
+                (
+                  fits_outcome (texts field.Outcome said) view asks.of_outcome,
+                  tt,
+                ),
               ),
             ),
           ),
@@ -592,24 +643,45 @@ module _ (said : List Setting) where
     ),
   )
 
-  fits_once : (c : Command) → names_of c ≡ 1 → OnesFit c said → NoOthers (fields_of c) (λ f. texts f said) → AllFit c said
-  fits_once c once each others =
+  each_once : (c : Command) → names_of c ≡ 1 → OnesFit c said → NoOthers (fields_of c) (λ f. texts f said) → EachFits c said
+  each_once c once each others =
       ones_fit c said once (of_all (λ f ts. OneOf (Suits c f) ts) (λ f. tt) (fields_of c) said each others)
+
+  -- no number of an outcome is said
+  no_outcome : texts field.Outcome said ≡ [] → lays_out_twice said ≡ false
+  no_outcome e = never_both (is_given field.Layout said) (ap (λ ts. is_some (first ts)) e)
+
+  fits_once : (c : Command) → names_of c ≡ 1 → OnesFit c said → NoOthers (fields_of c) (λ f. texts f said)
+      → texts field.Outcome said ≡ [] → AllFit c said
+  fits_once c once each others none = record { few = each_once c once each others; once = no_outcome none }
 
   predict_fits : (report trees : List ℕ) → AsksPredict (λ f. texts f said) report trees → AllFit command.Predict said
   predict_fits report trees asks =
-      of_all (λ f ts. FewOf (most command.Predict f) (Suits command.Predict f) ts) (λ f. tt) (fields_of command.Predict) said
-      (subst (FewOf 2 (Suits command.Predict field.Named)) (sym asks.of_files) ((refl, refl), ((refl, refl), tt)), tt) asks.of_others
+      let each = of_all (λ f ts. FewOf (most command.Predict f) (Suits command.Predict f) ts) (λ f. tt) (fields_of command.Predict) said
+      (subst (FewOf 2 (Suits command.Predict field.Named)) (sym asks.of_files) ((refl, refl), ((refl, refl), tt)), tt) asks.of_others in
+      record { few = each; once = no_outcome (asks.of_others field.Outcome refl) }
+
+  explanation_fits : (folders : Folders) (chosen : Option Scenario) (turns limit : ℕ) (view : View)
+      → AsksExplain (λ f. texts f said) folders chosen turns limit view → AllFit command.Explain said
+  explanation_fits folders chosen turns limit view asks =
+      record {
+        few = each_once command.Explain refl (explain_fits folders chosen turns limit view asks) asks.of_others;
+        once = view_once view (texts field.Layout said) (texts field.Outcome said) asks.of_layout asks.of_outcome;
+      }
 
   pub asked_fits : (request : Request) → Asks (λ f. texts f said) request → AllFit (command_at request) said
   asked_fits (Check folders chosen turns limit layout) asks =
-      fits_once command.Check refl (check_fits folders chosen turns limit layout asks) asks.of_others
-  asked_fits (Run folders tree chosen turns) asks = fits_once command.Run refl (run_fits folders tree chosen turns asks) asks.of_others
-  asked_fits (Translate file) asks = fits_once command.Translate refl (translate_fits file asks) asks.of_others
-  asked_fits (Load number limit) asks = fits_once command.Load refl (load_fits number limit asks) asks.of_others
+      fits_once command.Check refl (check_fits folders chosen turns limit layout asks) asks.of_others (asks.of_others field.Outcome refl)
+  asked_fits (Run folders tree chosen turns) asks =
+      fits_once command.Run refl (run_fits folders tree chosen turns asks) asks.of_others (asks.of_others field.Outcome refl)
+  asked_fits (Translate file) asks =
+      fits_once command.Translate refl (translate_fits file asks) asks.of_others (asks.of_others field.Outcome refl)
+  asked_fits (Load number limit) asks =
+      fits_once command.Load refl (load_fits number limit asks) asks.of_others (asks.of_others field.Outcome refl)
   asked_fits (Predict report trees) asks = predict_fits report trees asks
-  asked_fits (Explain folders chosen turns limit alone) asks =
-      fits_once command.Explain refl (explain_fits folders chosen turns limit alone asks) asks.of_others
+  asked_fits (Explain folders chosen turns limit view) asks =
+      explanation_fits folders chosen turns limit view asks
   asked_fits (Pair dir other base chosen turns limit) asks =
-      fits_once command.Pair refl (pair_fits dir other base chosen turns limit asks) asks.of_others
-  asked_fits (Twice dir base turns limit) asks = fits_once command.Twice refl (twice_fits dir base turns limit asks) asks.of_others
+      fits_once command.Pair refl (pair_fits dir other base chosen turns limit asks) asks.of_others (asks.of_others field.Outcome refl)
+  asked_fits (Twice dir base turns limit) asks =
+      fits_once command.Twice refl (twice_fits dir base turns limit asks) asks.of_others (asks.of_others field.Outcome refl)

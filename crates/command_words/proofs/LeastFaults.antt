@@ -17,7 +17,7 @@ use Rattle.command_words.specs.declared.read.Place.TheVariants.{Options, Value, 
 use Rattle.command_words.specs.declared.request.Request.{Request}
 use Rattle.command_words.specs.declared.request.Request.TheVariants.{Predict}
 use Rattle.command_words.specs.declared.limits.TheConstants.{MOST_LOAD}
-use Rattle.command_words.specs.Fields.{takes, needs_of, names_of, may, is_given, given, texts, first, behind}
+use Rattle.command_words.specs.Fields.{takes, needs_of, names_of, may, is_given, is_excluded, given, texts, first, behind}
 use Rattle.dpkg_scenarios.specs.Names.{scenario_named, pair_named}
 use Rattle.command_words.specs.Values.{is_name, number_in, scenario_in, may_name, may_lay_out, is_value}
 use Rattle.command_words.specs.Looks.{look}
@@ -32,6 +32,28 @@ use Rattle.command_words.proofs.Results.{differ}
 
 -- ---- words that complete a line
 
+-- nothing excludes the field
+abbrev is_free : Field → Bool
+is_free field.Layout = false
+is_free field.Outcome = false
+is_free f = true
+
+free : (f : Field) → is_free f ≡ true → (said : List Setting) → is_excluded said f ≡ false
+free field.Layout h said = absurd (differ (sym h))
+free field.Outcome h said = absurd (differ (sym h))
+free field.Named h said = refl
+free field.Old h said = refl
+free field.Base h said = refl
+free field.Scenario h said = refl
+free field.Tree h said = refl
+free field.Turns h said = refl
+free field.Limit h said = refl
+free field.With h said = refl
+
+-- the command takes the field, which nothing excludes
+abbrev is_open : Command → Field → Bool
+is_open command f = takes command f && is_free f
+
 -- how a line of the command may lay out its text, and a scenario that it may name
 pub record Sample (command : Command) : Type 0 where
   pub layout : List ℕ
@@ -42,12 +64,12 @@ pub record Sample (command : Command) : Type 0 where
   pub scenario_is_name : is_name scenario ≡ true
   pub names_one : may_name command (codes "1") ≡ true
   pub takes_name : takes command field.Named ≡ true
-  pub takes_needs : list_all (takes command) (needs_of command) ≡ true
+  pub takes_needs : list_all (is_open command) (needs_of command) ≡ true
 
 module _ (command : Command) (layout scenario : List ℕ) where
   with_these : may_lay_out command layout ≡ true → look layout ≡ Says (record { field = field.Layout; text = layout })
       → is_some (scenario_in command scenario) ≡ true → is_name scenario ≡ true → may_name command (codes "1") ≡ true
-      → takes command field.Named ≡ true → list_all (takes command) (needs_of command) ≡ true → Sample command
+      → takes command field.Named ≡ true → list_all (is_open command) (needs_of command) ≡ true → Sample command
   with_these lays looks is names one takes needs =
       record {
         layout = layout;
@@ -82,6 +104,7 @@ text_for command field.Turns = codes "1"
 text_for command field.Limit = codes "1"
 text_for command field.Layout = (sample command).layout
 text_for command field.With = []
+text_for command field.Outcome = codes "1"
 
 abbrev word_for : Command → Field → List ℕ
 word_for command field.Named = codes "1"
@@ -93,6 +116,7 @@ word_for command field.Turns = codes "--turns=1"
 word_for command field.Limit = codes "--limit=1"
 word_for command field.Layout = (sample command).layout
 word_for command field.With = codes "--with="
+word_for command field.Outcome = codes "--outcome=1"
 
 abbrev setting_for : Command → Field → Setting
 setting_for command f = record { field = f; text = text_for command f }
@@ -107,6 +131,7 @@ word_looked command field.Turns = refl
 word_looked command field.Limit = refl
 word_looked command field.Layout = (sample command).looked
 word_looked command field.With = refl
+word_looked command field.Outcome = refl
 
 text_is_value : (command : Command) (f : Field) → is_value command f (text_for command f) ≡ true
 text_is_value command field.Named = (sample command).names_one
@@ -118,6 +143,7 @@ text_is_value command field.Turns = refl
 text_is_value command field.Limit = refl
 text_is_value command field.Layout = (sample command).lays_out
 text_is_value command field.With = refl
+text_is_value command field.Outcome = refl
 
 text_is_name : (command : Command) (f : Field) → HasValue f → is_name (text_for command f) ≡ true
 text_is_name command field.Named h = refl
@@ -129,6 +155,7 @@ text_is_name command field.Turns h = refl
 text_is_name command field.Limit h = refl
 text_is_name command field.Layout h = absurd (h refl)
 text_is_name command field.With h = refl
+text_is_name command field.Outcome h = refl
 
 -- the words lead from a line that is begun to another, which says what it said and more
 pub record Leads (command : Command) (place : Place) (said all : List Setting) (words : Texts) : Type 0 where
@@ -146,7 +173,7 @@ pub record Grows (command : Command) (place : Place) (said : List Setting) (f : 
   pub has : is_given f all ≡ true
 
 module _ (command : Command) (said : List Setting) (f : Field) where
-  grows_by : AllFit command said → takes command f ≡ true → (b : Bool) → is_given f said ≡ b → Grows command Options said f
+  grows_by : AllFit command said → is_open command f ≡ true → (b : Bool) → is_given f said ≡ b → Grows command Options said f
   grows_by fits taken true is =
       record {
         all = said;
@@ -156,7 +183,8 @@ module _ (command : Command) (said : List Setting) (f : Field) where
       }
   grows_by fits taken false is =
       let s = setting_for command f in
-      let can : may command said f ≡ true = may_begin command said f taken is in
+      let parts = and_parts (takes command f) (is_free f) taken in
+      let can : may command said f ≡ true = may_begin command said f parts.0 is (free f parts.1 said) in
       record {
         all = said ++ s ∷ [];
         words = word_for command f ∷ [];
@@ -168,7 +196,7 @@ module _ (command : Command) (said : List Setting) (f : Field) where
         has = now_given s said;
       }
 
-  grows : AllFit command said → takes command f ≡ true → Grows command Options said f
+  grows : AllFit command said → is_open command f ≡ true → Grows command Options said f
   grows fits taken = grows_by fits taken (is_given f said) refl
 
 -- one path, and then another
@@ -191,7 +219,7 @@ pub record GrowsAll (command : Command) (said : List Setting) (fields : List Fie
   pub has : list_all (λ f. is_given f all) fields ≡ true
 
 grows_all : (command : Command) (fields : List Field) (said : List Setting) → AllFit command said
-    → list_all (takes command) fields ≡ true → GrowsAll command said fields
+    → list_all (is_open command) fields ≡ true → GrowsAll command said fields
 grows_all command [] said fits taken =
     record {
       all = said;
@@ -200,7 +228,7 @@ grows_all command [] said fits taken =
       has = refl;
     }
 grows_all command (f ∷ fields) said fits taken =
-    let parts = and_parts (takes command f) (list_all (takes command) fields) taken in
+    let parts = and_parts (is_open command f) (list_all (is_open command) fields) taken in
     let a = grows command said f fits parts.0 in
     let b = grows_all command fields a.all a.path.fits parts.1 in
     record {
@@ -268,7 +296,7 @@ module _ (command : Command) (place : Place) (names : Names command place) where
   fills_if k said fits le fills false is = filled said fits (ltb-false (length (texts field.Named said)) (names_of command) is)
   fills_if k said fits le fills true is =
       let s = setting_for command field.Named in
-      let can = may_say command said field.Named (sample command).takes_name (ltb-true (length (texts field.Named said)) (names_of command) is) in
+      let can = may_say command said field.Named (sample command).takes_name (ltb-true (length (texts field.Named said)) (names_of command) is) refl in
       let first_one = name_leads said fits can in
       let longer : length (texts field.Named (said ++ s ∷ [])) ≡ length (texts field.Named said) + 1 =
       ap length (texts_at s said []) ∙ one_longer (texts field.Named said) s.text in
@@ -367,7 +395,7 @@ makes command.Load said fits full ready =
     let number = some_number (number_in MOST_LOAD name.0) suits.1 in
     record { request = _; is = ap (request_by command.Load said) name.1 ∙ ap (load_by said) number.1 }
 makes command.Predict said fits full ready =
-    let files = two_of (Suits command.Predict field.Named) (texts field.Named said) (fits field.Named) full in
+    let files = two_of (Suits command.Predict field.Named) (texts field.Named said) (fits.few field.Named) full in
     record {
       request = Predict files.0 files.1;
       is = ap (request_by command.Predict said) (ap first files.2)

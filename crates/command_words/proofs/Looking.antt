@@ -53,7 +53,8 @@ names_option word =
     (pick P word (codes "--tree") field.Tree _ (λ e. (e, has_value field.Tree refl))
     (pick P word (codes "--turns") field.Turns _ (λ e. (e, has_value field.Turns refl))
     (pick P word (codes "--limit") field.Limit _ (λ e. (e, has_value field.Limit refl))
-    (pick P word (codes "--with") field.With None (λ e. (e, has_value field.With refl)) tt))))))
+    (pick P word (codes "--with") field.With _ (λ e. (e, has_value field.With refl))
+    (pick P word (codes "--outcome") field.Outcome None (λ e. (e, has_value field.Outcome refl)) tt)))))))
 
 pub names_command : (word : List ℕ) → IfSome (command_named word) (λ c. word ≡ command_name c)
 names_command word =
@@ -178,6 +179,7 @@ option_looked field.Turns h = refl
 option_looked field.Limit h = refl
 option_looked field.Layout h = absurd (h refl)
 option_looked field.With h = refl
+option_looked field.Outcome h = refl
 
 pub joined_looked : (f : Field) (text : List ℕ) → HasValue f
     → look (option_name f ++ (codes "=" ++ text)) ≡ Says (record { field = f; text = text })
@@ -190,6 +192,7 @@ joined_looked field.Turns text h = refl
 joined_looked field.Limit text h = refl
 joined_looked field.Layout text h = absurd (h refl)
 joined_looked field.With text h = refl
+joined_looked field.Outcome text h = refl
 
 pub json_looked : look (codes "--json") ≡ Says (record { field = field.Layout; text = codes "--json" })
 json_looked = refl

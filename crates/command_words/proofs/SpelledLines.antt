@@ -161,7 +161,7 @@ ready_before (Run folders tree chosen turns) said names asks =
 ready_before (Translate file) said names asks = refl
 ready_before (Load number limit) said names asks = refl
 ready_before (Predict report trees) said names asks = refl
-ready_before (Explain folders chosen turns limit alone) said names asks = refl
+ready_before (Explain folders chosen turns limit view) said names asks = refl
 ready_before (Pair dir other base chosen turns limit) said names asks =
     both_given field.With field.Scenario said (given_before field.With said names other refl asks.of_other)
     (let t = chosen_text pair_named _ chosen asks.of_scenario in given_before field.Scenario said names t.0 refl t.1)
@@ -214,7 +214,7 @@ named_command (Run folders tree chosen turns) = refl
 named_command (Translate file) = refl
 named_command (Load number limit) = refl
 named_command (Predict report trees) = refl
-named_command (Explain folders chosen turns limit alone) = refl
+named_command (Explain folders chosen turns limit view) = refl
 named_command (Pair dir other base chosen turns limit) = refl
 named_command (Twice dir base turns limit) = refl
 

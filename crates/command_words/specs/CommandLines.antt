@@ -1,6 +1,6 @@
 -- What a valid command line is: a command, and behind it options and the folder, file or number that is named, in any
 -- order; a prediction names two files.
-use Rattle.std.specs.Prelude.{◌≡◌, ◌≢◌, ℕ, Bool, true, false, List, [], ◌∷◌, ◌++◌, map, codes, Option, Some, None, IsTrue}
+use Rattle.std.specs.Prelude.{◌≡◌, ◌≢◌, ℕ, false, List, [], ◌∷◌, ◌++◌, map, codes, Option, Some, None, IsTrue}
 use Rattle.std.specs.Option.{is_some}
 use Rattle.dpkg_scenarios.specs.declared.scenario.Scenario.{Scenario}
 use Rattle.command_words.specs.declared.field.Field.{Field}
@@ -9,6 +9,8 @@ use Rattle.command_words.specs.declared.setting.Setting.{Setting}
 use Rattle.command_words.specs.declared.request.Folders.{Folders}
 use Rattle.command_words.specs.declared.request.Layout.{Layout}
 use Rattle.command_words.specs.declared.request.Layout.TheVariants.{Plain, Brief, Json}
+use Rattle.command_words.specs.declared.request.View.{View}
+use Rattle.command_words.specs.declared.request.View.TheVariants.{Text, Places, Outcome}
 use Rattle.command_words.specs.declared.request.Request.{Request}
 use Rattle.command_words.specs.declared.request.Request.TheVariants.{Check, Run, Translate, Load, Predict, Explain, Pair, Twice}
 use Rattle.command_words.specs.declared.limits.TheConstants.{MOST_LOAD, MOST_TURNS, MOST_LIMIT}
@@ -143,10 +145,17 @@ layout_words Plain = []
 layout_words Brief = codes "--brief" ∷ []
 layout_words Json = codes "--json" ∷ []
 
--- the words that ask for a line for each place alone
-abbrev pub places_words : Bool → Texts
-places_words true = codes "--places" ∷ []
-places_words false = []
+-- the words for a view that has no number
+abbrev pub view_words : View → Texts
+view_words Text = []
+view_words Places = codes "--places" ∷ []
+view_words (Outcome number) = []
+
+-- the texts for the number of the outcome that a view shows
+abbrev pub IsOutcomeOf : View → Texts → Type 0
+IsOutcomeOf Text ts = ts ≡ []
+IsOutcomeOf Places ts = ts ≡ []
+IsOutcomeOf (Outcome number) ts = IsNumber MOST_LIMIT ts number
 
 -- nothing is said but of these fields
 abbrev pub NoOthers : List Field → (Field → Texts) → Type 0
@@ -196,14 +205,15 @@ pub record AsksPredict (said : Field → Texts) (report trees : List ℕ) : Type
 
 -- the texts for each field ask for an explanation of these folders
 pub record AsksExplain (said : Field → Texts) (folders : Folders) (chosen : Option Scenario) (turns limit : ℕ)
-    (alone : Bool) : Type 0 where
+    (view : View) : Type 0 where
   pub of_folders : NamesFolders said folders
   pub of_scenario : IsScenarioOr scenario_named (said field.Scenario) chosen
   pub of_turns : IsNumberOr MOST_TURNS USUAL_TURNS (said field.Turns) turns
   pub of_limit : IsNumberOr MOST_LIMIT USUAL_LIMIT (said field.Limit) limit
-  pub of_layout : said field.Layout ≡ places_words alone
+  pub of_layout : said field.Layout ≡ view_words view
+  pub of_outcome : IsOutcomeOf view (said field.Outcome)
   pub of_others : NoOthers
-      (field.Named ∷ field.Old ∷ field.Base ∷ field.Scenario ∷ field.Turns ∷ field.Limit ∷ field.Layout ∷ []) said
+      (field.Named ∷ field.Old ∷ field.Base ∷ field.Scenario ∷ field.Turns ∷ field.Limit ∷ field.Layout ∷ field.Outcome ∷ []) said
 
 -- the texts for each field ask for a check of a package against another
 pub record AsksPair (said : Field → Texts) (dir other : List ℕ) (base : Option (List ℕ)) (chosen : Scenario)
@@ -231,7 +241,7 @@ Asks said (Run folders tree scenario turns) = AsksRun said folders tree scenario
 Asks said (Translate file) = AsksTranslate said file
 Asks said (Load number limit) = AsksLoad said number limit
 Asks said (Predict report trees) = AsksPredict said report trees
-Asks said (Explain folders scenario turns limit alone) = AsksExplain said folders scenario turns limit alone
+Asks said (Explain folders scenario turns limit view) = AsksExplain said folders scenario turns limit view
 Asks said (Pair dir other base scenario turns limit) = AsksPair said dir other base scenario turns limit
 Asks said (Twice dir base turns limit) = AsksTwice said dir base turns limit
 
@@ -242,12 +252,12 @@ command_of (Run folders tree scenario turns) = codes "run"
 command_of (Translate file) = codes "translate"
 command_of (Load number limit) = codes "load"
 command_of (Predict report trees) = codes "predict"
-command_of (Explain folders scenario turns limit alone) = codes "explain"
+command_of (Explain folders scenario turns limit view) = codes "explain"
 command_of (Pair dir other base scenario turns limit) = codes "pair"
 command_of (Twice dir base turns limit) = codes "twice"
 
 -- The words are a valid line for a request: its command and a line that asks for it. So each option stands there once
--- at most, and `--json` and `--brief` exclude each other.
+-- at most, `--json` and `--brief` exclude each other, and so do `--places` and `--outcome`.
 pub record IsLine (words : Texts) (request : Request) : Type 0 where
   pub line : Line
   pub is : words ≡ command_of request ∷ line_words line

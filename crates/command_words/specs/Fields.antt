@@ -1,5 +1,5 @@
 -- What the parts of a command line are about, and what has been said of each.
-use Rattle.std.specs.Prelude.{ℕ, Bool, ◌&&◌, ◌==◌, nat_lt, List, [], ◌∷◌, length, codes}
+use Rattle.std.specs.Prelude.{ℕ, Bool, false, not, ◌&&◌, ◌==◌, nat_lt, List, [], ◌∷◌, length, codes}
 use Rattle.std.specs.Prelude.{Option, Some, None, if◌then◌else◌}
 use Rattle.std.specs.List.{list_any}
 use Rattle.std.specs.Option.{is_some}
@@ -44,6 +44,7 @@ option_name field.Turns = codes "--turns"
 option_name field.Limit = codes "--limit"
 option_name field.Layout = []
 option_name field.With = codes "--with"
+option_name field.Outcome = codes "--outcome"
 
 -- the option, with a value, of a name
 abbrev pub option_named : List ℕ → Option Field
@@ -54,7 +55,8 @@ option_named name =
     else (if bytes_eq name (codes "--tree") then Some field.Tree
     else (if bytes_eq name (codes "--turns") then Some field.Turns
     else (if bytes_eq name (codes "--limit") then Some field.Limit
-    else (if bytes_eq name (codes "--with") then Some field.With else None))))))
+    else (if bytes_eq name (codes "--with") then Some field.With
+    else (if bytes_eq name (codes "--outcome") then Some field.Outcome else None)))))))
 
 -- a field's place among the fields
 abbrev pub rank : Field → ℕ
@@ -67,6 +69,7 @@ rank field.Turns = 5
 rank field.Limit = 6
 rank field.Layout = 7
 rank field.With = 8
+rank field.Outcome = 9
 
 -- two fields are the same
 abbrev pub is_field : Field → Field → Bool
@@ -81,7 +84,7 @@ fields_of command.Translate = field.Named ∷ []
 fields_of command.Load = field.Named ∷ field.Limit ∷ []
 fields_of command.Predict = field.Named ∷ []
 fields_of command.Explain =
-    field.Named ∷ field.Old ∷ field.Base ∷ field.Scenario ∷ field.Turns ∷ field.Limit ∷ field.Layout ∷ []
+    field.Named ∷ field.Old ∷ field.Base ∷ field.Scenario ∷ field.Turns ∷ field.Limit ∷ field.Layout ∷ field.Outcome ∷ []
 fields_of command.Pair = field.Named ∷ field.With ∷ field.Base ∷ field.Scenario ∷ field.Turns ∷ field.Limit ∷ []
 fields_of command.Twice = field.Named ∷ field.Base ∷ field.Turns ∷ field.Limit ∷ []
 
@@ -136,6 +139,14 @@ second f said = first (behind (texts f said))
 abbrev pub is_given : Field → List Setting → Bool
 is_given f said = is_some (given f said)
 
--- the line may still say something of the field: its command takes it, and it was not said as often as it may be
+-- something was said that the field excludes: a line lays its text out by one word or by the number of an outcome
+abbrev pub is_excluded : List Setting → Field → Bool
+is_excluded said field.Layout = is_given field.Outcome said
+is_excluded said field.Outcome = is_given field.Layout said
+is_excluded said f = false
+
+-- the line may still say something of the field: its command takes it, it was not said as often as it may be, and
+-- nothing was said that excludes it
 abbrev pub may : Command → List Setting → Field → Bool
-may command said f = takes command f && nat_lt (length (texts f said)) (most command f)
+may command said f =
+    (takes command f && nat_lt (length (texts f said)) (most command f)) && not (is_excluded said f)

@@ -10,11 +10,13 @@ use Rattle.command_words.specs.declared.setting.Setting.{Setting}
 use Rattle.command_words.specs.declared.request.Folders.{Folders}
 use Rattle.command_words.specs.declared.request.Layout.{Layout}
 use Rattle.command_words.specs.declared.request.Layout.TheVariants.{Plain, Brief, Json}
+use Rattle.command_words.specs.declared.request.View.{View}
+use Rattle.command_words.specs.declared.request.View.TheVariants.{Text, Places, Outcome}
 use Rattle.command_words.specs.declared.request.Request.{Request}
 use Rattle.command_words.specs.declared.request.Request.TheVariants.{Check, Run, Translate, Load, Predict, Explain, Pair, Twice}
 use Rattle.command_words.specs.declared.limits.TheConstants.{MOST_LOAD, MOST_TURNS, MOST_LIMIT}
 use Rattle.command_words.specs.declared.limits.TheConstants.{USUAL_TURNS, USUAL_LIMIT}
-use Rattle.command_words.specs.Fields.{given, second, is_given}
+use Rattle.command_words.specs.Fields.{given, second}
 use Rattle.dpkg_scenarios.specs.Names.{scenario_named, pair_named}
 use Rattle.command_words.specs.Values.{number_in}
 
@@ -75,11 +77,21 @@ predict_by report (Some trees) = Some (Predict report trees)
 abbrev pub predict_of : List ℕ → List Setting → Option Request
 predict_of report said = predict_by report (second field.Named said)
 
+-- how an explanation is to be written, by the word for a layout and the number of an outcome
+abbrev pub view_by : Option (List ℕ) → Option (List ℕ) → View
+view_by (Some word) number = Places
+view_by None None = Text
+view_by None (Some number) = Outcome (number_or MOST_LIMIT 1 (Some number))
+
+-- how an explanation is to be written, of what was said
+abbrev pub view_said : List Setting → View
+view_said said = view_by (given field.Layout said) (given field.Outcome said)
+
 -- an explanation of the package in a folder
 abbrev pub explain_of : List ℕ → List Setting → Request
 explain_of dir said =
     Explain (folders_said dir said) (scenario_said said) (number_or MOST_TURNS USUAL_TURNS (given field.Turns said))
-    (number_or MOST_LIMIT USUAL_LIMIT (given field.Limit said)) (is_given field.Layout said)
+    (number_or MOST_LIMIT USUAL_LIMIT (given field.Limit said)) (view_said said)
 
 -- the scenario of a pair that was said
 abbrev pub pair_said : List Setting → Option Scenario

@@ -85,3 +85,4 @@ is_value command field.Turns text = is_some (number_in MOST_TURNS text)
 is_value command field.Limit text = is_some (number_in MOST_LIMIT text)
 is_value command field.Layout text = may_lay_out command text
 is_value command field.With text = true
+is_value command field.Outcome text = is_some (number_in MOST_LIMIT text)

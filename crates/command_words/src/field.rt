@@ -29,6 +29,7 @@ pub enum Field {
     Limit,
     Layout,
     With,
+    Outcome,
 }
 
 /// The command of this name.
@@ -76,6 +77,7 @@ fn rank(field: Field) -> u8
         Field::Limit => 6,
         Field::Layout => 7,
         Field::With => 8,
+        Field::Outcome => 9,
     }
 }
 
@@ -110,6 +112,9 @@ pub fn option_named(name: &str) -> Option<Field>
     }
     if name == "--with" {
         return Some(Field::With);
+    }
+    if name == "--outcome" {
+        return Some(Field::Outcome);
     }
     None
 }
@@ -147,6 +152,7 @@ fn fields_of(command: Command) -> &'static [Field]
             Field::Turns,
             Field::Limit,
             Field::Layout,
+            Field::Outcome,
         ],
         Command::Pair => &[
             Field::Named,

@@ -14,4 +14,4 @@ mod value;
 
 pub use limits::{MOST_LIMIT, MOST_LOAD, MOST_TURNS, USUAL_LIMIT, USUAL_TURNS};
 pub use read::{WordsFault, read_words};
-pub use request::{Folders, Layout, Request};
+pub use request::{Folders, Layout, Request, View};

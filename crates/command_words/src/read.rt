@@ -8,7 +8,7 @@ ghost use Rattle.command_words.specs.Words.{FormGives};
 use crate::field::{Command, Field, command_named, most, needs_of, takes};
 use crate::look::{Look, read_word};
 use crate::request::Request;
-use crate::said::{count, is_given, request_of};
+use crate::said::{count, is_excluded, is_given, request_of};
 use crate::setting::Setting;
 use crate::value::{is_name, is_value};
 use script_names::{Copied, List, Memory, Text};
@@ -187,7 +187,7 @@ fn say(
 fn may(command: Command, said: &[Setting], field: Field) -> bool
     ensures { result ≡ may command said.now field }
 {
-    takes(command, field) && count(said, field) < most(command, field)
+    takes(command, field) && count(said, field) < most(command, field) && !is_excluded(said, field)
 }
 
 // Whether the options that the command needs have been said.

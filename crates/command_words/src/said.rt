@@ -2,13 +2,14 @@
 ghost use Rattle.std.specs.Prelude.{◌≡◌, length, IfOk};
 ghost use Rattle.std.specs.List.{find};
 ghost use Rattle.std.specs.Option.{option_copied};
-ghost use Rattle.command_words.specs.Fields.{is_field, texts, given, second, is_given};
+ghost use Rattle.command_words.specs.Fields.{is_field, texts, given, second, is_given, is_excluded};
 ghost use Rattle.command_words.specs.Requests.{number_or, scenario_said, layout_said, folders_said, request_of, run_of};
-ghost use Rattle.command_words.specs.Requests.{load_of, predict_of, pair_said, pair_of, twice_of};
+ghost use Rattle.command_words.specs.Requests.{check_of, load_of, predict_of, view_said, explain_of, pair_said, pair_of};
+ghost use Rattle.command_words.specs.Requests.{twice_of};
 
 use crate::field::{Command, Field, is_field};
 use crate::limits::{MOST_LIMIT, MOST_LOAD, MOST_TURNS, USUAL_LIMIT, USUAL_TURNS};
-use crate::request::{Folders, Layout, Request};
+use crate::request::{Folders, Layout, Request, View};
 use crate::setting::Setting;
 use crate::value::read_number;
 use dpkg_scenarios::{Scenario, pair_named, scenario_named};
@@ -64,6 +65,18 @@ pub fn is_given(said: &[Setting], field: Field) -> bool
     given(said, field).is_some()
 }
 
+/// Whether one of the settings is of a field that this one excludes.
+pub fn is_excluded(said: &[Setting], field: Field) -> bool
+    ensures { result ≡ is_excluded said.now field }
+{
+    match field {
+        Field::Layout => is_given(said, Field::Outcome),
+        Field::Outcome => is_given(said, Field::Layout),
+        Field::Named | Field::Old | Field::Base | Field::Scenario => false,
+        Field::Tree | Field::Turns | Field::Limit | Field::With => false,
+    }
+}
+
 // The text for the field, copied.
 fn copied(alloc: Global, said: &[Setting], field: Field) -> Result<Option<Text>, Memory>
     ensures { IfOk result (λ text. text ≡ given field said.now) }
@@ -116,6 +129,21 @@ fn layout_said(said: &[Setting]) -> Layout
     }
 }
 
+// How an explanation is to be written.
+fn view_said(said: &[Setting]) -> View
+    ensures { result ≡ view_said said.now }
+{
+    match given(said, Field::Layout) {
+        Some(_) => View::Places,
+        None => match given(said, Field::Outcome) {
+            None => View::Text,
+            Some(_) => View::Outcome {
+                number: number_or(said, Field::Outcome, MOST_LIMIT, 1),
+            },
+        },
+    }
+}
+
 // The folders that were said, beside the package's own.
 fn folders_said(alloc: Global, said: &[Setting], dir: Text) -> Result<Folders, Memory>
     ensures { IfOk result (λ folders. folders ≡ folders_said dir said.now) }
@@ -139,28 +167,16 @@ pub fn request_of(
     };
     match command {
         Command::Check => {
-            let folders = folders_said(alloc, said, name)?;
-            Ok(Some(Request::Check {
-                folders,
-                scenario: scenario_said(said),
-                turns: number_or(said, Field::Turns, MOST_TURNS, USUAL_TURNS),
-                limit: number_or(said, Field::Limit, MOST_LIMIT, USUAL_LIMIT),
-                layout: layout_said(said),
-            }))
+            let check = check_request(alloc, said, name)?;
+            Ok(Some(check))
         }
         Command::Run => run_request(alloc, said, name),
         Command::Translate => Ok(Some(Request::Translate { file: name })),
         Command::Load => Ok(load_request(said, name.as_str())),
         Command::Predict => predict_request(alloc, said, name),
         Command::Explain => {
-            let folders = folders_said(alloc, said, name)?;
-            Ok(Some(Request::Explain {
-                folders,
-                scenario: scenario_said(said),
-                turns: number_or(said, Field::Turns, MOST_TURNS, USUAL_TURNS),
-                limit: number_or(said, Field::Limit, MOST_LIMIT, USUAL_LIMIT),
-                places: is_given(said, Field::Layout),
-            }))
+            let explanation = explain_request(alloc, said, name)?;
+            Ok(Some(explanation))
         }
         Command::Pair => pair_request(alloc, said, name),
         Command::Twice => {
@@ -168,6 +184,34 @@ pub fn request_of(
             Ok(Some(twice))
         }
     }
+}
+
+// The request of a check, of the package's folder.
+fn check_request(alloc: Global, said: &[Setting], dir: Text) -> Result<Request, Memory>
+    ensures { IfOk result (λ request. request ≡ check_of dir said.now) }
+{
+    let folders = folders_said(alloc, said, dir)?;
+    Ok(Request::Check {
+        folders,
+        scenario: scenario_said(said),
+        turns: number_or(said, Field::Turns, MOST_TURNS, USUAL_TURNS),
+        limit: number_or(said, Field::Limit, MOST_LIMIT, USUAL_LIMIT),
+        layout: layout_said(said),
+    })
+}
+
+// The request of an explanation, of the package's folder.
+fn explain_request(alloc: Global, said: &[Setting], dir: Text) -> Result<Request, Memory>
+    ensures { IfOk result (λ request. request ≡ explain_of dir said.now) }
+{
+    let folders = folders_said(alloc, said, dir)?;
+    Ok(Request::Explain {
+        folders,
+        scenario: scenario_said(said),
+        turns: number_or(said, Field::Turns, MOST_TURNS, USUAL_TURNS),
+        limit: number_or(said, Field::Limit, MOST_LIMIT, USUAL_LIMIT),
+        view: view_said(said),
+    })
 }
 
 // The request of a run, from the package's folder.

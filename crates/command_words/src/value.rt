@@ -112,7 +112,7 @@ pub fn is_value(command: Command, field: Field, text: &str) -> bool
         Field::Old | Field::Base | Field::Tree | Field::With => true,
         Field::Scenario => scenario_in(command, text.as_bytes()).is_some(),
         Field::Turns => read_number(text, MOST_TURNS).is_some(),
-        Field::Limit => read_number(text, MOST_LIMIT).is_some(),
+        Field::Limit | Field::Outcome => read_number(text, MOST_LIMIT).is_some(),
         Field::Layout => may_lay_out(command, text),
     }
 }

@@ -1,30 +1,67 @@
--- What a run changes of the tree that it begins from: the lines of the tree before that are none of the tree after, and
--- the lines of the tree after that are none of the tree before.
-use Rattle.std.specs.Prelude.{ℕ, Bool, List, [], ◌++◌, codes, if◌then◌else◌}
-use Rattle.std.specs.List.{flat_map, list_any}
+-- What a run makes of the tree that an outcome shows, with the places marked that decide.
+use Rattle.std.specs.Prelude.{ℕ, Bool, false, not, List, [], ◌∷◌, ◌++◌, map, codes, Option, Some, None, if◌then◌else◌}
+use Rattle.std.specs.List.{list_any}
 use Rattle.std.specs.Str.{bytes_eq}
-use Rattle.shown_texts.specs.Lines.{line}
+use Rattle.script_names.specs.Ascii.{slash}
+use Rattle.feature_trees.specs.declared.kind.Kind.{Kind}
+use Rattle.feature_trees.specs.declared.kind.Kind.TheVariants as kind
 use Rattle.feature_trees.specs.declared.value.Value.{Value}
-use Rattle.feature_trees.specs.TreeText.{tree_lines}
+use Rattle.feature_trees.specs.Kinds.{has}
+use Rattle.tree_pictures.specs.declared.placed.Placed.{Placed}
+use Rattle.tree_pictures.specs.declared.placed.Standing.{Standing}
+use Rattle.tree_pictures.specs.declared.placed.Standing.TheVariants as standing
+use Rattle.tree_pictures.specs.Placed.{tree_places}
+use Rattle.tree_pictures.specs.Pictures.{standing_at, picture}
+use Rattle.start_facts.specs.declared.fact.Fact.{Fact}
+use Rattle.start_facts.specs.declared.fact.Fact.TheVariants.{Kinds, Fence, Beside, Target}
+use Rattle.start_facts.specs.declared.fact.PlaceFact.{PlaceFact}
+use Rattle.outcome_groups.specs.declared.group.FactBox.{FactBox}
 
--- a line is one of these
-abbrev pub is_among : List (List ℕ) → List ℕ → Bool
-is_among others one = list_any (λ other. bytes_eq other one) others
+-- the bytes of a path: each name behind a slash
+abbrev pub path_bytes : List (List ℕ) → List ℕ
+path_bytes [] = []
+path_bytes (name ∷ names) = (slash ∷ name) ++ path_bytes names
 
--- a line behind a mark, unless it is one of these
-unfoldable pub missing_line : List ℕ → List (List ℕ) → List ℕ → List ℕ
-missing_line mark others one = if is_among others one then [] else mark ++ line one
+-- the place of a fact
+abbrev pub fact_path : PlaceFact → List ℕ
+fact_path fact = path_bytes fact.place
 
--- the lines that are none of these, each behind a mark
-abbrev pub missing_text : List ℕ → List (List ℕ) → List (List ℕ) → List ℕ
-missing_text mark others lines = flat_map (missing_line mark others) lines
+-- the kind of what stands at a path of a tree with these places below its root
+abbrev pub kind_of : Option Standing → Kind
+kind_of None = kind.Absent
+kind_of (Some standing.Reg) = kind.Reg
+kind_of (Some (standing.Link target)) = kind.Link
+kind_of (Some (standing.Special s)) = kind.Special s
+kind_of (Some standing.Dir) = kind.Dir
 
--- what is no more, and what is new
-abbrev pub changes_text : Value → Value → List ℕ
-changes_text before after =
-    missing_text (codes "    - ") (tree_lines after) (tree_lines before)
-    ++ missing_text (codes "    + ") (tree_lines before) (tree_lines after)
+abbrev pub kind_at : List Placed → List ℕ → Kind
+kind_at places [] = kind.Dir
+kind_at places (b ∷ path) = kind_of (standing_at (b ∷ path) places)
 
--- the same behind a title
-unfoldable pub changed_text : List ℕ → Value → Value → List ℕ
-changed_text title before after = title ++ changes_text before after
+-- a link to this target
+abbrev pub is_link_to : List ℕ → Option Standing → Bool
+is_link_to target None = false
+is_link_to target (Some standing.Reg) = false
+is_link_to target (Some (standing.Link other)) = bytes_eq target other
+is_link_to target (Some (standing.Special s)) = false
+is_link_to target (Some standing.Dir) = false
+
+-- what stands at its path speaks against a fact; entries are not looked at
+abbrev pub is_against : List Placed → List ℕ → Fact → Bool
+is_against places path (Kinds kinds) = not (has kinds (kind_at places path))
+is_against places path (Fence names) = false
+is_against places path (Beside names) = false
+is_against places path (Target target) = not (is_link_to target (standing_at path places))
+
+abbrev pub is_refuted : List Placed → PlaceFact → Bool
+is_refuted places fact = is_against places (fact_path fact) fact.fact
+
+-- the places that decide: those of the first box against whose deciding facts nothing speaks
+abbrev pub marks : List Placed → List FactBox → List (List ℕ)
+marks places [] = []
+marks places (box ∷ boxes) =
+    if list_any (is_refuted places) box.deciding then marks places boxes else map fact_path box.deciding
+
+-- what a run makes of a tree, behind a title
+unfoldable pub changed_text : List ℕ → List FactBox → Value → Value → List ℕ
+changed_text title boxes before after = title ++ picture (marks (tree_places before) boxes) before after

@@ -18,10 +18,11 @@ name_text name = codes " " ++ show name
 unfoldable pub names_text : List ℕ → List (List ℕ) → List ℕ
 names_text word names = if length names == 0 then [] else word ++ flat_map name_text names
 
--- names behind `but`, and behind `beside`
+-- names behind `but`
 unfoldable pub but_names : List (List ℕ) → List ℕ
 but_names names = names_text (codes " but") names
 
+-- names behind `beside`
 unfoldable pub beside_names : List (List ℕ) → List ℕ
 beside_names names = names_text (codes " beside") names
 
@@ -57,11 +58,3 @@ excludes place fact = is_no_directory fact.fact && same_names place fact.place
 -- the fact follows from one of these
 abbrev pub is_implied : List PlaceFact → PlaceFact → Bool
 is_implied facts fact = is_fence fact.fact && list_any (excludes fact.place) facts
-
--- the line of one of these facts, unless it follows from another
-unfoldable pub told_line : List PlaceFact → PlaceFact → List ℕ
-told_line facts fact = if is_implied facts fact then [] else fact_line fact
-
--- the lines of facts
-abbrev pub facts_text : List PlaceFact → List ℕ
-facts_text facts = flat_map (told_line facts) facts

@@ -1,8 +1,10 @@
 -- What is said of the outcomes that end at one place.
-use Rattle.std.specs.Prelude.{ℕ, Bool, ◌==◌, List, [], ◌∷◌, ◌++◌, length, slice_get, codes, Option, Some, None}
+use Rattle.std.specs.Prelude.{ℕ, Bool, true, false, ◌&&◌, ◌==◌, List, [], ◌∷◌, ◌++◌, length, slice_get, codes, Option, Some, None}
 use Rattle.std.specs.Prelude.{if◌then◌else◌}
 use Rattle.std.specs.List.{flat_map}
 use Rattle.script_names.specs.declared.mark.Site.{Site}
+use Rattle.script_names.specs.declared.reason.Reason.{Reason}
+use Rattle.script_names.specs.declared.reason.Reason.TheVariants as reason
 use Rattle.shown_texts.specs.Lines.{line}
 use Rattle.feature_trees.specs.declared.value.Value.{Value}
 use Rattle.feature_trees.specs.declared.value.Value.TheVariants as value
@@ -15,11 +17,15 @@ use Rattle.checker_input.specs.declared.sources.Sources.{Sources}
 use Rattle.scenario_runs.specs.declared.replayed.Replayed.{Replayed}
 use Rattle.outcome_report.specs.declared.outcome_report.ReportEntry.{ReportEntry}
 use Rattle.outcome_report.specs.declared.outcome_report.ReportPart.{ReportPart}
+use Rattle.outcome_groups.specs.declared.group.FactBox.{FactBox}
+use Rattle.tree_pictures.specs.ShellLines.{shell_lines}
 use Rattle.outcome_groups.specs.declared.group.Group.{Group}
 use Rattle.script_places.specs.ReasonWords.{reason_words, settling_words}
 use Rattle.script_places.specs.StepWords.{scenario_words, state_words}
 use Rattle.explanation.specs.declared.spots.Spot.{Spot}
+use Rattle.explanation.specs.AlikeGroups.{further_texts, is_first, word_of}
 use Rattle.explanation.specs.Changes.{changed_text}
+use Rattle.explanation.specs.CommandWords.{is_plain_name}
 use Rattle.explanation.specs.Counting.{counted_text, numbered_text}
 use Rattle.explanation.specs.Courses.{call_line, acts_text}
 use Rattle.explanation.specs.Spots.{spot_of, spot_text, written_text}
@@ -65,24 +71,42 @@ unfoldable pub group_head : Sources → Spot → Ending → ℕ → List ℕ
 group_head sources spot ending count =
     line (spot_text sources spot ++ ending_words ending ++ codes " (" ++ counted_text count ++ codes ")")
 
+-- a command has no meaning here
+abbrev pub is_call : Reason → Bool
+is_call reason.Call = true
+is_call other = false
+
+-- a base line that says how the calls of a command end
+unfoldable pub call_lines : List ℕ → List ℕ
+call_lines name =
+    codes "a base line `call " ++ name ++ codes " ok` or `call " ++ name
+    ++ codes " fails`, where it is true and the command changes no file that matters"
+
+-- what would decide a place whose command begins with this word
+unfoldable pub reason_settled : List ℕ → Reason → List ℕ
+reason_settled word reason = if is_call reason && is_plain_name word then call_lines word else settling_words reason
+
 -- what would decide it
-unfoldable pub settled_by : Ending → List ℕ
-settled_by (Done state) = []
-settled_by (Failed state) = []
-settled_by (Incomplete reason site) = settling_words reason
-settled_by (Bound site) = codes "more turns (--turns)"
+unfoldable pub settled_by : List ℕ → Ending → List ℕ
+settled_by word (Done state) = []
+settled_by word (Failed state) = []
+settled_by word (Incomplete reason site) = reason_settled word reason
+settled_by word (Bound site) = codes "more turns (--turns)"
 
 -- something is to be decided
 abbrev pub is_open : Ending → Bool
 is_open ending = ending_verdict ending == 2
 
--- what would decide it, as a line
-unfoldable pub settled_text : Ending → List ℕ
-settled_text ending = codes "  What would decide it: " ++ settled_by ending ++ line []
+-- what would decide it, as a line behind a title
+unfoldable pub titled_settled : List ℕ → List ℕ → Ending → List ℕ
+titled_settled title word ending = title ++ settled_by word ending ++ line []
+
+abbrev pub settled_text : List ℕ → Ending → List ℕ
+settled_text word ending = titled_settled (codes "  What would decide it: ") word ending
 
 -- the same, unless nothing is to be decided
-unfoldable pub settling_line : Ending → List ℕ
-settling_line ending = if is_open ending then settled_text ending else []
+unfoldable pub settling_line : List ℕ → Ending → List ℕ
+settling_line word ending = if is_open ending then settled_text word ending else []
 
 -- ---- how the run comes there
 
@@ -95,23 +119,38 @@ way_text sources spot (Some site) entry deeds = acts_text sources spot site deed
 unfoldable pub way_head : ℕ → List ℕ
 way_head number = numbered_text (codes "  How the run comes there (outcome ") number (line (codes "):"))
 
--- what a run changes
-unfoldable pub change_list : Value → Value → List ℕ
-change_list before after =
-    changed_text (line (codes "  What it changes of one such system (- before, + behind):")) before after
+-- what a run makes of a tree, with the places marked that decide, by these boxes
+unfoldable pub change_list : List FactBox → Value → Value → List ℕ
+change_list boxes before after =
+    changed_text (line (codes "  One such system, and what the run makes of it (- taken away, ~ changed, + made):"))
+    boxes before after
+
+-- how the whole of an outcome is shown, by its number
+unfoldable pub whole_hint : ℕ → List ℕ
+whole_hint number =
+    numbered_text (codes "      (each place, and each act: --outcome ") number (line (codes ")"))
+
+-- the shell lines that make a tree, behind a title
+unfoldable pub titled_lines : List ℕ → Value → List ℕ
+titled_lines title tree = title ++ shell_lines tree
+
+unfoldable pub making_text : Value → List ℕ
+making_text tree = titled_lines (line (codes "  Shell lines that make it in an empty folder, whose path is in root:")) tree
 
 -- how the run comes to a place, from the tree that an outcome shows, and what it changes of that
-unfoldable pub example_text : Sources → Spot → Option Site → ReportEntry → List Deed → List ℕ
-example_text sources spot site entry deeds =
+unfoldable pub example_text : Sources → Spot → Option Site → List FactBox → ReportEntry → List Deed → List ℕ
+example_text sources spot site boxes entry deeds =
     way_head entry.outcome.number
     ++ flat_map call_line entry.replayed.calls
     ++ way_text sources spot site entry deeds
-    ++ change_list entry.outcome.shown entry.replayed.after
+    ++ change_list boxes entry.outcome.shown entry.replayed.after
+    ++ whole_hint entry.outcome.number
+    ++ making_text entry.outcome.shown
 
 -- how one outcome comes to a place
-abbrev pub story_text : Sources → (Value → Option Replayed) → Spot → Option Site → ReportEntry → List ℕ
-story_text sources run spot site entry =
-    example_text sources spot site entry (deeds_of (shown_run run entry.outcome.shown))
+abbrev pub story_text : Sources → (Value → Option Replayed) → Spot → Option Site → List FactBox → ReportEntry → List ℕ
+story_text sources run spot site boxes entry =
+    example_text sources spot site boxes entry (deeds_of (shown_run run entry.outcome.shown))
 
 -- ---- a group
 
@@ -125,31 +164,34 @@ first_entry [] entries = None
 first_entry (first ∷ members) entries = slice_get entries first
 
 -- the same, if there is one
-abbrev pub story_of : Sources → (Value → Option Replayed) → Spot → Option Site → Option ReportEntry → List ℕ
-story_of sources run spot site None = []
-story_of sources run spot site (Some entry) = story_text sources run spot site entry
+abbrev pub story_of : Sources → (Value → Option Replayed) → Spot → Option Site → List FactBox → Option ReportEntry → List ℕ
+story_of sources run spot site boxes None = []
+story_of sources run spot site boxes (Some entry) = story_text sources run spot site boxes entry
 
 -- how the first outcome of a group comes to its place; of outcomes that are done nothing
 unfoldable pub first_text : Sources → (Value → Option Replayed) → Spot → Group → List ReportEntry → List ℕ
 first_text sources run spot group entries =
     if has_verdict 0 group then []
-    else story_of sources run spot group.end.site (first_entry group.members entries)
+    else story_of sources run spot group.end.site group.boxes (first_entry group.members entries)
 
--- a group: where its outcomes end and how, what is written there, on which systems, what would decide it, and how the
--- run comes there
-unfoldable pub group_text : Sources → (Value → Option Replayed) → ReportPart → Group → List ℕ
-group_text sources run part group =
+-- a group: where its outcomes end and how, what is written there, on which systems, what would decide it, the other
+-- places of its sort, and how the run comes there
+unfoldable pub group_text : Sources → (Value → Option Replayed) → ReportPart → List Group → Group → List ℕ
+group_text sources run part groups group =
     let spot = spot_of part.scenario group.end.site in
     line []
     ++ group_head sources spot group.end.ending (length group.members)
     ++ written_text sources spot
     ++ told_text group.exactly group.boxes
-    ++ settling_line group.end.ending
+    ++ settling_line (word_of sources part.scenario group) group.end.ending
+    ++ further_texts sources part.scenario group groups
     ++ first_text sources run spot group part.entries
 
--- a group, if it has this verdict
-unfoldable pub if_verdict : Sources → (Value → Option Replayed) → ReportPart → ℕ → Group → List ℕ
-if_verdict sources run part verdict group = if has_verdict verdict group then group_text sources run part group else []
+-- a group, if it has this verdict, and is not told together with one that stands before it
+unfoldable pub if_verdict : Sources → (Value → Option Replayed) → ReportPart → ℕ → List Group → Group → List ℕ
+if_verdict sources run part verdict groups group =
+    if has_verdict verdict group && is_first sources part.scenario groups group
+    then group_text sources run part groups group else []
 
 -- ---- a line for a place
 

@@ -39,13 +39,15 @@ verdict_words verdict =
     if verdict == 0 then codes "ends well"
     else (if verdict == 1 then codes "FAILS on some systems" else codes "UNDECIDED")
 
--- how many fail, how many are undecided, and how many end well
+-- how many fail
 unfoldable pub failing_text : ℕ → List ℕ
 failing_text count = decimal count ++ codes " failing, "
 
+-- how many are undecided
 unfoldable pub undecided_text : ℕ → List ℕ
 undecided_text count = decimal count ++ codes " undecided, "
 
+-- how many end well
 unfoldable pub well_text : ℕ → List ℕ
 well_text count = line (decimal count ++ codes " ending well")
 

@@ -5,7 +5,13 @@ pub mod Spots
 pub mod Courses
 pub mod Changes
 pub mod FactTexts
+pub mod Braces
 pub mod ToldTexts
+pub mod CommandWords
+pub mod AlikeGroups
 pub mod GroupTexts
+pub mod LinesLeft
+pub mod StatedTexts
+pub mod OutcomeTexts
 pub mod Premises
 pub mod Sections

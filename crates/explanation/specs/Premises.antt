@@ -1,10 +1,12 @@
--- Under which premises all is said: the base, how many lines of each sort it has, and what it says of the whole system.
+-- Under which premises all is said: the base, how many lines of each sort it has, what it says of the whole system, and
+-- which of the commands that it states the scripts name.
 use Rattle.std.specs.Prelude.{ℕ, Bool, List, [], ◌++◌, length, codes, Option, Some, None, if◌then◌else◌}
 use Rattle.std.specs.Fmt.{decimal}
 use Rattle.shown_texts.specs.Lines.{line}
 use Rattle.shown_texts.specs.Show.{show}
 use Rattle.checker_input.specs.declared.sources.Sources.{Sources}
 use Rattle.system_base.specs.declared.base.Base.{Base}
+use Rattle.explanation.specs.StatedTexts.{stated_line}
 
 -- a file's name, or that none was named
 abbrev pub name_or_usual : Option (List ℕ) → List ℕ
@@ -86,4 +88,5 @@ unfoldable pub premises_text : Sources → Base → List ℕ
 premises_text sources base =
     line (codes "Premises: " ++ base_name sources ++ counts_text base)
     ++ said_text base
+    ++ stated_line sources base.calls
     ++ line (codes "Not looked at: contents, modes and owners of files.")

@@ -1,17 +1,13 @@
--- The scripts of the two packages: the names of their files, and their texts; and which is called in a step.
-use Rattle.std.specs.Prelude.{ℕ, ◌&&◌, nat_le, List, [], ◌++◌, length, codes, Option, None, if◌then◌else◌}
+-- The scripts of the two packages: the names of their files, and their texts.
+use Rattle.std.specs.Prelude.{ℕ, List, [], ◌++◌, codes}
 use Rattle.std.specs.Option.{unwrap_or}
 use Rattle.shown_texts.specs.Show.{show}
-use Rattle.dpkg_scenarios.specs.declared.scenario.Scenario.{Scenario}
 use Rattle.dpkg_scenarios.specs.declared.scenario.ScriptKind.{ScriptKind}
 use Rattle.dpkg_scenarios.specs.declared.scenario.Side.{Side}
 use Rattle.dpkg_scenarios.specs.declared.scenario.Side.TheVariants.{New, Old}
-use Rattle.dpkg_scenarios.specs.declared.scenario.StepWork.{StepWork}
 use Rattle.dpkg_scenarios.specs.declared.scripts.Scripts.{Scripts}
 use Rattle.dpkg_scenarios.specs.Names.{script_name}
-use Rattle.dpkg_scenarios.specs.Scenarios.{table}
 use Rattle.dpkg_scenarios.specs.Scripts.{script_of}
-use Rattle.dpkg_scenarios.specs.Steps.{work_of}
 use Rattle.checker_input.specs.declared.sources.Sources.{Sources}
 
 -- the folder of one of the packages, as it was named; without an old one it is the new one's
@@ -31,8 +27,3 @@ script_file sources side script = show (folder_of sources side) ++ codes "/" ++ 
 -- the text of a script; no bytes, where the package has none
 abbrev pub script_text : Sources → Side → ScriptKind → List ℕ
 script_text sources side script = unwrap_or (script_of script (texts_of sources side)) []
-
--- what is done in a step, where the scenario has one of this number
-abbrev pub work_at : Scenario → ℕ → Option StepWork
-work_at scenario step =
-    if nat_le 1 step && nat_le step (length (table scenario)) then work_of scenario step else None

@@ -12,13 +12,14 @@ use Rattle.dpkg_scenarios.specs.declared.scenario.Side.{Side}
 use Rattle.dpkg_scenarios.specs.declared.scenario.Side.TheVariants.{New}
 use Rattle.dpkg_scenarios.specs.declared.scenario.StepWork.{StepWork}
 use Rattle.dpkg_scenarios.specs.declared.scenario.StepWork.TheVariants.{Script}
+use Rattle.dpkg_scenarios.specs.Steps.{work_of}
 use Rattle.checker_input.specs.declared.sources.Sources.{Sources}
 use Rattle.script_places.specs.Positions.{position_of}
 use Rattle.script_places.specs.SourceLines.{source_line}
 use Rattle.script_places.specs.StepWords.{work_words}
 use Rattle.explanation.specs.declared.spots.Spot.{Spot}
 use Rattle.explanation.specs.declared.spots.Spot.TheVariants.{InScript, InFiles, Nowhere}
-use Rattle.explanation.specs.Scripts.{folder_of, script_file, script_text, work_at}
+use Rattle.explanation.specs.Scripts.{folder_of, script_file, script_text}
 
 -- the place in what is done in a step
 abbrev pub spot_at : StepWork → ℕ → Spot
@@ -33,7 +34,7 @@ spot_by (Some work) at = spot_at work at
 -- where a site is in a scenario
 abbrev pub spot_of : Scenario → Option Site → Spot
 spot_of scenario None = Nowhere
-spot_of scenario (Some site) = spot_by (work_at scenario site.step) site.at
+spot_of scenario (Some site) = spot_by (work_of scenario site.step) site.at
 
 -- file, line and column of a byte of a script
 unfoldable pub file_text : Sources → Side → ScriptKind → ℕ → List ℕ

@@ -4,7 +4,7 @@ use Rattle.std.specs.List.{flat_map, list_any}
 use Rattle.shown_texts.specs.Lines.{line}
 use Rattle.start_facts.specs.declared.fact.PlaceFact.{PlaceFact}
 use Rattle.outcome_groups.specs.declared.group.FactBox.{FactBox}
-use Rattle.explanation.specs.FactTexts.{facts_text}
+use Rattle.explanation.specs.Braces.{facts_text}
 
 -- a box has no facts
 abbrev pub is_empty : FactBox → Bool

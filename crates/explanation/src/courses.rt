@@ -82,8 +82,8 @@ fn put_done(text: &mut Bytes, name: &[u8], path: &Path, words: &[u8]) -> Result<
     text.extend(words)
 }
 
-// Adds a deed, by its row.
-fn put_deed(text: &mut Bytes, deed: &Deed, row: u8) -> Result<(), Memory>
+/// Adds a deed, by its row.
+pub fn put_deed(text: &mut Bytes, deed: &Deed, row: u8) -> Result<(), Memory>
     ensures { OnOk result (text.new ≡ text.old ++ deed_text deed.now row) }
 {
     match deed {

@@ -2,8 +2,8 @@
 ghost use Rattle.std.specs.Prelude.{◌≡◌, ◌++◌, OnOk};
 ghost use Rattle.std.specs.List.{flat_map, list_any};
 ghost use Rattle.explanation.specs.FactTexts.{name_text, names_text, but_names, beside_names, fact_words};
-ghost use Rattle.explanation.specs.FactTexts.{fact_line, facts_text, is_no_directory, is_fence, excludes};
-ghost use Rattle.explanation.specs.FactTexts.{is_implied, told_line};
+ghost use Rattle.explanation.specs.FactTexts.{fact_line, is_no_directory, is_fence, excludes};
+ghost use Rattle.explanation.specs.FactTexts.{is_implied};
 
 use script_names::{Bytes, Memory, Name};
 use script_places::push_kinds;
@@ -57,8 +57,8 @@ fn put_beside(text: &mut Bytes, names: &[Name]) -> Result<(), Memory>
     put_named(text, b" beside", names)
 }
 
-// Adds what a fact says.
-fn put_said(text: &mut Bytes, fact: &Fact) -> Result<(), Memory>
+/// Adds what a fact says.
+pub fn put_said(text: &mut Bytes, fact: &Fact) -> Result<(), Memory>
     ensures { OnOk result (text.new ≡ text.old ++ fact_words fact.now) }
 {
     match fact {
@@ -81,9 +81,9 @@ fn put_said(text: &mut Bytes, fact: &Fact) -> Result<(), Memory>
     }
 }
 
-// Adds the line of a fact.
+/// Adds the line of a fact.
 #[tactic(auto, unfolding(crate::specs::FactTexts::fact_line))]
-fn put_fact(text: &mut Bytes, fact: &PlaceFact) -> Result<(), Memory>
+pub fn put_fact(text: &mut Bytes, fact: &PlaceFact) -> Result<(), Memory>
     ensures { OnOk result (text.new ≡ text.old ++ fact_line fact.now) }
 {
     text.extend(b"      ")?;
@@ -137,30 +137,9 @@ fn some_excludes(place: &[Name], facts: &[PlaceFact]) -> bool
     false
 }
 
-// Whether the fact follows from one of these.
-fn is_implied(facts: &[PlaceFact], fact: &PlaceFact) -> bool
+/// Whether the fact follows from one of these.
+pub fn is_implied(facts: &[PlaceFact], fact: &PlaceFact) -> bool
     ensures { result ≡ is_implied facts.now fact.now }
 {
     is_fence(&fact.fact) && some_excludes(fact.place.as_slice(), facts)
-}
-
-// Adds the line of one of these facts, unless it follows from another.
-#[tactic(auto, unfolding(crate::specs::FactTexts::told_line))]
-fn put_told(text: &mut Bytes, facts: &[PlaceFact], fact: &PlaceFact) -> Result<(), Memory>
-    ensures { OnOk result (text.new ≡ text.old ++ told_line facts.now fact.now) }
-{
-    if is_implied(facts, fact) {
-        return Ok(());
-    }
-    put_fact(text, fact)
-}
-
-/// Adds the lines of facts.
-pub fn put_facts(text: &mut Bytes, facts: &[PlaceFact]) -> Result<(), Memory>
-    ensures { OnOk result (text.new ≡ text.old ++ facts_text facts.now) }
-{
-    for fact in facts {
-        put_told(text, facts, fact)?;
-    }
-    Ok(())
 }

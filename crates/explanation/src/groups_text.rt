@@ -4,29 +4,33 @@ ghost use Rattle.std.specs.List.{flat_map};
 ghost use Rattle.std.specs.Option.{option_copied};
 ghost use Rattle.scenario_runs.specs.Runs.{scenario_run};
 ghost use Rattle.explanation.specs.GroupTexts.{shown_run, deeds_of, way_words, why_words, ending_words};
-ghost use Rattle.explanation.specs.GroupTexts.{group_head, settled_by, is_open, settled_text, settling_line};
-ghost use Rattle.explanation.specs.GroupTexts.{way_head, change_list};
+ghost use Rattle.explanation.specs.GroupTexts.{call_lines, is_call, reason_settled};
+ghost use Rattle.explanation.specs.GroupTexts.{group_head, settled_by, is_open, titled_settled, settling_line};
+ghost use Rattle.explanation.specs.GroupTexts.{way_head, change_list, whole_hint, titled_lines, making_text};
 ghost use Rattle.explanation.specs.GroupTexts.{way_text, example_text, has_verdict, story_text, first_text};
 ghost use Rattle.explanation.specs.GroupTexts.{first_entry, group_text, if_verdict, severity, place_line, place_unless};
 
+use crate::alike::{is_first, put_all_further, word_of};
 use crate::changes::put_changed;
 use crate::counting::{put_counted, put_numbered};
 use crate::courses::{put_acts, put_calls};
 use crate::spots::{Spot, put_spot, put_written, spot_of};
+use crate::text_words::is_plain_name;
 use crate::told_text::put_told;
 use checker_input::Sources;
 use dpkg_scenarios::{Ending, Scenario, ending_verdict};
 use feature_trees::Value;
-use outcome_groups::Group;
+use outcome_groups::{FactBox, Group};
 use outcome_report::{ReportEntry, ReportPart};
 use scenario_runs::{Job, Replayed, run};
-use script_names::{Bytes, Memory, Site};
+use script_names::{Bytes, Memory, Reason, Site};
 use script_places::{reason_words, scenario_words, settling_words, state_words};
 use std::alloc::Global;
+use tree_pictures::put_shell_lines;
 use utility_calls::deeds::Deed;
 
-// The run from a tree that is shown.
-fn shown_run(alloc: Global, job: &Job, tree: &Value) -> Result<Option<Replayed>, Memory>
+/// The run from a tree that is shown.
+pub fn shown_run(alloc: Global, job: &Job, tree: &Value) -> Result<Option<Replayed>, Memory>
     ensures { IfOk result (λ found. found ≡ shown_run (scenario_run job.now) tree.now) }
 {
     match tree {
@@ -38,8 +42,8 @@ fn shown_run(alloc: Global, job: &Job, tree: &Value) -> Result<Option<Replayed>,
     }
 }
 
-// The deeds of a run.
-fn deeds_of(replayed: &Option<Replayed>) -> &[Deed]
+/// The deeds of a run.
+pub fn deeds_of(replayed: &Option<Replayed>) -> &[Deed]
     ensures { result.now ≡ deeds_of replayed.now }
 {
     match replayed {
@@ -73,8 +77,8 @@ fn why_words(ending: Ending) -> &'static [u8]
     }
 }
 
-// Adds how outcomes end.
-fn put_ending(text: &mut Bytes, ending: Ending) -> Result<(), Memory>
+/// Adds how outcomes end.
+pub fn put_ending(text: &mut Bytes, ending: Ending) -> Result<(), Memory>
     ensures { OnOk result (text.new ≡ text.old ++ ending_words ending) }
 {
     text.extend(way_words(ending))?;
@@ -99,15 +103,52 @@ fn put_group_head(
     text.extend(b")\n")
 }
 
-// What would decide it.
+// Whether a command has no meaning here.
+fn is_call(reason: Reason) -> bool
+    ensures { result ≡ is_call reason }
+{
+    match reason {
+        Reason::Call => true,
+        Reason::Echo | Reason::Link | Reason::Slash | Reason::Root => false,
+        Reason::Empty | Reason::DotDot | Reason::Dot | Reason::Long => false,
+        Reason::Glob | Reason::Pattern | Reason::Pipe | Reason::Message => false,
+        Reason::Strict | Reason::Status | Reason::Run => false,
+        Reason::Same | Reason::Conffile | Reason::Restore => false,
+    }
+}
+
+// Adds base lines that say how the calls of a command end.
+#[tactic(auto, unfolding(crate::specs::GroupTexts::call_lines))]
+fn put_call_lines(text: &mut Bytes, name: &[u8]) -> Result<(), Memory>
+    ensures { OnOk result (text.new ≡ text.old ++ call_lines name.now) }
+{
+    text.extend(b"a base line `call ")?;
+    text.extend(name)?;
+    text.extend(b" ok` or `call ")?;
+    text.extend(name)?;
+    text.extend(b" fails`, where it is true and the command changes no file that matters")
+}
+
+// Adds what would decide a place whose command begins with this word.
+#[tactic(auto, unfolding(crate::specs::GroupTexts::reason_settled))]
+fn put_reason_settled(text: &mut Bytes, word: &[u8], reason: Reason) -> Result<(), Memory>
+    ensures { OnOk result (text.new ≡ text.old ++ reason_settled word.now reason) }
+{
+    if is_call(reason) && is_plain_name(word) {
+        return put_call_lines(text, word);
+    }
+    text.extend(settling_words(reason))
+}
+
+// Adds what would decide it.
 #[tactic(auto, unfolding(crate::specs::GroupTexts::settled_by))]
-fn settled_by(ending: Ending) -> &'static [u8]
-    ensures { result.now ≡ settled_by ending }
+fn put_settled_by(text: &mut Bytes, word: &[u8], ending: Ending) -> Result<(), Memory>
+    ensures { OnOk result (text.new ≡ text.old ++ settled_by word.now ending) }
 {
     match ending {
-        Ending::Done(_) | Ending::Failed(_) => b"",
-        Ending::Incomplete(reason, _) => settling_words(reason),
-        Ending::Bound(_) => b"more turns (--turns)",
+        Ending::Done(_) | Ending::Failed(_) => Ok(()),
+        Ending::Incomplete(reason, _) => put_reason_settled(text, word, reason),
+        Ending::Bound(_) => text.extend(b"more turns (--turns)"),
     }
 }
 
@@ -118,22 +159,23 @@ fn is_open(ending: Ending) -> bool
     ending_verdict(ending) == 2
 }
 
-// Adds what would decide it, as a line.
-fn put_settled(text: &mut Bytes, ending: Ending) -> Result<(), Memory>
-    ensures { OnOk result (text.new ≡ text.old ++ settled_text ending) }
+// Adds what would decide it, as a line behind a title.
+#[tactic(auto, unfolding(crate::specs::GroupTexts::titled_settled))]
+fn put_settled(text: &mut Bytes, title: &[u8], word: &[u8], ending: Ending) -> Result<(), Memory>
+    ensures { OnOk result (text.new ≡ text.old ++ titled_settled title.now word.now ending) }
 {
-    text.extend(b"  What would decide it: ")?;
-    text.extend(settled_by(ending))?;
+    text.extend(title)?;
+    put_settled_by(text, word, ending)?;
     text.extend(b"\n")
 }
 
-// Adds the same, unless nothing is to be decided.
+/// Adds what would decide it, as a line, unless nothing is to be decided.
 #[tactic(auto, unfolding(crate::specs::GroupTexts::settling_line))]
-fn put_settling(text: &mut Bytes, ending: Ending) -> Result<(), Memory>
-    ensures { OnOk result (text.new ≡ text.old ++ settling_line ending) }
+pub fn put_settling(text: &mut Bytes, word: &[u8], ending: Ending) -> Result<(), Memory>
+    ensures { OnOk result (text.new ≡ text.old ++ settling_line word.now ending) }
 {
     if is_open(ending) {
-        return put_settled(text, ending);
+        return put_settled(text, b"  What would decide it: ", word, ending);
     }
     Ok(())
 }
@@ -176,22 +218,59 @@ fn put_way_head(text: &mut Bytes, number: u32) -> Result<(), Memory>
     )
 }
 
-// Adds what a run changes.
+// Adds what a run makes of a tree, with the places marked that decide.
 #[tactic(auto, unfolding(crate::specs::GroupTexts::change_list))]
 fn put_change_list(
     alloc: Global,
     text: &mut Bytes,
+    boxes: &[FactBox],
     before: &Value,
     after: &Value,
 ) -> Result<(), Memory>
-    ensures { OnOk result (text.new ≡ text.old ++ change_list before.now after.now) }
+    ensures { OnOk result (text.new ≡ text.old ++ change_list boxes.now before.now after.now) }
 {
     put_changed(
         alloc,
         text,
-        b"  What it changes of one such system (- before, + behind):\n",
+        b"  One such system, and what the run makes of it (- taken away, ~ changed, + made):\n",
+        boxes,
         before,
         after,
+    )
+}
+
+// Adds how the whole of an outcome is shown, by its number.
+#[tactic(auto, unfolding(crate::specs::GroupTexts::whole_hint))]
+fn put_whole_hint(text: &mut Bytes, number: u32) -> Result<(), Memory>
+    ensures { OnOk result (text.new ≡ text.old ++ whole_hint number) }
+{
+    put_numbered(
+        text,
+        b"      (each place, and each act: --outcome ",
+        number,
+        b")\n",
+    )
+}
+
+// Adds the shell lines that make a tree, behind a title.
+#[tactic(auto, unfolding(crate::specs::GroupTexts::titled_lines))]
+fn put_making(alloc: Global, text: &mut Bytes, title: &[u8], tree: &Value) -> Result<(), Memory>
+    ensures { OnOk result (text.new ≡ text.old ++ titled_lines title.now tree.now) }
+{
+    text.extend(title)?;
+    put_shell_lines(alloc, text, tree)
+}
+
+// Adds the shell lines that make a tree.
+#[tactic(auto, unfolding(crate::specs::GroupTexts::making_text))]
+fn put_making_text(alloc: Global, text: &mut Bytes, tree: &Value) -> Result<(), Memory>
+    ensures { OnOk result (text.new ≡ text.old ++ making_text tree.now) }
+{
+    put_making(
+        alloc,
+        text,
+        b"  Shell lines that make it in an empty folder, whose path is in root:\n",
+        tree,
     )
 }
 
@@ -203,15 +282,24 @@ fn put_example(
     sources: &Sources,
     spot: Spot,
     site: Option<Site>,
+    boxes: &[FactBox],
     entry: &ReportEntry,
     deeds: &[Deed],
 ) -> Result<(), Memory>
-    ensures { OnOk result (text.new ≡ text.old ++ example_text sources.now spot site entry.now deeds.now) }
+    ensures { OnOk result (text.new ≡ text.old ++ example_text sources.now spot site boxes.now entry.now deeds.now) }
 {
     put_way_head(text, entry.outcome.number)?;
     put_calls(text, entry.replayed.calls.as_slice())?;
     put_way(text, sources, spot, site, entry, deeds)?;
-    put_change_list(alloc, text, &entry.outcome.shown, &entry.replayed.after)
+    put_change_list(
+        alloc,
+        text,
+        boxes,
+        &entry.outcome.shown,
+        &entry.replayed.after,
+    )?;
+    put_whole_hint(text, entry.outcome.number)?;
+    put_making_text(alloc, text, &entry.outcome.shown)
 }
 
 // How a scenario ends in the outcomes of a group: 1 where they failed, 2 where they are undecided, else 0.
@@ -221,7 +309,7 @@ fn has_verdict(verdict: u8, group: &Group) -> bool
     ending_verdict(group.end.ending) == verdict
 }
 
-// Adds what is known of outcomes that are not done: what would decide them, and how one of them comes there.
+// Adds how an outcome comes to a place.
 fn put_story(
     alloc: Global,
     text: &mut Bytes,
@@ -229,13 +317,23 @@ fn put_story(
     job: &Job,
     spot: Spot,
     site: Option<Site>,
+    boxes: &[FactBox],
     entry: &ReportEntry,
 ) -> Result<(), Memory>
     ensures { OnOk result
-        (text.new ≡ text.old ++ story_text sources.now (scenario_run job.now) spot site entry.now) }
+        (text.new ≡ text.old ++ story_text sources.now (scenario_run job.now) spot site boxes.now entry.now) }
 {
     let replayed = shown_run(alloc, job, &entry.outcome.shown)?;
-    put_example(alloc, text, sources, spot, site, entry, deeds_of(&replayed))
+    put_example(
+        alloc,
+        text,
+        sources,
+        spot,
+        site,
+        boxes,
+        entry,
+        deeds_of(&replayed),
+    )
 }
 
 // Adds how one of the outcomes of a group comes to its place; of outcomes that are done nothing.
@@ -256,7 +354,16 @@ fn put_first(
         return Ok(());
     }
     match first_entry(group.members.as_slice(), entries) {
-        Some(entry) => put_story(alloc, text, sources, job, spot, group.end.site, entry),
+        Some(entry) => put_story(
+            alloc,
+            text,
+            sources,
+            job,
+            spot,
+            group.end.site,
+            group.boxes.as_slice(),
+            entry,
+        ),
         None => Ok(()),
     }
 }
@@ -279,10 +386,11 @@ fn put_group(
     sources: &Sources,
     job: &Job,
     part: &ReportPart,
+    groups: &[Group],
     group: &Group,
 ) -> Result<(), Memory>
     ensures { OnOk result
-        (text.new ≡ text.old ++ group_text sources.now (scenario_run job.now) part.now group.now) }
+        (text.new ≡ text.old ++ group_text sources.now (scenario_run job.now) part.now groups.now group.now) }
 {
     let spot = spot_of(part.scenario, group.end.site);
     text.extend(b"\n")?;
@@ -294,8 +402,10 @@ fn put_group(
         group.members.len() as u64,
     )?;
     put_written(alloc, text, sources, spot)?;
-    put_told(text, group.exactly, group.boxes.as_slice())?;
-    put_settling(text, group.end.ending)?;
+    put_told(alloc, text, group.exactly, group.boxes.as_slice())?;
+    let word = word_of(sources, part.scenario, group);
+    put_settling(text, word, group.end.ending)?;
+    put_all_further(alloc, text, sources, part.scenario, group, groups)?;
     put_first(
         alloc,
         text,
@@ -307,7 +417,7 @@ fn put_group(
     )
 }
 
-// Adds a group, if it has this verdict.
+// Adds a group, if it has this verdict, and is not told together with one that stands before it.
 #[tactic(auto, unfolding(crate::specs::GroupTexts::if_verdict))]
 fn put_if(
     alloc: Global,
@@ -316,13 +426,14 @@ fn put_if(
     job: &Job,
     part: &ReportPart,
     verdict: u8,
+    groups: &[Group],
     group: &Group,
 ) -> Result<(), Memory>
-    ensures { OnOk result
-        (text.new ≡ text.old ++ if_verdict sources.now (scenario_run job.now) part.now verdict group.now) }
+    ensures { OnOk result (text.new ≡ text.old
+        ++ if_verdict sources.now (scenario_run job.now) part.now verdict groups.now group.now) }
 {
-    if has_verdict(verdict, group) {
-        return put_group(alloc, text, sources, job, part, group);
+    if has_verdict(verdict, group) && is_first(sources, part.scenario, groups, group) {
+        return put_group(alloc, text, sources, job, part, groups, group);
     }
     Ok(())
 }
@@ -337,11 +448,11 @@ pub fn put_groups(
     verdict: u8,
     groups: &[Group],
 ) -> Result<(), Memory>
-    ensures { OnOk result
-        (text.new ≡ text.old ++ flat_map (if_verdict sources.now (scenario_run job.now) part.now verdict) groups.now) }
+    ensures { OnOk result (text.new ≡ text.old
+        ++ flat_map (if_verdict sources.now (scenario_run job.now) part.now verdict groups.now) groups.now) }
 {
     for group in groups {
-        put_if(alloc, text, sources, job, part, verdict, group)?;
+        put_if(alloc, text, sources, job, part, verdict, groups, group)?;
     }
     Ok(())
 }

@@ -4,18 +4,24 @@
 //! with specs/Sections.antt, and with `put_part`.
 #![tactic(auto)]
 
+mod alike;
+mod braces;
 mod changes;
 mod counting;
 mod courses;
 mod facts_text;
 mod groups_text;
 mod head;
+mod lines_left;
+mod outcome_text;
 mod premises;
 mod scripts;
 mod sections;
 mod spots;
+mod stated_text;
+mod text_words;
 mod told_text;
 
 pub use premises::put_premises;
-pub use sections::{put_no_start, put_over, put_part};
+pub use sections::{part_verdict, put_no_start, put_over, put_part};
 pub use spots::Spot;

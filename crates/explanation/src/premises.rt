@@ -4,9 +4,11 @@ ghost use Rattle.explanation.specs.Premises.{base_name, number_of, if_said, coun
 ghost use Rattle.explanation.specs.Premises.{known_places, known_links, own_folders, stated_commands};
 ghost use Rattle.explanation.specs.Premises.{fits_line, runs_line, removed_line, versions_line, plain_line};
 
+use crate::stated_text::put_stated_line;
 use checker_input::Sources;
 use script_names::{Bytes, Memory};
 use shown_texts::{push_number, push_shown};
+use std::alloc::Global;
 use system_base::Base;
 
 // Adds the name of the base.
@@ -154,7 +156,12 @@ fn put_said(text: &mut Bytes, base: &Base) -> Result<(), Memory>
 
 /// Adds the premises.
 #[tactic(auto, unfolding(crate::specs::Premises::premises_text))]
-pub fn put_premises(text: &mut Bytes, sources: &Sources, base: &Base) -> Result<(), Memory>
+pub fn put_premises(
+    alloc: Global,
+    text: &mut Bytes,
+    sources: &Sources,
+    base: &Base,
+) -> Result<(), Memory>
     ensures { OnOk result (text.new ≡ text.old ++ premises_text sources.now base.now) }
 {
     text.extend(b"Premises: ")?;
@@ -162,5 +169,6 @@ pub fn put_premises(text: &mut Bytes, sources: &Sources, base: &Base) -> Result<
     put_counts(text, base)?;
     text.extend(b"\n")?;
     put_said(text, base)?;
+    put_stated_line(alloc, text, sources, base.calls.as_slice())?;
     text.extend(b"Not looked at: contents, modes and owners of files.\n")
 }

@@ -1,10 +1,9 @@
 // The scripts of the two packages: the names of their files, and their texts.
-ghost use Rattle.std.specs.Prelude.{◌≡◌, ◌++◌, length, OnOk};
-ghost use Rattle.dpkg_scenarios.specs.Scenarios.{table};
-ghost use Rattle.explanation.specs.Scripts.{folder_of, texts_of, script_file, script_text, work_at};
+ghost use Rattle.std.specs.Prelude.{◌≡◌, ◌++◌, OnOk};
+ghost use Rattle.explanation.specs.Scripts.{folder_of, texts_of, script_file, script_text};
 
 use checker_input::Sources;
-use dpkg_scenarios::{Scenario, ScriptKind, Scripts, Side, StepWork, script_name, work};
+use dpkg_scenarios::{ScriptKind, Scripts, Side, script_name};
 use script_names::{Bytes, Memory};
 use shown_texts::push_shown;
 
@@ -56,32 +55,4 @@ pub fn put_script_file(
     push_shown(text, folder_of(sources, side).as_bytes())?;
     text.extend(b"/")?;
     text.extend(script_name(script).as_bytes())
-}
-
-// How many steps a scenario has.
-fn step_count(scenario: Scenario) -> u16
-    ensures { result ≡ length (table scenario) }
-{
-    match scenario {
-        Scenario::Install => 5,
-        Scenario::InstallAgain => 5,
-        Scenario::Upgrade => 14,
-        Scenario::Remove => 4,
-        Scenario::Purge => 6,
-        Scenario::PurgeLater => 2,
-        Scenario::InFavour => 9,
-        Scenario::Deconfigure => 7,
-        Scenario::Disappear => 6,
-        Scenario::Twice => 2,
-    }
-}
-
-/// What is done in a step, where the scenario has one of this number.
-pub fn work_at(scenario: Scenario, step: u16) -> Option<StepWork>
-    ensures { result ≡ work_at scenario step }
-{
-    if 1 <= step && step <= step_count(scenario) {
-        return Some(work(scenario, step));
-    }
-    None
 }

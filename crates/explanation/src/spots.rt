@@ -2,9 +2,9 @@
 ghost use Rattle.std.specs.Prelude.{◌≡◌, ◌++◌, replicate, OnOk};
 ghost use Rattle.explanation.specs.Spots.{spot_at, spot_of, file_text, spot_text, source_text, written_text};
 
-use crate::scripts::{folder_of, put_script_file, script_text, work_at};
+use crate::scripts::{folder_of, put_script_file, script_text};
 use checker_input::Sources;
-use dpkg_scenarios::{Scenario, ScriptKind, Side, StepWork};
+use dpkg_scenarios::{Scenario, ScriptKind, Side, StepWork, work_at};
 use script_names::{Bytes, Memory, Site};
 use script_places::{position_of, source_line, work_words};
 use shown_texts::{push_number, push_shown};

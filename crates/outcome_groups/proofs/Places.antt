@@ -8,7 +8,8 @@ use Rattle.outcome_groups.specs.declared.ends.GroupEnd.{GroupEnd}
 use Rattle.outcome_groups.specs.Ends.{same_end}
 use Rattle.outcome_groups.specs.Groups.{with_end, different, place_if, members_from, others_from}
 use Rattle.outcome_groups.proofs.SameEnds.{same_ends, end_itself}
-use Rattle.fact_boxes.proofs.Holding.{differ, or_true, or_false, or_left, or_right, has_head, has_tail, has_cases, nothing_had}
+use Rattle.tree_clauses.proofs.Orders.{contains_head, contains_tail, contains_cases, contains_nothing}
+use Rattle.fact_boxes.proofs.Holding.{differ, or_true, or_false, or_left, or_right}
 
 -- ---- places
 
@@ -16,11 +17,11 @@ later : (k p : ℕ) (places : List ℕ) → Contains places (suc k + p) → Cont
 later k p places c = subst (λ (n : ℕ). Contains places n) (omega arith) c
 
 if_first : (b : Bool) (k : ℕ) (places : List ℕ) → b ≡ true → Contains (place_if b k places) k
-if_first true k places e = has_head k places
+if_first true k places e = contains_head k places
 if_first false k places e = cc
 
 if_more : (b : Bool) (k n : ℕ) (places : List ℕ) → Contains places n → Contains (place_if b k places) n
-if_more true k n places c = has_tail k n places c
+if_more true k n places c = contains_tail k n places c
 if_more false k n places c = c
 
 at_first : (k : ℕ) (places : List ℕ) → Contains places k → Contains places (k + 0)
@@ -65,12 +66,12 @@ one_later k n end other ends it = record { place = suc it.place; is = let i = it
 
 -- whatever is among them is the place of one that ends so
 pub member_out : (k : ℕ) (end : GroupEnd) (ends : List GroupEnd) (n : ℕ) → Contains (members_from k end ends) n → IsAt k n end ends
-member_out k end [] n c = absurd (nothing_had n c)
+member_out k end [] n c = absurd (contains_nothing n c)
 member_out k end (other ∷ ends) n c = step (same_end end other) refl c (member_out (suc k) end ends n)
   where
     step : (b : Bool) → same_end end other ≡ b → Contains (place_if b k (members_from (suc k) end ends)) n
         → (Contains (members_from (suc k) end ends) n → IsAt (suc k) n end ends) → IsAt k n end (other ∷ ends)
-    step true e d more = elim (has_cases k n (members_from (suc k) end ends) d) [
+    step true e d more = elim (contains_cases k n (members_from (suc k) end ends) d) [
       | inl same ↦ record { place = 0; is = let s = same in omega (arith, s); there = ap (λ o. Some o) (sym (same_ends end other e)) }
       | inr there ↦ one_later k n end other ends (more there)
     ]

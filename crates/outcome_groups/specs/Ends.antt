@@ -1,6 +1,6 @@
 -- How outcomes end, and where: a failure where the first call of a script that failed came to its end.
-use Rattle.std.specs.Prelude.{ℕ, suc, Bool, true, false, not, codes, ◌&&◌, ◌==◌, nat_le, List, [], ◌∷◌, length, map, take, slice_get, ◌-◌}
-use Rattle.std.specs.Prelude.{Option, Some, None, if◌then◌else◌}
+use Rattle.std.specs.Prelude.{ℕ, suc, ◌-◌, Bool, true, false, not, ◌&&◌, ◌==◌, List, [], ◌∷◌, length, take, codes}
+use Rattle.std.specs.Prelude.{slice_get, Option, Some, None, if◌then◌else◌}
 use Rattle.std.specs.List.{find}
 use Rattle.std.specs.Option.{option_map}
 use Rattle.std.specs.Str.{bytes_eq}
@@ -19,7 +19,6 @@ use Rattle.dpkg_scenarios.specs.declared.scenario.StepWork.TheVariants as work
 use Rattle.dpkg_scenarios.specs.declared.scenario.Ending.{Ending}
 use Rattle.dpkg_scenarios.specs.declared.scenario.Ending.TheVariants as ending
 use Rattle.dpkg_scenarios.specs.declared.said.Said.{Said}
-use Rattle.dpkg_scenarios.specs.Scenarios.{table}
 use Rattle.dpkg_scenarios.specs.Steps.{work_of, words_of}
 use Rattle.dpkg_scenarios.specs.declared.scenario.State.{State}
 use Rattle.dpkg_scenarios.specs.declared.scenario.State.TheVariants.{Installed, Unpacked, HalfConfigured, HalfInstalled}
@@ -88,8 +87,7 @@ any_said = record { old_version = codes "0"; new_version = codes "0"; new_name =
 -- whether a step of the scenario makes the call: the same script, with such words
 abbrev pub makes : Scenario → ScriptCall → ℕ → Bool
 makes scenario call n =
-    nat_le 1 n && (nat_le n (length (table scenario))
-    && (is_call (work_of scenario n) call && speaks (words_of scenario n any_said) call))
+    is_call (work_of scenario n) call && speaks (words_of scenario n any_said) call
 
 -- ---- the marks up to an end
 
@@ -199,3 +197,31 @@ same_ending a b = false
 -- outcomes end alike
 abbrev pub same_end : GroupEnd → GroupEnd → Bool
 same_end a b = same_ending a.ending b.ending && same_option a.site b.site
+
+-- ---- which ends differ in the place alone
+
+-- the same ending, wherever in a script; one that is done has no place
+abbrev pub alike_ending : Ending → Ending → Bool
+alike_ending (ending.Done s) b = false
+alike_ending (ending.Failed s) (ending.Failed t) = state_number s == state_number t
+alike_ending (ending.Failed s) (ending.Done t) = false
+alike_ending (ending.Failed s) (ending.Incomplete q b) = false
+alike_ending (ending.Failed s) (ending.Bound b) = false
+alike_ending (ending.Incomplete r a) (ending.Incomplete q b) = reason_number r == reason_number q
+alike_ending (ending.Incomplete r a) (ending.Done t) = false
+alike_ending (ending.Incomplete r a) (ending.Failed t) = false
+alike_ending (ending.Incomplete r a) (ending.Bound b) = false
+alike_ending (ending.Bound a) (ending.Bound b) = true
+alike_ending (ending.Bound a) (ending.Done t) = false
+alike_ending (ending.Bound a) (ending.Failed t) = false
+alike_ending (ending.Bound a) (ending.Incomplete q b) = false
+
+-- both have a site, in the same step
+abbrev pub same_step : Option Site → Option Site → Bool
+same_step None b = false
+same_step (Some a) None = false
+same_step (Some a) (Some b) = a.step == b.step
+
+-- outcomes end alike in the same step, wherever in it
+abbrev pub end_alike : GroupEnd → GroupEnd → Bool
+end_alike a b = alike_ending a.ending b.ending && same_step a.site b.site

@@ -1,13 +1,14 @@
 ghost use Rattle.std.specs.Prelude.{◌≡◌, ◌≤◌, ◌-◌, [], length, take, IfOk, IfSome, Some};
 ghost use Rattle.std.specs.Option.{option_copied};
-ghost use Rattle.dpkg_scenarios.specs.Scenarios.{table};
 ghost use Rattle.outcome_groups.specs.Ends.{begin_alike, end_of, end_site, failed_call, is_call, is_failed, last_site};
 ghost use Rattle.outcome_groups.specs.Ends.{makes, reason_number, same_end, same_ending, same_option, same_script};
 ghost use Rattle.outcome_groups.specs.Ends.{same_side, same_site, speaks, state_number, up_to_call, up_to_end};
-ghost use Rattle.outcome_groups.specs.Ends.{any_said, filled_alike, up_to_failure};
+ghost use Rattle.outcome_groups.specs.Ends.{alike_ending, any_said, end_alike, filled_alike, same_step, up_to_failure};
 ghost use Rattle.script_names.specs.Paths.{is_filled};
 
-use dpkg_scenarios::{Ending, Said, Scenario, ScriptKind, Side, State, StepWork, call_words, work};
+use dpkg_scenarios::{
+    Ending, Said, Scenario, ScriptKind, Side, State, StepWork, call_words, work_at,
+};
 use outcome_report::ReportEntry;
 use scenario_runs::{CallEnd, ScriptCall};
 use script_names::{Bytes, Copied, List, Mark, Memory, Reason, Site};
@@ -27,26 +28,8 @@ impl Copied for GroupEnd {
     }
 }
 
-// How many steps a scenario has.
-fn steps(scenario: Scenario) -> u16
-    ensures { result ≡ length (table scenario) }
-{
-    match scenario {
-        Scenario::Install => 5,
-        Scenario::InstallAgain => 5,
-        Scenario::Upgrade => 14,
-        Scenario::Remove => 4,
-        Scenario::Purge => 6,
-        Scenario::PurgeLater => 2,
-        Scenario::InFavour => 9,
-        Scenario::Deconfigure => 7,
-        Scenario::Disappear => 6,
-        Scenario::Twice => 2,
-    }
-}
-
-// The same package.
-fn same_side(a: Side, b: Side) -> bool
+/// Whether both are the same package.
+pub fn same_side(a: Side, b: Side) -> bool
     ensures { result ≡ same_side a b }
 {
     match (a, b) {
@@ -57,8 +40,8 @@ fn same_side(a: Side, b: Side) -> bool
     }
 }
 
-// A script, numbered.
-fn same_script(a: ScriptKind, b: ScriptKind) -> bool
+/// Whether both are the same script.
+pub fn same_script(a: ScriptKind, b: ScriptKind) -> bool
     ensures { result ≡ same_script a b }
 {
     match a {
@@ -161,10 +144,11 @@ fn any_said(alloc: Global) -> Result<Said, Memory>
 fn makes(alloc: Global, scenario: Scenario, call: &ScriptCall, step: u16) -> Result<bool, Memory>
     ensures { IfOk result (λ is. is ≡ makes scenario call.now step) }
 {
-    if step < 1 || step > steps(scenario) {
-        return Ok(false);
-    }
-    if !is_call(work(scenario, step), call) {
+    let done = match work_at(scenario, step) {
+        Some(done) => done,
+        None => return Ok(false),
+    };
+    if !is_call(done, call) {
         return Ok(false);
     }
     let said = any_said(alloc)?;
@@ -298,11 +282,7 @@ fn end_site(ending: Ending, n: usize, trace: &[Mark]) -> Option<Site>
 }
 
 /// How an entry's outcome ends, and where.
-pub(crate) fn end_of(
-    alloc: Global,
-    scenario: Scenario,
-    entry: &ReportEntry,
-) -> Result<GroupEnd, Memory>
+pub fn end_of(alloc: Global, scenario: Scenario, entry: &ReportEntry) -> Result<GroupEnd, Memory>
     ensures { IfOk result (λ end. end ≡ end_of scenario entry.now) }
 {
     let ending = entry.outcome.ending;
@@ -401,8 +381,49 @@ fn same_ending(a: Ending, b: Ending) -> bool
 }
 
 /// Whether outcomes end alike.
-pub(crate) fn same_end(a: &GroupEnd, b: &GroupEnd) -> bool
+pub fn same_end(a: &GroupEnd, b: &GroupEnd) -> bool
     ensures { result ≡ same_end a.now b.now }
 {
     same_ending(a.ending, b.ending) && same_option(a.site, b.site)
+}
+
+// The same ending, wherever in a script.
+fn alike_ending(a: Ending, b: Ending) -> bool
+    ensures { result ≡ alike_ending a b }
+{
+    match a {
+        Ending::Done(_) => false,
+        Ending::Failed(s) => match b {
+            Ending::Failed(t) => state_number(s) == state_number(t),
+            Ending::Done(_) | Ending::Incomplete(_, _) | Ending::Bound(_) => false,
+        },
+        Ending::Incomplete(r, _) => match b {
+            Ending::Incomplete(q, _) => reason_number(r) == reason_number(q),
+            Ending::Done(_) | Ending::Failed(_) | Ending::Bound(_) => false,
+        },
+        Ending::Bound(_) => match b {
+            Ending::Bound(_) => true,
+            Ending::Done(_) | Ending::Failed(_) | Ending::Incomplete(_, _) => false,
+        },
+    }
+}
+
+// Whether both have a site, in the same step.
+fn same_step(a: Option<Site>, b: Option<Site>) -> bool
+    ensures { result ≡ same_step a b }
+{
+    match a {
+        None => false,
+        Some(a) => match b {
+            None => false,
+            Some(b) => a.step == b.step,
+        },
+    }
+}
+
+/// Whether outcomes end alike in the same step, wherever in it. One that is done ends nowhere.
+pub fn end_alike(a: &GroupEnd, b: &GroupEnd) -> bool
+    ensures { result ≡ end_alike a.now b.now }
+{
+    alike_ending(a.ending, b.ending) && same_step(a.site, b.site)
 }

@@ -10,6 +10,6 @@ mod pairs;
 mod telling;
 pub mod theorems;
 
-pub use ends::GroupEnd;
+pub use ends::{GroupEnd, end_alike, end_of, same_end, same_script, same_side};
 pub use group::{FactBox, Group};
 pub use telling::groups;

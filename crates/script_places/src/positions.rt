@@ -106,8 +106,9 @@ pub(crate) fn behind_newline(text: &[u8]) -> usize
     offset
 }
 
-// How many bytes are to be passed over behind the first one.
-pub(crate) fn passed_behind(passed: usize, text: &[u8]) -> usize
+/// How many bytes are to be passed over behind the first one, where so many are from that one on: the rest of a
+/// character.
+pub fn passed_behind(passed: usize, text: &[u8]) -> usize
     ensures { result ≡ passed_behind passed text.now }
 {
     if passed == 0 {

@@ -114,8 +114,8 @@ fn goes_down(alloc: Global, script: &[u8]) -> Result<bool, Memory>
     Ok(!has_done(joined.as_slice()) && !has_parens(joined.as_slice()))
 }
 
-// A text without its joined lines.
-fn joined(alloc: Global, text: &[u8]) -> Result<Bytes, Memory>
+/// A text without its joined lines.
+pub fn joined(alloc: Global, text: &[u8]) -> Result<Bytes, Memory>
     ensures { IfOk result (λ bytes. bytes ≡ joined text.now) }
 {
     let mut bytes = Bytes::new(alloc);

@@ -52,7 +52,8 @@ pub fn settling_words(reason: Reason) -> &'static [u8]
         Reason::Message => b"2>&1 outside the substitution",
         Reason::Strict => b"`|| true` in the substitution, or its command outside",
         Reason::Status => b"a number from 0 to 255",
-        Reason::Run => b"the base line `runs`, where each file that is asked about may be executed",
+        Reason::Run =>
+            b"the base line `runs`, where it is asked whether a file may be executed; else a base line that says what stands there",
         Reason::Same => b"other paths",
         Reason::Conffile => b"a base line that says what stands there",
         Reason::Restore => b"a report of this version",

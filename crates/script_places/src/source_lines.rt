@@ -211,8 +211,9 @@ fn first_look(column: usize, text: &[u8]) -> Look
     }
 }
 
-// Whether the first character of a text is shown as it is.
-fn shows(text: &[u8]) -> bool
+/// Whether the first character of a text is shown as it is: it is no control, turns no direction of writing, breaks no
+/// line and has a width.
+pub fn shows(text: &[u8]) -> bool
     ensures { result ≡ shows (decoded text.now).char }
 {
     let (character, _) = decode_utf8(text);

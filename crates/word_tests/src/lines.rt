@@ -1,6 +1,6 @@
 // A row has the words of a line, with "" for an empty one, and behind an arrow the request that they spell, or the
 // number of the word at which they stop to be one. A request is shown by a copy of it.
-use command_words::{Folders, Layout, Request, WordsFault, read_words};
+use command_words::{Folders, Layout, Request, View, WordsFault, read_words};
 use dpkg_scenarios::{Scenario, scenario_name};
 use script_names::{Copied, List, Memory, Text};
 use std::alloc::{AllocError, Global};
@@ -30,6 +30,17 @@ fn layout_name(layout: Layout) -> &'static str {
         Layout::Plain => "plain",
         Layout::Brief => "brief",
         Layout::Json => "json",
+    }
+}
+
+fn put_view(alloc: Global, text: &mut String, view: View) -> Result<(), AllocError> {
+    match view {
+        View::Text => text.push_str("plain"),
+        View::Places => text.push_str("places"),
+        View::Outcome { number } => {
+            let outcome = format!(in alloc; "outcome={number}")?;
+            text.push_str(outcome.as_str())
+        }
     }
 }
 
@@ -103,11 +114,11 @@ fn shown_request(alloc: Global, request: &Request) -> Result<String, AllocError>
             scenario,
             turns,
             limit,
-            places,
+            view,
         } => {
             let dir = shown_word(folders.dir.as_str());
-            let layout = if *places { "places" } else { "plain" };
-            let mut text = format!(in alloc; "explain {dir} {turns} {limit} {layout}")?;
+            let mut text = format!(in alloc; "explain {dir} {turns} {limit} ")?;
+            put_view(alloc, &mut text, *view)?;
             put_folders(&mut text, folders)?;
             put_scenario(&mut text, *scenario)?;
             Ok(text)

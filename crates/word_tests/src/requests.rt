@@ -1,6 +1,6 @@
 //! Lines that spell a request. A check is shown with its folder, turns, limit and layout; a run with its folder,
 //! scenario, tree and turns; a load with its number and limit; a prediction with its report and trees; an explanation as a
-//! check, plain or by places alone; a pair with its folders, scenario, turns and limit; what is configured twice with its
+//! check, plain, by places alone or of one outcome; a pair with its folders, scenario, turns and limit; what is configured twice with its
 //! folder, turns and limit.
 use crate::lines::check_rows;
 use std::test::Fail;
@@ -179,11 +179,15 @@ explain --old= --base b p -> explain p 100 10000 plain old="" base=b
 explain --old o --base b --scenario upgrade --turns 5 --limit 6 --places p -> explain p 5 6 places old=o base=b scenario=upgrade
 explain p --old o --base b --scenario purge --turns 7 --limit 3 -> explain p 7 3 plain old=o base=b scenario=purge
 explain --scenario=install-again --places --limit=100000 p -> explain p 100 100000 places scenario=install-again
+explain p --outcome 1 -> explain p 100 10000 outcome=1
+explain --outcome=100000 p -> explain p 100 10000 outcome=100000
+explain --outcome 007 --scenario install p -> explain p 100 10000 outcome=7 scenario=install
+explain --turns 5 --outcome=8 --limit=6 -- --outcome -> explain --outcome 5 6 outcome=8
 "#;
 
 #[test]
 fn explanations_are_read(rt: HostRuntime) -> Result<(), Fail> {
-    check_rows(&rt, EXPLANATIONS, 14)
+    check_rows(&rt, EXPLANATIONS, 18)
 }
 
 const PAIRS: &str = r#"

@@ -286,11 +286,29 @@ run p --places -> usage 3
 translate f --places -> usage 3
 load 5 --places -> usage 3
 predict r t --places -> usage 4
+explain p --outcome -> usage 4
+explain p --outcome= -> usage 3
+explain p --outcome 0 -> usage 4
+explain p --outcome 100001 -> usage 4
+explain p --outcome=1000000 -> usage 3
+explain p --outcome one -> usage 4
+explain p --outcome --places -> usage 4
+explain p --outcome=--places -> usage 3
+explain p --outcome 1 --outcome 2 -> usage 5
+explain p --outcome 1 --places -> usage 5
+explain --places p --outcome -> usage 4
+explain --places --outcome=1 p -> usage 3
+check p --outcome 1 -> usage 3
+check --outcome=1 p -> usage 2
+run p --outcome=1 -> usage 3
+load 5 --outcome 1 -> usage 3
+pair p --outcome=1 -> usage 3
+twice p --outcome 1 -> usage 3
 "#;
 
 #[test]
 fn wrong_explanations(rt: HostRuntime) -> Result<(), Fail> {
-    check_rows(&rt, EXPLANATIONS, 28)
+    check_rows(&rt, EXPLANATIONS, 46)
 }
 
 const PAIRS: &str = r#"

@@ -1,0 +1,3 @@
+pub mod Placed
+pub mod Pictures
+pub mod ShellLines
