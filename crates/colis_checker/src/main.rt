@@ -1,41 +1,19 @@
-//! Reads unpacked Debian packages and reports every way in which their maintainer scripts can end, scenario by
-//! scenario, over all file trees that meet stated start conditions; or reports so the one scenario of a pair of
-//! packages, or of a package that is configured twice; or sums up such a report on a package that it makes; or explains
-//! to people what such reports say; or runs one scenario from one tree; or translates one script and prints its CoLiS
-//! program; or says which outcome of a report each of many trees has. Begin with `top`: its `run_words` is all that the
-//! program does, and its `finish` ends the program with the status. What a report says is in specs/Reports.antt, and
-//! what it means in `theorems`.
+//! The program: it makes the call that its arguments spell, over the files that it stands by. What a call is, and what
+//! holds of it, is in checker_calls: begin with `run_words` there.
 #![tactic(auto)]
 
-mod account;
-mod command_line;
-mod deliver;
-mod error_lines;
-mod explanations;
-mod faults;
-mod loads;
-mod pairs;
-mod reports;
-mod scenarios;
-mod tasks;
-#[cfg(test)]
-mod tests;
-pub mod theorems;
-mod top;
-mod work;
-mod written;
-
 use case_pool::Open;
+use checker_calls::{finish, words_of};
 use checker_io::{DirShelf, OutSink};
 use std::env;
 use std::process::ExitCode;
 
 fn main(rt: HostRuntime) -> ExitCode {
-    let words = command_line::words_of(rt.alloc(), env::args(&rt));
+    let words = words_of(rt.alloc(), env::args(&rt));
     let mut shelf = DirShelf::new(&rt);
     let mut out = OutSink::new(rt.stdout());
     let mut err = OutSink::new(rt.stderr());
-    top::finish(
+    finish(
         &rt,
         rt.alloc(),
         &Open::new(),

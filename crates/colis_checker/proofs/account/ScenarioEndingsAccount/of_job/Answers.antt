@@ -1,9 +1,0 @@
-use Rattle.scenario_runs.specs.Runs.{scenario_run}
-use Rattle.start_trees.specs.Needs.{IsStart}
-use Rattle.colis_checker.proofs.Accounts.{part_ends}
-use Rattle.colis_checker.proofs.account.ScenarioEndingsAccount.of_job.Goals as goal
-
-pub returns-in-Ok : goal.returns-in-Ok
-returns-in-Ok c =
-    part_ends (scenario_run c.args.job.now) (IsStart c.args.needs.now) c.args.limit c.args.job.now.scenario
-    c.in-Ok.endings c.in-Ok.ensures

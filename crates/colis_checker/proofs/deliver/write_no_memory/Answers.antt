@@ -1,6 +1,0 @@
-use Rattle.std.proofs.Common.{refl}
-use Rattle.colis_checker.proofs.Took.{takes_part}
-use Rattle.colis_checker.proofs.deliver.write_no_memory.Goals as goal
-
-pub returns : goal.returns
-returns g c = (refl, takes_part _ _ _ c.write_text.result c.write_text.ensures.takes)

@@ -1,8 +1,0 @@
-use Rattle.colis_checker.proofs.Failures.{failed_scenario, failed_report}
-use Rattle.colis_checker.proofs.theorems.a_failure_is_real.Goals as goal
-
-pub returns-clause-scenario : goal.returns-clause-scenario
-returns-clause-scenario c = failed_scenario c.more_turns_change_no_written_run.ensures
-
-pub returns-clause-report : goal.returns-clause-report
-returns-clause-report c = failed_report c.more_turns_change_no_written_run.ensures

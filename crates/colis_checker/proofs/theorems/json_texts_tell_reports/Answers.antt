@@ -1,5 +1,0 @@
-use Rattle.colis_checker.proofs.WholeReports.{json_texts_tell}
-use Rattle.colis_checker.proofs.theorems.json_texts_tell_reports.Goals as goal
-
-pub returns : goal.returns
-returns c = json_texts_tell c.json_tells_reports.ensures.texts

@@ -1,5 +1,0 @@
-use Rattle.colis_checker.proofs.WholeReports.{plain_texts_tell}
-use Rattle.colis_checker.proofs.theorems.plain_texts_tell_reports.Goals as goal
-
-pub returns : goal.returns
-returns c = plain_texts_tell c.texts_tell_reports.ensures
