@@ -235,6 +235,64 @@ fn reported(alloc: Global, scenario: Scenario, packages: &Packages) -> Result<By
     }
 }
 
+// The text of a run, up to its tree.
+fn put_front(text: &mut Bytes, ran: &[u8]) -> Result<(), Memory> {
+    let (front, _) = str::from_utf8(ran)
+        .unwrap_or("")
+        .split_once("after\n")
+        .unwrap_or(("", ""));
+    text.extend(front.as_bytes())
+}
+
+// The text of the run from the tree that an outcome shows, up to its tree, or that it ends otherwise than the outcome.
+fn put_shown(
+    alloc: Global,
+    text: &mut Bytes,
+    job: &Job,
+    entry: &ReportEntry,
+) -> Result<(), Memory> {
+    if !entry.confirmed {
+        return text.extend(b"not confirmed\n");
+    }
+    let replayed = run_from(alloc, job, &entry.outcome.shown)?;
+    let ran = render_run(alloc, replayed.get())?;
+    put_front(text, ran.as_slice())
+}
+
+// These texts of outcomes, one behind another.
+fn shown_texts(alloc: Global, job: &Job, entries: &[ReportEntry]) -> Result<Bytes, Memory> {
+    let mut text = Bytes::new(alloc);
+    for entry in entries {
+        put_shown(alloc, &mut text, job, entry)?;
+    }
+    Ok(text)
+}
+
+// These texts of the outcomes of one part.
+fn shown_text(alloc: Global, job: &Job, parts: &[ReportPart]) -> Result<Bytes, Memory> {
+    match parts {
+        [part] => shown_texts(alloc, job, part.entries.as_slice()),
+        _ => Err(Memory),
+    }
+}
+
+// These texts of the outcomes of a scenario.
+fn shown(alloc: Global, scenario: Scenario, packages: &Packages) -> Result<Bytes, Memory> {
+    let job = job(alloc, scenario, packages, 100)?;
+    match parts(alloc, scenario, packages) {
+        Ok(parts) => shown_text(alloc, job.get(), parts.as_slice()),
+        Err(_) => Err(Memory),
+    }
+}
+
+// These texts of the outcomes of a scenario for a task.
+fn task_shown(alloc: Global, scenario: Scenario, task: &Task) -> Result<Bytes, Memory> {
+    match task {
+        Task::Pair { packages, .. } => shown(alloc, scenario, packages),
+        _ => Err(Memory),
+    }
+}
+
 // The brief report on a scenario for a task.
 fn task_report(alloc: Global, scenario: Scenario, task: &Task) -> Result<Bytes, Memory> {
     match task {
@@ -252,6 +310,9 @@ pub(crate) enum Sought {
     ByCopies,
     /// The brief report, with 100 turns of loops and a limit of 1,000 outcomes.
     Report,
+    /// Of a pair, or a package that is configured twice, the text of the run from the tree that each outcome shows, up to
+    /// its tree, where it ends as the outcome does.
+    Shown,
 }
 
 /// What is said of a scenario for the request of a line over these files, where those of the second list stand in the
@@ -269,6 +330,7 @@ pub(crate) fn said(
         Sought::Answer => task_text(alloc, scenario, task.get()),
         Sought::ByCopies => copied_task_text(alloc, scenario, task.get()),
         Sought::Report => task_report(alloc, scenario, task.get()),
+        Sought::Shown => task_shown(alloc, scenario, task.get()),
     }
 }
 

@@ -18,6 +18,8 @@ mod needs;
 #[cfg(test)]
 mod owned;
 #[cfg(test)]
+mod pairs;
+#[cfg(test)]
 mod placed;
 #[cfg(test)]
 mod plain;
