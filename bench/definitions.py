@@ -13,8 +13,6 @@ DEFINED = re.compile(rf"^ *(?:abbrev |unfoldable |opaque )?pub (?:record |data )
 IMPORT = re.compile(r"use Rattle\.([a-z_]+)\.specs\.([A-Za-z_.]+?)\.\{([^}]*)\}")
 FUNCTION = re.compile(r"^( *)(pub )?(?:const )?fn ([a-z_0-9]+)")
 OWNER = re.compile(r"^(?:impl(?:<.*?>)? (?:([A-Za-z_:<>]+) for )?|pub (trait) )([A-Za-z_]+)")
-# The program's own modules are private; these calls are what its users rely on.
-PROGRAM_CALLS = ("run_words", "finish", "words_of")
 
 
 def crate_names():
@@ -76,8 +74,6 @@ def clauses(text):
 
 
 def is_seen(crate, module, name, owner, exported, modules):
-    if crate == "colis_checker":
-        return name in PROGRAM_CALLS or module == "theorems"
     return module in modules or module in ("lib", "main") or (owner or name) in exported
 
 

@@ -10,7 +10,7 @@ repository=$(dirname "$here")
 # (the launcher beside a program that is newer than all its sources, and so is not built again)
 mkdir -p "$folder/top/docs" "$folder/top/share" "$folder/top/crates/colis_checker/out"
 cp "$repository/docs/help.txt" "$folder/top/docs"
-cp "$repository/share/explain.sh" "$folder/top/share"
+cp "$repository/share/explain.sh" "$repository/share/colours.sed" "$folder/top/share"
 : >"$folder/top/crates.txt"
 { echo "#!$(command -v "$shell")" && tail -n +2 "$repository/colis"; } >"$folder/top/colis"
 chmod +x "$folder/top/colis"
@@ -117,6 +117,10 @@ refused 'colis check p' 3 'colis: p/postinst: longer than 1048576 bytes' \
 
 # ---- other files
 
+printf 'Package: A\nVersion: 1\n' >p/control
+refused 'colis twice p' 3 'colis: p/control: bad version in line 1' \
+    'p/control:1: Package: A   (a name has a to z, digits and + - . alone, and one of them at least)'
+
 echo 'exit 0' | script_of p
 echo 'Version: 1_0' >p/control
 refused 'colis check p' 3 'colis: p/control: bad version in line 1' \
@@ -163,12 +167,12 @@ refused 'colis translate p' 4 'colis: p: read failed' 'p: this is a folder, and 
 # ---- words
 
 refused 'colis chek p' 3 'colis: usage: word 1' \
-    'chek is no command; the commands are check, run, predict, translate and load (colis --help)'
+    'chek is no command; the commands are check, explain, run, predict, translate, pair, twice and load (colis --help)'
 refused "colis '\\033[31m'" 3 'colis: usage: word 1' \
-    '\033[31m is no command; the commands are check, run, predict, translate and load (colis --help)'
+    '\033[31m is no command; the commands are check, explain, run, predict, translate, pair, twice and load (colis --help)'
 refused "colis check p '\\033'" 3 'colis: usage: word 3' '\033 is one word too many (colis --help)'
 refused "colis check '\\033'" 3 'colis: \033/list: missing' '\033/list: there is no folder \033'
-refused 'colis' 3 'colis: usage: word 1' 'the commands are check, run, predict, translate and load (colis --help)'
+refused 'colis' 3 'colis: usage: word 1' 'the commands are check, explain, run, predict, translate, pair, twice and load (colis --help)'
 refused 'colis check' 3 'colis: usage: word 2' 'check takes a folder (colis --help)'
 refused 'colis check p q' 3 'colis: usage: word 3' 'q is one word too many (colis --help)'
 refused 'colis check p --help' 3 'colis: usage: word 3' \
@@ -177,6 +181,16 @@ refused 'colis check p --turns' 3 'colis: usage: word 4' '--turns takes a number
 refused 'colis check p --turns x' 3 'colis: usage: word 4' '--turns takes a number from 1 to 10000 (colis --help)'
 refused 'colis predict report' 3 'colis: usage: word 3' \
     'predict takes a report of check --json and a file of trees (colis --help)'
+for command in explain twice; do
+    refused "colis $command" 3 'colis: usage: word 2' "$command takes a folder (colis --help)"
+done
+for words in 'pair 2' 'pair p 3' 'pair p --with q 5'; do
+    refused "colis ${words% *}" 3 "colis: usage: word ${words##* }" \
+        'pair takes a folder, --with DIR and --scenario NAME (colis --help)'
+done
+refused 'colis pair p --with' 3 'colis: usage: word 4' '--with takes a folder (colis --help)'
+refused 'colis pair p --with q --scenario install' 3 'colis: usage: word 6' \
+    '--scenario takes one of in-favour, deconfigure and disappear (colis --help)'
 refused 'colis run p --scenario install' 3 'colis: usage: word 5' \
     'run takes a folder, --scenario NAME and --tree FILE (colis --help)'
 refused "colis check \$(printf 'p\\377')" 3 'colis: usage: word 1' \
@@ -191,6 +205,11 @@ refused 'colis check p --scenario remove --base mine' 3 'colis: no start tree fo
 echo 'mkdir -p /srv/a/b/c' | script_of p
 refused 'colis check p --scenario install --limit 1' 3 'colis: more than 1 outcomes in install' \
     '--limit N allows more; --scenario NAME reports one scenario alone; a base that says more has fewer outcomes'
+
+echo 'exit 0' | script_of o
+echo /srv/o >>o/list
+refused 'colis pair p --with o --scenario disappear' 3 'colis: other package keeps /srv/o' \
+    'the other package disappears only where the new one lists each of its files'
 
 # ---- names
 
@@ -232,6 +251,120 @@ for call in '{ sleep 1; colis translate p/postinst; echo "status $?" >status; } 
     printf 'colis: write failed\nstatus 5\n' | same "$call (terminal)" said
 done
 call='timeout --preserve-status -s INT 1 colis translate fifo'
+piped "$call"
+echo 'status 130' | same "$call" said
+if [ -n "$terminals" ]; then
+    typed "$call"
+    echo 'status 130' | same "$call (terminal)" said
+fi
+
+# ---- colours: of a program that prints what it is given, ends as it is told, and of the real one
+
+unset NO_COLOR
+TERM=xterm
+export TERM
+escape=$(printf '\033')
+mkdir -p shown/docs
+cp -r top/share top/colis top/crates.txt shown
+mkdir -p shown/crates/colis_checker/out
+cat >shown/crates/colis_checker/out/colis_checker <<'EOF'
+#!/bin/sh
+cat text
+case $2 in
+killed) kill -9 $$ ;;
+said) echo 'colis: s/postinst: syntax at 10' >&2 && exit 3 ;;
+*) exit "$2" ;;
+esac
+EOF
+chmod +x shown/crates/colis_checker/out/colis_checker
+cat >text <<'EOF'
+p:x 1, install: FAILS on some systems
+3 outcomes: 1 failing, 1 undecided, 1 ending well
+
+p:x/postinst:3:1: failure; the package is left unpacked, but its configuration failed (1 outcome)
+    echo ': failure' # p 1, install: UNDECIDED
+    ^^^^^^^^^^^^^^^^
+p:x: unpacking the files, act 3: undecided: a link stands there (1 outcome)
+p:x: ends well; the package is left installed (1 outcome)
+p 1 over 0, upgrade: UNDECIDED
+p 1, remove: ends well
+p 1, purge: NOT EXAMINED
+EOF
+printf 'Not looked at: \303\251\377, a tab\t, no end of the line' >>text
+cat >coloured <<EOF
+${escape}[1mp:x 1, install: ${escape}[31mFAILS on some systems${escape}[m
+3 outcomes: 1 failing, 1 undecided, 1 ending well
+
+${escape}[31mp:x/postinst:3:1: failure; the package is left unpacked, but its configuration failed (1 outcome)${escape}[m
+    echo ': failure' # p 1, install: UNDECIDED
+    ^^^^^^^^^^^^^^^^
+${escape}[33mp:x: unpacking the files, act 3: undecided: a link stands there (1 outcome)${escape}[m
+${escape}[32mp:x: ends well; the package is left installed (1 outcome)${escape}[m
+${escape}[1mp 1 over 0, upgrade: ${escape}[33mUNDECIDED${escape}[m
+${escape}[1mp 1, remove: ${escape}[32mends well${escape}[m
+${escape}[1mp 1, purge: ${escape}[33mNOT EXAMINED${escape}[m
+EOF
+tail -n 1 text >>coloured
+
+# ends TEXT END ..: what a call says that prints this file and ends with these lines.
+ends() {
+    cat "$1"
+    shift
+    printf '%s\n' "$@"
+}
+
+for end in 0 1 2 3 4 5 6 70; do
+    piped "shown/colis explain $end"
+    ends text "status $end" | same "explain $end" said
+    [ -n "$terminals" ] || continue
+    typed "shown/colis explain $end"
+    ends coloured "status $end" | same "explain $end (terminal)" said
+    typed "shown/colis explain $end 2>err"
+    cat err >>said
+    ends coloured "status $end" | same "explain $end (terminal, and a file for standard error)" said
+done
+if [ -n "$terminals" ]; then
+    for words in 'NO_COLOR=1 shown/colis explain 1' 'TERM=dumb shown/colis explain 1' 'shown/colis explain 1 --places' \
+        'shown/colis check 1' 'shown/colis explain 1 | cat; (exit 1)' \
+        'shown/colis explain 1 >file; cat file; (exit 1)'; do
+        typed "$words"
+        ends text 'status 1' | same "no colours: $words (terminal)" said
+    done
+    typed 'NO_COLOR= shown/colis explain 1'
+    ends coloured 'status 1' | same 'colours: NO_COLOR= (terminal)' said
+    echo >>text
+    echo >>coloured
+    script_of s <<EOF
+fi
+EOF
+    typed 'shown/colis explain said'
+    ends coloured 'colis: s/postinst: syntax at 10' 's/postinst:2:1: fi   (no script goes on like this)' 'status 3' |
+        same 'explain, refused (terminal)' said
+    typed 'shown/colis explain said 2>err'
+    cat err >>said
+    ends coloured 'status 3' 'colis: s/postinst: syntax at 10' |
+        same 'explain, refused (terminal, and a file for standard error)' said
+    typed 'shown/colis explain killed 2>err'
+    cat err >>said
+    ends coloured 'status 137' | same 'explain, killed (terminal, and a file for standard error)' said
+fi
+script_of r <<'EOF'
+mkdir /srv/a
+EOF
+call='colis explain r'
+piped "$call"
+cp said expected_text
+! grep -q "$escape" said || { echo 'WRONG colours in a pipe' && echo WRONG >>wrong; }
+if [ -n "$terminals" ]; then
+    typed "$call"
+    sed "s/$escape\\[[0-9]*m//g" said | same "$call (terminal, without the colours)" expected_text
+    grep "^$escape\\[1m" said >heads
+    wc -l <heads >count
+    echo 6 | same "$call (terminal): a head for each scenario" count
+fi
+rm s/list
+mkfifo s/list
+call='timeout --preserve-status -s INT 1 colis explain s'
 piped "$call"
 echo 'status 130' | same "$call" said
 if [ -n "$terminals" ]; then

@@ -205,14 +205,15 @@ unread() {
     fi
 }
 
-# values OPTION: what an option takes.
+# values COMMAND OPTION: what an option of the command takes.
 values() {
-    case $1 in
-    --old) echo 'a folder' ;;
-    --base | --tree) echo 'a file' ;;
-    --scenario) echo 'one of install, install-again, upgrade, remove, purge and purge-later' ;;
-    --turns) echo 'a number from 1 to 10000' ;;
-    --limit) echo 'a number from 1 to 100000' ;;
+    case $1:$2 in
+    *:--old | *:--with) echo 'a folder' ;;
+    *:--base | *:--tree) echo 'a file' ;;
+    pair:--scenario) echo 'one of in-favour, deconfigure and disappear' ;;
+    *:--scenario) echo 'one of install, install-again, upgrade, remove, purge and purge-later' ;;
+    *:--turns) echo 'a number from 1 to 10000' ;;
+    *:--limit | *:--outcome) echo 'a number from 1 to 100000' ;;
     esac
 }
 
@@ -225,20 +226,21 @@ usage() {
     are_texts "$@" || { echo 'a word has bytes that are no UTF-8 text' && return; }
     if [ "$number" -eq 1 ]; then
         [ "$count" -eq 0 ] || printf '%s is no command; ' "$(text "$command")"
-        echo 'the commands are check, run, predict, translate and load'
+        echo 'the commands are check, explain, run, predict, translate, pair, twice and load'
         return
     fi
     shift "$((number - 2))"
     before=$1 word=${2-}
     case $before in
-    --old | --base | --tree | --scenario | --turns | --limit)
-        echo "$before takes $(values "$before")"
+    --old | --with | --base | --tree | --scenario | --turns | --limit | --outcome)
+        echo "$before takes $(values "$command" "$before")"
         return
         ;;
     esac
     if [ "$number" -gt "$count" ]; then
         case $command in
-        check) echo 'check takes a folder' ;;
+        check | explain | twice) echo "$command takes a folder" ;;
+        pair) echo 'pair takes a folder, --with DIR and --scenario NAME' ;;
         run) echo 'run takes a folder, --scenario NAME and --tree FILE' ;;
         predict) echo 'predict takes a report of check --json and a file of trees' ;;
         translate) echo 'translate takes a file' ;;
@@ -247,10 +249,10 @@ usage() {
         return
     fi
     case $word in
-    --old=* | --base=* | --tree=* | --scenario=* | --turns=* | --limit=*)
+    --old=* | --with=* | --base=* | --tree=* | --scenario=* | --turns=* | --limit=* | --outcome=*)
         option=${word%%=*}
         printf '%s cannot stand here: where %s has %s, it takes %s, and once\n' "$(text "$word")" "$command" "$option" \
-            "$(values "$option")"
+            "$(values "$command" "$option")"
         ;;
     -*) printf '%s is no option of %s, or stands there twice\n' "$(text "$word")" "$command" ;;
     *)
@@ -293,7 +295,10 @@ case $why in
     ;;
 'nested too deep at '[0-9]*) at_byte "$name" "$place" 'commands and substitutions nest 64 deep at most' ;;
 'bad version in line '[0-9]*)
-    at_line "$name" "$place" 'a version has letters, digits and . + - : ~ alone, and one of them at least'
+    case $(tail -n "+$place" <"$name" | head -n 1) in
+    Package:*) at_line "$name" "$place" 'a name has a to z, digits and + - . alone, and one of them at least' ;;
+    *) at_line "$name" "$place" 'a version has letters, digits and . + - : ~ alone, and one of them at least' ;;
+    esac
     ;;
 'interpreter not accepted')
     at_byte "$name" 0 'the first line is #!/bin/sh, #!/bin/dash or #!/bin/bash, perhaps with -e'
@@ -304,6 +309,7 @@ missing) say "$name" "$(missing "$name")" ;;
 'no start tree for '*)
     echo "no tree is both as the base says and as the package's files are before it (START CONDITIONS in the manual)"
     ;;
+'other package keeps '*) echo 'the other package disappears only where the new one lists each of its files' ;;
 'more than '*' outcomes in '*)
     echo '--limit N allows more; --scenario NAME reports one scenario alone; a base that says more has fewer outcomes'
     ;;
