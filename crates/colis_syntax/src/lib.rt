@@ -4,6 +4,7 @@
 
 mod copies;
 mod def;
+mod members;
 mod printing;
 mod program;
 mod syntax;

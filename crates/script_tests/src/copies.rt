@@ -1,6 +1,7 @@
 //! A script in which each form of command and of part stands, copied and compared.
 
 use crate::readings::read;
+use crate::scripts::script_page;
 use script_names::{Boxed, Bytes, Copied, List, Memory};
 use shell_syntax::{Command, Form, Key, Redirect, Script, Word};
 use std::alloc::Global;
@@ -46,10 +47,17 @@ fn copy(alloc: Global, script: &Script) -> Result<Boxed<Script>, Memory> {
     Boxed::new(alloc, twin)
 }
 
+// Whether two scripts are shown alike, offsets included.
+fn are_alike(alloc: Global, script: &Script, other: &Script) -> bool {
+    let page = script_page(alloc, script);
+    let more = script_page(alloc, other);
+    page.whole && more.whole && page.text.equal(&more.text)
+}
+
 // Whether a copy of a script is another one.
 fn is_copy(alloc: Global, script: &Script, other: &Script) -> Result<bool, Memory> {
     let twin = copy(alloc, script)?;
-    Ok(twin.get().equal(other))
+    Ok(are_alike(alloc, twin.get(), other))
 }
 
 // Whether a copy of the script is the script of the text with this end.

@@ -36,6 +36,13 @@ fn show_script(page: &mut Page, script: &Script) {
     show_command(page, &script.body);
 }
 
+// A script, with its offsets.
+pub(crate) fn script_page(alloc: Global, script: &Script) -> Page {
+    let mut page = Page::new(alloc);
+    show_script(&mut page, script);
+    page
+}
+
 fn show_text(alloc: Global, page: &mut Page, text: &[u8]) {
     match read(alloc, text) {
         Ok(script) => show_script(page, script.get()),

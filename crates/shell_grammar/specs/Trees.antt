@@ -9,9 +9,10 @@ use Rattle.shell_syntax.specs.declared.syntax.Word.{Word, roll-Word}
 use Rattle.shell_syntax.specs.declared.syntax.Part.{Part, out-Part}
 use Rattle.shell_syntax.specs.declared.syntax.Part.TheVariants as part
 use Rattle.shell_syntax.specs.declared.syntax.Assign.{Assign, roll-Assign}
-use Rattle.shell_syntax.specs.declared.syntax.Link.{Link, roll-Link}
-use Rattle.shell_syntax.specs.declared.syntax.IfArm.{IfArm, roll-IfArm}
-use Rattle.shell_syntax.specs.declared.syntax.CaseArm.{CaseArm, roll-CaseArm}
+use Rattle.shell_syntax.specs.declared.syntax.Link.{Link}
+use Rattle.shell_syntax.specs.declared.syntax.IfArm.{IfArm}
+use Rattle.shell_syntax.specs.declared.syntax.CaseArm.{CaseArm}
+pub use Rattle.shell_syntax.specs.Members.{link, if_arm, case_arm}
 use Rattle.shell_grammar.specs.declared.items.Items.{Items}
 use Rattle.shell_grammar.specs.Look.{Text, up_to_equals}
 
@@ -38,18 +39,6 @@ redirected at x [] = x
 redirected at x redirects = c.Redirected at x redirects
 
 -- ---- members
-
--- a command behind `&&` or `||`
-abbrev pub link : Bool → Command → Link
-link is_and x = roll-Link (record { and = is_and; command = x })
-
--- a condition and its body
-abbrev pub if_arm : Command → Command → IfArm
-if_arm cond body = roll-IfArm (record { cond = cond; body = body })
-
--- patterns and their body
-abbrev pub case_arm : List Word → Command → CaseArm
-case_arm patterns body = roll-CaseArm (record { patterns = patterns; body = body })
 
 -- a word at its offset
 abbrev pub word_at : ℕ → List Part → Word

@@ -2,7 +2,7 @@
 
 ghost use Rattle.std.specs.Prelude.{◌≡◌, [], ◌∷◌, ◌++◌, length, IfOk};
 ghost use Rattle.shell_grammar.specs.Trees.{seq_of as seq_tree, chain_of as chain_tree, pipe_of as pipe_tree};
-ghost use Rattle.shell_grammar.specs.Trees.{link, if_arm, case_arm};
+ghost use Rattle.shell_grammar.specs.Trees.{if_arm};
 ghost use Rattle.shell_syntax.specs.declared.syntax.Part.TheVariants.{Param};
 ghost use Rattle.shell_syntax.specs.declared.syntax.Command.TheVariants.{Define};
 ghost use Rattle.shell_grammar.specs.Trees.{redirected as redirected_tree, simple as simple_tree};
@@ -11,7 +11,7 @@ ghost use Rattle.shell_grammar.specs.Trees.{word_text as word_text_of};
 
 use script_names::{Boxed, Bytes, Copied, List, Memory};
 use shell_grammar::Items;
-use shell_syntax::{Assign, CaseArm, Command, IfArm, Key, Link, Part, Redirect, Word};
+use shell_syntax::{Assign, Command, IfArm, Key, Link, Part, Redirect, Word, with_if_arm};
 use std::alloc::Global;
 
 /// The one command of a list.
@@ -107,25 +107,6 @@ pub fn one_command(
     Ok(all)
 }
 
-/// Commands, and one more.
-pub fn with_command(trees: List<Command>, tree: Boxed<Command>) -> Result<List<Command>, Memory>
-    ensures { IfOk result (λ all. all ≡ trees ++ tree ∷ []) }
-{
-    let mut all = trees;
-    all.add(tree.into_inner())?;
-    Ok(all)
-}
-
-/// Commands behind `&&` and `||`, and one more.
-pub fn with_link(links: List<Link>, and: bool, tree: Boxed<Command>) -> Result<List<Link>, Memory>
-    ensures { IfOk result (λ all. all ≡ links ++ link and tree ∷ []) }
-{
-    let mut all = links;
-    let command = tree.into_inner();
-    all.add(Link { and, command })?;
-    Ok(all)
-}
-
 /// One arm of an `if`.
 pub fn one_if_arm(
     alloc: Global,
@@ -136,35 +117,6 @@ pub fn one_if_arm(
 {
     let none = List::with_room(alloc, 1)?;
     Ok(with_if_arm(none, cond, body)?)
-}
-
-/// Arms of an `if`, and one more.
-pub fn with_if_arm(
-    arms: List<IfArm>,
-    cond: Boxed<Command>,
-    body: Boxed<Command>,
-) -> Result<List<IfArm>, Memory>
-    ensures { IfOk result (λ all. all ≡ arms ++ if_arm cond body ∷ []) }
-{
-    let mut all = arms;
-    let cond = cond.into_inner();
-    let body = body.into_inner();
-    all.add(IfArm { cond, body })?;
-    Ok(all)
-}
-
-/// Arms of a `case`, and one more.
-pub fn with_case_arm(
-    arms: List<CaseArm>,
-    patterns: List<Word>,
-    body: Boxed<Command>,
-) -> Result<List<CaseArm>, Memory>
-    ensures { IfOk result (λ all. all ≡ arms ++ case_arm patterns body ∷ []) }
-{
-    let mut all = arms;
-    let body = body.into_inner();
-    all.add(CaseArm { patterns, body })?;
-    Ok(all)
 }
 
 /// No items, with room for so many words.

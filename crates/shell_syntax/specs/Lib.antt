@@ -1,2 +1,3 @@
 pub mod PrintedParts
 pub mod Printed
+pub mod Members

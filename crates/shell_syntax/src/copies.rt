@@ -1,8 +1,11 @@
 ghost use Rattle.std.specs.Prelude.{◌≡◌, IfOk};
-ghost use Rattle.shell_syntax.specs.declared.syntax.Command.TheVariants.{Simple, Redirected, Pipe, Not, Chain, If};
+ghost use Rattle.shell_syntax.specs.declared.syntax.Command.TheVariants.{Simple, Redirected, Pipe, Not, Chain, Seq, If};
 ghost use Rattle.shell_syntax.specs.declared.syntax.Command.TheVariants.{For};
 ghost use Rattle.shell_syntax.specs.declared.syntax.Command.TheVariants.{While, Case, Sub, Define};
 
+use crate::members::{
+    case_arm_of, if_arm_of, link_of, with_case_arm, with_command, with_if_arm, with_link,
+};
 use crate::redirect::Redirect;
 use crate::syntax::{Assign, CaseArm, Command, IfArm, Link, Part, Word};
 use script_names::{Boxed as Box, Bytes, Copied, List, Memory};
@@ -10,7 +13,8 @@ use std::alloc::Global;
 
 impl Copied for Command {
     fn copy(&self, alloc: Global) -> Result<Command, Memory> {
-        copy_command(alloc, self)
+        let twin = copy_command(alloc, self)?;
+        Ok(twin.into_inner())
     }
 }
 
@@ -36,32 +40,29 @@ impl Copied for Assign {
 
 impl Copied for Link {
     fn copy(&self, alloc: Global) -> Result<Link, Memory> {
-        let command = self.command.copy(alloc)?;
-        Ok(Link {
-            and: self.and,
-            command,
-        })
+        let command = copy_command(alloc, &self.command)?;
+        Ok(link_of(self.and, command))
     }
 }
 
 impl Copied for IfArm {
     fn copy(&self, alloc: Global) -> Result<IfArm, Memory> {
-        let cond = self.cond.copy(alloc)?;
-        let body = self.body.copy(alloc)?;
-        Ok(IfArm { cond, body })
+        let cond = copy_command(alloc, &self.cond)?;
+        let body = copy_command(alloc, &self.body)?;
+        Ok(if_arm_of(cond, body))
     }
 }
 
 impl Copied for CaseArm {
     fn copy(&self, alloc: Global) -> Result<CaseArm, Memory> {
         let patterns = self.patterns.copy(alloc)?;
-        let body = self.body.copy(alloc)?;
-        Ok(CaseArm { patterns, body })
+        let body = copy_command(alloc, &self.body)?;
+        Ok(case_arm_of(patterns, body))
     }
 }
 
 #[cycle(copying)]
-fn copy_command(alloc: Global, command: &Command) -> Result<Command, Memory>
+fn copy_command(alloc: Global, command: &Command) -> Result<Box<Command>, Memory>
     ensures { IfOk result (λ twin. twin ≡ command.now) }
 {
     match command {
@@ -74,7 +75,7 @@ fn copy_command(alloc: Global, command: &Command) -> Result<Command, Memory>
         Command::Pipe { at, parts } => copy_pipe(alloc, *at, parts),
         Command::Not { at, body } => copy_not(alloc, *at, body),
         Command::Chain { first, rest } => copy_chain(alloc, first, rest),
-        Command::Seq(parts) => Ok(Command::Seq(copy_commands(alloc, parts.as_slice())?)),
+        Command::Seq(parts) => copy_seq(alloc, parts),
         Command::If {
             at,
             arms,
@@ -104,12 +105,12 @@ fn copy_simple(
     at: u32,
     assigns: &List<Assign>,
     words: &List<Word>,
-) -> Result<Command, Memory>
+) -> Result<Box<Command>, Memory>
     ensures { IfOk result (λ twin. twin ≡ Simple at assigns.now words.now) }
 {
     let assigns = copy_assigns(alloc, assigns.as_slice())?;
     let words = copy_words(alloc, words.as_slice())?;
-    Ok(Command::Simple { at, assigns, words })
+    Box::new(alloc, Command::Simple { at, assigns, words })
 }
 
 #[cycle(copying)]
@@ -118,41 +119,56 @@ fn copy_redirected(
     at: u32,
     body: &Box<Command>,
     redirects: &List<Redirect>,
-) -> Result<Command, Memory>
+) -> Result<Box<Command>, Memory>
     ensures { IfOk result (λ twin. twin ≡ Redirected at body.now redirects.now) }
 {
-    let body = copy_boxed(alloc, body)?;
+    let body = copy_command(alloc, body.get())?;
     let redirects = redirects.copy(alloc)?;
-    Ok(Command::Redirected {
-        at,
-        body,
-        redirects,
-    })
+    Box::new(
+        alloc,
+        Command::Redirected {
+            at,
+            body,
+            redirects,
+        },
+    )
 }
 
 #[cycle(copying)]
-fn copy_pipe(alloc: Global, at: u32, parts: &List<Command>) -> Result<Command, Memory>
+fn copy_pipe(alloc: Global, at: u32, parts: &List<Command>) -> Result<Box<Command>, Memory>
     ensures { IfOk result (λ twin. twin ≡ Pipe at parts.now) }
 {
     let parts = copy_commands(alloc, parts.as_slice())?;
-    Ok(Command::Pipe { at, parts })
+    Box::new(alloc, Command::Pipe { at, parts })
 }
 
 #[cycle(copying)]
-fn copy_not(alloc: Global, at: u32, body: &Box<Command>) -> Result<Command, Memory>
+fn copy_seq(alloc: Global, parts: &List<Command>) -> Result<Box<Command>, Memory>
+    ensures { IfOk result (λ twin. twin ≡ Seq parts.now) }
+{
+    let parts = copy_commands(alloc, parts.as_slice())?;
+    Box::new(alloc, Command::Seq(parts))
+}
+
+#[cycle(copying)]
+fn copy_not(alloc: Global, at: u32, body: &Box<Command>) -> Result<Box<Command>, Memory>
     ensures { IfOk result (λ twin. twin ≡ Not at body.now) }
 {
-    let body = copy_boxed(alloc, body)?;
-    Ok(Command::Not { at, body })
+    let body = copy_command(alloc, body.get())?;
+    Box::new(alloc, Command::Not { at, body })
 }
 
 #[cycle(copying)]
-fn copy_chain(alloc: Global, first: &Box<Command>, rest: &List<Link>) -> Result<Command, Memory>
+fn copy_chain(
+    alloc: Global,
+    first: &Box<Command>,
+    rest: &List<Link>,
+) -> Result<Box<Command>, Memory>
     ensures { IfOk result (λ twin. twin ≡ Chain first.now rest.now) }
 {
-    let first = copy_boxed(alloc, first)?;
+    let first = copy_command(alloc, first.get())?;
     let rest = copy_links(alloc, rest.as_slice())?;
-    Ok(Command::Chain { first, rest })
+    Box::new(alloc, Command::Chain { first, rest })
 }
 
 #[cycle(copying)]
@@ -161,19 +177,22 @@ fn copy_if(
     at: u32,
     arms: &List<IfArm>,
     otherwise: &Option<Box<Command>>,
-) -> Result<Command, Memory>
+) -> Result<Box<Command>, Memory>
     ensures { IfOk result (λ twin. twin ≡ If at arms.now otherwise.now) }
 {
     let arms = copy_arms(alloc, arms.as_slice())?;
     let otherwise = match otherwise {
         None => None,
-        Some(last) => Some(copy_boxed(alloc, last)?),
+        Some(last) => Some(copy_command(alloc, last.get())?),
     };
-    Ok(Command::If {
-        at,
-        arms,
-        otherwise,
-    })
+    Box::new(
+        alloc,
+        Command::If {
+            at,
+            arms,
+            otherwise,
+        },
+    )
 }
 
 #[cycle(copying)]
@@ -183,7 +202,7 @@ fn copy_for(
     name: &Bytes,
     words: &Option<List<Word>>,
     body: &Box<Command>,
-) -> Result<Command, Memory>
+) -> Result<Box<Command>, Memory>
     ensures { IfOk result (λ twin. twin ≡ For at name.now words.now body.now) }
 {
     let name = name.copy(alloc)?;
@@ -191,13 +210,16 @@ fn copy_for(
         None => None,
         Some(words) => Some(copy_words(alloc, words.as_slice())?),
     };
-    let body = copy_boxed(alloc, body)?;
-    Ok(Command::For {
-        at,
-        name,
-        words,
-        body,
-    })
+    let body = copy_command(alloc, body.get())?;
+    Box::new(
+        alloc,
+        Command::For {
+            at,
+            name,
+            words,
+            body,
+        },
+    )
 }
 
 #[cycle(copying)]
@@ -207,17 +229,20 @@ fn copy_while(
     until: bool,
     cond: &Box<Command>,
     body: &Box<Command>,
-) -> Result<Command, Memory>
+) -> Result<Box<Command>, Memory>
     ensures { IfOk result (λ twin. twin ≡ While at until cond.now body.now) }
 {
-    let cond = copy_boxed(alloc, cond)?;
-    let body = copy_boxed(alloc, body)?;
-    Ok(Command::While {
-        at,
-        until,
-        cond,
-        body,
-    })
+    let cond = copy_command(alloc, cond.get())?;
+    let body = copy_command(alloc, body.get())?;
+    Box::new(
+        alloc,
+        Command::While {
+            at,
+            until,
+            cond,
+            body,
+        },
+    )
 }
 
 #[cycle(copying)]
@@ -226,37 +251,34 @@ fn copy_case(
     at: u32,
     subject: &Word,
     arms: &List<CaseArm>,
-) -> Result<Command, Memory>
+) -> Result<Box<Command>, Memory>
     ensures { IfOk result (λ twin. twin ≡ Case at subject.now arms.now) }
 {
     let subject = copy_word(alloc, subject)?;
     let arms = copy_case_arms(alloc, arms.as_slice())?;
-    Ok(Command::Case { at, subject, arms })
+    Box::new(alloc, Command::Case { at, subject, arms })
 }
 
 #[cycle(copying)]
-fn copy_sub(alloc: Global, at: u32, body: &Box<Command>) -> Result<Command, Memory>
+fn copy_sub(alloc: Global, at: u32, body: &Box<Command>) -> Result<Box<Command>, Memory>
     ensures { IfOk result (λ twin. twin ≡ Sub at body.now) }
 {
-    let body = copy_boxed(alloc, body)?;
-    Ok(Command::Sub { at, body })
+    let body = copy_command(alloc, body.get())?;
+    Box::new(alloc, Command::Sub { at, body })
 }
 
 #[cycle(copying)]
-fn copy_define(alloc: Global, at: u32, name: &Bytes, body: &Box<Command>) -> Result<Command, Memory>
+fn copy_define(
+    alloc: Global,
+    at: u32,
+    name: &Bytes,
+    body: &Box<Command>,
+) -> Result<Box<Command>, Memory>
     ensures { IfOk result (λ twin. twin ≡ Define at name.now body.now) }
 {
     let name = name.copy(alloc)?;
-    let body = copy_boxed(alloc, body)?;
-    Ok(Command::Define { at, name, body })
-}
-
-#[cycle(copying)]
-fn copy_boxed(alloc: Global, inner: &Box<Command>) -> Result<Box<Command>, Memory>
-    ensures { IfOk result (λ twin. twin ≡ inner.now) }
-{
-    let twin = copy_command(alloc, inner.get())?;
-    Box::new(alloc, twin)
+    let body = copy_command(alloc, body.get())?;
+    Box::new(alloc, Command::Define { at, name, body })
 }
 
 #[cycle(copying)]
@@ -281,7 +303,7 @@ fn copy_part(alloc: Global, part: &Part) -> Result<Part, Memory>
         }
         Part::All => Ok(Part::All),
         Part::Run { at, body, quoted } => {
-            let body = copy_boxed(alloc, body)?;
+            let body = copy_command(alloc, body.get())?;
             Ok(Part::Run {
                 at: *at,
                 body,
@@ -335,7 +357,7 @@ fn copy_commands(alloc: Global, commands: &[Command]) -> Result<List<Command>, M
     let mut twins = List::new(alloc);
     for command in commands {
         let twin = copy_command(alloc, command)?;
-        twins.add(twin)?;
+        twins = with_command(twins, twin)?;
     }
     Ok(twins)
 }
@@ -347,10 +369,7 @@ fn copy_links(alloc: Global, links: &[Link]) -> Result<List<Link>, Memory>
     let mut twins = List::new(alloc);
     for link in links {
         let command = copy_command(alloc, &link.command)?;
-        twins.add(Link {
-            and: link.and,
-            command,
-        })?;
+        twins = with_link(twins, link.and, command)?;
     }
     Ok(twins)
 }
@@ -363,7 +382,7 @@ fn copy_arms(alloc: Global, arms: &[IfArm]) -> Result<List<IfArm>, Memory>
     for arm in arms {
         let cond = copy_command(alloc, &arm.cond)?;
         let body = copy_command(alloc, &arm.body)?;
-        twins.add(IfArm { cond, body })?;
+        twins = with_if_arm(twins, cond, body)?;
     }
     Ok(twins)
 }
@@ -376,7 +395,7 @@ fn copy_case_arms(alloc: Global, arms: &[CaseArm]) -> Result<List<CaseArm>, Memo
     for arm in arms {
         let patterns = copy_words(alloc, arm.patterns.as_slice())?;
         let body = copy_command(alloc, &arm.body)?;
-        twins.add(CaseArm { patterns, body })?;
+        twins = with_case_arm(twins, patterns, body)?;
     }
     Ok(twins)
 }

@@ -1,4 +1,4 @@
-ghost use Rattle.std.specs.Prelude.{◌≡◌, ◌↔◌, IsTrue};
+ghost use Rattle.std.specs.Prelude.{◌≡◌};
 
 use script_names::{Bytes, Copied, Memory};
 use std::alloc::Global;
@@ -12,20 +12,6 @@ pub enum Key {
     Arg(u8),
     /// `#`, how many positional parameters there are (XCU 2.5.2 Special Parameters).
     Count,
-}
-
-impl Key {
-    /// Whether two keys name the same parameter.
-    pub fn equal(&self, other: &Key) -> bool
-        ensures { IsTrue result ↔ (self.now ≡ other.now) }
-    {
-        match (self, other) {
-            (Key::Named(name), Key::Named(other)) => name.equal(other),
-            (Key::Arg(number), Key::Arg(other)) => *number == *other,
-            (Key::Count, Key::Count) => true,
-            _ => false,
-        }
-    }
 }
 
 impl Copied for Key {

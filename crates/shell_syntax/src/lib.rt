@@ -3,10 +3,10 @@
 #![tactic(auto)]
 
 mod copies;
-mod equality;
 mod form;
 mod key;
 mod level;
+mod members;
 mod printed_parts;
 mod printing;
 mod redirect;
@@ -15,6 +15,7 @@ mod syntax;
 
 pub use form::Form;
 pub use key::Key;
+pub use members::{with_case_arm, with_command, with_if_arm, with_link};
 pub use printing::print_script;
 pub use redirect::Redirect;
 pub use script::Script;

@@ -1,4 +1,4 @@
-ghost use Rattle.std.specs.Prelude.{◌≡◌, ◌↔◌, IsTrue};
+ghost use Rattle.std.specs.Prelude.{◌≡◌};
 
 use crate::syntax::Command;
 use script_names::{Copied, Memory};
@@ -9,15 +9,6 @@ use std::alloc::Global;
 pub struct Script {
     pub strict: bool,
     pub body: Command,
-}
-
-impl Script {
-    /// Whether two scripts are the same, byte offsets included.
-    pub fn equal(&self, other: &Script) -> bool
-        ensures { IsTrue result ↔ (self.now ≡ other.now) }
-    {
-        self.strict == other.strict && self.body.equal(&other.body)
-    }
 }
 
 impl Copied for Script {

@@ -12,11 +12,11 @@ use crate::looks::look;
 use crate::parser::lists::members;
 use crate::parser::words::word;
 use crate::tokens::{MAX_LEVELS, arm_begin, newlines, opens, place, stands, take};
-use crate::trees::{one_word, seq_of, with_case_arm};
+use crate::trees::{one_word, seq_of};
 use script_names::{Boxed, List};
 use shell_grammar::{Look, ParseFault, Reserved};
 use shell_lexer::Token;
-use shell_syntax::{CaseArm, Command, Word};
+use shell_syntax::{CaseArm, Command, Word, with_case_arm};
 use std::alloc::Global;
 
 /// `case word nl* in nl* ( arm ;; nl* )* [ arm ] esac`

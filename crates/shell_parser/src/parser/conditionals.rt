@@ -9,11 +9,11 @@ ghost use Rattle.shell_parser.specs.Reads.{Reads, ArmRead};
 
 use crate::parser::lists::block;
 use crate::tokens::{MAX_LEVELS, opens, place, stands, take};
-use crate::trees::{one_if_arm, with_if_arm};
+use crate::trees::one_if_arm;
 use script_names::{Boxed, List};
 use shell_grammar::{Look, ParseFault, Reserved};
 use shell_lexer::Token;
-use shell_syntax::{Command, IfArm};
+use shell_syntax::{Command, IfArm, with_if_arm};
 use std::alloc::Global;
 
 /// `if block then block ( elif block then block )* [ else block ] fi`

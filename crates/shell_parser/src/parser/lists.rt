@@ -8,11 +8,11 @@ use crate::forms::{link_and, same_look, starts};
 use crate::looks::look;
 use crate::parser::commands::command;
 use crate::tokens::{MAX_LEVELS, link_room, list_room, newlines, place, separates, stands};
-use crate::trees::{chain_of, one_command, pipe_of, seq_of, with_command, with_link};
+use crate::trees::{chain_of, one_command, pipe_of, seq_of};
 use script_names::{Boxed, List};
 use shell_grammar::{Look, ParseFault, Reserved};
 use shell_lexer::Token;
-use shell_syntax::Command;
+use shell_syntax::{Command, with_command, with_link};
 use std::alloc::Global;
 
 /// All tokens as a script.

@@ -1,6 +1,7 @@
 use Rattle.std.proofs.Common.{◌≡◌, ◌+◌, ◌*◌, take}
 use Rattle.colis_syntax.specs.declared.syntax.Stmt.{size-Stmt}
-use Rattle.colis_syntax.specs.declared.syntax.Stmt.TheVariants.{Fun, Chain, If, For, While, Case}
+use Rattle.colis_syntax.specs.declared.syntax.Stmt.TheVariants.{Set, Call, Fun, Seq, Chain, Not, If, For, While, Case, Sub, Quiet}
+use Rattle.colis_syntax.specs.declared.syntax.Stmt.TheVariants.{Err, Exit, Return, Export, Unset}
 use Rattle.colis_syntax.proofs.copies.+copying.Given as goal
 
 abbrev pub invariant-copy_strs-loop-string : goal.invariant-copy_strs-loop-string
@@ -45,9 +46,6 @@ decreases-copy_piece l = 3 * goal.size-copy_piece l + 1
 abbrev pub decreases-copy_field : goal.decreases-copy_field
 decreases-copy_field l = 3 * goal.size-copy_field l + 1
 
-abbrev pub decreases-copy_boxed : goal.decreases-copy_boxed
-decreases-copy_boxed l = 3 * goal.size-copy_boxed l + 2
-
 abbrev pub decreases-copy_strs : goal.decreases-copy_strs
 decreases-copy_strs l = 3 * goal.size-copy_strs l + 2
 
@@ -74,6 +72,39 @@ decreases-copy_patterns l = 3 * goal.size-copy_patterns l + 3
 
 abbrev pub decreases-copy_pat_arms : goal.decreases-copy_pat_arms
 decreases-copy_pat_arms l = 3 * goal.size-copy_pat_arms l + 2
+
+abbrev pub decreases-copy_set : goal.decreases-copy_set
+decreases-copy_set l = 3 * size-Stmt (Set l.at l.sets.now)
+
+abbrev pub decreases-copy_call : goal.decreases-copy_call
+decreases-copy_call l = 3 * size-Stmt (Call l.at l.fields.now)
+
+abbrev pub decreases-copy_exit : goal.decreases-copy_exit
+decreases-copy_exit l = 3 * size-Stmt (Exit l.at l.fields.now)
+
+abbrev pub decreases-copy_return : goal.decreases-copy_return
+decreases-copy_return l = 3 * size-Stmt (Return l.at l.fields.now)
+
+abbrev pub decreases-copy_export : goal.decreases-copy_export
+decreases-copy_export l = 3 * size-Stmt (Export l.at l.fields.now)
+
+abbrev pub decreases-copy_unset : goal.decreases-copy_unset
+decreases-copy_unset l = 3 * size-Stmt (Unset l.at l.fields.now)
+
+abbrev pub decreases-copy_seq : goal.decreases-copy_seq
+decreases-copy_seq l = 3 * size-Stmt (Seq l.parts.now)
+
+abbrev pub decreases-copy_not : goal.decreases-copy_not
+decreases-copy_not l = 3 * size-Stmt (Not l.body.now)
+
+abbrev pub decreases-copy_quiet : goal.decreases-copy_quiet
+decreases-copy_quiet l = 3 * size-Stmt (Quiet l.body.now)
+
+abbrev pub decreases-copy_sub : goal.decreases-copy_sub
+decreases-copy_sub l = 3 * size-Stmt (Sub l.at l.body.now)
+
+abbrev pub decreases-copy_err : goal.decreases-copy_err
+decreases-copy_err l = 3 * size-Stmt (Err l.at l.body.now)
 
 abbrev pub decreases-copy_fun : goal.decreases-copy_fun
 decreases-copy_fun l = 3 * size-Stmt (Fun l.at l.name.now l.fields.now)

@@ -1,6 +1,6 @@
 use Rattle.std.proofs.Common.{◌≡◌, ◌+◌, ◌*◌, take}
 use Rattle.shell_syntax.specs.declared.syntax.Command.{size-Command}
-use Rattle.shell_syntax.specs.declared.syntax.Command.TheVariants.{Simple, Redirected, Pipe, Not, Chain, If, For, While, Case, Sub, Define}
+use Rattle.shell_syntax.specs.declared.syntax.Command.TheVariants.{Simple, Redirected, Pipe, Not, Chain, Seq, If, For, While, Case, Sub, Define}
 use Rattle.shell_syntax.proofs.copies.+copying.Given as goal
 
 abbrev pub invariant-copy_word-loop-part : goal.invariant-copy_word-loop-part
@@ -35,9 +35,6 @@ decreases-copy_part l = 3 * goal.size-copy_part l + 1
 abbrev pub decreases-copy_word : goal.decreases-copy_word
 decreases-copy_word l = 3 * goal.size-copy_word l + 1
 
-abbrev pub decreases-copy_boxed : goal.decreases-copy_boxed
-decreases-copy_boxed l = 3 * goal.size-copy_boxed l + 2
-
 abbrev pub decreases-copy_words : goal.decreases-copy_words
 decreases-copy_words l = 3 * goal.size-copy_words l + 2
 
@@ -64,6 +61,9 @@ decreases-copy_redirected l = 3 * size-Command (Redirected l.at l.body.now l.red
 
 abbrev pub decreases-copy_pipe : goal.decreases-copy_pipe
 decreases-copy_pipe l = 3 * size-Command (Pipe l.at l.parts.now)
+
+abbrev pub decreases-copy_seq : goal.decreases-copy_seq
+decreases-copy_seq l = 3 * size-Command (Seq l.parts.now)
 
 abbrev pub decreases-copy_not : goal.decreases-copy_not
 decreases-copy_not l = 3 * size-Command (Not l.at l.body.now)
