@@ -27,10 +27,11 @@ is_loose_name name = list_all is_loose name
 abbrev pub is_joinable : List (List ℕ) → Bool
 is_joinable place = nat_lt 1 (length place) && list_all is_loose_name place
 
--- the path of the folder, and the name in it
+-- the path of its folder
 abbrev pub parent : List (List ℕ) → List (List ℕ)
 parent place = take (length place - 1) place
 
+-- its name in that folder
 abbrev pub last_name : List (List ℕ) → List ℕ
 last_name place = slice_index_or place (length place - 1) []
 

@@ -1,5 +1,5 @@
 -- What a run makes of the tree that an outcome shows, with the places marked that decide.
-use Rattle.std.specs.Prelude.{ℕ, Bool, false, not, List, [], ◌∷◌, ◌++◌, map, codes, Option, Some, None, if◌then◌else◌}
+use Rattle.std.specs.Prelude.{ℕ, Bool, false, not, ◌==◌, List, [], ◌∷◌, ◌++◌, length, codes, Option, Some, None, if◌then◌else◌}
 use Rattle.std.specs.List.{list_any}
 use Rattle.std.specs.Str.{bytes_eq}
 use Rattle.script_names.specs.Ascii.{slash}
@@ -11,7 +11,7 @@ use Rattle.tree_pictures.specs.declared.placed.Placed.{Placed}
 use Rattle.tree_pictures.specs.declared.placed.Standing.{Standing}
 use Rattle.tree_pictures.specs.declared.placed.Standing.TheVariants as standing
 use Rattle.tree_pictures.specs.Placed.{tree_places}
-use Rattle.tree_pictures.specs.Pictures.{standing_at, picture}
+use Rattle.tree_pictures.specs.Pictures.{is_among, standing_at, picture}
 use Rattle.start_facts.specs.declared.fact.Fact.{Fact}
 use Rattle.start_facts.specs.declared.fact.Fact.TheVariants.{Kinds, Fence, Beside, Target}
 use Rattle.start_facts.specs.declared.fact.PlaceFact.{PlaceFact}
@@ -34,6 +34,7 @@ kind_of (Some (standing.Link target)) = kind.Link
 kind_of (Some (standing.Special s)) = kind.Special s
 kind_of (Some standing.Dir) = kind.Dir
 
+-- the kind of what stands at a path; the root is a directory
 abbrev pub kind_at : List Placed → List ℕ → Kind
 kind_at places [] = kind.Dir
 kind_at places (b ∷ path) = kind_of (standing_at (b ∷ path) places)
@@ -53,14 +54,28 @@ is_against places path (Fence names) = false
 is_against places path (Beside names) = false
 is_against places path (Target target) = not (is_link_to target (standing_at path places))
 
+-- what stands at a fact's place speaks against the fact
 abbrev pub is_refuted : List Placed → PlaceFact → Bool
 is_refuted places fact = is_against places (fact_path fact) fact.fact
 
--- the places that decide: those of the first box against whose deciding facts nothing speaks
+-- paths, and one more, unless it is among them
+abbrev pub with_path : List (List ℕ) → List ℕ → List (List ℕ)
+with_path paths path = if is_among paths path then paths else paths ++ path ∷ []
+
+-- paths, and the places of facts, each once
+abbrev pub with_places : List (List ℕ) → List PlaceFact → List (List ℕ)
+with_places paths [] = paths
+with_places paths (fact ∷ facts) = with_places (with_path paths (fact_path fact)) facts
+
+-- the facts of a box that are told first
+abbrev pub told_first : FactBox → List PlaceFact
+told_first box = if length box.deciding == 0 then box.others else box.deciding
+
+-- the places that decide: those of the first box against whose facts that are told first nothing speaks
 abbrev pub marks : List Placed → List FactBox → List (List ℕ)
 marks places [] = []
 marks places (box ∷ boxes) =
-    if list_any (is_refuted places) box.deciding then marks places boxes else map fact_path box.deciding
+    if list_any (is_refuted places) (told_first box) then marks places boxes else with_places [] (told_first box)
 
 -- what a run makes of a tree, behind a title
 unfoldable pub changed_text : List ℕ → List FactBox → Value → Value → List ℕ

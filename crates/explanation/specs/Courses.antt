@@ -55,10 +55,10 @@ deed_text (Does act) row = done_text (act_name act) (path_of act).names (row_wor
 deed_text (Returns back) row = done_text (back_name back) (names_of back) (back_row_words back row)
 deed_text Keeps row = []
 
--- the line of a byte, in a script
+-- the script, and the line of a byte in it
 abbrev pub line_number : Sources → Spot → ℕ → List ℕ
 line_number sources (InScript side script from) at =
-    codes "line " ++ decimal (position_of (script_text sources side script) at).line ++ codes ": "
+    script_words side script ++ codes ", line " ++ decimal (position_of (script_text sources side script) at).line ++ codes ": "
 line_number sources (InFiles work from) at = []
 line_number sources Nowhere at = []
 

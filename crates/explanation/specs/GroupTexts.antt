@@ -1,5 +1,5 @@
 -- What is said of the outcomes that end at one place.
-use Rattle.std.specs.Prelude.{ℕ, Bool, true, false, ◌&&◌, ◌==◌, List, [], ◌∷◌, ◌++◌, length, slice_get, codes, Option, Some, None}
+use Rattle.std.specs.Prelude.{ℕ, Bool, true, false, ◌&&◌, ◌==◌, nat_le, List, [], ◌∷◌, ◌++◌, length, slice_get, codes, Option, Some, None}
 use Rattle.std.specs.Prelude.{if◌then◌else◌}
 use Rattle.std.specs.List.{flat_map}
 use Rattle.script_names.specs.declared.mark.Site.{Site}
@@ -18,6 +18,7 @@ use Rattle.scenario_runs.specs.declared.replayed.Replayed.{Replayed}
 use Rattle.outcome_report.specs.declared.outcome_report.ReportEntry.{ReportEntry}
 use Rattle.outcome_report.specs.declared.outcome_report.ReportPart.{ReportPart}
 use Rattle.outcome_groups.specs.declared.group.FactBox.{FactBox}
+use Rattle.tree_pictures.specs.Placed.{tree_places}
 use Rattle.tree_pictures.specs.ShellLines.{shell_lines}
 use Rattle.outcome_groups.specs.declared.group.Group.{Group}
 use Rattle.script_places.specs.ReasonWords.{reason_words, settling_words}
@@ -101,6 +102,7 @@ is_open ending = ending_verdict ending == 2
 unfoldable pub titled_settled : List ℕ → List ℕ → Ending → List ℕ
 titled_settled title word ending = title ++ settled_by word ending ++ line []
 
+-- the same, with its title
 abbrev pub settled_text : List ℕ → Ending → List ℕ
 settled_text word ending = titled_settled (codes "  What would decide it: ") word ending
 
@@ -134,8 +136,21 @@ whole_hint number =
 unfoldable pub titled_lines : List ℕ → Value → List ℕ
 titled_lines title tree = title ++ shell_lines tree
 
-unfoldable pub making_text : Value → List ℕ
-making_text tree = titled_lines (line (codes "  Shell lines that make it in an empty folder, whose path is in root:")) tree
+-- the shell lines that make a tree
+unfoldable pub making_lines : Value → List ℕ
+making_lines tree = titled_lines (line (codes "  Shell lines that make it in an empty folder, whose path is in root:")) tree
+
+-- how these lines are shown, by the outcome's number
+unfoldable pub making_hint : ℕ → List ℕ
+making_hint number = numbered_text (codes "  Shell lines that make it: --outcome ") number (line [])
+
+-- a tree has so few places below its root that the lines are read at a glance
+abbrev pub is_small : Value → Bool
+is_small tree = nat_le (length (tree_places tree)) 40
+
+-- the shell lines that make a small tree; of a larger one, how they are shown
+unfoldable pub making_text : ℕ → Value → List ℕ
+making_text number tree = if is_small tree then making_lines tree else making_hint number
 
 -- how the run comes to a place, from the tree that an outcome shows, and what it changes of that
 unfoldable pub example_text : Sources → Spot → Option Site → List FactBox → ReportEntry → List Deed → List ℕ
@@ -145,7 +160,7 @@ example_text sources spot site boxes entry deeds =
     ++ way_text sources spot site entry deeds
     ++ change_list boxes entry.outcome.shown entry.replayed.after
     ++ whole_hint entry.outcome.number
-    ++ making_text entry.outcome.shown
+    ++ making_text entry.outcome.number entry.outcome.shown
 
 -- how one outcome comes to a place
 abbrev pub story_text : Sources → (Value → Option Replayed) → Spot → Option Site → List FactBox → ReportEntry → List ℕ
@@ -174,18 +189,26 @@ first_text sources run spot group entries =
     if has_verdict 0 group then []
     else story_of sources run spot group.end.site group.boxes (first_entry group.members entries)
 
--- a group: where its outcomes end and how, what is written there, on which systems, what would decide it, the other
--- places of its sort, and how the run comes there
-unfoldable pub group_text : Sources → (Value → Option Replayed) → ReportPart → List Group → Group → List ℕ
-group_text sources run part groups group =
+-- the first line of a group
+abbrev pub group_title : Sources → Scenario → Group → List ℕ
+group_title sources scenario group =
+    group_head sources (spot_of scenario group.end.site) group.end.ending (length group.members)
+
+-- what stands below it: what is written there, on which systems, what would decide it, the other places of its sort, and
+-- how the run comes there
+unfoldable pub group_body : Sources → (Value → Option Replayed) → ReportPart → List Group → Group → List ℕ
+group_body sources run part groups group =
     let spot = spot_of part.scenario group.end.site in
-    line []
-    ++ group_head sources spot group.end.ending (length group.members)
-    ++ written_text sources spot
+    written_text sources spot
     ++ told_text group.exactly group.boxes
     ++ settling_line (word_of sources part.scenario group) group.end.ending
     ++ further_texts sources part.scenario group groups
     ++ first_text sources run spot group part.entries
+
+-- a group
+unfoldable pub group_text : Sources → (Value → Option Replayed) → ReportPart → List Group → Group → List ℕ
+group_text sources run part groups group =
+    line [] ++ group_title sources part.scenario group ++ group_body sources run part groups group
 
 -- a group, if it has this verdict, and is not told together with one that stands before it
 unfoldable pub if_verdict : Sources → (Value → Option Replayed) → ReportPart → ℕ → List Group → Group → List ℕ

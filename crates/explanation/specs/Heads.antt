@@ -22,11 +22,14 @@ over (Some own) = codes " over " ++ show own.version
 abbrev pub over_text : Packages → List ℕ
 over_text packages = over packages.old_package
 
--- the package's folder and version, and the scenario
-unfoldable pub name_text : Sources → Packages → Scenario → List ℕ
-name_text sources packages scenario =
+-- the package's folder and version
+unfoldable pub package_text : Sources → Packages → List ℕ
+package_text sources packages =
     show (folder_of sources New) ++ codes " " ++ show packages.new_package.version ++ over_text packages
-    ++ codes ", " ++ scenario_name scenario
+
+-- the same, and the scenario
+unfoldable pub name_text : Sources → Packages → Scenario → List ℕ
+name_text sources packages scenario = package_text sources packages ++ codes ", " ++ scenario_name scenario
 
 -- the first line of a scenario, which ends in these words
 unfoldable pub head_line : Sources → Packages → Scenario → List ℕ → List ℕ

@@ -81,11 +81,14 @@ abbrev pub lines_text : Sources → Side → ScriptKind → Option Lines → Lis
 lines_text sources side script None = []
 lines_text sources side script (Some lines) = lines_line sources side script lines
 
--- the lines of one script
+-- the lines of one script that no outcome reaches
+abbrev pub unreached_lines : Sources → List ReportEntry → Side → ScriptKind → Option Lines
+unreached_lines sources entries side script =
+    unreached (script_text sources side script) (calls_left sources side script entries)
+
+-- that they are not reached
 unfoldable pub script_lines : Sources → List ReportEntry → Side → ScriptKind → List ℕ
-script_lines sources entries side script =
-    lines_text sources side script
-    (unreached (script_text sources side script) (calls_left sources side script entries))
+script_lines sources entries side script = lines_text sources side script (unreached_lines sources entries side script)
 
 -- the lines of the scripts of a package
 unfoldable pub side_lines : Sources → List ReportEntry → Side → List ℕ

@@ -6,7 +6,7 @@ use Rattle.feature_trees.specs.declared.value.Value.{Value}
 use Rattle.dpkg_scenarios.specs.declared.scenario.Scenario.{Scenario}
 use Rattle.dpkg_scenarios.specs.Verdicts.{joint_verdict}
 use Rattle.command_words.specs.declared.request.View.{View}
-use Rattle.command_words.specs.declared.request.View.TheVariants.{Text, Places, Outcome}
+use Rattle.command_words.specs.declared.request.View.TheVariants.{Text, Places, Html, Outcome}
 use Rattle.checker_input.specs.declared.package.Packages.{Packages}
 use Rattle.checker_input.specs.declared.sources.Sources.{Sources}
 use Rattle.scenario_runs.specs.declared.replayed.Replayed.{Replayed}
@@ -47,9 +47,10 @@ one_text sources packages run part number =
     ++ outcome_text sources run part number
     ++ line []
 
--- what is said of a part, whose runs are these: all, a line for each place alone, or one outcome
+-- what is said of a part, whose runs are these: all, which a page shows too; a line for each place alone; or one outcome
 abbrev pub part_text : Sources → Packages → View → (Value → Option Replayed) → ReportPart → List ℕ
 part_text sources packages Text run part = whole_text sources packages run part (groups_of part)
+part_text sources packages Html run part = whole_text sources packages run part (groups_of part)
 part_text sources packages Places run part = flat_map (place_unless sources part.scenario) (groups_of part)
 part_text sources packages (Outcome number) run part = one_text sources packages run part number
 
@@ -57,6 +58,7 @@ part_text sources packages (Outcome number) run part = one_text sources packages
 abbrev pub is_places : View → Bool
 is_places Text = false
 is_places Places = true
+is_places Html = false
 is_places (Outcome number) = false
 
 -- that a scenario was not examined, and why

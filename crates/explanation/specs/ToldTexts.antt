@@ -32,7 +32,7 @@ under_text title facts = if length facts == 0 then [] else title ++ facts_text f
 
 -- facts that merely let the run get there, if there are any
 abbrev pub others_text : FactBox → List ℕ
-others_text facts = under_text (line (codes "    and nothing ends the run before:")) facts.others
+others_text facts = under_text (line (codes "    and the run gets that far, since:")) facts.others
 
 -- the facts of a box: those that decide first
 unfoldable pub box_text : FactBox → List ℕ

@@ -45,8 +45,8 @@ pub fn is_first(sources: &Sources, scenario: Scenario, groups: &[Group], group: 
     true
 }
 
-// Whether another group is told together with this one.
-fn is_further(sources: &Sources, scenario: Scenario, group: &Group, other: &Group) -> bool
+/// Whether another group is told together with this one.
+pub fn is_further(sources: &Sources, scenario: Scenario, group: &Group, other: &Group) -> bool
     ensures { result ≡ is_further sources.now scenario group.now other.now }
 {
     together(sources, scenario, group, other) && !same_end(&group.end, &other.end)

@@ -1,18 +1,18 @@
 // What a run makes of the tree that an outcome shows, with the places marked that decide.
-ghost use Rattle.std.specs.Prelude.{◌≡◌, ◌++◌, map, not, IfOk, OnOk};
+ghost use Rattle.std.specs.Prelude.{◌≡◌, ◌++◌, [], not, IfOk, OnOk};
 ghost use Rattle.std.specs.List.{list_any};
 ghost use Rattle.std.specs.Option.{option_copied};
 ghost use Rattle.feature_trees.specs.Kinds.{has};
 ghost use Rattle.tree_pictures.specs.Placed.{tree_places};
 ghost use Rattle.explanation.specs.Changes.{path_bytes, fact_path, kind_of, kind_at, is_link_to, is_against};
-ghost use Rattle.explanation.specs.Changes.{is_refuted, marks, changed_text};
+ghost use Rattle.explanation.specs.Changes.{is_refuted, with_path, with_places, told_first, marks, changed_text};
 
 use feature_trees::{Kind, Value};
 use outcome_groups::FactBox;
 use script_names::{Bytes, List, Memory, Name};
 use start_facts::{Fact, PlaceFact};
 use std::alloc::Global;
-use tree_pictures::{Placed, Standing, put_picture, standing_at, tree_places};
+use tree_pictures::{Placed, Standing, is_among, put_picture, standing_at, tree_places};
 
 // Adds the bytes of a path.
 fn put_path(path: &mut Bytes, names: &[Name]) -> Result<(), Memory>
@@ -108,16 +108,41 @@ fn some_refuted(alloc: Global, places: &[Placed], facts: &[PlaceFact]) -> Result
     Ok(false)
 }
 
-// The places of facts.
-fn fact_paths(alloc: Global, facts: &[PlaceFact]) -> Result<List<Bytes>, Memory>
-    ensures { IfOk result (λ paths. paths ≡ map fact_path facts.now) }
+// Paths, and one more, unless it is among them.
+fn with_path(paths: List<Bytes>, path: Bytes) -> Result<List<Bytes>, Memory>
+    ensures { IfOk result (λ all. all ≡ with_path paths path) }
+{
+    let is = is_among(paths.as_slice(), path.as_slice());
+    if is {
+        return Ok(paths);
+    }
+    let mut all = paths;
+    all.add(path)?;
+    Ok(all)
+}
+
+// The places of facts, each once.
+fn places_of(alloc: Global, facts: &[PlaceFact]) -> Result<List<Bytes>, Memory>
+    ensures { IfOk result (λ paths. paths ≡ with_places [] facts.now) }
 {
     let mut paths = List::new(alloc);
-    for fact in facts {
+    let mut left = facts;
+    while let [fact, rest @ ..] = left {
         let path = fact_path(alloc, fact)?;
-        paths.add(path)?;
+        paths = with_path(paths, path)?;
+        left = rest;
     }
     Ok(paths)
+}
+
+// The facts of a box that are told first.
+fn told_first(facts: &FactBox) -> &[PlaceFact]
+    ensures { result.now ≡ told_first facts.now }
+{
+    if facts.deciding.len() == 0 {
+        return facts.others.as_slice();
+    }
+    facts.deciding.as_slice()
 }
 
 // The places that decide.
@@ -126,9 +151,9 @@ fn marks(alloc: Global, places: &[Placed], boxes: &[FactBox]) -> Result<List<Byt
 {
     let mut left = boxes;
     while let [facts, rest @ ..] = left {
-        let refuted = some_refuted(alloc, places, facts.deciding.as_slice())?;
+        let refuted = some_refuted(alloc, places, told_first(facts))?;
         if !refuted {
-            return fact_paths(alloc, facts.deciding.as_slice());
+            return places_of(alloc, told_first(facts));
         }
         left = rest;
     }

@@ -107,7 +107,8 @@ fn put_line_number(text: &mut Bytes, sources: &Sources, spot: Spot, at: u32) -> 
     match spot {
         Spot::InScript { side, script, .. } => {
             let place = position_of(script_text(sources, side, script), at as usize);
-            text.extend(b"line ")?;
+            text.extend(script_words(side, script))?;
+            text.extend(b", line ")?;
             push_number(text, place.line as u64)?;
             text.extend(b": ")
         }

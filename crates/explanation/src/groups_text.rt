@@ -6,8 +6,10 @@ ghost use Rattle.scenario_runs.specs.Runs.{scenario_run};
 ghost use Rattle.explanation.specs.GroupTexts.{shown_run, deeds_of, way_words, why_words, ending_words};
 ghost use Rattle.explanation.specs.GroupTexts.{call_lines, is_call, reason_settled};
 ghost use Rattle.explanation.specs.GroupTexts.{group_head, settled_by, is_open, titled_settled, settling_line};
-ghost use Rattle.explanation.specs.GroupTexts.{way_head, change_list, whole_hint, titled_lines, making_text};
+ghost use Rattle.explanation.specs.GroupTexts.{way_head, change_list, whole_hint, titled_lines};
+ghost use Rattle.explanation.specs.GroupTexts.{making_lines, making_hint, is_small, making_text};
 ghost use Rattle.explanation.specs.GroupTexts.{way_text, example_text, has_verdict, story_text, first_text};
+ghost use Rattle.explanation.specs.GroupTexts.{group_title, group_body};
 ghost use Rattle.explanation.specs.GroupTexts.{first_entry, group_text, if_verdict, severity, place_line, place_unless};
 
 use crate::alike::{is_first, put_all_further, word_of};
@@ -26,7 +28,7 @@ use scenario_runs::{Job, Replayed, run};
 use script_names::{Bytes, Memory, Reason, Site};
 use script_places::{reason_words, scenario_words, settling_words, state_words};
 use std::alloc::Global;
-use tree_pictures::put_shell_lines;
+use tree_pictures::{put_shell_lines, tree_places};
 use utility_calls::deeds::Deed;
 
 /// The run from a tree that is shown.
@@ -262,9 +264,9 @@ fn put_making(alloc: Global, text: &mut Bytes, title: &[u8], tree: &Value) -> Re
 }
 
 // Adds the shell lines that make a tree.
-#[tactic(auto, unfolding(crate::specs::GroupTexts::making_text))]
-fn put_making_text(alloc: Global, text: &mut Bytes, tree: &Value) -> Result<(), Memory>
-    ensures { OnOk result (text.new ≡ text.old ++ making_text tree.now) }
+#[tactic(auto, unfolding(crate::specs::GroupTexts::making_lines))]
+fn put_making_lines(alloc: Global, text: &mut Bytes, tree: &Value) -> Result<(), Memory>
+    ensures { OnOk result (text.new ≡ text.old ++ making_lines tree.now) }
 {
     put_making(
         alloc,
@@ -272,6 +274,39 @@ fn put_making_text(alloc: Global, text: &mut Bytes, tree: &Value) -> Result<(), 
         b"  Shell lines that make it in an empty folder, whose path is in root:\n",
         tree,
     )
+}
+
+// Adds how these lines are shown.
+#[tactic(auto, unfolding(crate::specs::GroupTexts::making_hint))]
+fn put_making_hint(text: &mut Bytes, number: u32) -> Result<(), Memory>
+    ensures { OnOk result (text.new ≡ text.old ++ making_hint number) }
+{
+    put_numbered(
+        text,
+        b"  Shell lines that make it: --outcome ",
+        number,
+        b"\n",
+    )
+}
+
+// Whether a tree has few places.
+fn is_small(alloc: Global, tree: &Value) -> Result<bool, Memory>
+    ensures { IfOk result (λ is. is ≡ is_small tree.now) }
+{
+    let places = tree_places(alloc, tree)?;
+    Ok(places.len() <= 40)
+}
+
+// Adds the shell lines that make a small tree; of a larger one, how they are shown.
+#[tactic(auto, unfolding(crate::specs::GroupTexts::making_text))]
+fn put_making_text(alloc: Global, text: &mut Bytes, number: u32, tree: &Value) -> Result<(), Memory>
+    ensures { OnOk result (text.new ≡ text.old ++ making_text number tree.now) }
+{
+    let is = is_small(alloc, tree)?;
+    if is {
+        return put_making_lines(alloc, text, tree);
+    }
+    put_making_hint(text, number)
 }
 
 // Adds how the run comes to a place, from the tree that an outcome shows, and what it changes of that.
@@ -299,11 +334,11 @@ fn put_example(
         &entry.replayed.after,
     )?;
     put_whole_hint(text, entry.outcome.number)?;
-    put_making_text(alloc, text, &entry.outcome.shown)
+    put_making_text(alloc, text, entry.outcome.number, &entry.outcome.shown)
 }
 
-// How a scenario ends in the outcomes of a group: 1 where they failed, 2 where they are undecided, else 0.
-fn has_verdict(verdict: u8, group: &Group) -> bool
+/// How a scenario ends in the outcomes of a group: 1 where they failed, 2 where they are undecided, else 0.
+pub fn has_verdict(verdict: u8, group: &Group) -> bool
     ensures { result ≡ has_verdict verdict group.now }
 {
     ending_verdict(group.end.ending) == verdict
@@ -368,14 +403,63 @@ fn put_first(
     }
 }
 
-// The outcome at the first of these places.
-fn first_entry<'a>(members: &[usize], entries: &'a [ReportEntry]) -> Option<&'a ReportEntry>
+/// The outcome at the first of these places.
+pub fn first_entry<'a>(members: &[usize], entries: &'a [ReportEntry]) -> Option<&'a ReportEntry>
     ensures { option_copied result ≡ first_entry members.now entries.now }
 {
     match members {
         [] => None,
         [first, ..] => entries.get(*first),
     }
+}
+
+/// Adds the first line of a group.
+pub fn put_group_title(
+    text: &mut Bytes,
+    sources: &Sources,
+    scenario: Scenario,
+    group: &Group,
+) -> Result<(), Memory>
+    ensures { OnOk result (text.new ≡ text.old ++ group_title sources.now scenario group.now) }
+{
+    put_group_head(
+        text,
+        sources,
+        spot_of(scenario, group.end.site),
+        group.end.ending,
+        group.members.len() as u64,
+    )
+}
+
+/// Adds what stands below it.
+#[tactic(auto, unfolding(crate::specs::GroupTexts::group_body))]
+pub fn put_group_body(
+    alloc: Global,
+    text: &mut Bytes,
+    sources: &Sources,
+    job: &Job,
+    part: &ReportPart,
+    groups: &[Group],
+    group: &Group,
+) -> Result<(), Memory>
+    ensures { OnOk result
+        (text.new ≡ text.old ++ group_body sources.now (scenario_run job.now) part.now groups.now group.now) }
+{
+    let spot = spot_of(part.scenario, group.end.site);
+    put_written(alloc, text, sources, spot)?;
+    put_told(alloc, text, group.exactly, group.boxes.as_slice())?;
+    let word = word_of(sources, part.scenario, group);
+    put_settling(text, word, group.end.ending)?;
+    put_all_further(alloc, text, sources, part.scenario, group, groups)?;
+    put_first(
+        alloc,
+        text,
+        sources,
+        job,
+        spot,
+        group,
+        part.entries.as_slice(),
+    )
 }
 
 // Adds a group.
@@ -392,29 +476,9 @@ fn put_group(
     ensures { OnOk result
         (text.new ≡ text.old ++ group_text sources.now (scenario_run job.now) part.now groups.now group.now) }
 {
-    let spot = spot_of(part.scenario, group.end.site);
     text.extend(b"\n")?;
-    put_group_head(
-        text,
-        sources,
-        spot,
-        group.end.ending,
-        group.members.len() as u64,
-    )?;
-    put_written(alloc, text, sources, spot)?;
-    put_told(alloc, text, group.exactly, group.boxes.as_slice())?;
-    let word = word_of(sources, part.scenario, group);
-    put_settling(text, word, group.end.ending)?;
-    put_all_further(alloc, text, sources, part.scenario, group, groups)?;
-    put_first(
-        alloc,
-        text,
-        sources,
-        job,
-        spot,
-        group,
-        part.entries.as_slice(),
-    )
+    put_group_title(text, sources, part.scenario, group)?;
+    put_group_body(alloc, text, sources, job, part, groups, group)
 }
 
 // Adds a group, if it has this verdict, and is not told together with one that stands before it.

@@ -1,6 +1,6 @@
 // What is said first of a scenario: the package, how the scenario ends, and how often.
 ghost use Rattle.std.specs.Prelude.{◌≡◌, ◌++◌, length, OnOk};
-ghost use Rattle.explanation.specs.Heads.{over_text, name_text, verdict_words, head_line, counts_line};
+ghost use Rattle.explanation.specs.Heads.{over_text, package_text, name_text, verdict_words, head_line, counts_line};
 ghost use Rattle.explanation.specs.Heads.{failing_text, undecided_text, well_text};
 
 use crate::counting::{count_so, put_counted};
@@ -24,7 +24,18 @@ fn put_over(text: &mut Bytes, packages: &Packages) -> Result<(), Memory>
     }
 }
 
-// Adds the package's folder and version, and the scenario.
+/// Adds the package's folder and version, and the old one's version.
+#[tactic(auto, unfolding(crate::specs::Heads::package_text))]
+pub fn put_package(text: &mut Bytes, sources: &Sources, packages: &Packages) -> Result<(), Memory>
+    ensures { OnOk result (text.new ≡ text.old ++ package_text sources.now packages.now) }
+{
+    push_shown(text, folder_of(sources, Side::New).as_bytes())?;
+    text.extend(b" ")?;
+    push_shown(text, packages.new_package.version.as_slice())?;
+    put_over(text, packages)
+}
+
+// Adds the same, and the scenario.
 #[tactic(auto, unfolding(crate::specs::Heads::name_text))]
 fn put_name(
     text: &mut Bytes,
@@ -34,10 +45,7 @@ fn put_name(
 ) -> Result<(), Memory>
     ensures { OnOk result (text.new ≡ text.old ++ name_text sources.now packages.now scenario) }
 {
-    push_shown(text, folder_of(sources, Side::New).as_bytes())?;
-    text.extend(b" ")?;
-    push_shown(text, packages.new_package.version.as_slice())?;
-    put_over(text, packages)?;
+    put_package(text, sources, packages)?;
     text.extend(b", ")?;
     text.extend(scenario_name(scenario).as_bytes())
 }

@@ -2,8 +2,8 @@
 ghost use Rattle.std.specs.Prelude.{◌≡◌, ◌++◌, IfOk, OnOk};
 ghost use Rattle.std.specs.List.{flat_map};
 ghost use Rattle.explanation.specs.LinesLeft.{call_left, calls_left, entry_left, is_alone, is_call_of, left_at, left_by};
-ghost use Rattle.explanation.specs.LinesLeft.{lines_line, lines_text, lines_words, script_lines, side_lines};
-ghost use Rattle.explanation.specs.LinesLeft.{unreached_text};
+ghost use Rattle.explanation.specs.LinesLeft.{lines_line, lines_text, lines_words};
+ghost use Rattle.explanation.specs.LinesLeft.{script_lines, side_lines, unreached_lines, unreached_text};
 
 use crate::scripts::{put_script_file, script_text};
 use checker_input::Sources;
@@ -37,8 +37,8 @@ fn left_by(ending: Ending, how: CallEnd) -> CallLeft
     }
 }
 
-// Whether there is no old package.
-fn is_alone(texts: &Option<Scripts<Bytes>>) -> bool
+/// Whether there is no old package.
+pub fn is_alone(texts: &Option<Scripts<Bytes>>) -> bool
     ensures { result ≡ is_alone texts.now }
 {
     match texts {
@@ -154,6 +154,20 @@ fn put_lines(
     }
 }
 
+/// The lines of one script that are not reached, where some are known to be so.
+pub fn unreached_lines(
+    alloc: Global,
+    sources: &Sources,
+    entries: &[ReportEntry],
+    side: Side,
+    script: ScriptKind,
+) -> Result<Option<Lines>, Memory>
+    ensures { IfOk result (λ lines. lines ≡ unreached_lines sources.now entries.now side script) }
+{
+    let calls = calls_left(alloc, sources, side, script, entries)?;
+    unreached(alloc, script_text(sources, side, script), calls.as_slice())
+}
+
 // Adds the lines of one script that are not reached.
 #[tactic(auto, unfolding(crate::specs::LinesLeft::script_lines))]
 fn put_script_lines(
@@ -166,8 +180,7 @@ fn put_script_lines(
 ) -> Result<(), Memory>
     ensures { OnOk result (text.new ≡ text.old ++ script_lines sources.now entries.now side script) }
 {
-    let calls = calls_left(alloc, sources, side, script, entries)?;
-    let lines = unreached(alloc, script_text(sources, side, script), calls.as_slice())?;
+    let lines = unreached_lines(alloc, sources, entries, side, script)?;
     put_lines(text, sources, side, script, lines)
 }
 

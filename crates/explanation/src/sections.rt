@@ -98,8 +98,8 @@ fn put_one(
     text.extend(b"\n")
 }
 
-/// Adds what is said of a part of a report, whose runs are those of the job: all, a line for each place alone, or one
-/// outcome.
+/// Adds what is said of a part of a report, whose runs are those of the job: all, which a page shows too; a line for each
+/// place alone; or one outcome.
 pub fn put_part(
     alloc: Global,
     text: &mut Bytes,
@@ -113,7 +113,7 @@ pub fn put_part(
         (text.new ≡ text.old ++ part_text sources.now packages.now view (scenario_run job.now) part.now) }
 {
     match view {
-        View::Text => {
+        View::Text | View::Html => {
             let groups = groups(alloc, part)?;
             put_whole(alloc, text, sources, packages, job, part, groups.as_slice())
         }
@@ -131,7 +131,7 @@ fn is_places(view: View) -> bool
 {
     match view {
         View::Places => true,
-        View::Text | View::Outcome { .. } => false,
+        View::Text | View::Html | View::Outcome { .. } => false,
     }
 }
 

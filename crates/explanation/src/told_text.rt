@@ -49,7 +49,7 @@ fn put_others(alloc: Global, text: &mut Bytes, facts: &FactBox) -> Result<(), Me
     put_under(
         alloc,
         text,
-        b"    and nothing ends the run before:\n",
+        b"    and the run gets that far, since:\n",
         facts.others.as_slice(),
     )
 }

@@ -6,6 +6,6 @@ mod pictures;
 mod placed;
 mod shell_lines;
 
-pub use pictures::{put_picture, put_whole_tree, standing_at};
+pub use pictures::{is_among, put_picture, put_whole_tree, standing_at};
 pub use placed::{Placed, Standing, tree_places};
 pub use shell_lines::put_shell_lines;

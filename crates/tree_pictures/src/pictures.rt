@@ -183,8 +183,8 @@ fn put_whole_words(text: &mut Bytes, places: &[Placed], place: &Placed) -> Resul
     Ok(())
 }
 
-// Whether a path is one of these.
-fn is_among(paths: &[Bytes], path: &[u8]) -> bool
+/// Whether a path is one of these (by its bytes).
+pub fn is_among(paths: &[Bytes], path: &[u8]) -> bool
     ensures { result ≡ is_among paths.now path.now }
 {
     paths.iter().any(|one| one.as_slice() == path)
