@@ -16,6 +16,7 @@ for name in colis-archive colis-unpack share/archive-line.sh; do
     { echo "#!$shell" && tail -n +2 "$repository/$name"; } >"top/$name"
     chmod +x "top/$name"
 done
+cp "$repository/share/escaped.sed" top/share
 TMPDIR=$folder/tmp
 export TMPDIR
 
@@ -28,6 +29,10 @@ scenario=$*
 scenario=${scenario#*--scenario }
 scenario=${scenario%% *}
 printf '%s\n' "$*" >>"$CALLS"
+case $1:$2:$name in
+explain:--html:mute*) kill -9 $$ ;;
+explain:--html:*) printf 'page of %s\n' "$name" && exit 2 ;;
+esac
 case $1:$name:$scenario in
 explain:*:remove | explain:mute*) kill -9 $$ ;;
 explain:fails*) printf '%s/postinst:4:1: note: a link (%s, 1 outcome)\n%s/postrm:2:3: error: rm fails (x, 1 outcome)\n' \
@@ -176,7 +181,7 @@ took=$((($(date +%s%N) - begin) / 1000000))
 cut -d ' ' -f 1 out | sed -e 1d -e '/^$/,$d' >said
 printf '%s\n' second1 well second2 refused second3 second4 | same 'the order of the words' said
 # (twenty seconds of calls, of which four packages make four each)
-[ "$took" -lt 9000 ] && took=few
+[ "$took" -lt 14000 ] && took=few
 echo "$took" >said
 echo few | same 'four at a time' said
 archive -j 1 second1 second2 --scenario install
@@ -256,6 +261,74 @@ BUILD=70 top/colis-archive well >out 2>err
 echo 'status 70' | same 'a program that is not built' said
 clean 'the base'
 
+# ---- pages
+
+# rows_of FILE: the rows of the table in an index, without the seconds.
+rows_of() {
+    sed -n '/^<tbody>/,/^<\/tbody>/{/tbody>/d;s,<td>[0-9]*</td></tr>$,,;p;}' "$1"
+}
+
+odd="<b>&\"%'"
+mkdir "$odd"
+echo /. >"$odd/list"
+archive --html pages/below refused well "$odd" open fails start mute1 missing.deb
+head -n 1 said >short
+echo 'status 1' | same 'pages: the status' short
+sed -e 1d -e '/^$/,$d' out | cut -d ' ' -f 1 >said
+printf '%s\n' refused well "$odd" open fails start mute1 missing | same 'pages: the lines' said
+(cd pages/below && printf '%s\n' *) >said
+printf '%s\n' "$odd.html" fails.html index.html open.html start.html well.html | same 'pages: files' said
+cat "pages/below/$odd.html" >said
+echo "page of $odd" | same 'pages: a page' said
+rows_of pages/below/index.html >said
+same 'pages: the table' said <<'EOF'
+<tr class="failing"><th scope="row"><a href="./fails.html">fails</a></th><td>open 2/2</td><td>open 2/2</td><td>open 2/2</td><td>FAILS 1/3</td><td>purge: postrm:2:3: rm fails</td>
+<tr class="failing"><th scope="row">mute1</th><td>FAILS 1/2</td><td>FAILS 1/2</td><td>FAILS 1/2</td><td>FAILS 1/2</td><td>install: failed Half-Configured</td>
+<tr class="undecided"><th scope="row"><a href="./open.html">open</a></th><td>ends well</td><td>open 2/2</td><td>ends well</td><td>ends well</td><td>upgrade: dpkg unpacks the files, act 2: a link</td>
+<tr class="undecided"><th scope="row"><a href="./start.html">start</a></th><td>ends well</td><td>ends well</td><td>ends well</td><td>no start</td><td>purge: no start tree for purge</td>
+<tr class="well"><th scope="row"><a href="./well.html">well</a></th><td>ends well</td><td>ends well</td><td>ends well</td><td>ends well</td><td></td>
+<tr class="well"><th scope="row"><a href="./%3cb%3e%26%22%25%27.html">&lt;b&gt;&amp;&quot;%&#39;</a></th><td>ends well</td><td>ends well</td><td>ends well</td><td>ends well</td><td></td>
+<tr class="refused"><th scope="row">refused</th><td colspan="4">refused</td><td>refused: postinst: unsupported redirect at 420</td>
+<tr class="refused"><th scope="row">missing</th><td colspan="4">not unpacked</td><td>there is no such file or folder</td>
+EOF
+grep -e '^<html' -e '^<title' -e 'Content-Security-Policy' -e '^<caption' -e 'scope="col"' pages/below/index.html >said
+same 'pages: the head of the table' said <<'EOF'
+<html lang="en">
+<meta http-equiv="Content-Security-Policy" content="default-src 'none'; style-src 'unsafe-inline'">
+<title>colis: packages</title>
+<caption>Packages that fail, that are undecided, that end well, and that were not checked</caption>
+<thead><tr><th scope="col">Package</th>
+<th scope="col">install</th>
+<th scope="col">upgrade</th>
+<th scope="col">remove</th>
+<th scope="col">purge</th>
+<th scope="col">First thing in the way</th><th scope="col">Seconds</th></tr></thead>
+EOF
+if command -v tidy >/dev/null; then
+    tidy -q -e -utf8 pages/below/index.html >said 2>&1
+    same 'pages: tidy' said </dev/null
+fi
+archive --html=pages/one --scenario purge well
+grep ' --html ' calls >said
+echo 'explain --html --scenario purge -- well' | same 'pages: of one scenario' said
+rows_of pages/one/index.html >said
+echo '<tr class="well"><th scope="row"><a href="./well.html">well</a></th><td>ends well</td><td></td>' |
+    same 'pages: the table of one scenario' said
+for name in well open refused; do
+    archive --html pages/again "$name"
+    head -n 1 said
+done >short
+printf 'status %d\n' 0 2 2 | same 'pages: each status' short
+archive --html well/list/below well
+{ head -n 1 said && tail -n 1 err; } >short
+printf 'status 3\ncolis-archive: %s/well/list/below: this folder cannot be made\n' "$folder" |
+    same 'pages: a folder that cannot be made' short
+mkdir -p pages/taken/index.html
+archive --html pages/taken well
+{ head -n 1 said && tail -n 1 err; } >short
+printf 'status 5\ncolis-archive: write failed\n' | same 'pages: a table that cannot be written' short
+clean pages
+
 # ---- words
 
 # wrong_words LINE WORD ..: the call is refused with this line.
@@ -276,6 +349,7 @@ wrong_words '-j takes a word more' well -j
 wrong_words '--seconds takes a number' --seconds 1.5 well
 wrong_words '--turns takes a number' --turns= well
 wrong_words '--base takes a name' --base '' well
+wrong_words '--html takes a name' --html= well
 wrong_words 'purge stands there twice' --scenario purge --scenario purge well
 wrong_words '--scenario takes one of install, install-again, upgrade, remove, purge and purge-later' well --scenario all
 wrong_words 'a word is empty' well ''
@@ -317,9 +391,13 @@ top/colis-archive well >/dev/full 2>err
 { echo 'status 5' && echo 'colis-archive: write failed'; } | same 'a full disk' said
 clean 'a closed pipe, a full disk'
 top/colis-archive -j 1 well slow open >out 2>err &
-sleep 1
-pkill -KILL -f "$folder/top/share/archive-line.sh 2 slow"
-pkill -KILL -f "$folder/top/sleep"
+for turn in 1 1 1 1 1 1 1 1; do
+    sleep "$turn"
+    ! pgrep -f "^$folder/top/sleep" >left || break
+done
+pgrep -f "$folder/top/share/archive-line.sh 2 slow" >>left
+# shellcheck disable=SC2046
+kill -KILL $(cat left)
 wait "$!"
 { echo "status $?" && cat out; } >said
 lines 2 <<'EOF' | same 'a killed worker' said
@@ -353,5 +431,12 @@ for name in "$repository"/examples/*; do
 done | sed 's/ *$//' >counted
 top/colis-archive "$repository"/examples/* | sed -e 1d -e '/^$/,$d' | cut -c 1-86 | sed 's/ *$//' >said
 same 'the examples' said <counted
+(cd "$repository/examples" && "$folder/top/colis" explain web-data --html) >page
+top/colis-archive --html pages/real "$repository/examples/web-data" "$repository/examples/web-log" >/dev/null
+same 'the page of an example' pages/real/web-data.html <page
+sed -n 's/.*<a href="\([^"]*\)".*/\1/p' pages/real/index.html >said
+printf './%s.html\n' web-data web-log | sort >expected_text
+sort said | (cd pages/real && xargs ls) >short
+same 'the links of the table' short <expected_text
 
 [ ! -s wrong ]

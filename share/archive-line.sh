@@ -3,25 +3,51 @@
 # `work`, what the summary counts to the end of the file `tally` there, and NUMBER is printed at last.
 #
 #     archive-line.sh NUMBER PATH     the number of the package, and its file or folder
-number=$1 path=$2
+number=$1 path=$2 begun=$(date +%s) page=''
+# (where the run was ended its folder is gone)
 # shellcheck disable=SC2154
-mkdir "$work/p/$number" && cd "$work/p/$number" || exit 0
+mkdir "$work/p/$number" 2>/dev/null && cd "$work/p/$number" || exit 0
 out=$work/tmp/$number.out said=$work/tmp/$number.said
 folder=$(sed -n "${number}p" "$work/names" | cut -c 1-200)
 case $folder in . | .. | */*) folder=package ;; esac
+
+# escaped TEXT: the text in a page.
+# shellcheck disable=SC2154
+escaped() {
+    printf '%s\n' "$1" | sed -f "$top/share/escaped.sed"
+}
+
+# row RANK CLASS CELLS WAY: the row of the package in the table of a page, behind its rank and its number.
+row() {
+    # shellcheck disable=SC2154
+    [ -n "$html" ] || return 0
+    name=$(escaped "$folder")
+    if [ -n "$page" ]; then
+        # (a name has no byte but those that are seen)
+        link=$(printf '%s\n' "$folder" | sed "s/%/%25/g;s/[\\]/%5c/g;s/#/%23/g;s/?/%3f/g;s/\"/%22/g;s/</%3c/g;s/>/%3e/g;s/&/%26/g;s/'/%27/g")
+        name="<a href=\"./$link.html\">$name</a>"
+    fi
+    printf '%d %d <tr class="%s"><th scope="row">%s</th>%s<td>%s</td><td>%d</td></tr>\n' "$1" "$number" "$2" "$name" \
+        "$3" "$(escaped "$4")" "$(($(date +%s) - begun))" >"$work/rows/$number"
+}
 
 # ended LINE: the line of the package.
 ended() {
     printf '%s\n' "$1" >"$work/tmp/$number.line"
     mv "$work/tmp/$number.line" "$work/lines/$number"
     rm -rf "$work/p/$number" "$work/in/$number.deb" "$out" "$said"
-    printf '%d\n' "$number"
+    # (where the lines cannot be written nobody reads this)
+    trap '' PIPE
+    printf '%d\n' "$number" 2>/dev/null
     exit 0
 }
 
 # not_checked WORD TALLY WHY: the line of a package that is not checked.
 not_checked() {
     printf 'package %s\n' "$2" >>"$work/tally"
+    page=''
+    # shellcheck disable=SC2154
+    row 3 refused "<td colspan=\"$(printf '%s\n' "$scenarios" | wc -w)\">$1</td>" "$3"
     # shellcheck disable=SC2154
     ended "$(printf '%-*s%s' "$((16 * $(printf '%s\n' "$scenarios" | wc -w)))" "$1" "$3")"
 }
@@ -74,7 +100,7 @@ else
     fi
 fi
 
-cells='' failing='' failed='' other='' open='' why=''
+cells='' columns='' failing='' failed='' other='' open='' why=''
 for scenario in $scenarios; do
     status=$(call check --brief --scenario "$scenario")
     case $status in
@@ -93,7 +119,7 @@ for scenario in $scenarios; do
         ;;
     esac
     printf '%s %s\n' "$scenario" "$tally" >>"$work/tally"
-    cells=$cells$(printf '%-16s' "$cell")
+    cells=$cells$(printf '%-16s' "$cell") columns=$columns'<td>'$cell'</td>'
     case $tally in
     FAILS) [ -n "$failing" ] || { failing=$scenario && failed=$(first failed); } ;;
     open) [ -n "$other" ] || { other=$scenario && open=$(first incomplete bound); } ;;
@@ -104,9 +130,22 @@ for scenario in $scenarios; do
     ?*:FAILS | ?*:open) [ "$(call explain --scenario "$scenario")" -gt 2 ] || cp "$out" "$reports/$folder.$scenario" ;;
     esac
 done
+if [ -n "$html" ]; then
+    # (of one scenario alone, or of all)
+    case $scenarios in
+    ' '*' '*) wanted='' ;;
+    *) wanted=" --scenario$scenarios" ;;
+    esac
+    # shellcheck disable=SC2086
+    [ "$(call explain --html $wanted)" -gt 2 ] || { cp "$out" "$html/$folder.html" && page=yes; }
+fi
+rank=2 class=well way=''
 if [ -n "$failing" ]; then
+    rank=0 class=failing
     way="$failing: $(place "$failing" error "$failed")"
 elif [ -n "$other" ]; then
+    rank=1 class=undecided
     way="$other: ${why:-$(place "$other" note "$open")}"
 fi
-ended "$cells${way-}"
+row "$rank" "$class" "$columns" "$way"
+ended "$cells$way"

@@ -15,13 +15,14 @@ use Rattle.outcome_report.specs.declared.outcome_report.ReportPart.{ReportPart}
 use Rattle.outcome_report.specs.declared.outcome_report.Report.{Report}
 use Rattle.outcome_report.specs.OutcomeReport.{part_has, verdict_of}
 use Rattle.explanation.specs.Sections.{part_text}
+use Rattle.explanation_pages.specs.Parts.{page_part}
 use Rattle.package_jobs.specs.Written.{written_run}
 use Rattle.checker_calls.specs.declared.faults.TaskFault.{TaskFault}
 use Rattle.checker_calls.specs.declared.faults.TaskFault.TheVariants.{Refused, Memory as NoMemory}
 use Rattle.checker_calls.specs.declared.written.Written.{Written}
 use Rattle.checker_calls.specs.Accounts.{AccountGives}
 use Rattle.checker_calls.specs.Reports.{IsPartOf}
-use Rattle.checker_calls.specs.Explanations.{Section, section_verdict, some_verdict, sections_verdict, is_missing, reported_text, sections_text, IsSection, IsExplanationOf}
+use Rattle.checker_calls.specs.Explanations.{Section, section_verdict, some_verdict, sections_verdict, is_missing, part_shown, reported_text, sections_text, IsSection, IsExplanationOf}
 use Rattle.checker_calls.proofs.OneReport.{verdicts_alike}
 use Rattle.checker_calls.proofs.Refused.{can_or_refused}
 
@@ -135,3 +136,13 @@ pub part_said : (packages : Packages) (sources : Sources) (turns : ℕ) (view : 
 part_said packages sources turns view part run old new result same is =
     let runs : run ≡ written_run part.scenario packages turns = λ i tree. same tree i in
     subst (λ r. OnOk result (new ≡ old ++ part_text sources packages view r part)) runs is
+
+-- the same of what a page says of it
+pub part_is_shown : (packages : Packages) (sources : Sources) (turns : ℕ) (part : ReportPart)
+    (run : Value → Option Replayed) (old new : List ℕ) (result : Result (Unit {0}) Memory)
+    → ((tree : Value) → run tree ≡ written_run part.scenario packages turns tree)
+    → OnOk result (new ≡ old ++ page_part sources run part)
+    → OnOk result (new ≡ old ++ part_shown packages sources turns part)
+part_is_shown packages sources turns part run old new result same is =
+    let runs : run ≡ written_run part.scenario packages turns = λ i tree. same tree i in
+    subst (λ r. OnOk result (new ≡ old ++ page_part sources r part)) runs is

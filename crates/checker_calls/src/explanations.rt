@@ -5,7 +5,8 @@ ghost use Rattle.std.specs.List.{AllZip, flat_map, list_any};
 ghost use Rattle.outcome_report.specs.declared.outcome_report.ReportPart.{ReportPart};
 ghost use Rattle.package_jobs.specs.Made.{AreProgramsOf};
 ghost use Rattle.checker_calls.specs.Explanations.{section_verdict, some_verdict, sections_verdict, is_missing};
-ghost use Rattle.checker_calls.specs.Explanations.{reported_text, section_text, sections_text, is_whole};
+ghost use Rattle.checker_calls.specs.Explanations.{reported_text, section_text, sections_text, is_whole, is_page};
+ghost use Rattle.checker_calls.specs.Explanations.{page_text, part_shown, plain_text, section_item, section_shown};
 ghost use Rattle.checker_calls.specs.Explanations.{ExplanationGives};
 ghost use Rattle.checker_calls.specs.Reports.{chosen};
 
@@ -16,7 +17,11 @@ use case_pool::Gate;
 use checker_input::{Packages, Sources};
 use command_words::View;
 use dpkg_scenarios::{Scenario, joint_verdict};
-use explanation::{part_verdict, put_no_start, put_over, put_part, put_premises};
+use explanation::{part_verdict, put_no_start, put_over, put_part, put_premises, verdict_words};
+use explanation_pages::{
+    put_item, put_items_end, put_page_begin, put_page_end, put_page_no_start, put_page_over,
+    put_page_part, verdict_class,
+};
 use outcome_report::ReportPart;
 use package_jobs::{Programs, job_with, programs_of};
 use script_names::{Bytes, Memory};
@@ -141,8 +146,182 @@ fn is_whole(view: View) -> bool
 {
     match view {
         View::Text => true,
-        View::Places | View::Outcome { .. } => false,
+        View::Places | View::Html | View::Outcome { .. } => false,
     }
+}
+
+// Whether a view is a page.
+fn is_page(view: View) -> bool
+    ensures { result ≡ is_page view }
+{
+    match view {
+        View::Html => true,
+        View::Text | View::Places | View::Outcome { .. } => false,
+    }
+}
+
+// Adds a section to the list of a page.
+fn put_section_item(text: &mut Bytes, section: &Result<ReportPart, TaskFault>) -> Result<(), Memory>
+    ensures { OnOk result (text.new ≡ text.old ++ section_item section.now) }
+{
+    match section {
+        Ok(part) => {
+            let verdict = part_verdict(part);
+            put_item(
+                text,
+                part.scenario,
+                verdict_class(verdict),
+                verdict_words(verdict),
+            )
+        }
+        Err(TaskFault::Refused(Refusal::NoStart { scenario })) => {
+            put_item(text, *scenario, b"undecided", b"NOT EXAMINED")
+        }
+        Err(TaskFault::Refused(Refusal::Limit { scenario, .. })) => {
+            put_item(text, *scenario, b"undecided", b"NOT EXAMINED")
+        }
+        Err(TaskFault::Refused(Refusal::Kept { .. })) => Ok(()),
+        Err(TaskFault::Memory) => Ok(()),
+    }
+}
+
+// Adds each section to it.
+fn put_section_items(
+    text: &mut Bytes,
+    sections: &[Result<ReportPart, TaskFault>],
+) -> Result<(), Memory>
+    ensures { OnOk result (text.new ≡ text.old ++ flat_map section_item sections.now) }
+{
+    for section in sections {
+        put_section_item(text, section)?;
+    }
+    Ok(())
+}
+
+// Adds what a page says of a part of a report.
+fn put_shown_part(
+    alloc: Global,
+    text: &mut Bytes,
+    packages: &Packages,
+    sources: &Sources,
+    programs: &Programs,
+    turns: u32,
+    part: &ReportPart,
+) -> Result<(), Memory>
+    requires { AreProgramsOf packages.now programs.now }
+    ensures { OnOk result (text.new ≡ text.old ++ part_shown packages.now sources.now turns part.now) }
+{
+    let job = job_with(alloc, part.scenario, packages, programs, turns)?;
+    put_page_part(alloc, text, sources, &job, part)
+}
+
+// Adds a section of a page.
+fn put_shown_section(
+    alloc: Global,
+    text: &mut Bytes,
+    packages: &Packages,
+    sources: &Sources,
+    programs: &Programs,
+    turns: u32,
+    section: &Result<ReportPart, TaskFault>,
+) -> Result<(), Memory>
+    requires { AreProgramsOf packages.now programs.now }
+    ensures { OnOk result (text.new ≡ text.old ++ section_shown packages.now sources.now turns section.now) }
+{
+    match section {
+        Ok(part) => put_shown_part(alloc, text, packages, sources, programs, turns, part),
+        Err(TaskFault::Refused(Refusal::NoStart { scenario })) => {
+            put_page_no_start(alloc, text, sources, packages, *scenario)
+        }
+        Err(TaskFault::Refused(Refusal::Limit { scenario, limit })) => {
+            put_page_over(alloc, text, sources, packages, *scenario, *limit)
+        }
+        Err(TaskFault::Refused(Refusal::Kept { .. })) => Ok(()),
+        Err(TaskFault::Memory) => Ok(()),
+    }
+}
+
+// Adds each section of a page.
+fn put_shown_sections(
+    alloc: Global,
+    text: &mut Bytes,
+    packages: &Packages,
+    sources: &Sources,
+    programs: &Programs,
+    turns: u32,
+    sections: &[Result<ReportPart, TaskFault>],
+) -> Result<(), Memory>
+    requires { AreProgramsOf packages.now programs.now }
+    ensures { OnOk result
+        (text.new ≡ text.old ++ flat_map (section_shown packages.now sources.now turns) sections.now) }
+{
+    for section in sections {
+        put_shown_section(alloc, text, packages, sources, programs, turns, section)?;
+    }
+    Ok(())
+}
+
+// Adds a page of sections.
+#[tactic(auto, unfolding(crate::specs::Explanations::page_text))]
+fn put_page(
+    alloc: Global,
+    text: &mut Bytes,
+    packages: &Packages,
+    sources: &Sources,
+    programs: &Programs,
+    turns: u32,
+    sections: &[Result<ReportPart, TaskFault>],
+) -> Result<(), Memory>
+    requires { AreProgramsOf packages.now programs.now }
+    ensures { OnOk result (text.new ≡ text.old ++ page_text packages.now sources.now turns sections.now) }
+{
+    put_page_begin(alloc, text, sources, packages)?;
+    put_section_items(text, sections)?;
+    put_items_end(text)?;
+    put_shown_sections(alloc, text, packages, sources, programs, turns, sections)?;
+    put_page_end(alloc, text, sources, &packages.base)
+}
+
+// The page of sections.
+fn print_page(
+    alloc: Global,
+    packages: &Packages,
+    sources: &Sources,
+    programs: &Programs,
+    turns: u32,
+    sections: &[Result<ReportPart, TaskFault>],
+) -> Result<Bytes, Memory>
+    requires { AreProgramsOf packages.now programs.now }
+    ensures { IfOk result (λ text. text ≡ page_text packages.now sources.now turns sections.now) }
+{
+    let mut text = Bytes::new(alloc);
+    put_page(
+        alloc, &mut text, packages, sources, programs, turns, sections,
+    )?;
+    Ok(text)
+}
+
+// The text of sections, one behind another.
+fn print_plain(
+    alloc: Global,
+    packages: &Packages,
+    sources: &Sources,
+    programs: &Programs,
+    turns: u32,
+    view: View,
+    sections: &[Result<ReportPart, TaskFault>],
+) -> Result<Bytes, Memory>
+    requires { AreProgramsOf packages.now programs.now }
+    ensures { IfOk result (λ text. text ≡ plain_text packages.now sources.now turns view sections.now) }
+{
+    let mut text = Bytes::new(alloc);
+    put_sections(
+        alloc, &mut text, packages, sources, programs, turns, view, sections,
+    )?;
+    if is_whole(view) {
+        put_premises(alloc, &mut text, sources, &packages.base)?;
+    }
+    Ok(text)
 }
 
 // The text of sections.
@@ -158,14 +337,10 @@ fn print_sections(
     requires { AreProgramsOf packages.now programs.now }
     ensures { IfOk result (λ text. text ≡ sections_text packages.now sources.now turns view sections.now) }
 {
-    let mut text = Bytes::new(alloc);
-    put_sections(
-        alloc, &mut text, packages, sources, programs, turns, view, sections,
-    )?;
-    if is_whole(view) {
-        put_premises(alloc, &mut text, sources, &packages.base)?;
+    if is_page(view) {
+        return print_page(alloc, packages, sources, programs, turns, sections);
     }
-    Ok(text)
+    print_plain(alloc, packages, sources, programs, turns, view, sections)
 }
 
 /// What there is to say of packages to people, in one scenario or in all, and its status. The one fault is want of

@@ -14,7 +14,7 @@ use Rattle.command_words.specs.declared.request.Folders.{Folders}
 use Rattle.command_words.specs.declared.request.Layout.{Layout}
 use Rattle.command_words.specs.declared.request.Layout.TheVariants.{Plain, Brief, Json}
 use Rattle.command_words.specs.declared.request.View.{View}
-use Rattle.command_words.specs.declared.request.View.TheVariants.{Text, Places, Outcome}
+use Rattle.command_words.specs.declared.request.View.TheVariants.{Text, Places, Html, Outcome}
 use Rattle.command_words.specs.declared.request.Request.{Request}
 use Rattle.command_words.specs.declared.request.Request.TheVariants.{Check, Run, Translate, Load, Predict, Explain, Pair, Twice}
 use Rattle.command_words.specs.declared.limits.TheConstants.{MOST_LOAD, MOST_TURNS, MOST_LIMIT}
@@ -142,6 +142,14 @@ pub record AreOfView (ts us : Texts) (view : View) : Type 0 where
   pub of_layout : ts ≡ view_words view
   pub of_outcome : IsOutcomeOf view us
 
+view_of_flag : (t : List ℕ) (b c : Bool) → bytes_eq t (codes "--places") ≡ b → bytes_eq t (codes "--html") ≡ c → (b || c) ≡ true
+    → AreOfView (t ∷ []) [] (if c then Html else Places)
+view_of_flag t b true other same h =
+    record { of_layout = ap (λ w. w ∷ []) ((bytes_eq-Decides t (codes "--html")).0 same); of_outcome = refl }
+view_of_flag t true false same other h =
+    record { of_layout = ap (λ w. w ∷ []) ((bytes_eq-Decides t (codes "--places")).0 same); of_outcome = refl }
+view_of_flag t false false same other h = absurd (differ (sym h))
+
 view_listed : (ts us : Texts) → OneOf (Suits command.Explain field.Layout) ts → OneOf (Suits command.Explain field.Outcome) us
     → (is_some (first ts) && is_some (first us)) ≡ false → AreOfView ts us (view_by (first ts) (first us))
 view_listed [] [] h k once = record { of_layout = refl; of_outcome = refl }
@@ -149,7 +157,7 @@ view_listed [] (u ∷ []) h k once =
     record { of_layout = refl; of_outcome = number_by (number_in MOST_LIMIT u) 1 k.1 }
 view_listed [] (u ∷ v ∷ more) h k once = absurd k
 view_listed (t ∷ []) [] h k once =
-    record { of_layout = ap (λ w. w ∷ []) ((bytes_eq-Decides t (codes "--places")).0 h.1); of_outcome = refl }
+    view_of_flag t (bytes_eq t (codes "--places")) (bytes_eq t (codes "--html")) refl refl h.1
 view_listed (t ∷ []) (u ∷ us) h k once = absurd (differ once)
 view_listed (t ∷ w ∷ more) us h k once = absurd h
 
@@ -167,6 +175,7 @@ number_of_text most usual (t ∷ u ∷ more) n h = absurd h
 view_first : (view : View) (us : Texts) → IsOutcomeOf view us → view_by (first (view_words view)) (first us) ≡ view
 view_first Text us h = ap (λ ts. view_by None (first ts)) h
 view_first Places us h = refl
+view_first Html us h = refl
 view_first (Outcome number) us h =
     named_first MOST_LIMIT 1 us number h ∙ ap Outcome (number_of_text MOST_LIMIT 1 us number h)
 
@@ -174,6 +183,7 @@ view_first (Outcome number) us h =
 view_once : (view : View) (ts us : Texts) → ts ≡ view_words view → IsOutcomeOf view us → (is_some (first ts) && is_some (first us)) ≡ false
 view_once Text ts us e h = ap (λ l. is_some (first l) && is_some (first us)) e
 view_once Places ts us e h = (λ i. is_some (first (e i)) && is_some (first (h i)))
+view_once Html ts us e h = (λ i. is_some (first (e i)) && is_some (first (h i)))
 view_once (Outcome number) ts us e h = ap (λ l. is_some (first l) && is_some (first us)) e
 
 -- ---- what settings that fit ask for
@@ -500,11 +510,13 @@ module _ (named : List ℕ → Option Scenario) (X : List ℕ → Type 0) (x : (
 fits_view : (ts : Texts) (view : View) → ts ≡ view_words view → OneOf (Suits command.Explain field.Layout) ts
 fits_view ts Text e = fits_none command.Explain field.Layout ts e
 fits_view ts Places e = fits_one command.Explain field.Layout ts (codes "--places") e refl refl
+fits_view ts Html e = fits_one command.Explain field.Layout ts (codes "--html") e refl refl
 fits_view ts (Outcome number) e = fits_none command.Explain field.Layout ts e
 
 fits_outcome : (ts : Texts) (view : View) → IsOutcomeOf view ts → OneOf (Suits command.Explain field.Outcome) ts
 fits_outcome ts Text h = fits_none command.Explain field.Outcome ts h
 fits_outcome ts Places h = fits_none command.Explain field.Outcome ts h
+fits_outcome ts Html h = fits_none command.Explain field.Outcome ts h
 fits_outcome [] (Outcome number) h = absurd h
 fits_outcome (t ∷ []) (Outcome number) h = (refl, ap is_some h)
 fits_outcome (t ∷ u ∷ more) (Outcome number) h = absurd h

@@ -12,10 +12,10 @@ use Rattle.command_words.specs.declared.setting.Setting.{Setting}
 use Rattle.command_words.specs.declared.look.Look.{Look}
 use Rattle.command_words.specs.declared.look.Look.TheVariants.{Says, Awaits, Ends, Unknown}
 use Rattle.command_words.specs.Fields.{option_name, option_named, command_name, command_named}
-use Rattle.command_words.specs.Values.{is_name, is_report_flag, is_flag}
+use Rattle.command_words.specs.Values.{is_name, is_report_flag, is_view_flag, is_flag}
 use Rattle.command_words.specs.Looks.{cut, put_before, awaits, says, parted, option_look, look}
 use Rattle.command_words.specs.CommandLines.{Item, item_words, item_setting, IsItem, HasValue}
-use Rattle.command_words.specs.CommandLines.Item.{joined, json, brief, places, name}
+use Rattle.command_words.specs.CommandLines.Item.{joined, json, brief, places, html, name}
 use Rattle.command_words.proofs.Results.{differ}
 
 same_bytes : (one other : List ℕ) → bytes_eq one other ≡ true → one ≡ other
@@ -139,10 +139,9 @@ a_report_flag word e =
     })
     (or_cases (bytes_eq word (codes "--json")) (bytes_eq word (codes "--brief")) e)
 
-a_flag : (word : List ℕ) → is_flag word ≡ true → IsItemOf word (record { field = field.Layout; text = word })
-a_flag word e =
+a_view_flag : (word : List ℕ) → is_view_flag word ≡ true → IsItemOf word (record { field = field.Layout; text = word })
+a_view_flag word e =
     ⊎_elim
-    (λ h. a_report_flag word h)
     (λ h. let same = same_bytes word (codes "--places") h in
     record {
       item = places;
@@ -150,7 +149,21 @@ a_flag word e =
       setting = let f : List ℕ → Setting = λ w. record { field = field.Layout; text = w } in ap f (sym same);
       is = tt;
     })
-    (or_cases (is_report_flag word) (bytes_eq word (codes "--places")) e)
+    (λ h. let same = same_bytes word (codes "--html") h in
+    record {
+      item = html;
+      words = ap (λ w. w ∷ []) same;
+      setting = let f : List ℕ → Setting = λ w. record { field = field.Layout; text = w } in ap f (sym same);
+      is = tt;
+    })
+    (or_cases (bytes_eq word (codes "--places")) (bytes_eq word (codes "--html")) e)
+
+a_flag : (word : List ℕ) → is_flag word ≡ true → IsItemOf word (record { field = field.Layout; text = word })
+a_flag word e =
+    ⊎_elim
+    (λ h. a_report_flag word h)
+    (λ h. a_view_flag word h)
+    (or_cases (is_report_flag word) (is_view_flag word) e)
 
 a_name : (word : List ℕ) → is_name word ≡ true → IsItemOf word (record { field = field.Named; text = word })
 a_name word e = record { item = name word; words = refl; setting = refl; is = e }
@@ -202,6 +215,9 @@ brief_looked = refl
 
 pub places_looked : look (codes "--places") ≡ Says (record { field = field.Layout; text = codes "--places" })
 places_looked = refl
+
+pub html_looked : look (codes "--html") ≡ Says (record { field = field.Layout; text = codes "--html" })
+html_looked = refl
 
 pub name_looked : (word : List ℕ) → is_name word ≡ true → look word ≡ Says (record { field = field.Named; text = word })
 name_looked word h =

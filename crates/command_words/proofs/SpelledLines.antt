@@ -25,10 +25,10 @@ use Rattle.command_words.specs.Requests.{request_of}
 use Rattle.command_words.specs.Words.{is_ready, at, say, open_step, step, after, start, finished_at, finished, ended_form, line_form, command_form, form}
 use Rattle.command_words.specs.CommandLines.{Item, Texts, item_words, item_setting, items_words, IsItem, AreItems, AreNames, Line, IsLine, Asks}
 use Rattle.command_words.specs.CommandLines.{ended_words, ended_names, line_words, line_settings, name_setting, command_of}
-use Rattle.command_words.specs.CommandLines.Item.{apart, joined, json, brief, places, name}
+use Rattle.command_words.specs.CommandLines.Item.{apart, joined, json, brief, places, html, name}
 use Rattle.command_words.specs.Laws.{FormIsLine}
 use Rattle.command_words.proofs.Fitting.{AllFit, fits_there, texts-append}
-use Rattle.command_words.proofs.Looking.{option_looked, joined_looked, json_looked, brief_looked, places_looked, name_looked, names_command}
+use Rattle.command_words.proofs.Looking.{option_looked, joined_looked, json_looked, brief_looked, places_looked, html_looked, name_looked, names_command}
 use Rattle.command_words.proofs.Asking.{command_at, commands, made, asked, asked_fits, chosen_text}
 use Rattle.command_words.proofs.Advance.{after_step}
 use Rattle.command_words.proofs.ReadLines.{reads, sound_after, sound_start}
@@ -79,6 +79,8 @@ module _ (command : Command) (said : List Setting) where
       alone_after (codes "--brief") (item_setting brief) words n wanted brief_looked can value rest
   item_after places words n wanted is can value rest =
       alone_after (codes "--places") (item_setting places) words n wanted places_looked can value rest
+  item_after html words n wanted is can value rest =
+      alone_after (codes "--html") (item_setting html) words n wanted html_looked can value rest
   item_after (name word) words n wanted is can value rest =
       alone_after word (name_setting word) words n wanted (name_looked word is) can value rest
 

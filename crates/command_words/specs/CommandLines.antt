@@ -10,7 +10,7 @@ use Rattle.command_words.specs.declared.request.Folders.{Folders}
 use Rattle.command_words.specs.declared.request.Layout.{Layout}
 use Rattle.command_words.specs.declared.request.Layout.TheVariants.{Plain, Brief, Json}
 use Rattle.command_words.specs.declared.request.View.{View}
-use Rattle.command_words.specs.declared.request.View.TheVariants.{Text, Places, Outcome}
+use Rattle.command_words.specs.declared.request.View.TheVariants.{Text, Places, Html, Outcome}
 use Rattle.command_words.specs.declared.request.Request.{Request}
 use Rattle.command_words.specs.declared.request.Request.TheVariants.{Check, Run, Translate, Load, Predict, Explain, Pair, Twice}
 use Rattle.command_words.specs.declared.limits.TheConstants.{MOST_LOAD, MOST_TURNS, MOST_LIMIT}
@@ -32,6 +32,7 @@ pub data Item : Type 0 where
   json : Item
   brief : Item
   places : Item
+  html : Item
   name : List ℕ → Item
 
 -- its words
@@ -41,6 +42,7 @@ item_words (joined f text) = (option_name f ++ (codes "=" ++ text)) ∷ []
 item_words json = codes "--json" ∷ []
 item_words brief = codes "--brief" ∷ []
 item_words places = codes "--places" ∷ []
+item_words html = codes "--html" ∷ []
 item_words (name word) = word ∷ []
 
 -- what it says, of what
@@ -50,6 +52,7 @@ item_setting (joined f text) = record { field = f; text = text }
 item_setting json = record { field = field.Layout; text = codes "--json" }
 item_setting brief = record { field = field.Layout; text = codes "--brief" }
 item_setting places = record { field = field.Layout; text = codes "--places" }
+item_setting html = record { field = field.Layout; text = codes "--html" }
 item_setting (name word) = record { field = field.Named; text = word }
 
 -- the field is an option that has a value
@@ -64,6 +67,7 @@ IsItem (joined f text) = HasValue f
 IsItem json = Unit {0}
 IsItem brief = Unit {0}
 IsItem places = Unit {0}
+IsItem html = Unit {0}
 IsItem (name word) = IsTrue (is_name word)
 
 -- items, of which each is one
@@ -149,12 +153,14 @@ layout_words Json = codes "--json" ∷ []
 abbrev pub view_words : View → Texts
 view_words Text = []
 view_words Places = codes "--places" ∷ []
+view_words Html = codes "--html" ∷ []
 view_words (Outcome number) = []
 
 -- the texts for the number of the outcome that a view shows
 abbrev pub IsOutcomeOf : View → Texts → Type 0
 IsOutcomeOf Text ts = ts ≡ []
 IsOutcomeOf Places ts = ts ≡ []
+IsOutcomeOf Html ts = ts ≡ []
 IsOutcomeOf (Outcome number) ts = IsNumber MOST_LIMIT ts number
 
 -- nothing is said but of these fields
@@ -257,7 +263,7 @@ command_of (Pair dir other base scenario turns limit) = codes "pair"
 command_of (Twice dir base turns limit) = codes "twice"
 
 -- The words are a valid line for a request: its command and a line that asks for it. So each option stands there once
--- at most, `--json` and `--brief` exclude each other, and so do `--places` and `--outcome`.
+-- at most, `--json` and `--brief` exclude each other, and so do `--places`, `--html` and `--outcome`.
 pub record IsLine (words : Texts) (request : Request) : Type 0 where
   pub line : Line
   pub is : words ≡ command_of request ∷ line_words line

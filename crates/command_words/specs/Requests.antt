@@ -11,7 +11,7 @@ use Rattle.command_words.specs.declared.request.Folders.{Folders}
 use Rattle.command_words.specs.declared.request.Layout.{Layout}
 use Rattle.command_words.specs.declared.request.Layout.TheVariants.{Plain, Brief, Json}
 use Rattle.command_words.specs.declared.request.View.{View}
-use Rattle.command_words.specs.declared.request.View.TheVariants.{Text, Places, Outcome}
+use Rattle.command_words.specs.declared.request.View.TheVariants.{Text, Places, Html, Outcome}
 use Rattle.command_words.specs.declared.request.Request.{Request}
 use Rattle.command_words.specs.declared.request.Request.TheVariants.{Check, Run, Translate, Load, Predict, Explain, Pair, Twice}
 use Rattle.command_words.specs.declared.limits.TheConstants.{MOST_LOAD, MOST_TURNS, MOST_LIMIT}
@@ -77,9 +77,13 @@ predict_by report (Some trees) = Some (Predict report trees)
 abbrev pub predict_of : List ℕ → List Setting → Option Request
 predict_of report said = predict_by report (second field.Named said)
 
--- how an explanation is to be written, by the word for a layout and the number of an outcome
+-- how an explanation is to be written, by the word for it
+abbrev pub view_named : List ℕ → View
+view_named word = if bytes_eq word (codes "--html") then Html else Places
+
+-- the same, by the word for a layout and the number of an outcome
 abbrev pub view_by : Option (List ℕ) → Option (List ℕ) → View
-view_by (Some word) number = Places
+view_by (Some word) number = view_named word
 view_by None None = Text
 view_by None (Some number) = Outcome (number_or MOST_LIMIT 1 (Some number))
 

@@ -37,9 +37,13 @@ number_in most text = if is_number most text then Some (digits_value 10 text) el
 abbrev pub is_report_flag : List ℕ → Bool
 is_report_flag word = bytes_eq word (codes "--json") || bytes_eq word (codes "--brief")
 
+-- a word that says how an explanation is written
+abbrev pub is_view_flag : List ℕ → Bool
+is_view_flag word = bytes_eq word (codes "--places") || bytes_eq word (codes "--html")
+
 -- a word that says how a report or an explanation is written
 abbrev pub is_flag : List ℕ → Bool
-is_flag word = is_report_flag word || bytes_eq word (codes "--places")
+is_flag word = is_report_flag word || is_view_flag word
 
 -- what says in a line of the command how its text is written
 abbrev pub may_lay_out : Command → List ℕ → Bool
@@ -50,7 +54,7 @@ may_lay_out command.Load text = is_report_flag text
 may_lay_out command.Predict text = is_report_flag text
 may_lay_out command.Pair text = is_report_flag text
 may_lay_out command.Twice text = is_report_flag text
-may_lay_out command.Explain text = bytes_eq text (codes "--places")
+may_lay_out command.Explain text = is_view_flag text
 
 -- what a line of the command may name: a folder or a file by any text, or the number of a package that is made
 abbrev pub may_name : Command → List ℕ → Bool

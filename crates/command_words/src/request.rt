@@ -49,6 +49,8 @@ pub enum View {
     Text,
     /// A line for each place alone, for editors.
     Places,
+    /// A page for a browser (HTML Standard).
+    Html,
     /// One outcome whole, by its number in the report on its scenario; the first has the number 1.
     Outcome { number: u32 },
 }

@@ -4,7 +4,7 @@ ghost use Rattle.std.specs.List.{find};
 ghost use Rattle.std.specs.Option.{option_copied};
 ghost use Rattle.command_words.specs.Fields.{is_field, texts, given, second, is_given, is_excluded};
 ghost use Rattle.command_words.specs.Requests.{number_or, scenario_said, layout_said, folders_said, request_of, run_of};
-ghost use Rattle.command_words.specs.Requests.{check_of, load_of, predict_of, view_said, explain_of, pair_said, pair_of};
+ghost use Rattle.command_words.specs.Requests.{check_of, load_of, predict_of, view_named, view_said, explain_of, pair_said, pair_of};
 ghost use Rattle.command_words.specs.Requests.{twice_of};
 
 use crate::field::{Command, Field, is_field};
@@ -129,12 +129,23 @@ fn layout_said(said: &[Setting]) -> Layout
     }
 }
 
+// How an explanation is to be written, by the word for it.
+fn view_named(word: &str) -> View
+    ensures { result ≡ view_named word.now }
+{
+    if word == "--html" {
+        View::Html
+    } else {
+        View::Places
+    }
+}
+
 // How an explanation is to be written.
 fn view_said(said: &[Setting]) -> View
     ensures { result ≡ view_said said.now }
 {
     match given(said, Field::Layout) {
-        Some(_) => View::Places,
+        Some(word) => view_named(word),
         None => match given(said, Field::Outcome) {
             None => View::Text,
             Some(_) => View::Outcome {

@@ -1,7 +1,7 @@
 // The values of options.
 ghost use Rattle.std.specs.Prelude.{◌≡◌};
 ghost use Rattle.std.specs.List.{list_all};
-ghost use Rattle.command_words.specs.Values.{is_name, number_in, is_report_flag, is_flag, may_name, may_lay_out};
+ghost use Rattle.command_words.specs.Values.{is_name, number_in, is_report_flag, is_view_flag, is_flag, may_name, may_lay_out};
 ghost use Rattle.command_words.specs.Values.{scenario_in, is_value};
 ghost use Rattle.script_names.specs.ShellNames.{is_digit};
 
@@ -63,11 +63,18 @@ fn is_report_flag(word: &str) -> bool
     word == "--json" || word == "--brief"
 }
 
+// Whether the word says how an explanation is written.
+fn is_view_flag(word: &str) -> bool
+    ensures { result ≡ is_view_flag word.now }
+{
+    word == "--places" || word == "--html"
+}
+
 /// Whether the word says how a report or an explanation is written.
 pub fn is_flag(word: &str) -> bool
     ensures { result ≡ is_flag word.now }
 {
-    is_report_flag(word) || word == "--places"
+    is_report_flag(word) || is_view_flag(word)
 }
 
 // Whether a line of the command may say so how its text is written.
@@ -77,7 +84,7 @@ fn may_lay_out(command: Command, text: &str) -> bool
     match command {
         Command::Check | Command::Run | Command::Translate => is_report_flag(text),
         Command::Load | Command::Predict | Command::Pair | Command::Twice => is_report_flag(text),
-        Command::Explain => text == "--places",
+        Command::Explain => is_view_flag(text),
     }
 }
 

@@ -37,6 +37,7 @@ fn put_view(alloc: Global, text: &mut String, view: View) -> Result<(), AllocErr
     match view {
         View::Text => text.push_str("plain"),
         View::Places => text.push_str("places"),
+        View::Html => text.push_str("html"),
         View::Outcome { number } => {
             let outcome = format!(in alloc; "outcome={number}")?;
             text.push_str(outcome.as_str())

@@ -172,6 +172,9 @@ explain p --places -> explain p 100 10000 places
 explain --places p -> explain p 100 10000 places
 explain --places -- -p -> explain -p 100 10000 places
 explain -- --places -> explain --places 100 10000 plain
+explain p --html -> explain p 100 10000 html
+explain --html --scenario=purge p -> explain p 100 10000 html scenario=purge
+explain -- --html -> explain --html 100 10000 plain
 explain p --scenario install -> explain p 100 10000 plain scenario=install
 explain p --places --scenario=purge-later -> explain p 100 10000 places scenario=purge-later
 explain --turns=10000 p --limit 100000 -> explain p 10000 100000 plain
@@ -187,7 +190,7 @@ explain --turns 5 --outcome=8 --limit=6 -- --outcome -> explain --outcome 5 6 ou
 
 #[test]
 fn explanations_are_read(rt: HostRuntime) -> Result<(), Fail> {
-    check_rows(&rt, EXPLANATIONS, 18)
+    check_rows(&rt, EXPLANATIONS, 21)
 }
 
 const PAIRS: &str = r#"

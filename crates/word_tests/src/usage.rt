@@ -269,6 +269,13 @@ explain p --place -> usage 3
 explain p --json -> usage 3
 explain --brief p -> usage 2
 explain --places --json p -> usage 3
+explain --places --html p -> usage 3
+explain p --html --places -> usage 4
+explain p --html --html -> usage 4
+explain p --html= -> usage 3
+explain --html p --outcome 1 -> usage 4
+explain p --outcome 1 --html -> usage 5
+check p --html -> usage 3
 explain p --tree t -> usage 3
 explain --tree=t p -> usage 2
 explain p --old o --old=o -> usage 5
@@ -308,7 +315,7 @@ twice p --outcome 1 -> usage 3
 
 #[test]
 fn wrong_explanations(rt: HostRuntime) -> Result<(), Fail> {
-    check_rows(&rt, EXPLANATIONS, 46)
+    check_rows(&rt, EXPLANATIONS, 53)
 }
 
 const PAIRS: &str = r#"

@@ -1,0 +1,12 @@
+pub mod CutLines
+pub mod Joined
+pub mod Tables
+pub mod Margins
+pub mod Anchors
+pub mod ShownLines
+pub mod Details
+pub mod Rows
+pub mod Scripts
+pub mod Parts
+pub mod Styles
+pub mod Pages
