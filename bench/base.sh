@@ -51,15 +51,15 @@ package() {
     sed "s,^/real,$folder/real," >"database/info/$name.list"
 }
 
-# base WORD ..: a call; `said` has its status, what it said, and its lines on folders and links, without the folder of
-# this script.
+# base WORD ..: a call; `said` has its status, what it said, and its lines on folders, links and files, without the path
+# of the folder of this script.
 base() {
     "$top/colis-base" "$@" >out 2>err </dev/null
     status=$?
     {
         echo "status $status"
         sed "s,$folder/real,/real,g" err
-        grep -e '^dir ' -e '^link ' out | sed "s,$folder/real,/real,g"
+        grep -e '^dir ' -e '^link ' -e '^nodir ' out | sed "s,$folder/real,/real,g"
     } >said
 }
 
@@ -236,6 +236,46 @@ if [ -L /lib ] && [ "$(readlink /lib)" = usr/lib ]; then
     echo 'link /lib usr/lib' | whole 'a link of the root directory that one package lists'
 fi
 
+# ---- configuration files that scripts name
+
+begin
+mkdir -p real/etc/conf.d real/etc/there.conf real/usr real/etc/own
+printf '%s\n' /real/etc /real/etc/conf.d /real/usr | tee list | package p
+package q <list
+sed "s,/real,$folder/real,g" >database/info/p.postrm <<'END'
+#!/bin/sh
+# rm -f /real/etc/comment.conf
+CONF=/real/etc/p.conf
+DIR=/real/etc/conf.d/
+for name in 10-one.conf 20-two.conf; do rm -f "$DIR/$name"; done
+rm -f "${DPKG_ROOT:-}/real/etc/root.conf" /real/etc/there.conf /real/etc/own/own.conf /real/usr/usr.conf
+rm -f /real/etc/plain /real/etc/p.conf.dpkg-old /real/etc/conf.d/../up.conf /real/etc//twice.conf
+mv "$CONF" "$CONF".dpkg-new
+dpkg-maintscript-helper rm_conffile /real/etc/helper.conf -- "$@"
+END
+sed "s,/real,$folder/real,g" >database/info/q.preinst <<'END'
+rm -f /real/etc/q.conf 30-alone.conf
+END
+sed "s,/real,$folder/real,g" >database/info/r.preinst <<'END'
+rm -f /real/etc/not-installed.conf
+END
+whole 'configuration files' <<'END'
+dir /real/etc
+dir /real/etc/conf.d
+dir /real/usr
+nodir /real/etc/conf.d/10-one.conf
+nodir /real/etc/conf.d/20-two.conf
+nodir /real/etc/p.conf
+nodir /real/etc/p.conf.dpkg-new
+nodir /real/etc/p.conf.dpkg-old
+nodir /real/etc/p.conf.dpkg-old.dpkg-new
+nodir /real/etc/plain.dpkg-new
+nodir /real/etc/q.conf
+nodir /real/etc/root.conf
+nodir /real/etc/root.conf.dpkg-new
+nodir /real/etc/there.conf.dpkg-new
+END
+
 # ---- what cannot be read
 
 begin
@@ -255,7 +295,7 @@ by_nobody() {
     {
         echo "status $status"
         sed "s,$folder/real,/real,g" err
-        grep -e '^dir ' -e '^link ' out | sed "s,$folder/real,/real,g"
+        grep -e '^dir ' -e '^link ' -e '^nodir ' out | sed "s,$folder/real,/real,g"
     } >said
 }
 if [ "$(id -u)" -eq 0 ] && setpriv --reuid=65534 --regid=65534 --clear-groups test -x "$top/colis-base"; then
@@ -275,6 +315,23 @@ colis-base: r: its list of files may not be read
 dir /real/a
 dir /real/d
 END
+    begin
+    mkdir -p real/etc/closed
+    printf '%s\n' /real/etc /real/etc/closed | tee list | package p
+    package q <list
+    echo "rm -f $folder/real/etc/p.conf $folder/real/etc/closed/p.conf" >database/info/p.postrm
+    echo "rm -f $folder/real/etc/q.conf" >database/info/q.postrm
+    chmod 600 database/info/q.postrm
+    chmod 700 real/etc/closed
+    by_nobody
+    same 'scripts and places of files that may not be looked at' said <<'END'
+status 1
+colis-base: /real/etc/closed/p.conf: this place may not be looked at
+colis-base: q: a script of it may not be read
+dir /real/etc
+dir /real/etc/closed
+nodir /real/etc/p.conf
+END
 fi
 DPKG_ADMINDIR=$folder/absent refused 'no database' "$folder/absent/info: there is no such folder, so no package database"
 DPKG_ADMINDIR=$folder/broken
@@ -288,8 +345,8 @@ begin
 base
 sed -n '/^# ---- /,$p' "$top/share/debian.base" >further
 sed -n '/^# ---- /,$p' out | same 'the lines of share/debian.base' further
-grep -c -e '^dir' -e '^link' further >count
-echo 0 | same 'none of these on folders and links' count
+grep -c -e '^dir' -e '^link' -e '^nodir' further >count
+echo 0 | same 'none of these on folders, links and files' count
 find real database -printf '%p %y %m %s %t %c\n' >before
 base
 find real database -printf '%p %y %m %s %t %c\n' | same 'nothing is changed' before
