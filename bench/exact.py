@@ -6,9 +6,11 @@
 Of each scenario trees are made: those that the outcomes show, and each of them with something else at one or two of
 the places that the facts name, or in them. Of a tree that is covered by an outcome the facts of one group have to hold,
 which ends as that outcome does, and those of no other group of which the text says that it tells exactly. The facts are
-read here as a reader does, and looked up in the tree. Prints a line for each folder, and ends with 1 where one is
-WRONG.
+read here as a reader does, and looked up in the tree. Prints a line for each folder, with how many of its reports have
+outcomes that are not done, how many of their groups say that they tell exactly, how many trees were shown and how many
+more were made, and ends with 1 where one is WRONG.
 """
+import collections
 import itertools
 import json
 import random
@@ -119,9 +121,9 @@ def groups(text):
 
 
 def trees(shown, at):
-    """The shown trees, and changes of them at and in these places."""
+    """The shown trees, and changes of the first of them at and in these places."""
     yield from shown
-    for tree in shown:
+    for tree in shown[:20]:
         for path in at:
             for letter in ("", "d", "f", "l x", "p"):
                 yield tree.put(path, letter)
@@ -134,8 +136,8 @@ def trees(shown, at):
 
 
 def looked(folder):
-    """How many trees were tried."""
-    tried = 0
+    """What was tried."""
+    count = collections.Counter()
     for scenario in places.SCENARIOS:
         report = places.program("check", str(folder), "--scenario", scenario, "--json", *places.BASE).stdout
         if not report:
@@ -148,7 +150,11 @@ def looked(folder):
             ends[outcome["number"]] = (KIND_OF[outcome["result"].split()[0]],
                                        places.place(folder, places.TABLE[scenario], where))
         at = {path for group in told for box in group.boxes for ats, holds in box for path in ats}
-        some = list(trees([Tree(outcome["shown"]) for outcome in outcomes[:20]], at))[:MOST]
+        if any(group.end[0] != "ends well" for group in told):
+            count["reports"] += 1
+            count["groups"] += len(told)
+            count["exactly"] += sum(group.exact for group in told)
+        some = list(trees([Tree(outcome["shown"]) for outcome in outcomes], at))[:MOST + len(outcomes)]
         with tempfile.NamedTemporaryFile("w") as one, tempfile.NamedTemporaryFile("w") as other:
             one.write(report.decode())
             other.write("".join(f"tree {i}\n" + "".join(line + "\n" for line in tree.lines())
@@ -166,8 +172,8 @@ def looked(folder):
             assert mine and not others, f"{scenario}, outcome {pick[2]} ({end}), {tree.lines()}: {len(mine)} groups, " \
                 f"and {[group.end for group in others]}"
             assert len([group for group in mine if group.exact]) <= 1, f"{scenario}: two groups, {tree.lines()}"
-            tried += 1
-    return tried
+            count["shown" if int(pick[1]) < len(outcomes) else "made"] += 1
+    return ", ".join(f"{count[name]} {name}" for name in ("reports", "groups", "exactly", "shown", "made"))
 
 
 RANDOM, MOST = random.Random(1), 3000
