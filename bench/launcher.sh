@@ -10,7 +10,7 @@ repository=$(dirname "$here")
 # (the launcher beside a program that is newer than all its sources, and so is not built again)
 mkdir -p "$folder/top/docs" "$folder/top/share" "$folder/top/crates/colis_checker/out"
 cp "$repository/docs/help.txt" "$folder/top/docs"
-cp "$repository/share/explain.sh" "$repository/share/colours.sed" "$folder/top/share"
+cp "$repository/share/explain.sh" "$repository/share/colours.sed" "$repository/share/build.sh" "$folder/top/share"
 : >"$folder/top/crates.txt"
 { echo "#!$(command -v "$shell")" && tail -n +2 "$repository/colis"; } >"$folder/top/colis"
 chmod +x "$folder/top/colis"
@@ -783,6 +783,16 @@ run)
     printf '#!/bin/sh\necho built\n' >out/colis_checker
     chmod +x out/colis_checker
     ;;
+ci)
+    [ -z "${CI-}" ] && [ -d .git ] && cat HANDLES >/dev/null && ! grep _tests crates.txt || exit 1
+    find crates -type f | sort >>"$CALLS"
+    echo 'rt: low is kept: an earlier run on this machine proved the same files over the same libraries'
+    [ -z "$REFUSED" ] || { printf '%s\n' 'rt: high NOT PROVED' '1 passed, 1 failed' && exit 1; }
+    mkdir -p crates/colis_checker/out
+    printf '#!/bin/sh\necho built\n' >crates/colis_checker/out/colis_checker
+    chmod +x crates/colis_checker/out/colis_checker
+    printf '%s\n' '== high' 'rt: high: its tests proved' 'rt: high proved' 'rt: colis_checker proved' '4 passed, 0 failed'
+    ;;
 esac
 EOF
 chmod +x tools/rt
@@ -790,8 +800,13 @@ CALLS=$folder/calls REFUSED=
 export CALLS REFUSED
 PATH=$folder/tools:$PATH
 mkdir -p top/crates/low/src top/crates/low/specs top/crates/high/src top/crates/colis_checker/src top/crates/other/src
-printf '%s\n' '# crates' 'low:' 'high: low' 'colis_checker: high low std' 'other: low' >top/crates.txt
+mkdir -p top/crates/low/must-fail top/crates/high/out top/crates/low_tests/src
+printf '%s\n' '# crates' 'low:' 'high: low' 'colis_checker: high low std' 'low_tests: low' >top/crates.txt
+echo 'Handles allowed: Threads.' >top/HANDLES
 touch -d '1 hour ago' old
+cp -p old top/crates/low_tests/src/lib.rt
+cp -p old top/crates/low/must-fail/one.txt
+cp -p old top/crates/high/out/made
 cp -p old top/crates/low/src/lib.rt
 cp -p old top/crates/low/src/more.rt
 cp -p old top/crates/high/src/lib.rt
@@ -811,13 +826,47 @@ builds() {
     sleep 0.1
 }
 
+# first WORD ..: what the first call prints, whose libraries are not built, and how it calls rt.
+first() {
+    rm -f top/crates/colis_checker/out/colis_checker
+    : >calls
+    piped "$*"
+    sed 's/^colis-build[^ ]* /COPY /' calls >>said
+    {
+        echo built
+        echo 'colis: building the program, which proves it first: this may take an hour'
+        printf 'colis: %s\n' 'low was proved before, 2 left' 'high is proved, 1 left' 'colis_checker is proved, 0 left'
+        printf '%s\n' 'status 0' 'COPY ci ' crates/high/src/lib.rt crates/low/src/lib.rt crates/low/src/more.rt
+    } | same "$*" said
+    find . -name 'colis-build*' | same 'nothing is left of the copy' /dev/null
+}
+
+mkdir own
+TMPDIR=$folder/own
+export TMPDIR
+first 'colis load 1'
+first 'CI=true colis load 1'
+mkdir top/.git
+first 'colis load 1'
+REFUSED=1
 rm top/crates/colis_checker/out/colis_checker
+piped 'colis load 1 2>&1 | tail -n 5'
+{
+    echo 'colis: high could not be proved, 1 left'
+    echo 'rt: low is kept: an earlier run on this machine proved the same files over the same libraries'
+    printf '%s\n' 'rt: high NOT PROVED' '1 passed, 1 failed' 'colis: the program could not be built' 'status 0'
+} | same 'a first call that fails' said
+find . -name 'colis-build*' | same 'nothing is left of its copy' /dev/null
+REFUSED=
+# (from here on a library stands)
+mkdir -p top/crates/low/out/rlib
+cp -p old top/crates/low/out/rlib/stamp
 piped 'colis load 1'
 {
     echo built
     echo 'colis: building the program, which proves it first: this may take an hour'
     echo 'status 0'
-} | same 'the first call' said
+} | same 'a call over built libraries' said
 rm top/crates/colis_checker/out/colis_checker
 builds 'no program'
 echo x >>top/crates/low/src/lib.rt
@@ -837,8 +886,7 @@ builds 'a file in them'
 mkdir top/crates/high/specs
 builds 'a folder of a crate that was added'
 : >calls
-mkdir top/crates/other/out
-touch top/crates/other/out/x top/crates/colis_checker/out/y
+touch top/crates/high/out/x top/crates/colis_checker/out/y
 for call in 'colis load 1' 'touch top/crates/colis_checker/out/colis_checker; colis load 1' \
     'cp -a top moved; moved/colis load 1' 'rm -f top/crates/colis_checker/out/sources; colis load 1' \
     'echo x >top/crates/colis_checker/out/sources; colis load 1' 'colis load 1'; do
