@@ -154,38 +154,12 @@ fn differs(rows: &[List<Cell>], row: &[Cell], k: usize, o: usize) -> bool
 }
 
 // Those of the outsiders that the column does not tell apart.
-fn undecided(
-    alloc: Global,
-    rows: &[List<Cell>],
-    row: &[Cell],
-    k: usize,
-    outs: &[usize],
-) -> Result<List<usize>, Memory>
-    ensures { IfOk result (λ more. more ≡ filter (λ o. not (differs rows.now row.now k o)) outs.now) }
+fn undecided(rows: &[List<Cell>], row: &[Cell], k: usize, outs: Vec<usize>) -> Vec<usize>
+    ensures { result.items ≡ filter (λ o. not (differs rows.now row.now k o)) outs.items }
 {
-    let mut more = List::new(alloc);
-    let mut left = outs;
-    while let [o, rest @ ..] = left {
-        add_undecided(rows, row, k, *o, &mut more)?;
-        left = rest;
-    }
-    Ok(more)
-}
-
-// One outsider more, unless the column tells it apart.
-fn add_undecided(
-    rows: &[List<Cell>],
-    row: &[Cell],
-    k: usize,
-    o: usize,
-    more: &mut List<usize>,
-) -> Result<(), Memory>
-    ensures { OnOk result (more.new ≡ more.old ++ filter (λ o. not (differs rows.now row.now k o)) (o ∷ [])) }
-{
-    if differs(rows, row, k, o) {
-        return Ok(());
-    }
-    more.add(o)
+    let mut outs = outs;
+    outs.retain(|o| !differs(rows, row, k, *o));
+    outs
 }
 
 // Whether a column tells one of these outsiders apart.
@@ -213,22 +187,23 @@ fn is_needed(rows: &[List<Cell>], outs: &[usize], row: &[Cell], k: usize) -> boo
 // The outsiders that no column so far told apart, and the row.
 #[derive(Drop)]
 struct Left {
-    outs: List<usize>,
+    outs: Vec<usize>,
     row: Vec<Cell>,
 }
 
 // Looks at one column.
-fn look_at(alloc: Global, rows: &[List<Cell>], left: Left, k: usize) -> Result<Left, Memory>
-    ensures { IfOk result (λ more. (ks : AnyList ℕ) →
-        needed rows.now more.outs ks more.row.items ≡ needed rows.now left.outs (k ∷ ks) left.row.items) }
+fn look_at(rows: &[List<Cell>], left: Left, k: usize) -> Left
+    ensures { (ks : AnyList ℕ) →
+        needed rows.now result.outs.items ks result.row.items
+        ≡ needed rows.now left.outs.items (k ∷ ks) left.row.items }
 {
     let Left { outs, row } = left;
     if is_needed(rows, outs.as_slice(), row.as_slice(), k) {
-        let outs = undecided(alloc, rows, row.as_slice(), k, outs.as_slice())?;
-        return Ok(Left { outs, row });
+        let outs = undecided(rows, row.as_slice(), k, outs);
+        return Left { outs, row };
     }
     let row = without(row, k);
-    Ok(Left { outs, row })
+    Left { outs, row }
 }
 
 // The row with everything left in a column.
@@ -253,10 +228,11 @@ fn needed(
     ensures { IfOk result (λ less. less.items ≡ needed rows.now outs.now order.now row.items) }
 {
     let outs = List::copies(alloc, outs)?;
+    let outs = outs.into_vec();
     let mut left = Left { outs, row };
     let mut columns = order;
     while let [k, rest @ ..] = columns {
-        left = look_at(alloc, rows, left, *k)?;
+        left = look_at(rows, left, *k);
         columns = rest;
     }
     let Left { outs: _, row } = left;

@@ -179,6 +179,16 @@ pub fn leaves(said: &PlaceFact, column: &Column) -> Cell
     beside(column.but.as_slice(), cell)
 }
 
+/// What a fact leaves of what is left to a column: all of it, where the column's place is neither the fact's nor below.
+pub(crate) fn narrow(cell: Cell, said: &PlaceFact, column: &Column) -> Cell
+    ensures { result ≡ meet cell (leaves said.now column.now) }
+{
+    match behind(said.place.as_slice(), column.place.as_slice()) {
+        None => cell,
+        Some(_) => meet(cell, leaves(said, column)),
+    }
+}
+
 // Kinds are told beside no names alone.
 fn beside(but: &[Name], cell: Cell) -> Cell
     ensures { result ≡ beside but.now cell }

@@ -5,8 +5,8 @@ ghost use Rattle.fact_boxes.specs.Rows.{are_same, beside_column, clashes, column
 ghost use Rattle.fact_boxes.specs.Rows.{narrowed, names_of, row_of, same_column, with_column};
 ghost use Rattle.fact_boxes.specs.Rows.{with_columns};
 
-use crate::cells::{Cell, Column, anything, behind, clash, join, leaves, meet};
-use script_names::{Copied, List, Memory, Name};
+use crate::cells::{Cell, Column, anything, behind, clash, join, narrow};
+use script_names::{List, Memory, Name};
 use start_facts::{Fact, PlaceFact};
 use std::alloc::Global;
 
@@ -21,21 +21,20 @@ fn same_names(a: &[Name], b: &[Name]) -> bool
     }
 }
 
-// Whether it is the same column.
-fn same_column(a: &Column, b: &Column) -> bool
-    ensures { result ≡ same_column a.now b.now }
+// Whether it is the column of this place beside these names.
+fn is_column(place: &[Name], but: &[Name], other: &Column) -> bool
+    ensures { result ≡ same_column (record { place = place.now; but = but.now }) other.now }
 {
-    same_names(a.place.as_slice(), b.place.as_slice())
-        && same_names(a.but.as_slice(), b.but.as_slice())
+    same_names(place, other.place.as_slice()) && same_names(but, other.but.as_slice())
 }
 
-// Whether a column is there.
-fn has_column(columns: &[Column], column: &Column) -> bool
-    ensures { result ≡ list_any (same_column column.now) columns.now }
+// Whether the column of a place beside names is there.
+fn has_column(columns: &[Column], place: &[Name], but: &[Name]) -> bool
+    ensures { result ≡ list_any (same_column (record { place = place.now; but = but.now })) columns.now }
 {
     let mut left = columns;
     while let [other, rest @ ..] = left {
-        if same_column(column, other) {
+        if is_column(place, but, other) {
             return true;
         }
         left = rest;
@@ -43,35 +42,48 @@ fn has_column(columns: &[Column], column: &Column) -> bool
     false
 }
 
-// One column more, unless it is there.
-fn add_column(columns: &mut List<Column>, column: Column) -> Result<(), Memory>
-    ensures { OnOk result (columns.new ≡ with_column columns.old column) }
+// The column of a place beside names, unless it is there.
+fn add_column(
+    alloc: Global,
+    columns: &mut List<Column>,
+    place: &[Name],
+    but: &[Name],
+) -> Result<(), Memory>
+    ensures { OnOk result
+        (columns.new ≡ with_column columns.old (record { place = place.now; but = but.now })) }
 {
-    if has_column(columns.as_slice(), &column) {
+    if has_column(columns.as_slice(), place, but) {
         return Ok(());
     }
-    columns.add(column)
+    let place = List::copies(alloc, place)?;
+    let but = List::copies(alloc, but)?;
+    columns.add(Column { place, but })
 }
 
 // The names that a fact is beside.
-fn names_of(alloc: Global, said: &Fact) -> Result<List<Name>, Memory>
-    ensures { IfOk result (λ names. names ≡ names_of said.now) }
+fn names_of(said: &Fact) -> &[Name]
+    ensures { result.now ≡ names_of said.now }
 {
     match said {
-        Fact::Kinds(_) => Ok(List::new(alloc)),
-        Fact::Fence(names) => names.copy(alloc),
-        Fact::Beside(names) => names.copy(alloc),
-        Fact::Target(_) => Ok(List::new(alloc)),
+        Fact::Kinds(_) => &[],
+        Fact::Fence(names) => names.as_slice(),
+        Fact::Beside(names) => names.as_slice(),
+        Fact::Target(_) => &[],
     }
 }
 
 // The column of entries under other names than these, unless it is there, where there are any.
-fn add_beside(columns: &mut List<Column>, place: List<Name>, but: List<Name>) -> Result<(), Memory>
-    ensures { OnOk result (columns.new ≡ with_columns columns.old (beside_column place but)) }
+fn add_beside(
+    alloc: Global,
+    columns: &mut List<Column>,
+    place: &[Name],
+    but: &[Name],
+) -> Result<(), Memory>
+    ensures { OnOk result (columns.new ≡ with_columns columns.old (beside_column place.now but.now)) }
 {
-    match but.as_slice() {
+    match but {
         [] => Ok(()),
-        [_, ..] => add_column(columns, Column { place, but }),
+        [_, ..] => add_column(alloc, columns, place, but),
     }
 }
 
@@ -79,12 +91,9 @@ fn add_beside(columns: &mut List<Column>, place: List<Name>, but: List<Name>) ->
 fn add_fact(alloc: Global, columns: &mut List<Column>, said: &PlaceFact) -> Result<(), Memory>
     ensures { OnOk result (columns.new ≡ with_columns columns.old (fact_columns said.now)) }
 {
-    let place = said.place.copy(alloc)?;
-    let but = List::new(alloc);
-    add_column(columns, Column { place, but })?;
-    let place = said.place.copy(alloc)?;
-    let but = names_of(alloc, &said.fact)?;
-    add_beside(columns, place, but)
+    let place = said.place.as_slice();
+    add_column(alloc, columns, place, &[])?;
+    add_beside(alloc, columns, place, names_of(&said.fact))
 }
 
 /// The columns of facts, each unless it is there.
@@ -151,7 +160,7 @@ fn narrowed(column: &Column, said: &[PlaceFact]) -> Cell
     let mut cell = anything();
     let mut left = said;
     while let [fact, rest @ ..] = left {
-        cell = meet(cell, leaves(fact, column));
+        cell = narrow(cell, fact, column);
         left = rest;
     }
     cell

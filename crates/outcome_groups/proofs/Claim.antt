@@ -1,9 +1,8 @@
 -- The groups of a part that is exact are told. It is a lemma as well as a law, for the crates above, since it speaks of
 -- all runs and start trees.
-use Rattle.std.proofs.Common.{◌≡◌, ℕ, zero, suc, ◌+◌, ◌<◌, ◌⊎◌, inl, inr, Bool, true, false, IsTrue, List, [], ◌∷◌, ◌++◌, length, map}
-use Rattle.std.proofs.Common.{Option, Some, None, refl, sym, ap, subst, arith, ◌∙◌}
-use Rattle.std.specs.Prelude.{not, Contains, All, slice_get, option_map}
-use Rattle.std.specs.List.{list_all}
+use Rattle.std.proofs.Common.{◌≡◌, ℕ, zero, suc, ◌+◌, ◌<◌, ◌⊎◌, inl, inr, Bool, true, false, IsTrue, List, [], ◌∷◌, length, map}
+use Rattle.std.proofs.Common.{Option, Some, refl, sym, ap, subst, arith, ◌∙◌}
+use Rattle.std.specs.Prelude.{Contains, All, slice_get, option_map}
 use Rattle.std.proofs.lemmas.Option.{slice_get_within, slice_get-map}
 use Rattle.std.proofs.lemmas.List.Elements.{All-nil, All-cons, All-append}
 use Rattle.feature_trees.specs.declared.value.Value.{Value}
@@ -14,17 +13,15 @@ use Rattle.scenario_runs.specs.declared.replayed.Replayed.{Replayed}
 use Rattle.scenario_outcomes.specs.declared.outcome.Outcome.{Outcome}
 use Rattle.scenario_outcomes.specs.Outcomes.{CoversAt, CoversOnce, IsExact}
 use Rattle.outcome_report.specs.declared.outcome_report.ReportEntry.{ReportEntry}
-use Rattle.outcome_report.specs.declared.outcome_report.ReportPart.{ReportPart}
 use Rattle.outcome_report.specs.OutcomeReport.{outcomes_of}
-use Rattle.start_facts.specs.declared.fact.PlaceFact.{PlaceFact}
 use Rattle.start_facts.specs.PlaceFacts.{Holds}
 use Rattle.start_facts.specs.ClauseFacts.{facts_of}
 use Rattle.start_facts.proofs.Sound.{facts_hold}
 use Rattle.fact_boxes.specs.declared.cells.Column.{Column}
 use Rattle.fact_boxes.specs.declared.cells.Cell.{Cell}
-use Rattle.fact_boxes.specs.Cells.{is_anything, told}
-use Rattle.fact_boxes.specs.Rows.{Row, row_of, row_at}
-use Rattle.fact_boxes.specs.Boxes.{boxes_of, tells}
+use Rattle.fact_boxes.specs.Cells.{is_anything}
+use Rattle.fact_boxes.specs.Rows.{Row, row_at}
+use Rattle.fact_boxes.specs.Boxes.{boxes_of}
 use Rattle.fact_boxes.specs.Holds.{Fits, IsRow, LiesIn, LiesInSome}
 use Rattle.fact_boxes.proofs.Holding.{told_holds, told_fits, everything_fits, all_left, all_right}
 use Rattle.fact_boxes.proofs.Lying.{facts_are_rows, facts_lie, boxes_met, boxes_apart}
@@ -33,9 +30,9 @@ use Rattle.outcome_groups.specs.declared.pairs.Pair.{Pair}
 use Rattle.outcome_groups.specs.declared.group.FactBox.{FactBox}
 use Rattle.outcome_groups.specs.declared.group.Group.{Group}
 use Rattle.outcome_groups.specs.Ends.{end_of}
-use Rattle.outcome_groups.specs.Groups.{ends_of, different, members_from, others_from, pairs_from, decides, is_as, facts_if}
-use Rattle.outcome_groups.specs.Groups.{facts_unless, told_where, box_of, part_columns, rows_in, group_of, groups_of}
-use Rattle.outcome_groups.specs.Told.{Meets, MeetsSome, IsIn, IsTold, IsInOne, AreTold}
+use Rattle.outcome_groups.specs.Groups.{ends_of, different, members_from, others_from, pairs_from, decides, is_as}
+use Rattle.outcome_groups.specs.Groups.{facts_unless, told_where, box_of, part_columns, rows_in, group_of}
+use Rattle.outcome_groups.specs.Told.{Meets, MeetsSome, IsIn, IsTold, IsInOne}
 use Rattle.outcome_groups.specs.Laws.{GroupsAreTold}
 use Rattle.outcome_groups.proofs.Places.{in_or_out, member_in, member_out, all_differ, different_has, Stands, stands, alone}
 

@@ -4,7 +4,6 @@ use Rattle.std.proofs.Math.ListN.{drop_of_length-le}
 use Rattle.std.proofs.lemmas.List.{append-nil}
 use Rattle.start_facts.specs.declared.fact.PlaceFact.{PlaceFact}
 use Rattle.fact_boxes.specs.declared.cells.Column.{Column}
-use Rattle.fact_boxes.specs.declared.cells.Cell.{Cell}
 use Rattle.fact_boxes.specs.Rows.{Row}
 use Rattle.outcome_report.specs.declared.outcome_report.ReportEntry.{ReportEntry}
 use Rattle.outcome_report.specs.declared.outcome_report.ReportPart.{ReportPart}

@@ -1,6 +1,6 @@
 -- The groups of a part's outcomes, and what is told of each.
-use Rattle.std.specs.Prelude.{ℕ, zero, suc, Bool, true, false, not, ◌&&◌, ◌||◌, ◌==◌, ◌-◌, List, [], ◌∷◌, ◌++◌, map, take}
-use Rattle.std.specs.Prelude.{slice_index_or, Option, Some, None, if◌then◌else◌}
+use Rattle.std.specs.Prelude.{ℕ, suc, Bool, true, false, not, ◌&&◌, ◌==◌, ◌-◌, List, [], ◌∷◌, ◌++◌, map, take}
+use Rattle.std.specs.Prelude.{if◌then◌else◌}
 use Rattle.std.specs.List.{list_any, list_all}
 use Rattle.script_names.specs.declared.mark.Mark.{Mark}
 use Rattle.dpkg_scenarios.specs.declared.scenario.Scenario.{Scenario}
@@ -92,6 +92,10 @@ pairs_from k scenario (entry ∷ entries) = pairs_with scenario k entry entries 
 -- the row of the other outcome has more in a column
 abbrev pub has_more : List Row → ℕ → Pair → Bool
 has_more rows k p = not (within (cell_at (row_at rows p.other) k) (cell_at (row_at rows p.member) k))
+
+-- the first outcome of a pair ends so
+unfoldable pub ends_so : GroupEnd → Pair → Bool
+ends_so end p = same_end end p.end
 
 -- a column decides for the outcomes that end so: by it one of them is told from a neighbour that did the same before
 abbrev pub decides : List Row → List Pair → GroupEnd → ℕ → Bool

@@ -1,11 +1,8 @@
 -- What it is for the groups of a part to be told: who meets the facts of a group.
-use Rattle.std.specs.Prelude.{◌≡◌, ◌↔◌, ℕ, ◌<◌, List, length, IsTrue, All, Contains, Option, Some, slice_get}
+use Rattle.std.specs.Prelude.{◌≡◌, ◌↔◌, ℕ, ◌<◌, List, length, IsTrue, All, Contains, Some, slice_get}
 use Rattle.feature_trees.specs.declared.value.Value.{Value}
-use Rattle.scenario_runs.specs.declared.replayed.Replayed.{Replayed}
 use Rattle.scenario_outcomes.specs.declared.outcome.Outcome.{Outcome}
-use Rattle.scenario_outcomes.specs.Outcomes.{CoversAt, IsExact}
-use Rattle.outcome_report.specs.declared.outcome_report.ReportPart.{ReportPart}
-use Rattle.outcome_report.specs.OutcomeReport.{outcomes_of}
+use Rattle.scenario_outcomes.specs.Outcomes.{CoversAt}
 use Rattle.start_facts.specs.PlaceFacts.{Holds}
 use Rattle.outcome_groups.specs.declared.group.FactBox.{FactBox}
 use Rattle.outcome_groups.specs.declared.group.Group.{Group}

@@ -1,8 +1,9 @@
 // Neighbours of which one ends so and the other, which did the same before, does not.
-ghost use Rattle.std.specs.Prelude.{◌≡◌, ◌+◌, ◌<◌, ◌^◌, ◌++◌, length, take, IfOk, OnOk};
+ghost use Rattle.std.specs.Prelude.{◌≡◌, ◌+◌, ◌<◌, ◌^◌, [], ◌∷◌, ◌++◌, length, take, IfOk, OnOk};
+ghost use Rattle.std.specs.List.{filter};
 ghost use Rattle.outcome_groups.specs.Ends.{end_of};
 ghost use Rattle.outcome_groups.specs.Groups.{begins_with, decides, marks_before, pair_if, pairs_from, pairs_with};
-ghost use Rattle.outcome_groups.specs.Groups.{has_more, parts, same_mark};
+ghost use Rattle.outcome_groups.specs.Groups.{ends_so, has_more, parts, same_mark};
 
 use crate::ends::{GroupEnd, end_of, same_end, same_site, up_to_end};
 use dpkg_scenarios::Scenario;
@@ -139,6 +140,41 @@ pub(crate) fn pairs_of(
         add_pairs(alloc, scenario, k, &entries[k], behind, &mut pairs)?;
     }
     Ok(pairs)
+}
+
+/// The pairs of which the first outcome ends so.
+pub(crate) fn pairs_ending(
+    alloc: Global,
+    pairs: &[Pair],
+    end: &GroupEnd,
+) -> Result<List<Pair>, Memory>
+    ensures { IfOk result (λ own. own ≡ filter (ends_so end.now) pairs.now) }
+{
+    let mut own = List::new(alloc);
+    let mut left = pairs;
+    while let [pair, rest @ ..] = left {
+        add_ending(&mut own, end, pair)?;
+        left = rest;
+    }
+    Ok(own)
+}
+
+// Whether the first outcome of a pair ends so.
+#[tactic(auto, unfolding(crate::specs::Groups::ends_so))]
+fn ends_so(end: &GroupEnd, pair: &Pair) -> bool
+    ensures { result ≡ ends_so end.now pair.now }
+{
+    same_end(end, &pair.end)
+}
+
+// One pair more, if its first outcome ends so.
+fn add_ending(own: &mut List<Pair>, end: &GroupEnd, pair: &Pair) -> Result<(), Memory>
+    ensures { OnOk result (own.new ≡ own.old ++ filter (ends_so end.now) (pair.now ∷ [])) }
+{
+    if !ends_so(end, pair) {
+        return Ok(());
+    }
+    own.add(*pair)
 }
 
 // Whether the row of the other outcome has more in a column.

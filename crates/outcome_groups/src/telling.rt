@@ -7,7 +7,7 @@ ghost use Rattle.outcome_groups.specs.Groups.{rows_in, told_where};
 use crate::ends::GroupEnd;
 use crate::group::{FactBox, Group};
 use crate::members::{different, ends_of, members_of, others_of};
-use crate::pairs::{Pair, decides, pairs_of};
+use crate::pairs::{Pair, decides, pairs_ending, pairs_of};
 use fact_boxes::{Cell, Column, add_facts, all_tell, boxes_of, is_anything, row_of, tell};
 use outcome_report::{ReportEntry, ReportPart};
 use script_names::{List, Memory};
@@ -162,6 +162,23 @@ fn boxes_told(
     Ok(told)
 }
 
+// The same, for which the pairs of other ends are not looked at.
+fn group_boxes(
+    alloc: Global,
+    rows: &[List<Cell>],
+    pairs: &[Pair],
+    end: &GroupEnd,
+    columns: &[Column],
+    boxes: &[List<Cell>],
+) -> Result<List<FactBox>, Memory>
+    ensures { IfOk result (λ told. told
+        ≡ map (box_of columns.now (decides rows.now pairs.now end.now)) boxes.now) }
+{
+    let own = pairs_ending(alloc, pairs, end)?;
+    let told = boxes_told(alloc, rows, own.as_slice(), end, columns, boxes)?;
+    Ok(told)
+}
+
 // The group of the outcomes that end so.
 fn group_of(
     alloc: Global,
@@ -177,7 +194,7 @@ fn group_of(
     let outs = others_of(alloc, end, ends)?;
     let boxes = boxes_of(alloc, rows, members.as_slice(), outs.as_slice())?;
     let exactly = all_tell(rows, outs.as_slice(), boxes.as_slice());
-    let boxes = boxes_told(alloc, rows, pairs, end, columns, boxes.as_slice())?;
+    let boxes = group_boxes(alloc, rows, pairs, end, columns, boxes.as_slice())?;
     Ok(Group {
         end: *end,
         members,

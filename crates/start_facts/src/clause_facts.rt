@@ -3,6 +3,7 @@ ghost use Rattle.std.specs.Option.{option_copied};
 ghost use Rattle.start_facts.specs.ClauseFacts.{facts_of, literal_fact, on_fenced, on_filled, on_whole};
 ghost use Rattle.start_facts.specs.SeenIn.{seen_in};
 
+use crate::asked::asked_of;
 use crate::fact::{Fact, PlaceFact};
 use crate::standing::Standing;
 use crate::standings::{Standings, joined};
@@ -15,6 +16,7 @@ use tree_clauses::{Clause, Literal};
 pub fn facts(alloc: Global, clause: &Clause) -> Result<List<PlaceFact>, Memory>
     ensures { IfOk result (λ facts. facts ≡ facts_of clause.entry.now) }
 {
+    let asked = asked_of(alloc, clause.literals.as_slice())?;
     let mut facts = List::new(alloc);
     let mut seen = Standings::of(alloc, clause.start)?;
     for literal in clause.literals.as_slice() {
@@ -22,7 +24,7 @@ pub fn facts(alloc: Global, clause: &Clause) -> Result<List<PlaceFact>, Memory>
             Some(fact) => facts.add(fact)?,
             None => {}
         }
-        seen.add(alloc, literal)?;
+        seen.add(alloc, literal, &asked)?;
     }
     Ok(facts)
 }

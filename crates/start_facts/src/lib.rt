@@ -3,6 +3,7 @@
 //! what a fact says; `theorems` says that the facts of a clause hold of every tree that it covers.
 #![tactic(auto)]
 
+mod asked;
 mod clause_facts;
 mod fact;
 mod standing;

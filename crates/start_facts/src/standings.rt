@@ -1,7 +1,10 @@
 ghost use Rattle.std.specs.Prelude.{◌≡◌, [], ◌∷◌, ◌++◌, not, IfOk, OnOk};
+ghost use Rattle.std.specs.BTreeSet.{contains};
 ghost use Rattle.std.specs.List.{filter};
 ghost use Rattle.std.specs.Option.{option_copied};
+ghost use Rattle.std.specs.Ordering.{nat_cmp};
 ghost use Rattle.std.specs.Str.{bytes_eq};
+ghost use Rattle.start_facts.specs.Asked.{after_with, similar_if};
 ghost use Rattle.start_facts.specs.Standings.{after, begins, closed, entered, entry_of, placed, similar_to, without};
 ghost use Rattle.start_facts.specs.Standings.{whole_at, with_standing, are_nothing};
 ghost use Rattle.tree_clauses.specs.declared.clause.Literal.TheVariants as Literal;
@@ -97,15 +100,22 @@ impl Standings {
         Ok(())
     }
 
-    /// One literal more.
-    pub(crate) fn add(&mut self, alloc: Global, literal: &Literal) -> Result<(), Memory>
-        ensures { OnOk result (seen_in self.new ≡ after (seen_in self.old) literal.now) }
+    /// One literal more. Names are kept of the variables that are asked for them.
+    pub(crate) fn add(
+        &mut self,
+        alloc: Global,
+        literal: &Literal,
+        asked: &BTreeSet<u32>,
+    ) -> Result<(), Memory>
+        ensures { OnOk result (seen_in self.new
+            ≡ after_with (contains nat_cmp asked.now) (seen_in self.old) literal.now) }
     {
         match literal {
             Literal::Entry(x, f, y) => self.enter(alloc, *x, f, *y),
             Literal::Kind(x, kinds) => self.limit(*x, *kinds),
             Literal::Similar(y, names, x) => {
-                let standing = similar_to(alloc, self.stands(*x), names)?;
+                let kept = asked.contains(&y.0);
+                let standing = similar_if(alloc, kept, self.stands(*x), names)?;
                 self.place(*y, standing)
             }
             Literal::Fence(_, _) => Ok(()),
@@ -178,6 +188,32 @@ fn similar_to(
                 whole: false,
                 but,
                 left,
+            }))
+        }
+    }
+}
+
+// The same, without names unless they are kept.
+fn similar_if(
+    alloc: Global,
+    kept: bool,
+    standing: Option<&Standing>,
+    names: &List<Name>,
+) -> Result<Option<Standing>, Memory>
+    ensures { IfOk result (λ similar. similar ≡ similar_if kept (option_copied standing.entry) names.now) }
+{
+    if kept {
+        return similar_to(alloc, standing, names);
+    }
+    match standing {
+        None => Ok(None),
+        Some(standing) => {
+            let place = standing.place.copy(alloc)?;
+            Ok(Some(Standing {
+                place,
+                whole: false,
+                but: List::new(alloc),
+                left: List::new(alloc),
             }))
         }
     }

@@ -5,7 +5,7 @@ use Rattle.fact_boxes.proofs.rows.has_column.Given as goal
 
 abbrev pub invariant-loop-left : goal.invariant-loop-left
 invariant-loop-left l =
-    list_any (same_column l.column) l.left ≡ list_any (same_column l.column) l.columns
+    list_any (same_column (record { place = l.place; but = l.but })) l.left ≡ list_any (same_column (record { place = l.place; but = l.but })) l.columns
 
 abbrev pub decreases-loop-left : goal.decreases-loop-left
 decreases-loop-left l = length l.left

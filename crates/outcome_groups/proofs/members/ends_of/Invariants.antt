@@ -1,4 +1,4 @@
-use Rattle.std.proofs.Common.{◌≡◌, ◌-◌, take}
+use Rattle.std.proofs.Common.{◌≡◌, take}
 use Rattle.outcome_groups.specs.Groups.{ends_of}
 use Rattle.outcome_groups.proofs.members.ends_of.Given as goal
 
