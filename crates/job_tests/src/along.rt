@@ -150,6 +150,14 @@ const ROWS: &[Row] = &[
         "/bin>usr/bin /usr/bin:D /usr/bin/d:D /usr/bin/d/x:ARLFSBC /usr/bin/d:D /usr/bin/d/y:ARLFSBC \
         /usr/bin/d=,x,y /usr/bin/d=,x,y ",
     ),
+    // A link on the way to an entry stands in its folder, whether it is listed or not.
+    (
+        Scenario::Remove,
+        b"/opt\n/opt/l/x\n",
+        b"",
+        b"link /opt/l /var/l\nown\n",
+        "/opt/l>/var/l /var/l:D /opt:D /var/l/x:ARLFSBC /opt=,l ",
+    ),
     // `own P` speaks of the folders at the path and below it alone, name by name.
     (
         Scenario::Remove,

@@ -1,7 +1,8 @@
 -- The trees that a scenario may begin from: what is known of the system stands there, and so do the files of a package
 -- that is installed already, with no foreign entry in its folders where the base says so. What is asked where an entry
 -- is, is asked of where its path leads along the known links.
-use Rattle.std.specs.Prelude.{◌≡◌, ◌≢◌, ◌⊎◌, ℕ, Bool, true, false, not, ◌&&◌, ◌||◌, IsTrue, List, [], ◌∷◌, All}
+use Rattle.std.specs.Prelude.{◌≡◌, ◌≢◌, ◌⊎◌, ℕ, zero, suc, Bool, true, false, not, ◌&&◌, ◌||◌, IsTrue, List, [], ◌∷◌, ◌++◌}
+use Rattle.std.specs.Prelude.{length, take, All}
 use Rattle.std.specs.List.{flat_map}
 use Rattle.feature_trees.specs.declared.value.Value.{Value}
 use Rattle.feature_trees.specs.declared.value.Value.TheVariants as value
@@ -148,9 +149,15 @@ abbrev pub reached_path : Reached → List PathParts
 reached_path (At p) = p ∷ []
 reached_path (Blocked link) = []
 
--- where the paths of entries lead that are followed along no link at their last name
+-- where the first of these names leads, the first two, and so on to so many, each followed along no link at its last
+abbrev pub places_to : Links → List (List ℕ) → ℕ → List PathParts
+places_to links names zero = []
+places_to links names (suc count) =
+    places_to links names count ++ reached_path (reach links false (plain_path (take (suc count) names)))
+
+-- where the paths of entries lead, and those of the folders on the way to them, whether these are entries or not
 abbrev pub entry_places : Links → Entries → List PathParts
-entry_places links entries = flat_map (λ entry. reached_path (reach links false (plain_path entry.names))) entries
+entry_places links entries = flat_map (λ entry. places_to links entry.names (length entry.names)) entries
 
 -- Where a folder leads that holds no foreign entry stands what has entries under the names alone that the package's
 -- entries have below that path. Of a directory of the base nothing is said, nor of a folder whose path is blocked.

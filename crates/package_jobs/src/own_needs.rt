@@ -1,5 +1,5 @@
 // What the folders of a package need that hold no foreign entry.
-ghost use Rattle.std.specs.Prelude.{◌≡◌, ◌++◌, ◌∷◌, [], false, IfOk, OnOk};
+ghost use Rattle.std.specs.Prelude.{◌≡◌, ◌≤◌, ◌++◌, ◌∷◌, [], false, length, IfOk, OnOk};
 ghost use Rattle.std.specs.List.{flat_map};
 ghost use Rattle.package_lists.specs.FolderNames.{names_at};
 ghost use Rattle.package_lists.specs.PathSets.{has};
@@ -7,7 +7,7 @@ ghost use Rattle.package_jobs.specs.Needed.{kinds_owned, names_need, folder_need
 ghost use Rattle.package_lists.specs.Paths.{path_text as path_text_of, plain_path};
 ghost use Rattle.link_walks.specs.Reaching.{reach as reach_of};
 ghost use Rattle.package_jobs.specs.Owning.{GoesBy};
-ghost use Rattle.package_jobs.specs.StartTrees.{owner, is_own_folder, is_to_own, reached_path, entry_places};
+ghost use Rattle.package_jobs.specs.StartTrees.{owner, is_own_folder, is_to_own, reached_path, places_to, entry_places};
 
 use crate::needs::{absent_or, add_kinds, place_of};
 use dpkg_scenarios::OwnFolders;
@@ -16,7 +16,7 @@ use link_walks::{KnownLink, Reached, reach};
 use package_lists::{
     Entry, FolderNames, PathSet, Which, has_entry, is_within, path_text, paths_of,
 };
-use script_names::{Copied, List, Memory, Path};
+use script_names::{Copied, List, MAX_NAMES, Memory, Name, Path};
 use start_trees::{Need, Wanted};
 use std::alloc::Global;
 use system_base::{Base, base_paths};
@@ -169,29 +169,55 @@ fn add_own_entries(
     Ok(())
 }
 
-// Adds where the path of an entry leads, if it is not blocked.
+// Adds where a path leads that is followed along no link at its last name, if it is not blocked.
 fn add_place(
     alloc: Global,
     places: &mut List<Path>,
     links: &[KnownLink],
-    entry: &Entry,
+    path: &Path,
 ) -> Result<(), Memory>
-    ensures { OnOk result (places.new
-        ≡ places.old ++ reached_path (reach_of links.now false (plain_path entry.now.names))) }
+    ensures { OnOk result (places.new ≡ places.old ++ reached_path (reach_of links.now false path.now)) }
 {
-    match reach(alloc, links, entry.path(), false)? {
+    match reach(alloc, links, path, false)? {
         Reached::At(path) => places.add(path),
         Reached::Blocked(_) => Ok(()),
     }
 }
 
-// Where the paths of entries lead that are followed along no link at their last name.
+// The path of these names.
+fn path_of(alloc: Global, names: &[Name]) -> Result<Path, Memory>
+    requires { length names.now ≤ MAX_NAMES }
+    ensures { IfOk result (λ path. path ≡ plain_path names.now) }
+{
+    let names = List::copies(alloc, names)?;
+    Ok(Path::new(names, false))
+}
+
+// Adds where a path leads, and each folder on the way to it.
+fn add_places(
+    alloc: Global,
+    places: &mut List<Path>,
+    links: &[KnownLink],
+    path: &Path,
+) -> Result<(), Memory>
+    ensures { OnOk result
+        (places.new ≡ places.old ++ places_to links.now path.now.names (length path.now.names)) }
+{
+    let names = path.names();
+    for count in 0..names.len() {
+        let way = path_of(alloc, &names[..count + 1])?;
+        add_place(alloc, places, links, &way)?;
+    }
+    Ok(())
+}
+
+// Where the paths of entries lead, and the folders on the way to them.
 fn entry_places(alloc: Global, links: &[KnownLink], entries: &[Entry]) -> Result<List<Path>, Memory>
     ensures { IfOk result (λ places. places ≡ entry_places links.now entries.now) }
 {
     let mut places = List::new(alloc);
     for entry in entries {
-        add_place(alloc, &mut places, links, entry)?;
+        add_places(alloc, &mut places, links, entry.path())?;
     }
     Ok(places)
 }
