@@ -1,5 +1,5 @@
--- What a run makes of the tree that an outcome shows, with the places marked that decide.
-use Rattle.std.specs.Prelude.{ℕ, Bool, false, not, ◌==◌, List, [], ◌∷◌, ◌++◌, length, codes, Option, Some, None, if◌then◌else◌}
+-- What a run makes of the tree that an outcome shows, with the places marked that are told above it.
+use Rattle.std.specs.Prelude.{ℕ, Bool, false, not, ◌||◌, List, [], ◌∷◌, ◌++◌, Option, Some, None, if◌then◌else◌}
 use Rattle.std.specs.List.{list_any}
 use Rattle.std.specs.Str.{bytes_eq}
 use Rattle.script_names.specs.Ascii.{slash}
@@ -67,16 +67,19 @@ abbrev pub with_places : List (List ℕ) → List PlaceFact → List (List ℕ)
 with_places paths [] = paths
 with_places paths (fact ∷ facts) = with_places (with_path paths (fact_path fact)) facts
 
--- the facts of a box that are told first
-abbrev pub told_first : FactBox → List PlaceFact
-told_first box = if length box.deciding == 0 then box.others else box.deciding
+-- something speaks against a fact of a box
+abbrev pub is_out : List Placed → FactBox → Bool
+is_out places box = list_any (is_refuted places) box.deciding || list_any (is_refuted places) box.others
 
--- the places that decide: those of the first box against whose facts that are told first nothing speaks
+-- the places of the facts of a box, each once
+abbrev pub box_places : FactBox → List (List ℕ)
+box_places box = with_places (with_places [] box.deciding) box.others
+
+-- the places that are told: those of the first box against whose facts nothing speaks
 abbrev pub marks : List Placed → List FactBox → List (List ℕ)
 marks places [] = []
-marks places (box ∷ boxes) =
-    if list_any (is_refuted places) (told_first box) then marks places boxes else with_places [] (told_first box)
+marks places (box ∷ boxes) = if is_out places box then marks places boxes else box_places box
 
--- what a run makes of a tree, behind a title
+-- what a run makes of a tree, behind a title, with these places marked
 unfoldable pub changed_text : List ℕ → List FactBox → Value → Value → List ℕ
 changed_text title boxes before after = title ++ picture (marks (tree_places before) boxes) before after

@@ -1,33 +1,15 @@
 -- Words in the texts of scripts: the first of a command, and whether a name stands in a text as a word.
-use Rattle.std.specs.Prelude.{ℕ, suc, Bool, true, false, not, ◌&&◌, ◌||◌, ◌==◌, nat_le, List, [], ◌∷◌, length, take, drop}
-use Rattle.std.specs.Prelude.{if◌then◌else◌}
+use Rattle.std.specs.Prelude.{ℕ, Bool, true, false, not, ◌&&◌, ◌||◌, ◌==◌, nat_le, List, [], ◌∷◌, length, take, drop}
 use Rattle.std.specs.List.{filter, list_all}
 use Rattle.std.specs.Str.{bytes_eq}
-use Rattle.script_names.specs.Ascii.{tab, newline, space, double_quote, ampersand, single_quote, paren_open, paren_close}
-use Rattle.script_names.specs.Ascii.{semicolon, less, greater, backslash, bar}
+use Rattle.script_names.specs.Ascii.{double_quote, single_quote, backslash}
 use Rattle.utility_calls.specs.StatedNames.{can_be_stated}
 use Rattle.checker_input.specs.declared.sources.Sources.{Sources}
 use Rattle.script_places.specs.Unreached.{joined}
+use Rattle.script_places.specs.WordPlaces.{ends_word, first_word}
 use Rattle.explanation.specs.declared.spots.Spot.{Spot}
 use Rattle.explanation.specs.declared.spots.Spot.TheVariants.{InScript, InFiles, Nowhere}
 use Rattle.explanation.specs.Scripts.{script_text}
-
--- ---- where words end
-
--- a byte that ends a word where it stands in no quotes: a blank, a newline, or one that begins an operator (XCU 2.3)
-abbrev pub ends_word : ℕ → Bool
-ends_word b =
-    (b == space || (b == tab || b == newline))
-    || ((b == semicolon || (b == ampersand || b == bar)) || ((b == less || b == greater) || (b == paren_open || b == paren_close)))
-
--- how many bytes stand before the first that ends a word
-abbrev pub word_length : List ℕ → ℕ
-word_length [] = 0
-word_length (b ∷ text) = if ends_word b then 0 else suc (word_length text)
-
--- what stands before it
-abbrev pub first_word : List ℕ → List ℕ
-first_word text = take (word_length text) text
 
 -- the first word of the command at a place, as it is written; no bytes, where the place is in no script
 abbrev pub word_at : Sources → Spot → List ℕ
@@ -46,6 +28,10 @@ is_plain_byte b =
 -- a word that is the name of a command of which a base can state how its calls end
 abbrev pub is_plain_name : List ℕ → Bool
 is_plain_name word = can_be_stated word && list_all is_plain_byte word
+
+-- a word that is the name of a command of which no base can state it
+abbrev pub is_kept_word : List ℕ → Bool
+is_kept_word word = not (length word == 0) && not (can_be_stated word)
 
 -- ---- names in a text
 

@@ -1,5 +1,5 @@
 -- How a run comes to a place: the scripts that are called, and what is done in the step of the place, in words.
-use Rattle.std.specs.Prelude.{ℕ, suc, Bool, true, false, ◌&&◌, ◌==◌, List, [], ◌∷◌, ◌++◌, length, codes}
+use Rattle.std.specs.Prelude.{ℕ, suc, Bool, true, false, not, ◌&&◌, ◌==◌, List, [], ◌∷◌, ◌++◌, length, codes}
 use Rattle.std.specs.Prelude.{Option, Some, None, if◌then◌else◌}
 use Rattle.std.specs.List.{flat_map}
 use Rattle.std.specs.Fmt.{decimal}
@@ -8,8 +8,11 @@ use Rattle.script_names.specs.declared.mark.Mark.{Mark}
 use Rattle.shown_texts.specs.Lines.{line}
 use Rattle.shown_texts.specs.Paths.{path_text}
 use Rattle.shown_texts.specs.Show.{show}
-use Rattle.utility_calls.specs.Acts.{path_of}
+use Rattle.std.specs.Str.{bytes_eq}
+use Rattle.utility_calls.specs.declared.acts.Act.{Act}
+use Rattle.utility_calls.specs.Acts.{path_of, place_of}
 use Rattle.utility_calls.specs.Backs.{names_of}
+use Rattle.utility_calls.specs.Pairs.{same_names}
 use Rattle.utility_calls.specs.declared.deeds.Deed.{Deed}
 use Rattle.utility_calls.specs.declared.deeds.Deed.TheVariants.{Does, Returns, Keeps}
 use Rattle.scenario_runs.specs.declared.call.ScriptCall.{ScriptCall}
@@ -23,6 +26,7 @@ use Rattle.script_places.specs.Positions.{position_of}
 use Rattle.script_places.specs.StepWords.{script_words}
 use Rattle.explanation.specs.declared.spots.Spot.{Spot}
 use Rattle.explanation.specs.declared.spots.Spot.TheVariants.{InScript, InFiles, Nowhere}
+use Rattle.explanation.specs.CommandWords.{is_plain_name, word_at}
 use Rattle.explanation.specs.Scripts.{script_text}
 
 -- ---- calls
@@ -45,15 +49,34 @@ call_line call =
 
 -- ---- what is done
 
--- what was done at a path, with the words of its row
-abbrev pub done_text : List ℕ → List (List ℕ) → List ℕ → List ℕ
-done_text name names words = name ++ codes " " ++ path_text names ++ codes ": " ++ words
+-- a further path, where it is another one
+unfoldable pub further_path : List (List ℕ) → List (List ℕ) → List ℕ
+further_path names others = if same_names names others then [] else codes " " ++ path_text others
 
--- a deed, by its row
-abbrev pub deed_text : Deed → ℕ → List ℕ
-deed_text (Does act) row = done_text (act_name act) (path_of act).names (row_words act row)
-deed_text (Returns back) row = done_text (back_name back) (names_of back) (back_row_words back row)
-deed_text Keeps row = []
+-- the act is the question whether something stands at a path, which a command with this first word has by a base line alone
+abbrev pub is_stated : List ℕ → Act → Bool
+is_stated word act =
+    bytes_eq (act_name act) (codes "test -e") && (is_plain_name word && not (bytes_eq word (codes "command")))
+
+-- what is done: an act; or that a command asks for a path, as a base states of its calls
+abbrev pub done_name : List ℕ → Act → List ℕ
+done_name word act = if is_stated word act then word ++ codes " asks" else act_name act
+
+-- where something was done, at a path or at two, with the words of its row
+abbrev pub done_text : List (List ℕ) → List (List ℕ) → List ℕ → List ℕ
+done_text names others words = codes " " ++ path_text names ++ further_path names others ++ codes ": " ++ words
+
+-- a deed of the command with this first word, by its row
+abbrev pub deed_text : List ℕ → Deed → ℕ → List ℕ
+deed_text word (Does act) row = done_name word act ++ done_text (path_of act).names (place_of act) (row_words act row)
+deed_text word (Returns back) row = back_name back ++ done_text (names_of back) (names_of back) (back_row_words back row)
+deed_text word Keeps row = []
+
+-- a further place in the script of a place, or in none
+abbrev pub spot_in : Spot → ℕ → Spot
+spot_in (InScript side script from) at = InScript side script at
+spot_in (InFiles work from) at = Nowhere
+spot_in Nowhere at = Nowhere
 
 -- the script, and the line of a byte in it
 abbrev pub line_number : Sources → Spot → ℕ → List ℕ
@@ -65,7 +88,8 @@ line_number sources Nowhere at = []
 -- the line of a deed of the step in which a place is
 unfoldable pub act_line : Sources → Spot → Mark → Deed → List ℕ
 act_line sources spot mark deed =
-    line (codes "        " ++ line_number sources spot mark.site.at ++ deed_text deed mark.row)
+    line (codes "        " ++ line_number sources spot mark.site.at
+    ++ deed_text (word_at sources (spot_in spot mark.site.at)) deed mark.row)
 
 -- whether a mark is told at a place: in a script each of its step, and among acts on files that of the place alone
 abbrev pub is_told : Spot → Site → Mark → Bool

@@ -4,6 +4,7 @@ use Rattle.std.specs.List.{flat_map, list_any}
 use Rattle.shown_texts.specs.Lines.{line}
 use Rattle.shown_texts.specs.Paths.{path_text}
 use Rattle.shown_texts.specs.Show.{show}
+use Rattle.tree_clauses.specs.NameSets.{is_among}
 use Rattle.utility_calls.specs.Pairs.{same_names}
 use Rattle.script_places.specs.KindWords.{kinds_words}
 use Rattle.start_facts.specs.declared.fact.Fact.{Fact}
@@ -14,9 +15,14 @@ use Rattle.start_facts.specs.declared.fact.PlaceFact.{PlaceFact}
 abbrev pub name_text : List ℕ → List ℕ
 name_text name = codes " " ++ show name
 
+-- names, each once: where it stands last
+abbrev pub once : List (List ℕ) → List (List ℕ)
+once [] = []
+once (name ∷ names) = if is_among names name then once names else name ∷ once names
+
 -- names, if there are any, behind a word
 unfoldable pub names_text : List ℕ → List (List ℕ) → List ℕ
-names_text word names = if length names == 0 then [] else word ++ flat_map name_text names
+names_text word names = if length names == 0 then [] else word ++ flat_map name_text (once names)
 
 -- names behind `but`
 unfoldable pub but_names : List (List ℕ) → List ℕ

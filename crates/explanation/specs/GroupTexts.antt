@@ -6,6 +6,7 @@ use Rattle.script_names.specs.declared.mark.Site.{Site}
 use Rattle.script_names.specs.declared.reason.Reason.{Reason}
 use Rattle.script_names.specs.declared.reason.Reason.TheVariants as reason
 use Rattle.shown_texts.specs.Lines.{line}
+use Rattle.shown_texts.specs.Show.{show}
 use Rattle.feature_trees.specs.declared.value.Value.{Value}
 use Rattle.feature_trees.specs.declared.value.Value.TheVariants as value
 use Rattle.utility_calls.specs.declared.deeds.Deed.{Deed}
@@ -26,7 +27,7 @@ use Rattle.script_places.specs.StepWords.{scenario_words, state_words}
 use Rattle.explanation.specs.declared.spots.Spot.{Spot}
 use Rattle.explanation.specs.AlikeGroups.{further_texts, is_first, word_of}
 use Rattle.explanation.specs.Changes.{changed_text}
-use Rattle.explanation.specs.CommandWords.{is_plain_name}
+use Rattle.explanation.specs.CommandWords.{is_kept_word, is_plain_name}
 use Rattle.explanation.specs.Counting.{counted_text, numbered_text}
 use Rattle.explanation.specs.Courses.{call_line, acts_text}
 use Rattle.explanation.specs.Spots.{spot_of, spot_text, written_text}
@@ -83,9 +84,21 @@ call_lines name =
     codes "a base line `call " ++ name ++ codes " ok` or `call " ++ name
     ++ codes " fails`, where it is true and the command changes no file that matters"
 
+-- that no base line says that of a command, and which lines may help
+unfoldable pub kept_lines : List ℕ → List ℕ
+kept_lines name =
+    codes "calls of " ++ show name
+    ++ codes " cannot be stated (docs/FORMATS.md has the uses with a meaning); base lines on what stands at the places above may keep runs from here"
+
+-- what would decide a place of which a command without a meaning begins with this word
+unfoldable pub call_settled : List ℕ → List ℕ
+call_settled word =
+    if is_plain_name word then call_lines word
+    else (if is_kept_word word then kept_lines word else settling_words reason.Call)
+
 -- what would decide a place whose command begins with this word
 unfoldable pub reason_settled : List ℕ → Reason → List ℕ
-reason_settled word reason = if is_call reason && is_plain_name word then call_lines word else settling_words reason
+reason_settled word reason = if is_call reason then call_settled word else settling_words reason
 
 -- what would decide it
 unfoldable pub settled_by : List ℕ → Ending → List ℕ
@@ -124,7 +137,7 @@ way_head number = numbered_text (codes "  How the run comes there (outcome ") nu
 -- what a run makes of a tree, with the places marked that decide, by these boxes
 unfoldable pub change_list : List FactBox → Value → Value → List ℕ
 change_list boxes before after =
-    changed_text (line (codes "  One such system, and what the run makes of it (- taken away, ~ changed, + made):"))
+    changed_text (line (codes "  One such system, and what the run makes of it (- taken away, ~ changed, + made, <-- told above):"))
     boxes before after
 
 -- how the whole of an outcome is shown, by its number
@@ -194,16 +207,16 @@ abbrev pub group_title : Sources → Scenario → Group → List ℕ
 group_title sources scenario group =
     group_head sources (spot_of scenario group.end.site) group.end.ending (length group.members)
 
--- what stands below it: what is written there, on which systems, what would decide it, the other places of its sort, and
--- how the run comes there
+-- what stands below it: what is written there, on which systems, what would decide it, how the run comes there, and the
+-- other places of its sort
 unfoldable pub group_body : Sources → (Value → Option Replayed) → ReportPart → List Group → Group → List ℕ
 group_body sources run part groups group =
     let spot = spot_of part.scenario group.end.site in
     written_text sources spot
     ++ told_text group.exactly group.boxes
     ++ settling_line (word_of sources part.scenario group) group.end.ending
-    ++ further_texts sources part.scenario group groups
     ++ first_text sources run spot group part.entries
+    ++ further_texts sources part.scenario group groups
 
 -- a group
 unfoldable pub group_text : Sources → (Value → Option Replayed) → ReportPart → List Group → Group → List ℕ

@@ -1,4 +1,4 @@
--- What is said first of a scenario: the package, how the scenario ends, and how often.
+-- What is said first, and first of a scenario: the package, how the scenario ends, and how often.
 use Rattle.std.specs.Prelude.{ℕ, ◌==◌, List, [], ◌++◌, length, codes, Option, Some, None, if◌then◌else◌}
 use Rattle.std.specs.Fmt.{decimal}
 use Rattle.shown_texts.specs.Lines.{line}
@@ -12,6 +12,15 @@ use Rattle.checker_input.specs.declared.sources.Sources.{Sources}
 use Rattle.outcome_report.specs.declared.outcome_report.ReportEntry.{ReportEntry}
 use Rattle.explanation.specs.Counting.{count_so, counted_text}
 use Rattle.explanation.specs.Scripts.{folder_of}
+
+-- what stands before all that is said: what an outcome is, how far it is known, and what is left out
+unfoldable pub legend_text : List ℕ
+legend_text =
+    line (codes "An outcome stands for all systems on which a scenario goes the same way, act by act.")
+    ++ line (codes "An undecided one is known up to its place: what it does from there is not, nor how the package is left.")
+    ++ line (codes "Lines that are known not to be reached stand at the end of a scenario; of others nothing is said.")
+    ++ line (codes "In the line of a script [..] stands for what is left out.")
+    ++ line []
 
 -- the version of the old package, where there is one
 abbrev pub over : Option Package → List ℕ

@@ -6,11 +6,13 @@ use Rattle.std.specs.Fmt.{decimal}
 use Rattle.shown_texts.specs.Lines.{line}
 use Rattle.dpkg_scenarios.specs.declared.scenario.Ending.{Ending}
 use Rattle.dpkg_scenarios.specs.declared.scenario.Ending.TheVariants.{Done, Failed, Incomplete, Bound}
+use Rattle.dpkg_scenarios.specs.declared.scenario.Scenario.{Scenario}
 use Rattle.dpkg_scenarios.specs.declared.scenario.ScriptKind.{ScriptKind}
 use Rattle.dpkg_scenarios.specs.declared.scenario.ScriptKind.TheVariants.{Preinst, Postinst, Prerm, Postrm}
 use Rattle.dpkg_scenarios.specs.declared.scenario.Side.{Side}
 use Rattle.dpkg_scenarios.specs.declared.scenario.Side.TheVariants.{New, Old}
 use Rattle.dpkg_scenarios.specs.declared.scripts.Scripts.{Scripts}
+use Rattle.dpkg_scenarios.specs.Names.{scenario_name}
 use Rattle.checker_input.specs.declared.sources.Sources.{Sources}
 use Rattle.scenario_runs.specs.declared.call.ScriptCall.{ScriptCall}
 use Rattle.scenario_runs.specs.declared.call.CallEnd.{CallEnd}
@@ -70,36 +72,45 @@ lines_words lines =
     if lines.first == lines.last then codes "line " ++ decimal lines.first
     else codes "lines " ++ decimal lines.first ++ codes " to " ++ decimal lines.last
 
+-- a text between two others
+unfoldable pub between : List ℕ → List ℕ → List ℕ → List ℕ
+between before text behind = before ++ text ++ behind
+
+-- that something is not reached in a scenario
+unfoldable pub unreached_head : Scenario → List ℕ
+unreached_head scenario = between (codes "Not reached in any outcome of ") (scenario_name scenario) (codes ": ")
+
 -- that they are not reached
-unfoldable pub lines_line : Sources → Side → ScriptKind → Lines → List ℕ
-lines_line sources side script lines =
+unfoldable pub lines_line : Sources → Scenario → Side → ScriptKind → Lines → List ℕ
+lines_line sources scenario side script lines =
     line []
-    ++ line (codes "Not reached in any outcome: " ++ script_file sources side script ++ codes ", " ++ lines_words lines)
+    ++ line (unreached_head scenario ++ script_file sources side script ++ codes ", " ++ lines_words lines)
 
 -- the same, where some lines are known to be so
-abbrev pub lines_text : Sources → Side → ScriptKind → Option Lines → List ℕ
-lines_text sources side script None = []
-lines_text sources side script (Some lines) = lines_line sources side script lines
+abbrev pub lines_text : Sources → Scenario → Side → ScriptKind → Option Lines → List ℕ
+lines_text sources scenario side script None = []
+lines_text sources scenario side script (Some lines) = lines_line sources scenario side script lines
 
 -- the lines of one script that no outcome reaches
 abbrev pub unreached_lines : Sources → List ReportEntry → Side → ScriptKind → Option Lines
 unreached_lines sources entries side script =
     unreached (script_text sources side script) (calls_left sources side script entries)
 
--- that they are not reached
-unfoldable pub script_lines : Sources → List ReportEntry → Side → ScriptKind → List ℕ
-script_lines sources entries side script = lines_text sources side script (unreached_lines sources entries side script)
+-- that they are not reached in a scenario
+unfoldable pub script_lines : Sources → Scenario → List ReportEntry → Side → ScriptKind → List ℕ
+script_lines sources scenario entries side script =
+    lines_text sources scenario side script (unreached_lines sources entries side script)
 
 -- the lines of the scripts of a package
-unfoldable pub side_lines : Sources → List ReportEntry → Side → List ℕ
-side_lines sources entries side =
-    script_lines sources entries side Preinst
-    ++ script_lines sources entries side Postinst
-    ++ script_lines sources entries side Prerm
-    ++ script_lines sources entries side Postrm
+unfoldable pub side_lines : Sources → Scenario → List ReportEntry → Side → List ℕ
+side_lines sources scenario entries side =
+    script_lines sources scenario entries side Preinst
+    ++ script_lines sources scenario entries side Postinst
+    ++ script_lines sources scenario entries side Prerm
+    ++ script_lines sources scenario entries side Postrm
 
 -- the lines of all scripts
-unfoldable pub unreached_text : Sources → List ReportEntry → List ℕ
-unreached_text sources entries =
-    if is_alone sources.old_texts then side_lines sources entries New
-    else side_lines sources entries New ++ side_lines sources entries Old
+unfoldable pub unreached_text : Sources → Scenario → List ReportEntry → List ℕ
+unreached_text sources scenario entries =
+    if is_alone sources.old_texts then side_lines sources scenario entries New
+    else side_lines sources scenario entries New ++ side_lines sources scenario entries Old

@@ -23,6 +23,7 @@ use Rattle.explanation.specs.declared.spots.Spot.{Spot}
 use Rattle.explanation.specs.declared.spots.Spot.TheVariants.{InScript, InFiles, Nowhere}
 use Rattle.explanation.specs.CommandWords.{word_at}
 use Rattle.explanation.specs.Counting.{counted_text, numbered_text}
+use Rattle.explanation.specs.CommandWords.{word_at}
 use Rattle.explanation.specs.Courses.{call_line, deed_text}
 use Rattle.explanation.specs.GroupTexts.{shown_run, deeds_of, ending_words, settling_line}
 use Rattle.explanation.specs.Scripts.{script_text}
@@ -53,7 +54,8 @@ where_words sources Nowhere = []
 -- an act, by its mark
 unfoldable pub deed_line : Sources → Scenario → Mark → Deed → List ℕ
 deed_line sources scenario mark deed =
-    line (codes "      " ++ where_words sources (spot_of scenario (Some mark.site)) ++ deed_text deed mark.row)
+    let spot = spot_of scenario (Some mark.site) in
+    line (codes "      " ++ where_words sources spot ++ deed_text (word_at sources spot) deed mark.row)
 
 -- the same, where the deed is known
 unfoldable pub mark_line : Sources → Scenario → Mark → Option Deed → List ℕ

@@ -37,7 +37,7 @@ whole_text sources packages run part groups =
     head_line sources packages part.scenario (verdict_words (part_verdict part))
     ++ counts_line part.entries
     ++ all_groups sources run part groups
-    ++ unreached_text sources part.entries
+    ++ unreached_text sources part.scenario part.entries
     ++ line []
 
 -- one outcome, behind the first line of its scenario

@@ -1,4 +1,4 @@
--- Which stated commands the scripts name, as words: the calls that are stated to end so, in a run or not.
+-- Which stated commands the scripts name where a command can begin: the calls that are stated to end so, in a run or not.
 use Rattle.std.specs.Prelude.{ℕ, true, ◌==◌, List, [], ◌∷◌, ◌++◌, length, codes, if◌then◌else◌}
 use Rattle.std.specs.List.{flat_map}
 use Rattle.shown_texts.specs.Lines.{line}
@@ -13,12 +13,13 @@ use Rattle.dpkg_scenarios.specs.declared.scenario.Side.{Side}
 use Rattle.dpkg_scenarios.specs.declared.scenario.Side.TheVariants.{New, Old}
 use Rattle.checker_input.specs.declared.sources.Sources.{Sources}
 use Rattle.system_base.specs.declared.base.Base.{Base}
+use Rattle.script_places.specs.WordPlaces.{first_words}
 use Rattle.explanation.specs.CommandWords.{named_from, unquoted}
 use Rattle.explanation.specs.Scripts.{script_text}
 
--- the text of a script without quotes, as a line of its own
+-- the words of a script with which commands can begin, without quotes, in lines of their own
 unfoldable pub script_words : Sources → Side → ScriptKind → List ℕ
-script_words sources side script = line (unquoted (script_text sources side script))
+script_words sources side script = line (unquoted (first_words (script_text sources side script)))
 
 -- those of the scripts of a package
 unfoldable pub side_words : Sources → Side → List ℕ
@@ -32,11 +33,17 @@ side_words sources side =
 unfoldable pub all_words : Sources → List ℕ
 all_words sources = side_words sources New ++ side_words sources Old
 
+-- a path between texts
+unfoldable pub around_path : List ℕ → List (List ℕ) → List ℕ → List ℕ
+around_path before names behind = before ++ path_text names ++ behind
+
 -- how the calls end that are not stated to succeed
 abbrev pub end_text : CallEnd → List ℕ
 end_text Succeeds = []
 end_text Fails = codes " (fails)"
-end_text (Asks path) = codes " (asks for " ++ path_text path.names ++ codes ")"
+end_text (Asks path) =
+    around_path (codes " (asks ") path.names
+    (codes ": succeeds where something stands at this place, which is its answer)")
 
 -- the name of a stated command, and how its calls end
 unfoldable pub stated_text : StatedCall → List ℕ

@@ -30,9 +30,9 @@ some_line exact =
 unfoldable pub under_text : List ℕ → List PlaceFact → List ℕ
 under_text title facts = if length facts == 0 then [] else title ++ facts_text facts
 
--- facts that merely let the run get there, if there are any
+-- the further facts of a box, if there are any
 abbrev pub others_text : FactBox → List ℕ
-others_text facts = under_text (line (codes "    and the run gets that far, since:")) facts.others
+others_text facts = under_text (line (codes "    and besides")) facts.others
 
 -- the facts of a box: those that decide first
 unfoldable pub box_text : FactBox → List ℕ

@@ -5,7 +5,7 @@ ghost use Rattle.std.specs.Option.{option_copied};
 ghost use Rattle.feature_trees.specs.Kinds.{has};
 ghost use Rattle.tree_pictures.specs.Placed.{tree_places};
 ghost use Rattle.explanation.specs.Changes.{path_bytes, fact_path, kind_of, kind_at, is_link_to, is_against};
-ghost use Rattle.explanation.specs.Changes.{is_refuted, with_path, with_places, told_first, marks, changed_text};
+ghost use Rattle.explanation.specs.Changes.{is_refuted, with_path, with_places, is_out, box_places, marks, changed_text};
 
 use feature_trees::{Kind, Value};
 use outcome_groups::FactBox;
@@ -108,59 +108,67 @@ fn some_refuted(alloc: Global, places: &[Placed], facts: &[PlaceFact]) -> Result
     Ok(false)
 }
 
-// Paths, and one more, unless it is among them.
-fn with_path(paths: List<Bytes>, path: Bytes) -> Result<List<Bytes>, Memory>
-    ensures { IfOk result (λ all. all ≡ with_path paths path) }
+// Adds a path, unless it is among these.
+fn put_place(paths: &mut List<Bytes>, path: Bytes) -> Result<(), Memory>
+    ensures { OnOk result (paths.new ≡ with_path paths.old path) }
 {
     let is = is_among(paths.as_slice(), path.as_slice());
     if is {
-        return Ok(paths);
+        return Ok(());
     }
-    let mut all = paths;
-    all.add(path)?;
-    Ok(all)
+    paths.add(path)
 }
 
-// The places of facts, each once.
-fn places_of(alloc: Global, facts: &[PlaceFact]) -> Result<List<Bytes>, Memory>
-    ensures { IfOk result (λ paths. paths ≡ with_places [] facts.now) }
+// Adds the places of facts, each once.
+fn put_places(alloc: Global, paths: &mut List<Bytes>, facts: &[PlaceFact]) -> Result<(), Memory>
+    ensures { OnOk result (paths.new ≡ with_places paths.old facts.now) }
 {
-    let mut paths = List::new(alloc);
     let mut left = facts;
     while let [fact, rest @ ..] = left {
         let path = fact_path(alloc, fact)?;
-        paths = with_path(paths, path)?;
+        put_place(paths, path)?;
         left = rest;
     }
+    Ok(())
+}
+
+// Whether something speaks against a fact of a box.
+fn is_out(alloc: Global, places: &[Placed], facts: &FactBox) -> Result<bool, Memory>
+    ensures { IfOk result (λ is. is ≡ is_out places.now facts.now) }
+{
+    let refuted = some_refuted(alloc, places, facts.deciding.as_slice())?;
+    if refuted {
+        return Ok(true);
+    }
+    some_refuted(alloc, places, facts.others.as_slice())
+}
+
+// The places of the facts of a box, each once.
+fn box_places(alloc: Global, facts: &FactBox) -> Result<List<Bytes>, Memory>
+    ensures { IfOk result (λ paths. paths ≡ box_places facts.now) }
+{
+    let mut paths = List::new(alloc);
+    put_places(alloc, &mut paths, facts.deciding.as_slice())?;
+    put_places(alloc, &mut paths, facts.others.as_slice())?;
     Ok(paths)
 }
 
-// The facts of a box that are told first.
-fn told_first(facts: &FactBox) -> &[PlaceFact]
-    ensures { result.now ≡ told_first facts.now }
-{
-    if facts.deciding.len() == 0 {
-        return facts.others.as_slice();
-    }
-    facts.deciding.as_slice()
-}
-
-// The places that decide.
+// The places that are told.
 fn marks(alloc: Global, places: &[Placed], boxes: &[FactBox]) -> Result<List<Bytes>, Memory>
     ensures { IfOk result (λ paths. paths ≡ marks places.now boxes.now) }
 {
     let mut left = boxes;
     while let [facts, rest @ ..] = left {
-        let refuted = some_refuted(alloc, places, told_first(facts))?;
-        if !refuted {
-            return places_of(alloc, told_first(facts));
+        let out = is_out(alloc, places, facts)?;
+        if !out {
+            return box_places(alloc, facts);
         }
         left = rest;
     }
     Ok(List::new(alloc))
 }
 
-/// Adds, behind a title, what a run makes of a tree, with the places marked that decide, by these boxes.
+/// Adds, behind a title, what a run makes of a tree, with the places marked that are told, by these boxes.
 #[tactic(auto, unfolding(crate::specs::Changes::changed_text))]
 pub fn put_changed(
     alloc: Global,

@@ -2,11 +2,13 @@
 ghost use Rattle.std.specs.Prelude.{◌≡◌, ◌++◌, drop, OnOk};
 ghost use Rattle.std.specs.List.{flat_map};
 ghost use Rattle.std.specs.Option.{option_copied};
-ghost use Rattle.explanation.specs.Courses.{word_text, end_words, call_line, done_text, deed_text, line_number};
+ghost use Rattle.explanation.specs.Courses.{word_text, end_words, call_line, further_path, is_stated, done_name, done_text, spot_in};
+ghost use Rattle.explanation.specs.Courses.{deed_text, line_number};
 ghost use Rattle.explanation.specs.Courses.{act_line, is_told, told_act, acts_text};
 
 use crate::scripts::script_text;
 use crate::spots::Spot;
+use crate::text_words::{is_plain_name, word_at};
 use checker_input::Sources;
 use scenario_runs::{CallEnd, ScriptCall};
 use script_names::{Bytes, Mark, Memory, Path, Site};
@@ -14,7 +16,9 @@ use script_places::{
     act_name, back_name, back_row_words, deed_of_mark, position_of, row_words, script_words,
 };
 use shown_texts::{push_number, push_path, push_shown};
+use utility_calls::acts::Act;
 use utility_calls::deeds::Deed;
+use utility_calls::same_names;
 
 // Adds a word of a call.
 fn put_word(text: &mut Bytes, word: &Bytes) -> Result<(), Memory>
@@ -71,32 +75,72 @@ pub fn put_calls(text: &mut Bytes, calls: &[ScriptCall]) -> Result<(), Memory>
     Ok(())
 }
 
-// Adds what was done, with the words of its row.
-fn put_done(text: &mut Bytes, name: &[u8], path: &Path, words: &[u8]) -> Result<(), Memory>
-    ensures { OnOk result (text.new ≡ text.old ++ done_text name.now path.now.names words.now) }
+// Adds a further path, where it is another one.
+#[tactic(auto, unfolding(crate::specs::Courses::further_path))]
+fn put_further_path(text: &mut Bytes, path: &Path, other: &Path) -> Result<(), Memory>
+    ensures { OnOk result (text.new ≡ text.old ++ further_path path.now.names other.now.names) }
 {
-    text.extend(name)?;
+    if same_names(path.names(), other.names()) {
+        return Ok(());
+    }
+    text.extend(b" ")?;
+    push_path(text, other.names())
+}
+
+// Whether an act is the question of a command whose calls a base states.
+fn is_stated(word: &[u8], act: &Act) -> bool
+    ensures { result ≡ is_stated word.now act.now }
+{
+    act_name(act) == b"test -e".as_slice() && is_plain_name(word) && word != b"command".as_slice()
+}
+
+// Adds what is done.
+fn put_done_name(text: &mut Bytes, word: &[u8], act: &Act) -> Result<(), Memory>
+    ensures { OnOk result (text.new ≡ text.old ++ done_name word.now act.now) }
+{
+    if is_stated(word, act) {
+        text.extend(word)?;
+        return text.extend(b" asks");
+    }
+    text.extend(act_name(act))
+}
+
+// Adds where something was done, with the words of its row.
+fn put_done(text: &mut Bytes, path: &Path, other: &Path, words: &[u8]) -> Result<(), Memory>
+    ensures { OnOk result
+        (text.new ≡ text.old ++ done_text path.now.names other.now.names words.now) }
+{
     text.extend(b" ")?;
     push_path(text, path.names())?;
+    put_further_path(text, path, other)?;
     text.extend(b": ")?;
     text.extend(words)
 }
 
-/// Adds a deed, by its row.
-pub fn put_deed(text: &mut Bytes, deed: &Deed, row: u8) -> Result<(), Memory>
-    ensures { OnOk result (text.new ≡ text.old ++ deed_text deed.now row) }
+/// Adds a deed of the command with this first word, by its row.
+pub fn put_deed(text: &mut Bytes, word: &[u8], deed: &Deed, row: u8) -> Result<(), Memory>
+    ensures { OnOk result (text.new ≡ text.old ++ deed_text word.now deed.now row) }
 {
     match deed {
-        Deed::Does(act) => put_done(text, act_name(act), act.path(), row_words(act, row)),
+        Deed::Does(act) => {
+            put_done_name(text, word, act)?;
+            put_done(text, act.path(), act.place(), row_words(act, row))
+        }
         Deed::Returns(back) => {
-            put_done(
-                text,
-                back_name(back),
-                back.path(),
-                back_row_words(back, row),
-            )
+            text.extend(back_name(back))?;
+            put_done(text, back.path(), back.path(), back_row_words(back, row))
         }
         Deed::Keeps => Ok(()),
+    }
+}
+
+// A further place in the script of a place, or in none.
+fn spot_in(spot: Spot, at: u32) -> Spot
+    ensures { result ≡ spot_in spot at }
+{
+    match spot {
+        Spot::InScript { side, script, .. } => Spot::InScript { side, script, at },
+        Spot::InFiles { .. } | Spot::Nowhere => Spot::Nowhere,
     }
 }
 
@@ -129,7 +173,8 @@ fn put_act(
 {
     text.extend(b"        ")?;
     put_line_number(text, sources, spot, mark.site.at)?;
-    put_deed(text, deed, mark.row)?;
+    let word = word_at(sources, spot_in(spot, mark.site.at));
+    put_deed(text, word, deed, mark.row)?;
     text.extend(b"\n")
 }
 

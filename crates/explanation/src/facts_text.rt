@@ -1,7 +1,8 @@
 // Facts on places of the start tree, in words.
-ghost use Rattle.std.specs.Prelude.{◌≡◌, ◌++◌, OnOk};
+ghost use Rattle.std.specs.Prelude.{◌≡◌, ◌++◌, [], if◌then◌else◌, OnOk};
 ghost use Rattle.std.specs.List.{flat_map, list_any};
-ghost use Rattle.explanation.specs.FactTexts.{name_text, names_text, but_names, beside_names, fact_words};
+ghost use Rattle.tree_clauses.specs.NameSets.{is_among};
+ghost use Rattle.explanation.specs.FactTexts.{name_text, once, names_text, but_names, beside_names, fact_words};
 ghost use Rattle.explanation.specs.FactTexts.{fact_line, is_no_directory, is_fence, excludes};
 ghost use Rattle.explanation.specs.FactTexts.{is_implied};
 
@@ -19,12 +20,39 @@ fn put_name(text: &mut Bytes, name: &Name) -> Result<(), Memory>
     push_shown(text, name.as_slice())
 }
 
-// Adds names.
-fn put_names(text: &mut Bytes, names: &[Name]) -> Result<(), Memory>
-    ensures { OnOk result (text.new ≡ text.old ++ flat_map name_text names.now) }
+// Whether a name is among these.
+fn is_among(names: &[Name], name: &Name) -> bool
+    ensures { result ≡ is_among names.now name.now }
 {
-    for name in names {
-        put_name(text, name)?;
+    let mut left = names;
+    while let [other, rest @ ..] = left {
+        if other.as_slice() == name.as_slice() {
+            return true;
+        }
+        left = rest;
+    }
+    false
+}
+
+// Adds a name, unless it is among those behind it.
+fn put_last(text: &mut Bytes, name: &Name, names: &[Name]) -> Result<(), Memory>
+    ensures { OnOk result
+        (text.new ≡ text.old ++ (if is_among names.now name.now then [] else name_text name.now)) }
+{
+    if is_among(names, name) {
+        return Ok(());
+    }
+    put_name(text, name)
+}
+
+// Adds names, each once.
+fn put_names(text: &mut Bytes, names: &[Name]) -> Result<(), Memory>
+    ensures { OnOk result (text.new ≡ text.old ++ flat_map name_text (once names.now)) }
+{
+    let mut left = names;
+    while let [name, rest @ ..] = left {
+        put_last(text, name, rest)?;
+        left = rest;
     }
     Ok(())
 }

@@ -4,7 +4,7 @@ ghost use Rattle.std.specs.List.{flat_map};
 ghost use Rattle.std.specs.Option.{option_copied};
 ghost use Rattle.scenario_runs.specs.Runs.{scenario_run};
 ghost use Rattle.explanation.specs.GroupTexts.{shown_run, deeds_of, way_words, why_words, ending_words};
-ghost use Rattle.explanation.specs.GroupTexts.{call_lines, is_call, reason_settled};
+ghost use Rattle.explanation.specs.GroupTexts.{call_lines, call_settled, is_call, kept_lines, reason_settled};
 ghost use Rattle.explanation.specs.GroupTexts.{group_head, settled_by, is_open, titled_settled, settling_line};
 ghost use Rattle.explanation.specs.GroupTexts.{way_head, change_list, whole_hint, titled_lines};
 ghost use Rattle.explanation.specs.GroupTexts.{making_lines, making_hint, is_small, making_text};
@@ -17,7 +17,7 @@ use crate::changes::put_changed;
 use crate::counting::{put_counted, put_numbered};
 use crate::courses::{put_acts, put_calls};
 use crate::spots::{Spot, put_spot, put_written, spot_of};
-use crate::text_words::is_plain_name;
+use crate::text_words::{is_kept_word, is_plain_name};
 use crate::told_text::put_told;
 use checker_input::Sources;
 use dpkg_scenarios::{Ending, Scenario, ending_verdict};
@@ -27,6 +27,7 @@ use outcome_report::{ReportEntry, ReportPart};
 use scenario_runs::{Job, Replayed, run};
 use script_names::{Bytes, Memory, Reason, Site};
 use script_places::{reason_words, scenario_words, settling_words, state_words};
+use shown_texts::push_shown;
 use std::alloc::Global;
 use tree_pictures::{put_shell_lines, tree_places};
 use utility_calls::deeds::Deed;
@@ -131,13 +132,39 @@ fn put_call_lines(text: &mut Bytes, name: &[u8]) -> Result<(), Memory>
     text.extend(b" fails`, where it is true and the command changes no file that matters")
 }
 
+// Adds that no base line says that of a command, and which lines may help.
+#[tactic(auto, unfolding(crate::specs::GroupTexts::kept_lines))]
+fn put_kept_lines(text: &mut Bytes, name: &[u8]) -> Result<(), Memory>
+    ensures { OnOk result (text.new ≡ text.old ++ kept_lines name.now) }
+{
+    text.extend(b"calls of ")?;
+    push_shown(text, name)?;
+    text.extend(
+        b" cannot be stated (docs/FORMATS.md has the uses with a meaning); base lines on what stands at the places above may keep runs from here",
+    )
+}
+
+// Adds what would decide a place of which a command without a meaning begins with this word.
+#[tactic(auto, unfolding(crate::specs::GroupTexts::call_settled))]
+fn put_call_settled(text: &mut Bytes, word: &[u8]) -> Result<(), Memory>
+    ensures { OnOk result (text.new ≡ text.old ++ call_settled word.now) }
+{
+    if is_plain_name(word) {
+        return put_call_lines(text, word);
+    }
+    if is_kept_word(word) {
+        return put_kept_lines(text, word);
+    }
+    text.extend(settling_words(Reason::Call))
+}
+
 // Adds what would decide a place whose command begins with this word.
 #[tactic(auto, unfolding(crate::specs::GroupTexts::reason_settled))]
 fn put_reason_settled(text: &mut Bytes, word: &[u8], reason: Reason) -> Result<(), Memory>
     ensures { OnOk result (text.new ≡ text.old ++ reason_settled word.now reason) }
 {
-    if is_call(reason) && is_plain_name(word) {
-        return put_call_lines(text, word);
+    if is_call(reason) {
+        return put_call_settled(text, word);
     }
     text.extend(settling_words(reason))
 }
@@ -234,7 +261,7 @@ fn put_change_list(
     put_changed(
         alloc,
         text,
-        b"  One such system, and what the run makes of it (- taken away, ~ changed, + made):\n",
+        b"  One such system, and what the run makes of it (- taken away, ~ changed, + made, <-- told above):\n",
         boxes,
         before,
         after,
@@ -450,7 +477,6 @@ pub fn put_group_body(
     put_told(alloc, text, group.exactly, group.boxes.as_slice())?;
     let word = word_of(sources, part.scenario, group);
     put_settling(text, word, group.end.ending)?;
-    put_all_further(alloc, text, sources, part.scenario, group, groups)?;
     put_first(
         alloc,
         text,
@@ -459,7 +485,8 @@ pub fn put_group_body(
         spot,
         group,
         part.entries.as_slice(),
-    )
+    )?;
+    put_all_further(alloc, text, sources, part.scenario, group, groups)
 }
 
 // Adds a group.

@@ -1,7 +1,7 @@
-// What is said first of a scenario: the package, how the scenario ends, and how often.
+// What is said first, and first of a scenario: the package, how the scenario ends, and how often.
 ghost use Rattle.std.specs.Prelude.{◌≡◌, ◌++◌, length, OnOk};
 ghost use Rattle.explanation.specs.Heads.{over_text, package_text, name_text, verdict_words, head_line, counts_line};
-ghost use Rattle.explanation.specs.Heads.{failing_text, undecided_text, well_text};
+ghost use Rattle.explanation.specs.Heads.{failing_text, legend_text, undecided_text, well_text};
 
 use crate::counting::{count_so, put_counted};
 use crate::scripts::folder_of;
@@ -10,6 +10,24 @@ use dpkg_scenarios::{Scenario, Side, scenario_name};
 use outcome_report::ReportEntry;
 use script_names::{Bytes, Memory};
 use shown_texts::{push_number, push_shown};
+
+/// Adds what stands before all that is said: what an outcome is, and what is left out of lines.
+#[tactic(auto, unfolding(crate::specs::Heads::legend_text))]
+pub fn put_legend(text: &mut Bytes) -> Result<(), Memory>
+    ensures { OnOk result (text.new ≡ text.old ++ legend_text) }
+{
+    text.extend(
+        b"An outcome stands for all systems on which a scenario goes the same way, act by act.\n",
+    )?;
+    text.extend(
+        b"An undecided one is known up to its place: what it does from there is not, nor how the package is left.\n",
+    )?;
+    text.extend(
+        b"Lines that are known not to be reached stand at the end of a scenario; of others nothing is said.\n",
+    )?;
+    text.extend(b"In the line of a script [..] stands for what is left out.\n")?;
+    text.extend(b"\n")
+}
 
 // Adds the version of the old package, where there is one.
 fn put_over(text: &mut Bytes, packages: &Packages) -> Result<(), Memory>

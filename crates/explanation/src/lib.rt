@@ -25,7 +25,7 @@ mod told_text;
 pub use alike::{is_first, is_further};
 pub use counting::put_counted;
 pub use groups_text::{first_entry, has_verdict, put_group_body, put_group_title};
-pub use head::{put_counts, put_package, verdict_words};
+pub use head::{put_counts, put_legend, put_package, verdict_words};
 pub use lines_left::{is_alone, unreached_lines};
 pub use premises::put_premises;
 pub use scripts::{put_script_file, script_text};

@@ -1,13 +1,13 @@
 // The lines of scripts that no outcome of a part reaches.
 ghost use Rattle.std.specs.Prelude.{◌≡◌, ◌++◌, IfOk, OnOk};
 ghost use Rattle.std.specs.List.{flat_map};
-ghost use Rattle.explanation.specs.LinesLeft.{call_left, calls_left, entry_left, is_alone, is_call_of, left_at, left_by};
+ghost use Rattle.explanation.specs.LinesLeft.{between, call_left, calls_left, entry_left, is_alone, is_call_of, left_at, left_by};
 ghost use Rattle.explanation.specs.LinesLeft.{lines_line, lines_text, lines_words};
-ghost use Rattle.explanation.specs.LinesLeft.{script_lines, side_lines, unreached_lines, unreached_text};
+ghost use Rattle.explanation.specs.LinesLeft.{script_lines, side_lines, unreached_head, unreached_lines, unreached_text};
 
 use crate::scripts::{put_script_file, script_text};
 use checker_input::Sources;
-use dpkg_scenarios::{Ending, ScriptKind, Scripts, Side};
+use dpkg_scenarios::{Ending, Scenario, ScriptKind, Scripts, Side, scenario_name};
 use outcome_groups::{same_script, same_side};
 use outcome_report::ReportEntry;
 use scenario_runs::{CallEnd, ScriptCall};
@@ -119,19 +119,43 @@ fn put_lines_words(text: &mut Bytes, lines: Lines) -> Result<(), Memory>
     push_number(text, lines.last as u64)
 }
 
+// Adds a text between two others.
+#[tactic(auto, unfolding(crate::specs::LinesLeft::between))]
+fn put_between(text: &mut Bytes, before: &[u8], said: &[u8], behind: &[u8]) -> Result<(), Memory>
+    ensures { OnOk result (text.new ≡ text.old ++ between before.now said.now behind.now) }
+{
+    text.extend(before)?;
+    text.extend(said)?;
+    text.extend(behind)
+}
+
+// Adds that something is not reached in a scenario.
+#[tactic(auto, unfolding(crate::specs::LinesLeft::unreached_head))]
+fn put_unreached_head(text: &mut Bytes, scenario: Scenario) -> Result<(), Memory>
+    ensures { OnOk result (text.new ≡ text.old ++ unreached_head scenario) }
+{
+    put_between(
+        text,
+        b"Not reached in any outcome of ",
+        scenario_name(scenario).as_bytes(),
+        b": ",
+    )
+}
+
 // Adds that lines are not reached.
 #[tactic(auto, unfolding(crate::specs::LinesLeft::lines_line))]
 fn put_lines_line(
     text: &mut Bytes,
     sources: &Sources,
+    scenario: Scenario,
     side: Side,
     script: ScriptKind,
     lines: Lines,
 ) -> Result<(), Memory>
-    ensures { OnOk result (text.new ≡ text.old ++ lines_line sources.now side script lines) }
+    ensures { OnOk result (text.new ≡ text.old ++ lines_line sources.now scenario side script lines) }
 {
     text.extend(b"\n")?;
-    text.extend(b"Not reached in any outcome: ")?;
+    put_unreached_head(text, scenario)?;
     put_script_file(text, sources, side, script)?;
     text.extend(b", ")?;
     put_lines_words(text, lines)?;
@@ -142,14 +166,15 @@ fn put_lines_line(
 fn put_lines(
     text: &mut Bytes,
     sources: &Sources,
+    scenario: Scenario,
     side: Side,
     script: ScriptKind,
     lines: Option<Lines>,
 ) -> Result<(), Memory>
-    ensures { OnOk result (text.new ≡ text.old ++ lines_text sources.now side script lines) }
+    ensures { OnOk result (text.new ≡ text.old ++ lines_text sources.now scenario side script lines) }
 {
     match lines {
-        Some(lines) => put_lines_line(text, sources, side, script, lines),
+        Some(lines) => put_lines_line(text, sources, scenario, side, script, lines),
         None => Ok(()),
     }
 }
@@ -174,14 +199,15 @@ fn put_script_lines(
     alloc: Global,
     text: &mut Bytes,
     sources: &Sources,
+    scenario: Scenario,
     entries: &[ReportEntry],
     side: Side,
     script: ScriptKind,
 ) -> Result<(), Memory>
-    ensures { OnOk result (text.new ≡ text.old ++ script_lines sources.now entries.now side script) }
+    ensures { OnOk result (text.new ≡ text.old ++ script_lines sources.now scenario entries.now side script) }
 {
     let lines = unreached_lines(alloc, sources, entries, side, script)?;
-    put_lines(text, sources, side, script, lines)
+    put_lines(text, sources, scenario, side, script, lines)
 }
 
 // Adds those of the scripts of a package.
@@ -190,15 +216,48 @@ fn put_side_lines(
     alloc: Global,
     text: &mut Bytes,
     sources: &Sources,
+    scenario: Scenario,
     entries: &[ReportEntry],
     side: Side,
 ) -> Result<(), Memory>
-    ensures { OnOk result (text.new ≡ text.old ++ side_lines sources.now entries.now side) }
+    ensures { OnOk result (text.new ≡ text.old ++ side_lines sources.now scenario entries.now side) }
 {
-    put_script_lines(alloc, text, sources, entries, side, ScriptKind::Preinst)?;
-    put_script_lines(alloc, text, sources, entries, side, ScriptKind::Postinst)?;
-    put_script_lines(alloc, text, sources, entries, side, ScriptKind::Prerm)?;
-    put_script_lines(alloc, text, sources, entries, side, ScriptKind::Postrm)
+    put_script_lines(
+        alloc,
+        text,
+        sources,
+        scenario,
+        entries,
+        side,
+        ScriptKind::Preinst,
+    )?;
+    put_script_lines(
+        alloc,
+        text,
+        sources,
+        scenario,
+        entries,
+        side,
+        ScriptKind::Postinst,
+    )?;
+    put_script_lines(
+        alloc,
+        text,
+        sources,
+        scenario,
+        entries,
+        side,
+        ScriptKind::Prerm,
+    )?;
+    put_script_lines(
+        alloc,
+        text,
+        sources,
+        scenario,
+        entries,
+        side,
+        ScriptKind::Postrm,
+    )
 }
 
 /// Adds the lines of all scripts that no outcome reaches.
@@ -207,13 +266,14 @@ pub fn put_unreached(
     alloc: Global,
     text: &mut Bytes,
     sources: &Sources,
+    scenario: Scenario,
     entries: &[ReportEntry],
 ) -> Result<(), Memory>
-    ensures { OnOk result (text.new ≡ text.old ++ unreached_text sources.now entries.now) }
+    ensures { OnOk result (text.new ≡ text.old ++ unreached_text sources.now scenario entries.now) }
 {
-    put_side_lines(alloc, text, sources, entries, Side::New)?;
+    put_side_lines(alloc, text, sources, scenario, entries, Side::New)?;
     if is_alone(&sources.old_texts) {
         return Ok(());
     }
-    put_side_lines(alloc, text, sources, entries, Side::Old)
+    put_side_lines(alloc, text, sources, scenario, entries, Side::Old)
 }

@@ -81,8 +81,9 @@ fn put_deed_line(
     ensures { OnOk result (text.new ≡ text.old ++ deed_line sources.now scenario mark deed.now) }
 {
     text.extend(b"      ")?;
-    put_where(text, sources, spot_of(scenario, Some(mark.site)))?;
-    put_deed(text, deed, mark.row)?;
+    let spot = spot_of(scenario, Some(mark.site));
+    put_where(text, sources, spot)?;
+    put_deed(text, word_at(sources, spot), deed, mark.row)?;
     text.extend(b"\n")
 }
 

@@ -69,7 +69,7 @@ fn put_whole(
     )?;
     put_counts(text, part.entries.as_slice())?;
     put_all_groups(alloc, text, sources, job, part, groups)?;
-    put_unreached(alloc, text, sources, part.entries.as_slice())?;
+    put_unreached(alloc, text, sources, part.scenario, part.entries.as_slice())?;
     text.extend(b"\n")
 }
 

@@ -1,19 +1,20 @@
 // Which stated commands the scripts name.
 ghost use Rattle.std.specs.Prelude.{◌≡◌, ◌++◌, IfOk, OnOk};
 ghost use Rattle.std.specs.List.{flat_map};
-ghost use Rattle.explanation.specs.StatedTexts.{all_words, end_text, named_line, some_named, named_text, named_texts};
+ghost use Rattle.explanation.specs.StatedTexts.{all_words, around_path, end_text, named_line, some_named, named_text, named_texts};
 ghost use Rattle.explanation.specs.StatedTexts.{script_words, side_words, stated_line, stated_text};
 
 use crate::scripts::script_text;
 use crate::text_words::{is_named, unquoted};
 use checker_input::Sources;
 use dpkg_scenarios::{ScriptKind, Side};
-use script_names::{Bytes, Memory};
+use script_names::{Bytes, Memory, Name};
+use script_places::first_words;
 use shown_texts::{push_path, push_shown};
 use std::alloc::Global;
 use utility_calls::{CallEnd, StatedCall};
 
-// Adds the text of a script without quotes, as a line of its own.
+// Adds the words of a script with which commands can begin, without quotes, in lines of their own.
 #[tactic(auto, unfolding(crate::specs::StatedTexts::script_words))]
 fn put_script_words(
     alloc: Global,
@@ -24,7 +25,8 @@ fn put_script_words(
 ) -> Result<(), Memory>
     ensures { OnOk result (words.new ≡ words.old ++ script_words sources.now side script) }
 {
-    let text = unquoted(alloc, script_text(sources, side, script))?;
+    let first = first_words(alloc, script_text(sources, side, script))?;
+    let text = unquoted(alloc, first.as_slice())?;
     words.extend(text.as_slice())?;
     words.extend(b"\n")
 }
@@ -45,7 +47,7 @@ fn put_side_words(
     put_script_words(alloc, words, sources, side, ScriptKind::Postrm)
 }
 
-// The texts of all scripts without quotes.
+// Those of all scripts.
 #[tactic(auto, unfolding(crate::specs::StatedTexts::all_words))]
 fn all_words(alloc: Global, sources: &Sources) -> Result<Bytes, Memory>
     ensures { IfOk result (λ words. words ≡ all_words sources.now) }
@@ -56,6 +58,16 @@ fn all_words(alloc: Global, sources: &Sources) -> Result<Bytes, Memory>
     Ok(words)
 }
 
+// Adds a path between texts.
+#[tactic(auto, unfolding(crate::specs::StatedTexts::around_path))]
+fn put_around(text: &mut Bytes, before: &[u8], path: &[Name], behind: &[u8]) -> Result<(), Memory>
+    ensures { OnOk result (text.new ≡ text.old ++ around_path before.now path.now behind.now) }
+{
+    text.extend(before)?;
+    push_path(text, path)?;
+    text.extend(behind)
+}
+
 // Adds how the calls of a command end that are not stated to succeed.
 fn put_end(text: &mut Bytes, end: &CallEnd) -> Result<(), Memory>
     ensures { OnOk result (text.new ≡ text.old ++ end_text end.now) }
@@ -63,11 +75,12 @@ fn put_end(text: &mut Bytes, end: &CallEnd) -> Result<(), Memory>
     match end {
         CallEnd::Succeeds => Ok(()),
         CallEnd::Fails => text.extend(b" (fails)"),
-        CallEnd::Asks(path) => {
-            text.extend(b" (asks for ")?;
-            push_path(text, path.names())?;
-            text.extend(b")")
-        }
+        CallEnd::Asks(path) => put_around(
+            text,
+            b" (asks ",
+            path.names(),
+            b": succeeds where something stands at this place, which is its answer)",
+        ),
     }
 }
 

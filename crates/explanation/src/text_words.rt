@@ -1,50 +1,16 @@
 // Words in the texts of scripts: the first of a command, and whether a name stands in a text as a word.
-ghost use Rattle.std.specs.Prelude.{◌≡◌, ◌≤◌, ◌++◌, ◌∷◌, [], true, length, not, take, drop, IfOk, OnOk};
+ghost use Rattle.std.specs.Prelude.{◌≡◌, ◌++◌, ◌∷◌, [], true, not, drop, IfOk, OnOk};
 ghost use Rattle.std.specs.List.{filter, list_all};
-ghost use Rattle.explanation.specs.CommandWords.{at_end, begins_with, ends_word, first_word, is_plain_byte};
-ghost use Rattle.explanation.specs.CommandWords.{is_plain_name, is_quote, named_from, unquoted, word_at, word_length};
+ghost use Rattle.explanation.specs.CommandWords.{at_end, begins_with, is_kept_word, is_plain_byte};
+ghost use Rattle.explanation.specs.CommandWords.{is_plain_name, is_quote, named_from, unquoted, word_at};
 
 use crate::scripts::script_text;
 use crate::spots::Spot;
 use checker_input::Sources;
 use script_names::{Bytes, Memory};
-use script_places::joined;
+use script_places::{ends_word, first_word, joined};
 use std::alloc::Global;
 use utility_calls::can_be_stated;
-
-// Whether a byte ends a word where it stands in no quotes.
-fn ends_word(byte: u8) -> bool
-    ensures { result ≡ ends_word byte }
-{
-    let blank = byte == b' ' || (byte == b'\t' || byte == b'\n');
-    let list = byte == b';' || (byte == b'&' || byte == b'|');
-    let other = (byte == b'<' || byte == b'>') || (byte == b'(' || byte == b')');
-    blank || (list || other)
-}
-
-// How many bytes stand before the first that ends a word.
-fn word_length(text: &[u8]) -> usize
-    ensures length { result ≡ word_length text.now }
-    ensures within { result ≤ length text.now }
-{
-    let mut found = 0usize;
-    let mut left = text;
-    while let [byte, rest @ ..] = left {
-        if ends_word(*byte) {
-            return found;
-        }
-        found += 1;
-        left = rest;
-    }
-    found
-}
-
-// What stands before it.
-fn first_word(text: &[u8]) -> &[u8]
-    ensures { result.now ≡ first_word text.now }
-{
-    &text[..word_length(text)]
-}
 
 // What stands in a text from a byte on.
 fn from_byte(text: &[u8], at: usize) -> &[u8]
@@ -87,6 +53,13 @@ pub fn is_plain_name(word: &[u8]) -> bool
     ensures { result ≡ is_plain_name word.now }
 {
     can_be_stated(word) && are_plain(word)
+}
+
+/// Whether a word is the name of a command of which no base can state how its calls end.
+pub fn is_kept_word(word: &[u8]) -> bool
+    ensures { result ≡ is_kept_word word.now }
+{
+    word.len() != 0 && !can_be_stated(word)
 }
 
 // Whether a byte quotes others.

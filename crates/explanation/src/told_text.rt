@@ -42,16 +42,11 @@ fn put_under(
     put_facts(alloc, text, facts)
 }
 
-// Adds facts that merely let the run get there, if there are any.
+// Adds the further facts of a box, if there are any.
 fn put_others(alloc: Global, text: &mut Bytes, facts: &FactBox) -> Result<(), Memory>
     ensures { OnOk result (text.new ≡ text.old ++ others_text facts.now) }
 {
-    put_under(
-        alloc,
-        text,
-        b"    and the run gets that far, since:\n",
-        facts.others.as_slice(),
-    )
+    put_under(alloc, text, b"    and besides\n", facts.others.as_slice())
 }
 
 // Adds the facts of a box: those that decide first.

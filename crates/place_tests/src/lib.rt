@@ -4,6 +4,8 @@
 #[cfg(test)]
 mod commands;
 #[cfg(test)]
+mod first;
+#[cfg(test)]
 mod places;
 #[cfg(test)]
 mod reaches;

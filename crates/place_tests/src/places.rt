@@ -97,20 +97,20 @@ fn are_cut(alloc: Global) -> Result<bool, Memory> {
     push_many(&mut script, b'a', 4998)?;
     script.extend(b"; rm b; echo ")?;
     push_many(&mut script, b'c', 4989)?;
-    let mut shown = Bytes::from_slice(alloc, b"..")?;
+    let mut shown = Bytes::from_slice(alloc, b"[..] ")?;
     push_many(&mut shown, b'a', 38)?;
     shown.extend(b"; rm b; echo ")?;
     push_many(&mut shown, b'c', 49)?;
-    shown.extend(b"..")?;
+    shown.extend(b" [..]")?;
     let middle = source_line(alloc, script.as_slice(), 5004)?;
     let mut long = Bytes::new(alloc);
     push_many(&mut long, b'a', 101)?;
     let begin = source_line(alloc, long.as_slice(), 0)?;
     Ok(
         middle.text.equal(&shown)
-            && middle.before == 42
+            && middle.before == 45
             && middle.marked == 4
-            && begin.text.len() == 62
+            && begin.text.len() == 65
             && begin.marked == 60,
     )
 }

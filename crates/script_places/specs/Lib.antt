@@ -8,4 +8,5 @@ pub mod StepWords
 pub mod KindWords
 pub mod MarkedDeeds
 pub mod Unreached
+pub mod WordPlaces
 pub mod Laws

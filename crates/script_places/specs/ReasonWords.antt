@@ -29,10 +29,10 @@ reason_words Restore = codes "what was put in place is not told from what was th
 
 -- what would decide it: a line of the base, or another spelling of the script
 abbrev pub settling_words : Reason → List ℕ
-settling_words Call = codes "a base line `call NAME ok` or `call NAME fails`, where it is true and the command changes no file that matters"
+settling_words Call = codes "where the name of the command is written out and its calls can be stated, a base line `call NAME ok` or `call NAME fails` that is true, if the command changes no file that matters"
 settling_words Echo = codes "words without a dash at the begin and without a backslash"
-settling_words Link = codes "a base line: `link PATH TARGET`, or what else stands there"
-settling_words Slash = codes "the path without the slash behind it"
+settling_words Link = codes "a base line that says what stands there; of a link that leads to a directory, `link PATH TARGET`"
+settling_words Slash = codes "a base line that says that a directory stands there, or nothing; or the path without its last slash"
 settling_words Root = codes "another path"
 settling_words Empty = codes "a path that is not empty"
 settling_words DotDot = codes "the path without .."
@@ -44,7 +44,7 @@ settling_words Pipe = codes "the commands without the pipe"
 settling_words Message = codes "2>&1 outside the substitution"
 settling_words Strict = codes "`|| true` in the substitution, or its command outside"
 settling_words Status = codes "a number from 0 to 255"
-settling_words Run = codes "the base line `runs`, where it is asked whether a file may be executed; else a base line that says what stands there"
+settling_words Run = codes "a base line that says what stands there; that files may be executed, `runs`"
 settling_words Same = codes "other paths"
 settling_words Conffile = codes "a base line that says what stands there"
 settling_words Restore = codes "a report of this version"

@@ -126,16 +126,22 @@ most_before = 40
 abbrev pub most_after : ℕ
 most_after = 60
 
--- what stands for cells that are left out
-abbrev pub dots : Bool → List ℕ
-dots cut = if cut then codes ".." else []
+-- what stands for cells that are left out before the printed ones
+abbrev pub left_out_before : Bool → List ℕ
+left_out_before cut = if cut then codes "[..] " else []
+
+-- what stands for those that are left out behind them
+abbrev pub left_out_behind : Bool → List ℕ
+left_out_behind cut = if cut then codes " [..]" else []
 
 -- The line with the printed cells before the place and from the place on, and whether there are more of either;
 -- `marked` bytes from the place on are underlined, as far as they are printed, and at least one column.
 abbrev pub shown_line : List Cell → List Cell → Bool → Bool → ℕ → SourceLine
 shown_line before after cut_before cut_after marked = record {
-  text = dots cut_before ++ (flat_map cell_text before ++ (flat_map cell_text after ++ dots cut_after));
-  before = length (dots cut_before) + width before;
+  text =
+      left_out_before cut_before
+      ++ (flat_map cell_text before ++ (flat_map cell_text after ++ left_out_behind cut_after));
+  before = length (left_out_before cut_before) + width before;
   marked = max 1 (width (take marked after));
 }
 

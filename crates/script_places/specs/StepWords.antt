@@ -35,13 +35,13 @@ work_words RemoveOld = codes "dpkg removes what only the old package has"
 work_words RemoveConf = codes "dpkg removes the conffiles"
 work_words Restore = codes "dpkg puts the files back"
 
--- how a package is left
+-- how a package is left; where dpkg has another word for it, that too (dpkg-query(1), status)
 abbrev pub state_words : State → List ℕ
 state_words Installed = codes "installed"
-state_words Unpacked = codes "unpacked, but not configured"
-state_words HalfConfigured = codes "unpacked, but its configuration failed"
-state_words HalfInstalled = codes "neither installed nor removed as a whole"
-state_words ConfigFiles = codes "removed, but its conffiles are left"
+state_words Unpacked = codes "unpacked, but not configured (dpkg: unpacked)"
+state_words HalfConfigured = codes "unpacked, but its configuration failed (dpkg: half-configured)"
+state_words HalfInstalled = codes "neither installed nor removed as a whole (dpkg: half-installed)"
+state_words ConfigFiles = codes "removed, but not purged (dpkg: config-files)"
 state_words NotInstalled = codes "not installed"
 
 -- what a scenario is

@@ -72,7 +72,7 @@ fn furthest(between: bool, size: usize, passed: usize) -> usize
 }
 
 // Goes behind one more byte. `around` has for each parenthesis that is open where the text goes on behind it.
-fn scan(around: &mut Vec<Within>, within: Within, byte: u8) -> Result<Within, Memory>
+pub(crate) fn scan(around: &mut Vec<Within>, within: Within, byte: u8) -> Result<Within, Memory>
     ensures { IfOk result (λ next. scan_of next around.new.items ≡ scanned (scan_of within around.old.items) byte) }
 {
     match opened(within, byte) {
@@ -119,14 +119,14 @@ pub(crate) fn is_blank(byte: u8) -> bool
 }
 
 // The byte of an operator that ends a command.
-fn is_end(byte: u8) -> bool
+pub(crate) fn is_end(byte: u8) -> bool
     ensures { result ≡ is_end byte }
 {
     byte == b';' || byte == b'|' || byte == b'\n' || byte == b')'
 }
 
 // The arrow of a redirection.
-fn is_arrow(byte: u8) -> bool
+pub(crate) fn is_arrow(byte: u8) -> bool
     ensures { result ≡ is_arrow byte }
 {
     byte == b'<' || byte == b'>'
@@ -229,7 +229,7 @@ fn next_within(within: Within, byte: u8) -> Within
 }
 
 // Where the text goes on behind a parenthesis, if the byte opens one.
-fn opened(within: Within, byte: u8) -> Option<Within>
+pub(crate) fn opened(within: Within, byte: u8) -> Option<Within>
     ensures { result ≡ opened within byte }
 {
     if byte != b'(' {
@@ -245,7 +245,7 @@ fn opened(within: Within, byte: u8) -> Option<Within>
 }
 
 // Whether a byte here belongs to the text of commands.
-fn is_text(within: Within) -> bool
+pub(crate) fn is_text(within: Within) -> bool
     ensures { result ≡ is_text within }
 {
     match within {
@@ -264,7 +264,7 @@ fn closes(within: Within, byte: u8) -> bool
 }
 
 // Whether the byte before is an arrow.
-fn is_arrow_place(within: Within) -> bool
+pub(crate) fn is_arrow_place(within: Within) -> bool
     ensures { result ≡ is_arrow_place within }
 {
     match within {

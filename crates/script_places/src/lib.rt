@@ -1,7 +1,7 @@
 //! Places in scripts, and the words for people of what a report tells by numbers: the line and the column of a byte,
 //! the source line as a terminal shows it with the command underlined, what each row of each act and each reason says,
-//! the lines that no run reaches. It stands on utility_calls, feature_trees, dpkg_scenarios, shown_texts, script_names
-//! and bstr. Begin with specs/Positions.antt, specs/SourceLines.antt and specs/Unreached.antt; the words stand in
+//! the lines that no run reaches, and the words with which commands can begin. It stands on utility_calls, feature_trees, dpkg_scenarios, shown_texts, script_names
+//! and bstr. Begin with specs/Positions.antt, specs/SourceLines.antt, specs/Unreached.antt and specs/WordPlaces.antt; the words stand in
 //! specs/ActWords.antt, BackWords, ReasonWords, StepWords and KindWords, a table each.
 #![tactic(auto)]
 
@@ -16,6 +16,7 @@ mod reasons;
 mod source_lines;
 mod step_words;
 pub mod theorems;
+mod word_places;
 
 pub use act_words::{act_name, row_words};
 pub use back_words::{back_name, back_row_words};
@@ -27,3 +28,4 @@ pub use reach::{CallLeft, Lines, joined, unreached};
 pub use reasons::{reason_words, settling_words};
 pub use source_lines::{SourceLine, shows, source_line};
 pub use step_words::{scenario_words, script_words, state_words, work_words};
+pub use word_places::{ends_word, first_word, first_words};

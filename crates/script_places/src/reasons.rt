@@ -37,10 +37,12 @@ pub fn settling_words(reason: Reason) -> &'static [u8]
 {
     match reason {
         Reason::Call =>
-            b"a base line `call NAME ok` or `call NAME fails`, where it is true and the command changes no file that matters",
+            b"where the name of the command is written out and its calls can be stated, a base line `call NAME ok` or `call NAME fails` that is true, if the command changes no file that matters",
         Reason::Echo => b"words without a dash at the begin and without a backslash",
-        Reason::Link => b"a base line: `link PATH TARGET`, or what else stands there",
-        Reason::Slash => b"the path without the slash behind it",
+        Reason::Link =>
+            b"a base line that says what stands there; of a link that leads to a directory, `link PATH TARGET`",
+        Reason::Slash =>
+            b"a base line that says that a directory stands there, or nothing; or the path without its last slash",
         Reason::Root => b"another path",
         Reason::Empty => b"a path that is not empty",
         Reason::DotDot => b"the path without ..",
@@ -53,7 +55,7 @@ pub fn settling_words(reason: Reason) -> &'static [u8]
         Reason::Strict => b"`|| true` in the substitution, or its command outside",
         Reason::Status => b"a number from 0 to 255",
         Reason::Run =>
-            b"the base line `runs`, where it is asked whether a file may be executed; else a base line that says what stands there",
+            b"a base line that says what stands there; that files may be executed, `runs`",
         Reason::Same => b"other paths",
         Reason::Conffile => b"a base line that says what stands there",
         Reason::Restore => b"a report of this version",

@@ -3,8 +3,8 @@ ghost use Rattle.std.specs.List.{flat_map};
 ghost use Rattle.bstr.specs.Utf8.{decoded};
 ghost use Rattle.script_names.specs.Ascii.{space};
 ghost use Rattle.shown_texts.specs.Show.{hex_digit};
-ghost use Rattle.script_places.specs.SourceLines.{cell_text, cut_line, dots, first_count, first_look, first_within, fits};
-ghost use Rattle.script_places.specs.SourceLines.{fitted_line, is_joined, is_shown, is_within, last_within, line_cells, look_at};
+ghost use Rattle.script_places.specs.SourceLines.{cell_text, cut_line, first_count, first_look, first_within, fits};
+ghost use Rattle.script_places.specs.SourceLines.{fitted_line, is_joined, is_shown, is_within, last_within, left_out_before, left_out_behind, line_cells, look_at};
 ghost use Rattle.script_places.specs.SourceLines.{look_width, looked, rest_look, shown_line, shows, source_line, width};
 
 use crate::command_ends::command_length;
@@ -57,7 +57,7 @@ pub struct SourceLine {
 /// The line of the byte `at` of a script, and where the command stands in it that begins there. Tabs go to columns that
 /// are multiples of 4; controls, bytes that are no UTF-8, and characters that turn the direction of writing, break a
 /// line or have no width are `\x` and two hexadecimal digits for each byte; every other character has one column. Of a
-/// line of more than 100 columns 40 are shown before the place at most, and 60 from it on, with `..` where more is.
+/// line of more than 100 columns 40 are shown before the place at most, and 60 from it on, with `[..]` where more is.
 pub fn source_line(alloc: Global, script: &[u8], at: usize) -> Result<SourceLine, Memory>
     ensures { IfOk result (λ line. line ≡ source_line script.now at) }
 {
@@ -119,11 +119,11 @@ fn shown_line(
     requires after { width after.now ≤ 100 }
     ensures { IfOk result (λ line. line ≡ shown_line before.now after.now cut_before cut_after marked) }
 {
-    let mut text = Bytes::from_slice(alloc, dots(cut_before))?;
+    let mut text = Bytes::from_slice(alloc, left_out_before(cut_before))?;
     push_cells(&mut text, before)?;
     push_cells(&mut text, after)?;
-    text.extend(dots(cut_after))?;
-    let columns = dots(cut_before).len() + width(before);
+    text.extend(left_out_behind(cut_after))?;
+    let columns = left_out_before(cut_before).len() + width(before);
     let marked = width(front_cells(after, marked)).max(1);
     Ok(SourceLine {
         text,
@@ -154,11 +154,18 @@ fn cells_behind(cells: &[Cell], count: usize) -> &[Cell]
     }
 }
 
-// What stands for cells that are left out.
-fn dots(cut: bool) -> &'static [u8]
-    ensures { result.now ≡ dots cut }
+// What stands for cells that are left out before the printed ones.
+fn left_out_before(cut: bool) -> &'static [u8]
+    ensures { result.now ≡ left_out_before cut }
 {
-    if cut { b".." } else { b"" }
+    if cut { b"[..] " } else { b"" }
+}
+
+// What stands for those that are left out behind them.
+fn left_out_behind(cut: bool) -> &'static [u8]
+    ensures { result.now ≡ left_out_behind cut }
+{
+    if cut { b" [..]" } else { b"" }
 }
 
 // The cells of a line.

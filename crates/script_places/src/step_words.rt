@@ -33,16 +33,18 @@ pub fn script_words(side: Side, script: ScriptKind) -> &'static [u8]
     }
 }
 
-/// How a package is left in this state, in words.
+/// How a package is left in this state, in words; where dpkg has another word for it, that too.
 pub fn state_words(state: State) -> &'static [u8]
     ensures { result.now ≡ state_words state }
 {
     match state {
         State::Installed => b"installed",
-        State::Unpacked => b"unpacked, but not configured",
-        State::HalfConfigured => b"unpacked, but its configuration failed",
-        State::HalfInstalled => b"neither installed nor removed as a whole",
-        State::ConfigFiles => b"removed, but its conffiles are left",
+        State::Unpacked => b"unpacked, but not configured (dpkg: unpacked)",
+        State::HalfConfigured => b"unpacked, but its configuration failed (dpkg: half-configured)",
+        State::HalfInstalled => {
+            b"neither installed nor removed as a whole (dpkg: half-installed)"
+        },
+        State::ConfigFiles => b"removed, but not purged (dpkg: config-files)",
         State::NotInstalled => b"not installed",
     }
 }

@@ -88,7 +88,7 @@ is_among paths path = list_any (λ one. bytes_eq one path) paths
 
 -- the mark behind the line of a marked place
 abbrev pub mark_of : Bool → List ℕ
-mark_of marked = if marked then codes "   <--" else []
+mark_of marked = if marked then codes "   <-- told above" else []
 
 -- how the line of a place begins: its sign and its path
 unfoldable pub place_head : List ℕ → List ℕ → List ℕ

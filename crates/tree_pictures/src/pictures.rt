@@ -194,7 +194,7 @@ pub fn is_among(paths: &[Bytes], path: &[u8]) -> bool
 fn mark_of(marked: bool) -> &'static [u8]
     ensures { result.now ≡ mark_of marked }
 {
-    if marked { b"   <--" } else { b"" }
+    if marked { b"   <-- told above" } else { b"" }
 }
 
 // Adds how the line of a place begins: its sign and its path.
