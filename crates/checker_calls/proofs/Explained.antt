@@ -141,8 +141,8 @@ part_said packages sources turns view part run old new result same is =
 pub part_is_shown : (packages : Packages) (sources : Sources) (turns : ℕ) (part : ReportPart)
     (run : Value → Option Replayed) (old new : List ℕ) (result : Result (Unit {0}) Memory)
     → ((tree : Value) → run tree ≡ written_run part.scenario packages turns tree)
-    → OnOk result (new ≡ old ++ page_part sources run part)
+    → OnOk result (new ≡ old ++ page_part sources turns run part)
     → OnOk result (new ≡ old ++ part_shown packages sources turns part)
 part_is_shown packages sources turns part run old new result same is =
     let runs : run ≡ written_run part.scenario packages turns = λ i tree. same tree i in
-    subst (λ r. OnOk result (new ≡ old ++ page_part sources r part)) runs is
+    subst (λ r. OnOk result (new ≡ old ++ page_part sources turns r part)) runs is

@@ -12,6 +12,7 @@ use Rattle.package_jobs.specs.Written.{written_run}
 use Rattle.outcome_report.specs.declared.outcome_report.ReportPart.{ReportPart}
 use Rattle.explanation.specs.Heads.{verdict_words}
 use Rattle.explanation.specs.Sections.{part_verdict, part_text, no_start_text, over_text}
+use Rattle.explanation.specs.Heads.{legend_text}
 use Rattle.explanation.specs.Premises.{premises_text}
 use Rattle.explanation_pages.specs.Details.{verdict_class}
 use Rattle.explanation_pages.specs.Pages.{page_begin, item_html, items_end, page_end}
@@ -80,7 +81,7 @@ section_item (Err Memory) = []
 module _ (packages : Packages) (sources : Sources) (turns : ℕ) where
   -- what a page says of a part is said of its scenario's runs as the packages are written
   abbrev pub part_shown : ReportPart → List ℕ
-  part_shown part = page_part sources (written_run part.scenario packages turns) part
+  part_shown part = page_part sources turns (written_run part.scenario packages turns) part
 
   -- a section of a page
   abbrev pub section_shown : Section → List ℕ
@@ -94,7 +95,11 @@ module _ (packages : Packages) (sources : Sources) (turns : ℕ) where
   unfoldable pub page_text : List Section → List ℕ
   page_text sections =
       page_begin sources packages ++ flat_map section_item sections ++ items_end
-      ++ flat_map section_shown sections ++ page_end sources packages.base
+      ++ flat_map section_shown sections ++ page_end sources packages.base turns
+
+-- what an outcome is, before the whole text
+abbrev pub legend_before : View → List ℕ
+legend_before view = if is_whole view then legend_text else []
 
 -- Packages are explained, which come from these sources, with so many turns of loops, in a view.
 module _ (packages : Packages) (sources : Sources) (turns : ℕ) (view : View) where
@@ -116,7 +121,7 @@ module _ (packages : Packages) (sources : Sources) (turns : ℕ) (view : View) w
 
   -- the text of all sections, one behind another
   abbrev pub plain_text : List Section → List ℕ
-  plain_text sections = flat_map section_text sections ++ premises_behind
+  plain_text sections = legend_before view ++ (flat_map section_text sections ++ premises_behind)
 
   -- the text of all sections
   abbrev pub sections_text : List Section → List ℕ

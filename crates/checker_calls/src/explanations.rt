@@ -6,7 +6,8 @@ ghost use Rattle.outcome_report.specs.declared.outcome_report.ReportPart.{Report
 ghost use Rattle.package_jobs.specs.Made.{AreProgramsOf};
 ghost use Rattle.checker_calls.specs.Explanations.{section_verdict, some_verdict, sections_verdict, is_missing};
 ghost use Rattle.checker_calls.specs.Explanations.{reported_text, section_text, sections_text, is_whole, is_page};
-ghost use Rattle.checker_calls.specs.Explanations.{page_text, part_shown, plain_text, section_item, section_shown};
+ghost use Rattle.checker_calls.specs.Explanations.{legend_before, page_text, part_shown, plain_text};
+ghost use Rattle.checker_calls.specs.Explanations.{section_item, section_shown};
 ghost use Rattle.checker_calls.specs.Explanations.{ExplanationGives};
 ghost use Rattle.checker_calls.specs.Reports.{chosen};
 
@@ -17,7 +18,9 @@ use case_pool::Gate;
 use checker_input::{Packages, Sources};
 use command_words::View;
 use dpkg_scenarios::{Scenario, joint_verdict};
-use explanation::{part_verdict, put_no_start, put_over, put_part, put_premises, verdict_words};
+use explanation::{
+    part_verdict, put_legend, put_no_start, put_over, put_part, put_premises, verdict_words,
+};
 use explanation_pages::{
     put_item, put_items_end, put_page_begin, put_page_end, put_page_no_start, put_page_over,
     put_page_part, verdict_class,
@@ -212,7 +215,7 @@ fn put_shown_part(
     ensures { OnOk result (text.new ≡ text.old ++ part_shown packages.now sources.now turns part.now) }
 {
     let job = job_with(alloc, part.scenario, packages, programs, turns)?;
-    put_page_part(alloc, text, sources, &job, part)
+    put_page_part(alloc, text, sources, turns, &job, part)
 }
 
 // Adds a section of a page.
@@ -279,7 +282,7 @@ fn put_page(
     put_section_items(text, sections)?;
     put_items_end(text)?;
     put_shown_sections(alloc, text, packages, sources, programs, turns, sections)?;
-    put_page_end(alloc, text, sources, &packages.base)
+    put_page_end(alloc, text, sources, &packages.base, turns)
 }
 
 // The page of sections.
@@ -301,6 +304,16 @@ fn print_page(
     Ok(text)
 }
 
+// Adds what an outcome is, before the whole text.
+fn put_legend_before(text: &mut Bytes, view: View) -> Result<(), Memory>
+    ensures { OnOk result (text.new ≡ text.old ++ legend_before view) }
+{
+    if is_whole(view) {
+        return put_legend(text);
+    }
+    Ok(())
+}
+
 // The text of sections, one behind another.
 fn print_plain(
     alloc: Global,
@@ -315,6 +328,7 @@ fn print_plain(
     ensures { IfOk result (λ text. text ≡ plain_text packages.now sources.now turns view sections.now) }
 {
     let mut text = Bytes::new(alloc);
+    put_legend_before(&mut text, view)?;
     put_sections(
         alloc, &mut text, packages, sources, programs, turns, view, sections,
     )?;

@@ -1,5 +1,5 @@
 -- The lines of a text, each with its number and the byte at which it begins.
-use Rattle.std.specs.Prelude.{ℕ, suc, ◌+◌, ◌==◌, List, [], ◌∷◌, ◌++◌, length, if◌then◌else◌}
+use Rattle.std.specs.Prelude.{ℕ, ◌+◌, ◌==◌, List, [], ◌∷◌, ◌++◌, length, if◌then◌else◌}
 use Rattle.script_names.specs.Ascii.{newline}
 use Rattle.explanation_pages.specs.declared.cut_lines.Line.{Line}
 use Rattle.explanation_pages.specs.declared.cut_lines.Cut.{Cut}

@@ -3,6 +3,7 @@ pub mod Joined
 pub mod Tables
 pub mod Margins
 pub mod Anchors
+pub mod Commands
 pub mod ShownLines
 pub mod Details
 pub mod Rows

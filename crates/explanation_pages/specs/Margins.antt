@@ -1,4 +1,4 @@
--- Which outcomes come to a line: those of which an act is at a byte of it.
+-- Of which outcomes an act stands in a line: those of which one is at a byte of it.
 use Rattle.std.specs.Prelude.{ℕ, ◌-◌, Bool, true, false, ◌&&◌, nat_le, List, [], ◌∷◌, length, Option, Some, None}
 use Rattle.std.specs.List.{filter, list_any}
 use Rattle.script_places.specs.declared.reach.Lines.{Lines}
@@ -8,22 +8,22 @@ use Rattle.explanation_pages.specs.declared.cut_lines.Line.{Line}
 abbrev pub is_on : Line → ℕ → Bool
 is_on line at = nat_le line.begin at && nat_le (at - line.begin) (length line.text)
 
--- an outcome comes to a line, whose acts are at these bytes
-abbrev pub comes_to : Line → List ℕ → Bool
-comes_to line sites = list_any (is_on line) sites
+-- an act of an outcome stands in a line, whose acts are at these bytes
+abbrev pub acts_on : Line → List ℕ → Bool
+acts_on line sites = list_any (is_on line) sites
 
--- how many outcomes come to a line
-abbrev pub come_count : Line → List (List ℕ) → ℕ
-come_count line all = length (filter (comes_to line) all)
+-- of how many outcomes an act stands in a line
+abbrev pub act_count : Line → List (List ℕ) → ℕ
+act_count line all = length (filter (acts_on line) all)
 
--- an outcome comes to some line
-abbrev pub comes_somewhere : List ℕ → Bool
-comes_somewhere [] = false
-comes_somewhere (at ∷ sites) = true
+-- an outcome has an act in the script, at some byte
+abbrev pub acts_somewhere : List ℕ → Bool
+acts_somewhere [] = false
+acts_somewhere (at ∷ sites) = true
 
--- some outcome comes to some line
-abbrev pub some_come : List (List ℕ) → Bool
-some_come all = list_any comes_somewhere all
+-- how many outcomes have one
+abbrev pub acting_count : List (List ℕ) → ℕ
+acting_count all = length (filter acts_somewhere all)
 
 -- a line is one of these, where some are known
 abbrev pub is_left : Option Lines → ℕ → Bool

@@ -1,6 +1,5 @@
 -- What stands in a page around its scenarios (HTML Standard). Nothing is loaded, and its policy says so.
-use Rattle.std.specs.Prelude.{ℕ, List, [], ◌++◌, codes, Option, Some, None}
-use Rattle.shown_texts.specs.Show.{show}
+use Rattle.std.specs.Prelude.{ℕ, List, ◌++◌, codes}
 use Rattle.dpkg_scenarios.specs.declared.scenario.Scenario.{Scenario}
 use Rattle.dpkg_scenarios.specs.Names.{scenario_name}
 use Rattle.system_base.specs.declared.base.Base.{Base}
@@ -9,7 +8,8 @@ use Rattle.checker_input.specs.declared.sources.Sources.{Sources}
 use Rattle.html_texts.specs.Escaped.{html_text}
 use Rattle.explanation.specs.Heads.{package_text}
 use Rattle.explanation.specs.Premises.{premises_text}
-use Rattle.explanation_pages.specs.Joined.{three, four, five, nine}
+use Rattle.explanation_pages.specs.Joined.{three, five, nine}
+use Rattle.explanation_pages.specs.Commands.{check_line, command_html}
 use Rattle.explanation_pages.specs.ShownLines.{pre_html}
 use Rattle.explanation_pages.specs.Styles.{style}
 
@@ -57,27 +57,16 @@ items_end = codes "</ul>\n</nav>\n<main>\n"
 
 -- ---- the end
 
--- an option with a name, where it was said
-abbrev pub said_option : List ℕ → Option (List ℕ) → List ℕ
-said_option option None = []
-said_option option (Some name) = option ++ show name
-
--- the command line of the report
-unfoldable pub check_line : Sources → List ℕ
-check_line sources =
-    four (codes "colis check ") (show sources.folders.dir) (said_option (codes " --old ") sources.folders.old)
-    (said_option (codes " --base ") sources.folders.base)
-
 -- the premises
 unfoldable pub premises_html : Sources → Base → List ℕ
 premises_html sources base = pre_html (premises_text sources base)
 
--- the command line of the report, in a page
-unfoldable pub check_html : Sources → List ℕ
-check_html sources = html_text (check_line sources)
+-- the command line of the report
+unfoldable pub check_html : Sources → ℕ → List ℕ
+check_html sources turns = command_html (check_line sources turns)
 
--- what stands behind the scenarios: the premises, and how the whole report is had
-unfoldable pub page_end : Sources → Base → List ℕ
-page_end sources base =
-    five (codes "</main>\n<footer>\n") (premises_html sources base) (codes "<p>The whole report: <code>")
-    (check_html sources) (codes "</code></p>\n</footer>\n</body>\n</html>\n")
+-- what stands behind the scenarios: the premises, and how the whole report is had, with so many turns of loops
+unfoldable pub page_end : Sources → Base → ℕ → List ℕ
+page_end sources base turns =
+    five (codes "</main>\n<footer>\n") (premises_html sources base) (codes "<p>The whole report: ")
+    (check_html sources turns) (codes "</p>\n</footer>\n</body>\n</html>\n")

@@ -35,14 +35,14 @@ part_begin part =
     section_begin part.scenario (verdict_class (part_verdict part)) (verdict_words (part_verdict part))
 
 -- all that is said of a part, whose outcomes are in these groups
-unfoldable pub part_html : Sources → (Value → Option Replayed) → ReportPart → List Group → List ℕ
-part_html sources run part groups =
-    five (part_begin part) (counts_html part.entries) (all_details sources run part groups)
+unfoldable pub part_html : Sources → ℕ → (Value → Option Replayed) → ReportPart → List Group → List ℕ
+part_html sources turns run part groups =
+    five (part_begin part) (counts_html part.entries) (all_details sources turns run part groups)
     (all_tables sources part groups) (codes "</section>\n")
 
--- what is said of a part, whose runs are these
-abbrev pub page_part : Sources → (Value → Option Replayed) → ReportPart → List ℕ
-page_part sources run part = part_html sources run part (groups_of part)
+-- what is said of a part, whose runs are these, with so many turns of loops
+abbrev pub page_part : Sources → ℕ → (Value → Option Replayed) → ReportPart → List ℕ
+page_part sources turns run part = part_html sources turns run part (groups_of part)
 
 -- that a scenario was not examined, and why
 unfoldable pub unexamined_html : Scenario → List ℕ → List ℕ

@@ -1,5 +1,6 @@
--- The lines of a script in a table: how many outcomes come to each, which end there, and what stands in it.
-use Rattle.std.specs.Prelude.{ℕ, Bool, true, false, ◌==◌, List, [], ◌++◌, length, codes, Option, Some, None, if◌then◌else◌}
+-- The lines of a script in a table: of how many outcomes an act stands in each, which end there, and what is written in
+-- it.
+use Rattle.std.specs.Prelude.{ℕ, Bool, false, ◌==◌, List, [], ◌++◌, length, codes, Option, Some, None, if◌then◌else◌}
 use Rattle.std.specs.List.{flat_map}
 use Rattle.std.specs.Fmt.{decimal}
 use Rattle.dpkg_scenarios.specs.Verdicts.{ending_verdict}
@@ -13,32 +14,32 @@ use Rattle.explanation_pages.specs.declared.cut_lines.Line.{Line}
 use Rattle.explanation_pages.specs.declared.tables.Table.{Table}
 use Rattle.explanation_pages.specs.Anchors.{group_anchor, row_anchor}
 use Rattle.explanation_pages.specs.Details.{group_class}
-use Rattle.explanation_pages.specs.Margins.{come_count, is_left, is_on}
+use Rattle.explanation_pages.specs.Margins.{act_count, is_left, is_on}
 use Rattle.explanation_pages.specs.Tables.{site_in}
 
 -- ---- the number of a line
 
--- the class of a line, to which so many outcomes come, or which none reaches
+-- the class of a line, as an attribute: in some lines outcomes have an act, and some are not reached
 abbrev pub row_class : Bool → ℕ → List ℕ
 row_class left count =
-    if left then codes "left" else (if count == 0 then codes "quiet" else codes "come")
+    if left then codes " class=\"left\"" else (if count == 0 then [] else codes " class=\"acts\"")
 
 -- the number of a line, which has a name
 unfoldable pub row_begin : Table → ℕ → List ℕ → List ℕ
 row_begin table number class =
-    seven (codes "<tr class=\"") class (codes "\" id=\"") (row_anchor table number) (codes "\"><th scope=\"row\">")
+    seven (codes "<tr") class (codes " id=\"") (row_anchor table number) (codes "\"><th scope=\"row\">")
     (decimal number) (codes "</th>")
 
--- ---- how many outcomes come there
+-- ---- of how many outcomes an act stands there
 
 -- a number that is not 0
 unfoldable pub count_words : ℕ → List ℕ
 count_words count = if count == 0 then [] else decimal count
 
--- how many outcomes come to a line
+-- of how many outcomes an act stands in a line
 unfoldable pub count_cell : ℕ → List ℕ
 count_cell count =
-    three (codes "<td class=\"number\">") (count_words count) (codes "</td>")
+    three (codes "<td>") (count_words count) (codes "</td>")
 
 -- ---- which outcomes end there
 
@@ -75,15 +76,15 @@ ends_cell sources table part groups left line =
 
 -- ---- the line
 
--- what stands in it
+-- what is written in it
 unfoldable pub text_cell : Line → List ℕ
 text_cell line =
-    three (codes "<td class=\"text\">") (html_text line.text) (codes "</td></tr>\n")
+    three (codes "<td>") (html_text line.text) (codes "</td></tr>\n")
 
 -- the line, by the bytes at which acts of each outcome are, and by the lines that none reaches
 unfoldable pub row_html : Sources → Table → ReportPart → List Group → List (List ℕ) → Option Lines → Line → List ℕ
 row_html sources table part groups sites left line =
-    let count = come_count line sites in
+    let count = act_count line sites in
     row_begin table line.number (row_class (is_left left line.number) count)
     ++ count_cell count
     ++ ends_cell sources table part groups (is_left left line.number) line

@@ -1,7 +1,7 @@
 -- How a page looks: its style sheet (CSS). Where the system is dark it is, on paper and on a telephone it has room, and no
 -- colour says what no word or sign says.
 use Rattle.std.specs.Prelude.{ℕ, List, ◌++◌, codes}
-use Rattle.explanation_pages.specs.Joined.{two, three, four, five, seven}
+use Rattle.explanation_pages.specs.Joined.{two, four, five, seven}
 
 -- how the colours, light and dark look
 unfoldable pub colours_style : List ℕ
@@ -27,9 +27,9 @@ groups_style =
     seven
     (codes "details{margin:.75rem 0;padding:.5rem .75rem;border:1px solid var(--edge);border-left:.3rem solid;border-radius:.3rem}\n")
     (codes "details.script{border-left-color:var(--edge);padding:.5rem 0 0}details.script>summary{padding:0 .75rem .5rem}\n")
-    (codes "summary{cursor:pointer;font-weight:600;overflow-wrap:anywhere}details>p,details>pre{color:var(--ink)}\n")
+    (codes "summary{cursor:pointer;font-weight:600;overflow-wrap:anywhere}details>p,details>ul,details>pre{color:var(--ink)}\n")
     (codes "details a{overflow-wrap:anywhere;scroll-margin-top:5rem}\n")
-    (codes "pre,.text,code{font-family:ui-monospace,monospace;font-size:.875rem;white-space:pre-wrap;overflow-wrap:anywhere;tab-size:4}\n")
+    (codes "pre,td:last-child,code{font-family:ui-monospace,monospace;font-size:.875rem;white-space:pre-wrap;overflow-wrap:anywhere;tab-size:4}\n")
     (codes "pre{margin:.5rem 0;padding:.75rem;background:var(--soft);border-radius:.3rem}\n")
     (codes ".made{color:var(--good)}.taken{color:var(--bad)}.changed{color:var(--open)}.decides{font-weight:700}\n")
 
@@ -39,9 +39,9 @@ tables_style =
     five
     (codes "table{border-collapse:collapse;width:100%;font-size:.9rem}caption{text-align:left;padding:0 .75rem;color:var(--dim)}\n")
     (codes "th,td{padding:.1rem .5rem;text-align:left;vertical-align:top}thead th{border-bottom:1px solid var(--edge);font-size:.8rem}\n")
-    (codes "tbody th,.number{text-align:right;font-weight:400;color:var(--dim);font-variant-numeric:tabular-nums}\n")
-    (codes ".come .number{color:var(--ink);font-weight:700}.come{background:var(--soft)}.left{color:var(--dim)}td a{white-space:nowrap}\n")
-    (codes ".text{width:100%}tr:target,a:target{background:var(--mark)}\n")
+    (codes "tbody th,td:nth-child(2){text-align:right;font-weight:400;color:var(--dim);font-variant-numeric:tabular-nums}\n")
+    (codes ".acts td:nth-child(2){color:var(--ink);font-weight:700}.acts{background:var(--soft)}.left{color:var(--dim)}td a{white-space:nowrap}\n")
+    (codes "td:last-child{width:100%}tr:target,a:target{background:var(--mark)}\n")
 
 -- how narrow windows and paper look
 unfoldable pub media_style : List ℕ

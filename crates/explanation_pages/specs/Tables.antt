@@ -1,5 +1,6 @@
 -- Which places and which outcomes belong to the script that a table shows.
-use Rattle.std.specs.Prelude.{ℕ, Bool, ◌&&◌, List, [], ◌∷◌, map, Option, Some, None, if◌then◌else◌}
+use Rattle.std.specs.Prelude.{ℕ, Bool, ◌&&◌, ◌==◌, List, [], ◌∷◌, length, map, Option, Some, None, if◌then◌else◌}
+use Rattle.std.specs.Option.{is_some}
 use Rattle.std.specs.List.{flat_map}
 use Rattle.script_names.specs.declared.mark.Mark.{Mark}
 use Rattle.script_names.specs.declared.mark.Site.{Site}
@@ -7,8 +8,10 @@ use Rattle.dpkg_scenarios.specs.declared.scenario.Scenario.{Scenario}
 use Rattle.dpkg_scenarios.specs.declared.scenario.ScriptKind.{ScriptKind}
 use Rattle.dpkg_scenarios.specs.declared.scenario.Side.{Side}
 use Rattle.dpkg_scenarios.specs.declared.scenario.Side.TheVariants.{New}
+use Rattle.dpkg_scenarios.specs.Verdicts.{ending_verdict}
 use Rattle.checker_input.specs.declared.sources.Sources.{Sources}
 use Rattle.outcome_report.specs.declared.outcome_report.ReportEntry.{ReportEntry}
+use Rattle.outcome_groups.specs.declared.group.Group.{Group}
 use Rattle.outcome_groups.specs.Ends.{same_script, same_side}
 use Rattle.explanation.specs.declared.spots.Spot.{Spot}
 use Rattle.explanation.specs.declared.spots.Spot.TheVariants.{InScript, InFiles, Nowhere}
@@ -54,3 +57,21 @@ entry_sites sources table entry = flat_map (mark_site sources table) entry.outco
 -- the same of each outcome
 abbrev pub sites_of : Sources → Table → List ReportEntry → List (List ℕ)
 sites_of sources table entries = map (entry_sites sources table) entries
+
+-- the outcomes of a group end in the table's script, and so: 0 where they end well, 1 where they fail, 2 where they are
+-- undecided
+abbrev pub ends_in : Sources → Table → ℕ → Group → Bool
+ends_in sources table verdict group =
+    is_some (site_in sources table group.end.site) && (ending_verdict group.end.ending == verdict)
+
+-- the outcomes of a group, by their places in the part, if they end there so
+abbrev pub enders_if : Sources → Table → ℕ → Group → List ℕ
+enders_if sources table verdict group = if ends_in sources table verdict group then group.members else []
+
+-- all outcomes that end there so; each is in one group
+abbrev pub enders : Sources → Table → ℕ → List Group → List ℕ
+enders sources table verdict groups = flat_map (enders_if sources table verdict) groups
+
+-- how many they are
+abbrev pub ender_count : Sources → Table → ℕ → List Group → ℕ
+ender_count sources table verdict groups = length (enders sources table verdict groups)

@@ -33,8 +33,8 @@ pub fn put_row_anchor(text: &mut Bytes, table: Table, number: usize) -> Result<(
     push_number(text, number as u64)
 }
 
-// The number of a group: that of its first outcome.
-fn group_number(entries: &[ReportEntry], group: &Group) -> u32
+/// The number of a group: that of its first outcome.
+pub fn group_number(entries: &[ReportEntry], group: &Group) -> u32
     ensures { result ≡ group_number entries.now group.now }
 {
     match first_entry(group.members.as_slice(), entries) {

@@ -1,26 +1,28 @@
 //! A group in a page.
 
-ghost use Rattle.std.specs.Prelude.{◌≡◌, ◌++◌, OnOk, length};
+ghost use Rattle.std.specs.Prelude.{◌≡◌, ◌++◌, IfOk, OnOk, length};
 ghost use Rattle.std.specs.List.{flat_map};
 ghost use Rattle.scenario_runs.specs.Runs.{scenario_run};
-ghost use Rattle.explanation_pages.specs.Details.{all_details, body_html, details_head, details_if, group_class, group_html};
-ghost use Rattle.explanation_pages.specs.Details.{is_told_in, place_html, place_if, row_link, title_html, verdict_class};
+ghost use Rattle.explanation_pages.specs.Details.{all_details, body_html, details_head, details_if, first_command};
+ghost use Rattle.explanation_pages.specs.Details.{further_words, group_class, group_html, heading_html, is_told_in, members_if};
+ghost use Rattle.explanation_pages.specs.Details.{place_html, place_if, place_link, row_link, title_html, verdict_class};
 
-use crate::anchors::{put_group_anchor, put_row_anchor};
-use crate::joined::{put_seven, put_three};
+use crate::anchors::{group_number, put_group_anchor, put_row_anchor};
+use crate::commands::{put_command, put_outcome_line};
+use crate::joined::{put_five, put_seven, put_three, put_two};
 use crate::shown_lines::put_pre;
-use crate::tables::table_of;
+use crate::tables::{add_places, table_of};
 use checker_input::Sources;
 use dpkg_scenarios::{Scenario, ending_verdict};
 use explanation::{
-    Spot, has_verdict, is_first, is_further, put_group_body, put_group_title, put_spot,
-    script_text, spot_of,
+    Spot, has_verdict, is_first, is_further, put_counted, put_group_body, put_group_title,
+    put_spot, script_text, spot_of,
 };
 use html_texts::push_html;
 use outcome_groups::{Group, same_end};
 use outcome_report::ReportPart;
 use scenario_runs::Job;
-use script_names::{Bytes, Memory};
+use script_names::{Bytes, List, Memory};
 use script_places::position_of;
 use std::alloc::Global;
 
@@ -62,27 +64,72 @@ fn put_row_link(
     }
 }
 
-// Adds the place of a group, which has the group's name.
-#[tactic(auto, unfolding(crate::specs::Details::place_html))]
-fn put_place(
+// Adds where a group's outcomes end, as a link that has the group's name.
+#[tactic(auto, unfolding(crate::specs::Details::place_link))]
+fn put_place_link(
     alloc: Global,
     text: &mut Bytes,
     sources: &Sources,
     part: &ReportPart,
     group: &Group,
 ) -> Result<(), Memory>
-    ensures { OnOk result (text.new ≡ text.old ++ place_html sources.now part.now group.now) }
+    ensures { OnOk result (text.new ≡ text.old ++ place_link sources.now part.now group.now) }
 {
     let spot = spot_of(part.scenario, group.end.site);
     let mut place = Bytes::new(alloc);
     put_spot(&mut place, sources, spot)?;
-    text.extend(b" <a id=\"")?;
+    text.extend(b"<a id=\"")?;
     put_group_anchor(text, part.scenario, part.entries.as_slice(), group)?;
     text.extend(b"\"")?;
     put_row_link(text, sources, part.scenario, spot)?;
     text.extend(b">")?;
     push_html(alloc, text, place.as_slice())?;
     text.extend(b"</a>")
+}
+
+// Adds the command line that shows the first outcome of a group.
+#[tactic(auto, unfolding(crate::specs::Details::first_command))]
+fn put_first_command(
+    alloc: Global,
+    text: &mut Bytes,
+    sources: &Sources,
+    turns: u32,
+    part: &ReportPart,
+    group: &Group,
+) -> Result<(), Memory>
+    ensures { OnOk result
+        (text.new ≡ text.old ++ first_command sources.now turns part.now group.now) }
+{
+    let number = group_number(part.entries.as_slice(), group);
+    let mut line = Bytes::new(alloc);
+    put_outcome_line(alloc, &mut line, sources, turns, part.scenario, number)?;
+    put_command(alloc, text, line.as_slice())
+}
+
+// Adds the place of a group.
+#[tactic(auto, unfolding(crate::specs::Details::place_html))]
+fn put_place(
+    alloc: Global,
+    text: &mut Bytes,
+    sources: &Sources,
+    turns: u32,
+    part: &ReportPart,
+    group: &Group,
+) -> Result<(), Memory>
+    ensures { OnOk result (text.new ≡ text.old ++ place_html sources.now turns part.now group.now) }
+{
+    let mut link = Bytes::new(alloc);
+    put_place_link(alloc, &mut link, sources, part, group)?;
+    let mut command = Bytes::new(alloc);
+    put_first_command(alloc, &mut command, sources, turns, part, group)?;
+    put_five(
+        text,
+        b"<li>",
+        link.as_slice(),
+        b": ",
+        command.as_slice(),
+        b"</li>\n",
+    )
 }
 
 // Whether a group is told where this one is.
@@ -98,14 +145,16 @@ fn put_place_if(
     alloc: Global,
     text: &mut Bytes,
     sources: &Sources,
+    turns: u32,
     part: &ReportPart,
     group: &Group,
     other: &Group,
 ) -> Result<(), Memory>
-    ensures { OnOk result (text.new ≡ text.old ++ place_if sources.now part.now group.now other.now) }
+    ensures { OnOk result
+        (text.new ≡ text.old ++ place_if sources.now turns part.now group.now other.now) }
 {
     if is_told_in(sources, part.scenario, group, other) {
-        return put_place(alloc, text, sources, part, other);
+        return put_place(alloc, text, sources, turns, part, other);
     }
     Ok(())
 }
@@ -115,15 +164,16 @@ fn put_places(
     alloc: Global,
     text: &mut Bytes,
     sources: &Sources,
+    turns: u32,
     part: &ReportPart,
     groups: &[Group],
     group: &Group,
 ) -> Result<(), Memory>
     ensures { OnOk result
-        (text.new ≡ text.old ++ flat_map (place_if sources.now part.now group.now) groups.now) }
+        (text.new ≡ text.old ++ flat_map (place_if sources.now turns part.now group.now) groups.now) }
 {
     for other in groups {
-        put_place_if(alloc, text, sources, part, group, other)?;
+        put_place_if(alloc, text, sources, turns, part, group, other)?;
     }
     Ok(())
 }
@@ -163,32 +213,99 @@ fn put_body(
     put_pre(alloc, text, body.as_slice())
 }
 
+// Adds the outcomes of a group, by their places in the part, if it is told together with this one.
+fn add_members_if(
+    places: &mut List<usize>,
+    sources: &Sources,
+    scenario: Scenario,
+    group: &Group,
+    other: &Group,
+) -> Result<(), Memory>
+    ensures { OnOk result
+        (places.new ≡ places.old ++ members_if sources.now scenario group.now other.now) }
+{
+    if is_further(sources, scenario, group, other) {
+        return add_places(places, other.members.as_slice());
+    }
+    Ok(())
+}
+
+// All outcomes that end at the further places.
+fn further_members(
+    alloc: Global,
+    sources: &Sources,
+    scenario: Scenario,
+    groups: &[Group],
+    group: &Group,
+) -> Result<List<usize>, Memory>
+    ensures { IfOk result
+        (λ places. places ≡ flat_map (members_if sources.now scenario group.now) groups.now) }
+{
+    let mut places = List::new(alloc);
+    for other in groups {
+        add_members_if(&mut places, sources, scenario, group, other)?;
+    }
+    Ok(places)
+}
+
+// Adds how many outcomes end at the further places.
+#[tactic(auto, unfolding(crate::specs::Details::further_words))]
+fn put_further_words(alloc: Global, text: &mut Bytes, count: usize) -> Result<(), Memory>
+    ensures { OnOk result (text.new ≡ text.old ++ further_words count) }
+{
+    if count == 0 {
+        return Ok(());
+    }
+    let mut all = Bytes::new(alloc);
+    put_counted(&mut all, count as u64)?;
+    put_two(text, b"and the same elsewhere: ", all.as_slice())
+}
+
+// Adds the first line of a group, with what is told together.
+#[tactic(auto, unfolding(crate::specs::Details::heading_html))]
+fn put_heading(
+    alloc: Global,
+    text: &mut Bytes,
+    sources: &Sources,
+    scenario: Scenario,
+    groups: &[Group],
+    group: &Group,
+) -> Result<(), Memory>
+    ensures { OnOk result
+        (text.new ≡ text.old ++ heading_html sources.now scenario groups.now group.now) }
+{
+    put_title(alloc, text, sources, scenario, group)?;
+    let members = further_members(alloc, sources, scenario, groups, group)?;
+    put_further_words(alloc, text, members.len())
+}
+
 // Adds the first line of a group, behind which the rest is folded, and the places of it.
 #[tactic(auto, unfolding(crate::specs::Details::details_head))]
 fn put_head(
     alloc: Global,
     text: &mut Bytes,
     sources: &Sources,
+    turns: u32,
     part: &ReportPart,
     groups: &[Group],
     group: &Group,
 ) -> Result<(), Memory>
     ensures { OnOk result
-        (text.new ≡ text.old ++ details_head sources.now part.now groups.now group.now) }
+        (text.new ≡ text.old ++ details_head sources.now turns part.now groups.now group.now) }
 {
     let mut title = Bytes::new(alloc);
-    put_title(alloc, &mut title, sources, part.scenario, group)?;
+    put_heading(alloc, &mut title, sources, part.scenario, groups, group)?;
     let mut places = Bytes::new(alloc);
-    put_places(alloc, &mut places, sources, part, groups, group)?;
+    put_places(alloc, &mut places, sources, turns, part, groups, group)?;
     put_seven(
         text,
         b"<details class=\"",
         group_class(group),
         b"\"><summary>",
         title.as_slice(),
-        b"</summary>\n<p>Where:",
+        b"</summary>\n<p>Places where it ends so, each with the command line that shows its first outcome:</p>\n<ul>\n",
         places.as_slice(),
-        b"</p>\n",
+        b"</ul>\n",
     )
 }
 
@@ -198,16 +315,17 @@ fn put_group(
     alloc: Global,
     text: &mut Bytes,
     sources: &Sources,
+    turns: u32,
     job: &Job,
     part: &ReportPart,
     groups: &[Group],
     group: &Group,
 ) -> Result<(), Memory>
     ensures { OnOk result
-        (text.new ≡ text.old ++ group_html sources.now (scenario_run job.now) part.now groups.now group.now) }
+        (text.new ≡ text.old ++ group_html sources.now turns (scenario_run job.now) part.now groups.now group.now) }
 {
     let mut head = Bytes::new(alloc);
-    put_head(alloc, &mut head, sources, part, groups, group)?;
+    put_head(alloc, &mut head, sources, turns, part, groups, group)?;
     let mut body = Bytes::new(alloc);
     put_body(alloc, &mut body, sources, job, part, groups, group)?;
     put_three(text, head.as_slice(), body.as_slice(), b"</details>\n")
@@ -219,6 +337,7 @@ fn put_group_if(
     alloc: Global,
     text: &mut Bytes,
     sources: &Sources,
+    turns: u32,
     job: &Job,
     part: &ReportPart,
     verdict: u8,
@@ -226,10 +345,10 @@ fn put_group_if(
     group: &Group,
 ) -> Result<(), Memory>
     ensures { OnOk result (text.new ≡ text.old
-        ++ details_if sources.now (scenario_run job.now) part.now verdict groups.now group.now) }
+        ++ details_if sources.now turns (scenario_run job.now) part.now verdict groups.now group.now) }
 {
     if has_verdict(verdict, group) && is_first(sources, part.scenario, groups, group) {
-        return put_group(alloc, text, sources, job, part, groups, group);
+        return put_group(alloc, text, sources, turns, job, part, groups, group);
     }
     Ok(())
 }
@@ -239,16 +358,19 @@ fn put_groups(
     alloc: Global,
     text: &mut Bytes,
     sources: &Sources,
+    turns: u32,
     job: &Job,
     part: &ReportPart,
     verdict: u8,
     groups: &[Group],
 ) -> Result<(), Memory>
     ensures { OnOk result (text.new ≡ text.old
-        ++ flat_map (details_if sources.now (scenario_run job.now) part.now verdict groups.now) groups.now) }
+        ++ flat_map (details_if sources.now turns (scenario_run job.now) part.now verdict groups.now) groups.now) }
 {
     for group in groups {
-        put_group_if(alloc, text, sources, job, part, verdict, groups, group)?;
+        put_group_if(
+            alloc, text, sources, turns, job, part, verdict, groups, group,
+        )?;
     }
     Ok(())
 }
@@ -259,14 +381,15 @@ pub fn put_details(
     alloc: Global,
     text: &mut Bytes,
     sources: &Sources,
+    turns: u32,
     job: &Job,
     part: &ReportPart,
     groups: &[Group],
 ) -> Result<(), Memory>
     ensures { OnOk result
-        (text.new ≡ text.old ++ all_details sources.now (scenario_run job.now) part.now groups.now) }
+        (text.new ≡ text.old ++ all_details sources.now turns (scenario_run job.now) part.now groups.now) }
 {
-    put_groups(alloc, text, sources, job, part, 1, groups)?;
-    put_groups(alloc, text, sources, job, part, 2, groups)?;
-    put_groups(alloc, text, sources, job, part, 0, groups)
+    put_groups(alloc, text, sources, turns, job, part, 1, groups)?;
+    put_groups(alloc, text, sources, turns, job, part, 2, groups)?;
+    put_groups(alloc, text, sources, turns, job, part, 0, groups)
 }

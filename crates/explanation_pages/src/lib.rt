@@ -1,10 +1,11 @@
 //! What there is to say to people of packages, as a page for a browser: what `explain` says of each group, folded, and
-//! the scripts line by line, with the outcomes that come to a line and that end there. It stands on explanation, whose
+//! the scripts line by line, with how many outcomes have an act in a line and end there. It stands on explanation, whose
 //! texts it shows, and on html_texts, which writes them into a page. Begin with specs/Parts.antt, specs/Details.antt and
 //! specs/Rows.antt, and with `put_page_part`.
 #![tactic(auto)]
 
 mod anchors;
+mod commands;
 mod cut_lines;
 mod details;
 mod joined;

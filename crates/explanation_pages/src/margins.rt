@@ -1,8 +1,8 @@
-//! Which outcomes come to a line.
+//! Of which outcomes an act stands in a line.
 
 ghost use Rattle.std.specs.Prelude.{◌≡◌, length};
 ghost use Rattle.std.specs.List.{filter, list_any};
-ghost use Rattle.explanation_pages.specs.Margins.{come_count, comes_somewhere, comes_to, is_left, is_on, some_come};
+ghost use Rattle.explanation_pages.specs.Margins.{act_count, acting_count, acts_on, acts_somewhere, is_left, is_on};
 
 use crate::cut_lines::Line;
 use script_names::List;
@@ -16,25 +16,25 @@ pub fn is_on(line: &Line, at: u32) -> bool
     at >= line.begin && at - line.begin <= line.text.len()
 }
 
-// Whether an outcome comes to a line, whose acts are at these bytes.
-fn comes_to(line: &Line, sites: &[u32]) -> bool
-    ensures { result ≡ comes_to line.now sites.now }
+// Whether an act of an outcome stands in a line, whose acts are at these bytes.
+fn acts_on(line: &Line, sites: &[u32]) -> bool
+    ensures { result ≡ acts_on line.now sites.now }
 {
     sites.iter().any(|at| is_on(line, *at))
 }
 
-/// How many outcomes come to a line.
-pub fn come_count(line: &Line, all: &[List<u32>]) -> usize
-    ensures { result ≡ come_count line.now all.now }
+/// Of how many outcomes an act stands in a line.
+pub fn act_count(line: &Line, all: &[List<u32>]) -> usize
+    ensures { result ≡ act_count line.now all.now }
 {
     all.iter()
-        .filter(|sites| comes_to(line, sites.as_slice()))
+        .filter(|sites| acts_on(line, sites.as_slice()))
         .count()
 }
 
-// Whether an outcome comes to some line.
-fn comes_somewhere(sites: &[u32]) -> bool
-    ensures { result ≡ comes_somewhere sites.now }
+// Whether an outcome has an act in the script, at some byte.
+fn acts_somewhere(sites: &[u32]) -> bool
+    ensures { result ≡ acts_somewhere sites.now }
 {
     match sites {
         [] => false,
@@ -42,11 +42,13 @@ fn comes_somewhere(sites: &[u32]) -> bool
     }
 }
 
-/// Whether some outcome comes to some line.
-pub fn some_come(all: &[List<u32>]) -> bool
-    ensures { result ≡ some_come all.now }
+/// How many outcomes have an act in the script.
+pub fn acting_count(all: &[List<u32>]) -> usize
+    ensures { result ≡ acting_count all.now }
 {
-    all.iter().any(|sites| comes_somewhere(sites.as_slice()))
+    all.iter()
+        .filter(|sites| acts_somewhere(sites.as_slice()))
+        .count()
 }
 
 /// Whether a line is one of these, where some are known.

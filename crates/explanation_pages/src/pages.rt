@@ -1,18 +1,18 @@
 //! What stands in a page around its scenarios.
 
 ghost use Rattle.std.specs.Prelude.{◌≡◌, ◌++◌, OnOk};
-ghost use Rattle.explanation_pages.specs.Pages.{check_line, item_html, items_end, package_html, page_begin, page_end};
-ghost use Rattle.explanation_pages.specs.Pages.{page_head, page_heading, premises_html, check_html, said_option, title_begin};
+ghost use Rattle.explanation_pages.specs.Pages.{check_html, item_html, items_end, package_html, page_begin, page_end};
+ghost use Rattle.explanation_pages.specs.Pages.{page_head, page_heading, premises_html, title_begin};
 
-use crate::joined::{put_five, put_four, put_nine, put_three};
+use crate::commands::{put_check_line, put_command};
+use crate::joined::{put_five, put_nine, put_three};
 use crate::shown_lines::put_pre;
 use crate::styles::put_style;
 use checker_input::{Packages, Sources};
 use dpkg_scenarios::{Scenario, scenario_name};
 use explanation::{put_package, put_premises};
 use html_texts::push_html;
-use script_names::{Bytes, Memory, Text};
-use shown_texts::push_shown;
+use script_names::{Bytes, Memory};
 use std::alloc::Global;
 use system_base::Base;
 
@@ -127,47 +127,19 @@ pub fn put_items_end(text: &mut Bytes) -> Result<(), Memory>
     text.extend(b"</ul>\n</nav>\n<main>\n")
 }
 
-// Adds an option with a name, where it was said.
-fn put_option(text: &mut Bytes, option: &[u8], name: &Option<Text>) -> Result<(), Memory>
-    ensures { OnOk result (text.new ≡ text.old ++ said_option option.now name.now) }
-{
-    match name {
-        Some(name) => {
-            text.extend(option)?;
-            push_shown(text, name.as_str().as_bytes())
-        }
-        None => Ok(()),
-    }
-}
-
 // Adds the command line of the report.
-#[tactic(auto, unfolding(crate::specs::Pages::check_line))]
-fn put_check_line(alloc: Global, text: &mut Bytes, sources: &Sources) -> Result<(), Memory>
-    ensures { OnOk result (text.new ≡ text.old ++ check_line sources.now) }
-{
-    let mut dir = Bytes::new(alloc);
-    push_shown(&mut dir, sources.folders.dir.as_str().as_bytes())?;
-    let mut old = Bytes::new(alloc);
-    put_option(&mut old, b" --old ", &sources.folders.old)?;
-    let mut base = Bytes::new(alloc);
-    put_option(&mut base, b" --base ", &sources.folders.base)?;
-    put_four(
-        text,
-        b"colis check ",
-        dir.as_slice(),
-        old.as_slice(),
-        base.as_slice(),
-    )
-}
-
-// Adds the command line of the report to a page.
 #[tactic(auto, unfolding(crate::specs::Pages::check_html))]
-fn put_check_html(alloc: Global, text: &mut Bytes, sources: &Sources) -> Result<(), Memory>
-    ensures { OnOk result (text.new ≡ text.old ++ check_html sources.now) }
+fn put_check_html(
+    alloc: Global,
+    text: &mut Bytes,
+    sources: &Sources,
+    turns: u32,
+) -> Result<(), Memory>
+    ensures { OnOk result (text.new ≡ text.old ++ check_html sources.now turns) }
 {
     let mut check = Bytes::new(alloc);
-    put_check_line(alloc, &mut check, sources)?;
-    push_html(alloc, text, check.as_slice())
+    put_check_line(alloc, &mut check, sources, turns)?;
+    put_command(alloc, text, check.as_slice())
 }
 
 // Adds the premises.
@@ -185,26 +157,27 @@ fn put_premises_html(
     put_pre(alloc, text, premises.as_slice())
 }
 
-/// Adds what stands behind the scenarios: the premises, and how the whole report is had.
+/// Adds what stands behind the scenarios: the premises, and how the whole report is had, with so many turns of loops.
 #[tactic(auto, unfolding(crate::specs::Pages::page_end))]
 pub fn put_page_end(
     alloc: Global,
     text: &mut Bytes,
     sources: &Sources,
     base: &Base,
+    turns: u32,
 ) -> Result<(), Memory>
-    ensures { OnOk result (text.new ≡ text.old ++ page_end sources.now base.now) }
+    ensures { OnOk result (text.new ≡ text.old ++ page_end sources.now base.now turns) }
 {
     let mut premises = Bytes::new(alloc);
     put_premises_html(alloc, &mut premises, sources, base)?;
     let mut check = Bytes::new(alloc);
-    put_check_html(alloc, &mut check, sources)?;
+    put_check_html(alloc, &mut check, sources, turns)?;
     put_five(
         text,
         b"</main>\n<footer>\n",
         premises.as_slice(),
-        b"<p>The whole report: <code>",
+        b"<p>The whole report: ",
         check.as_slice(),
-        b"</code></p>\n</footer>\n</body>\n</html>\n",
+        b"</p>\n</footer>\n</body>\n</html>\n",
     )
 }

@@ -76,19 +76,20 @@ fn put_part(
     alloc: Global,
     text: &mut Bytes,
     sources: &Sources,
+    turns: u32,
     job: &Job,
     part: &ReportPart,
     groups: &[Group],
 ) -> Result<(), Memory>
     ensures { OnOk result
-        (text.new ≡ text.old ++ part_html sources.now (scenario_run job.now) part.now groups.now) }
+        (text.new ≡ text.old ++ part_html sources.now turns (scenario_run job.now) part.now groups.now) }
 {
     let mut begin = Bytes::new(alloc);
     put_part_begin(&mut begin, part)?;
     let mut counts = Bytes::new(alloc);
     put_counts_line(alloc, &mut counts, part.entries.as_slice())?;
     let mut details = Bytes::new(alloc);
-    put_details(alloc, &mut details, sources, job, part, groups)?;
+    put_details(alloc, &mut details, sources, turns, job, part, groups)?;
     let mut tables = Bytes::new(alloc);
     put_tables(alloc, &mut tables, sources, part, groups)?;
     put_five(
@@ -101,19 +102,20 @@ fn put_part(
     )
 }
 
-/// Adds what is said of a part of a report, whose runs are those of the job.
+/// Adds what is said of a part of a report, whose runs are those of the job, with so many turns of loops.
 pub fn put_page_part(
     alloc: Global,
     text: &mut Bytes,
     sources: &Sources,
+    turns: u32,
     job: &Job,
     part: &ReportPart,
 ) -> Result<(), Memory>
     ensures { OnOk result
-        (text.new ≡ text.old ++ page_part sources.now (scenario_run job.now) part.now) }
+        (text.new ≡ text.old ++ page_part sources.now turns (scenario_run job.now) part.now) }
 {
     let groups = groups(alloc, part)?;
-    put_part(alloc, text, sources, job, part, groups.as_slice())
+    put_part(alloc, text, sources, turns, job, part, groups.as_slice())
 }
 
 // Adds that a scenario was not examined, and why.

@@ -9,7 +9,7 @@ use crate::anchors::{put_group_anchor, put_row_anchor};
 use crate::cut_lines::Line;
 use crate::details::group_class;
 use crate::joined::{put_seven, put_three};
-use crate::margins::{come_count, is_left, is_on};
+use crate::margins::{act_count, is_left, is_on};
 use crate::tables::{Table, site_in};
 use checker_input::Sources;
 use dpkg_scenarios::ending_verdict;
@@ -21,17 +21,17 @@ use script_places::Lines;
 use shown_texts::push_number;
 use std::alloc::Global;
 
-// The class of a line, to which so many outcomes come, or which none reaches.
+// The class of a line, as an attribute: in some lines outcomes have an act, and some are not reached.
 fn row_class(left: bool, count: usize) -> &'static [u8]
     ensures { result.now ≡ row_class left count }
 {
     if left {
-        return b"left";
+        return b" class=\"left\"";
     }
     if count == 0 {
-        return b"quiet";
+        return b"";
     }
-    b"come"
+    b" class=\"acts\""
 }
 
 // Adds the number of a line, which has a name.
@@ -51,9 +51,9 @@ fn put_row_begin(
     push_number(&mut digits, number as u64)?;
     put_seven(
         text,
-        b"<tr class=\"",
+        b"<tr",
         class,
-        b"\" id=\"",
+        b" id=\"",
         anchor.as_slice(),
         b"\"><th scope=\"row\">",
         digits.as_slice(),
@@ -72,14 +72,14 @@ fn put_count_words(text: &mut Bytes, count: usize) -> Result<(), Memory>
     push_number(text, count as u64)
 }
 
-// Adds how many outcomes come to a line.
+// Adds of how many outcomes an act stands in a line.
 #[tactic(auto, unfolding(crate::specs::Rows::count_cell))]
 fn put_count_cell(alloc: Global, text: &mut Bytes, count: usize) -> Result<(), Memory>
     ensures { OnOk result (text.new ≡ text.old ++ count_cell count) }
 {
     let mut words = Bytes::new(alloc);
     put_count_words(&mut words, count)?;
-    put_three(text, b"<td class=\"number\">", words.as_slice(), b"</td>")
+    put_three(text, b"<td>", words.as_slice(), b"</td>")
 }
 
 // How the outcomes of a verdict are counted.
@@ -185,19 +185,14 @@ fn put_ends_cell(
     text.extend(b"</td>")
 }
 
-// Adds what stands in a line.
+// Adds what is written in a line.
 #[tactic(auto, unfolding(crate::specs::Rows::text_cell))]
 fn put_text_cell(alloc: Global, text: &mut Bytes, line: &Line) -> Result<(), Memory>
     ensures { OnOk result (text.new ≡ text.old ++ text_cell line.now) }
 {
     let mut shown = Bytes::new(alloc);
     push_html(alloc, &mut shown, line.text.as_slice())?;
-    put_three(
-        text,
-        b"<td class=\"text\">",
-        shown.as_slice(),
-        b"</td></tr>\n",
-    )
+    put_three(text, b"<td>", shown.as_slice(), b"</td></tr>\n")
 }
 
 // Adds a line.
@@ -216,7 +211,7 @@ fn put_row(
     ensures { OnOk result (text.new ≡ text.old
         ++ row_html sources.now table part.now groups.now sites.now left line.now) }
 {
-    let count = come_count(line, sites);
+    let count = act_count(line, sites);
     let left = is_left(left, line.number);
     put_row_begin(alloc, text, table, line.number, row_class(left, count))?;
     put_count_cell(alloc, text, count)?;

@@ -1,22 +1,23 @@
-//! The scripts in a page, each as a table of its lines.
+//! The scripts in a page, each as a table of its lines, folded behind what is counted of it.
 
 ghost use Rattle.std.specs.Prelude.{◌≡◌, ◌++◌, OnOk};
 ghost use Rattle.std.specs.List.{flat_map};
-ghost use Rattle.explanation_pages.specs.Scripts.{all_tables, file_html, open_words, side_tables, table_begin, table_html};
-ghost use Rattle.explanation_pages.specs.Scripts.{rows_html, table_if};
+ghost use Rattle.explanation_pages.specs.Scripts.{all_tables, file_html, open_words, rows_html, script_counts, side_tables, side_words};
+ghost use Rattle.explanation_pages.specs.Scripts.{summary_html, table_begin, table_head, table_html, table_if};
 
 use crate::cut_lines::lines_of;
-use crate::joined::{put_seven, put_three};
-use crate::margins::some_come;
+use crate::joined::{put_five, put_four, put_seven, put_three};
+use crate::margins::acting_count;
 use crate::rows::put_rows;
-use crate::tables::{Table, sites_of};
+use crate::tables::{Table, ender_count, sites_of};
 use checker_input::Sources;
-use dpkg_scenarios::{ScriptKind, Side};
-use explanation::{is_alone, put_script_file, script_text, unreached_lines};
+use dpkg_scenarios::{ScriptKind, Side, scenario_name};
+use explanation::{is_alone, put_counted, put_script_file, script_text, unreached_lines};
 use html_texts::push_html;
 use outcome_groups::Group;
 use outcome_report::ReportPart;
 use script_names::{Bytes, List, Memory};
+use shown_texts::push_number;
 use std::alloc::Global;
 
 // Adds the name of a script's file.
@@ -29,38 +30,130 @@ fn put_file(alloc: Global, text: &mut Bytes, sources: &Sources, table: Table) ->
     push_html(alloc, text, file.as_slice())
 }
 
-// That a table is not folded, where an outcome comes to it.
-fn open_words(come: bool) -> &'static [u8]
-    ensures { result.now ≡ open_words come }
+// That a table is not folded, where outcomes fail or are undecided in it.
+fn open_words(failing: usize, undecided: usize) -> &'static [u8]
+    ensures { result.now ≡ open_words failing undecided }
 {
-    if come {
-        return b" open";
+    if failing == 0 && undecided == 0 {
+        return b"";
     }
-    b""
+    b" open"
 }
 
-// Adds what stands above the lines of a script.
+// Adds how many outcomes have an act in a script, fail in it, and are undecided in it.
+#[tactic(auto, unfolding(crate::specs::Scripts::script_counts))]
+fn put_script_counts(
+    alloc: Global,
+    text: &mut Bytes,
+    acting: usize,
+    failing: usize,
+    undecided: usize,
+) -> Result<(), Memory>
+    ensures { OnOk result (text.new ≡ text.old ++ script_counts acting failing undecided) }
+{
+    let mut all = Bytes::new(alloc);
+    put_counted(&mut all, acting as u64)?;
+    let mut fail = Bytes::new(alloc);
+    push_number(&mut fail, failing as u64)?;
+    let mut left = Bytes::new(alloc);
+    push_number(&mut left, undecided as u64)?;
+    put_seven(
+        text,
+        b": acts of ",
+        all.as_slice(),
+        b"; here ",
+        fail.as_slice(),
+        b" fail, ",
+        left.as_slice(),
+        b" undecided",
+    )
+}
+
+// Whose script it is, where it is the old package's.
+fn side_words(side: Side) -> &'static [u8]
+    ensures { result.now ≡ side_words side }
+{
+    match side {
+        Side::New => b", ",
+        Side::Old => b", of the old package: ",
+    }
+}
+
+// Adds the first line of a script.
+#[tactic(auto, unfolding(crate::specs::Scripts::summary_html))]
+fn put_summary(
+    alloc: Global,
+    text: &mut Bytes,
+    sources: &Sources,
+    table: Table,
+    acting: usize,
+    failing: usize,
+    undecided: usize,
+) -> Result<(), Memory>
+    ensures { OnOk result
+        (text.new ≡ text.old ++ summary_html sources.now table acting failing undecided) }
+{
+    let mut file = Bytes::new(alloc);
+    put_file(alloc, &mut file, sources, table)?;
+    let mut counts = Bytes::new(alloc);
+    put_script_counts(alloc, &mut counts, acting, failing, undecided)?;
+    put_five(
+        text,
+        b"<summary>",
+        scenario_name(table.scenario).as_bytes(),
+        side_words(table.side),
+        file.as_slice(),
+        counts.as_slice(),
+    )
+}
+
+// Adds what the columns of its lines say.
+#[tactic(auto, unfolding(crate::specs::Scripts::table_head))]
+fn put_table_head(text: &mut Bytes) -> Result<(), Memory>
+    ensures { OnOk result (text.new ≡ text.old ++ table_head) }
+{
+    put_four(
+        text,
+        b"</summary>\n<table><caption>Acts: of how many outcomes an act stands in the line. Ends: how many end there. ",
+        b"A line where both are blank may be passed all the same; lines that no outcome reaches say so, where that is known.</caption>\n",
+        b"<thead><tr><th scope=\"col\">Line</th><th scope=\"col\">Acts</th><th scope=\"col\">Ends</th>",
+        b"<th scope=\"col\">Text</th></tr></thead>\n<tbody>\n",
+    )
+}
+
+// Adds what stands above its lines.
 #[tactic(auto, unfolding(crate::specs::Scripts::table_begin))]
 fn put_table_begin(
     alloc: Global,
     text: &mut Bytes,
     sources: &Sources,
     table: Table,
-    come: bool,
+    acting: usize,
+    failing: usize,
+    undecided: usize,
 ) -> Result<(), Memory>
-    ensures { OnOk result (text.new ≡ text.old ++ table_begin sources.now table come) }
+    ensures { OnOk result
+        (text.new ≡ text.old ++ table_begin sources.now table acting failing undecided) }
 {
-    let mut file = Bytes::new(alloc);
-    put_file(alloc, &mut file, sources, table)?;
-    put_seven(
+    let mut summary = Bytes::new(alloc);
+    put_summary(
+        alloc,
+        &mut summary,
+        sources,
+        table,
+        acting,
+        failing,
+        undecided,
+    )?;
+    let mut head = Bytes::new(alloc);
+    put_table_head(&mut head)?;
+    put_five(
         text,
         b"<details class=\"script\"",
-        open_words(come),
-        b"><summary>",
-        file.as_slice(),
-        b"</summary>\n<table><caption>Outcomes that come to each line, and that end there: ",
-        file.as_slice(),
-        b"</caption>\n<thead><tr><th scope=\"col\">Line</th><th scope=\"col\">Come</th><th scope=\"col\">End</th><th scope=\"col\">Text</th></tr></thead>\n<tbody>\n",
+        open_words(failing, undecided),
+        b">",
+        summary.as_slice(),
+        head.as_slice(),
     )
 }
 
@@ -107,13 +200,12 @@ fn put_table(
     ensures { OnOk result (text.new ≡ text.old ++ table_html sources.now table part.now groups.now) }
 {
     let sites = sites_of(alloc, sources, table, part.entries.as_slice())?;
+    let acting = acting_count(sites.as_slice());
+    let failing = ender_count(alloc, sources, table, 1, groups)?;
+    let undecided = ender_count(alloc, sources, table, 2, groups)?;
     let mut begin = Bytes::new(alloc);
     put_table_begin(
-        alloc,
-        &mut begin,
-        sources,
-        table,
-        some_come(sites.as_slice()),
+        alloc, &mut begin, sources, table, acting, failing, undecided,
     )?;
     let mut rows = Bytes::new(alloc);
     put_script_rows(

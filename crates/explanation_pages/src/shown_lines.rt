@@ -2,10 +2,11 @@
 
 ghost use Rattle.std.specs.Prelude.{◌≡◌, ◌++◌, ◌-◌, length, take, drop, OnOk};
 ghost use Rattle.std.specs.List.{flat_map};
-ghost use Rattle.explanation_pages.specs.ShownLines.{begins, decides, line_class, line_html, pre_html};
+ghost use Rattle.explanation_pages.specs.ShownLines.{begins, is_told_above, line_class, line_html, marked_html, plain_html};
+ghost use Rattle.explanation_pages.specs.ShownLines.{pre_html};
 
 use crate::cut_lines::{Line, lines_of};
-use crate::joined::put_five;
+use crate::joined::{put_five, put_two};
 use html_texts::push_html;
 use script_names::{Bytes, Memory};
 use std::alloc::Global;
@@ -39,14 +40,14 @@ fn begins(sign: &[u8], line: &[u8]) -> bool
     front(line, 6) == sign
 }
 
-// Whether the mark of a place that decides stands at the end of a line.
-fn decides(line: &[u8]) -> bool
-    ensures { result ≡ decides line.now }
+// Whether the mark of a place that is told above stands at the end of a line.
+fn is_told_above(line: &[u8]) -> bool
+    ensures { result ≡ is_told_above line.now }
 {
-    behind(line, line.len().saturating_sub(3)) == b"<--".as_slice()
+    behind(line, line.len().saturating_sub(14)) == b"<-- told above".as_slice()
 }
 
-// The class of a line, by the sign in it.
+// The class of a line, by the sign in it; no bytes, where it has none.
 fn line_class(line: &[u8]) -> &'static [u8]
     ensures { result.now ≡ line_class line.now }
 {
@@ -59,28 +60,48 @@ fn line_class(line: &[u8]) -> &'static [u8]
     if begins(b"    ~ ", line) {
         return b"changed";
     }
-    if decides(line) {
+    if is_told_above(line) {
         return b"decides";
     }
-    b"plain"
+    b""
 }
 
-// Adds a line.
-#[tactic(auto, unfolding(crate::specs::ShownLines::line_html))]
-fn put_line(alloc: Global, text: &mut Bytes, line: &Line) -> Result<(), Memory>
-    ensures { OnOk result (text.new ≡ text.old ++ line_html line.now) }
+// Adds a line without a class.
+#[tactic(auto, unfolding(crate::specs::ShownLines::plain_html))]
+fn put_plain(alloc: Global, text: &mut Bytes, line: &Line) -> Result<(), Memory>
+    ensures { OnOk result (text.new ≡ text.old ++ plain_html line.now) }
 {
-    let bytes = line.text.as_slice();
     let mut shown = Bytes::new(alloc);
-    push_html(alloc, &mut shown, bytes)?;
+    push_html(alloc, &mut shown, line.text.as_slice())?;
+    put_two(text, shown.as_slice(), b"\n")
+}
+
+// Adds a line with one.
+#[tactic(auto, unfolding(crate::specs::ShownLines::marked_html))]
+fn put_marked(alloc: Global, text: &mut Bytes, class: &[u8], line: &Line) -> Result<(), Memory>
+    ensures { OnOk result (text.new ≡ text.old ++ marked_html class.now line.now) }
+{
+    let mut shown = Bytes::new(alloc);
+    push_html(alloc, &mut shown, line.text.as_slice())?;
     put_five(
         text,
         b"<span class=\"",
-        line_class(bytes),
+        class,
         b"\">",
         shown.as_slice(),
         b"</span>\n",
     )
+}
+
+// Adds a line.
+fn put_line(alloc: Global, text: &mut Bytes, line: &Line) -> Result<(), Memory>
+    ensures { OnOk result (text.new ≡ text.old ++ line_html line.now) }
+{
+    let class = line_class(line.text.as_slice());
+    if class.len() == 0 {
+        return put_plain(alloc, text, line);
+    }
+    put_marked(alloc, text, class, line)
 }
 
 // Adds lines.

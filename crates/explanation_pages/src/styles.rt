@@ -43,9 +43,9 @@ fn put_groups(text: &mut Bytes) -> Result<(), Memory>
         text,
         b"details{margin:.75rem 0;padding:.5rem .75rem;border:1px solid var(--edge);border-left:.3rem solid;border-radius:.3rem}\n",
         b"details.script{border-left-color:var(--edge);padding:.5rem 0 0}details.script>summary{padding:0 .75rem .5rem}\n",
-        b"summary{cursor:pointer;font-weight:600;overflow-wrap:anywhere}details>p,details>pre{color:var(--ink)}\n",
+        b"summary{cursor:pointer;font-weight:600;overflow-wrap:anywhere}details>p,details>ul,details>pre{color:var(--ink)}\n",
         b"details a{overflow-wrap:anywhere;scroll-margin-top:5rem}\n",
-        b"pre,.text,code{font-family:ui-monospace,monospace;font-size:.875rem;white-space:pre-wrap;overflow-wrap:anywhere;tab-size:4}\n",
+        b"pre,td:last-child,code{font-family:ui-monospace,monospace;font-size:.875rem;white-space:pre-wrap;overflow-wrap:anywhere;tab-size:4}\n",
         b"pre{margin:.5rem 0;padding:.75rem;background:var(--soft);border-radius:.3rem}\n",
         b".made{color:var(--good)}.taken{color:var(--bad)}.changed{color:var(--open)}.decides{font-weight:700}\n",
     )
@@ -60,9 +60,9 @@ fn put_tables(text: &mut Bytes) -> Result<(), Memory>
         text,
         b"table{border-collapse:collapse;width:100%;font-size:.9rem}caption{text-align:left;padding:0 .75rem;color:var(--dim)}\n",
         b"th,td{padding:.1rem .5rem;text-align:left;vertical-align:top}thead th{border-bottom:1px solid var(--edge);font-size:.8rem}\n",
-        b"tbody th,.number{text-align:right;font-weight:400;color:var(--dim);font-variant-numeric:tabular-nums}\n",
-        b".come .number{color:var(--ink);font-weight:700}.come{background:var(--soft)}.left{color:var(--dim)}td a{white-space:nowrap}\n",
-        b".text{width:100%}tr:target,a:target{background:var(--mark)}\n",
+        b"tbody th,td:nth-child(2){text-align:right;font-weight:400;color:var(--dim);font-variant-numeric:tabular-nums}\n",
+        b".acts td:nth-child(2){color:var(--ink);font-weight:700}.acts{background:var(--soft)}.left{color:var(--dim)}td a{white-space:nowrap}\n",
+        b"td:last-child{width:100%}tr:target,a:target{background:var(--mark)}\n",
     )
 }
 

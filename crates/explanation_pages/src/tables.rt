@@ -1,12 +1,13 @@
 //! Which places and which outcomes belong to the script that a table shows.
 
 ghost use Rattle.std.specs.Prelude.{◌≡◌, ◌++◌, IfOk, OnOk};
-ghost use Rattle.explanation_pages.specs.Tables.{entry_sites, is_of, listed, mark_site, side_of, site_in, sites_of, spot_site, table_of};
+ghost use Rattle.explanation_pages.specs.Tables.{ender_count, enders, enders_if, ends_in, entry_sites, is_of, listed, mark_site};
+ghost use Rattle.explanation_pages.specs.Tables.{side_of, site_in, sites_of, spot_site, table_of};
 
 use checker_input::Sources;
-use dpkg_scenarios::{Scenario, ScriptKind, Side};
+use dpkg_scenarios::{Scenario, ScriptKind, Side, ending_verdict};
 use explanation::{Spot, is_alone, spot_of};
-use outcome_groups::{same_script, same_side};
+use outcome_groups::{Group, same_script, same_side};
 use outcome_report::ReportEntry;
 use script_names::{List, Memory, Site};
 use std::alloc::Global;
@@ -113,4 +114,69 @@ pub fn sites_of(
         left = rest;
     }
     Ok(all)
+}
+
+// Whether the outcomes of a group end in the table's script, and with this verdict.
+fn ends_in(sources: &Sources, table: Table, verdict: u8, group: &Group) -> bool
+    ensures { result ≡ ends_in sources.now table verdict group.now }
+{
+    site_in(sources, table, group.end.site).is_some() && ending_verdict(group.end.ending) == verdict
+}
+
+/// Adds places.
+pub fn add_places(places: &mut List<usize>, more: &[usize]) -> Result<(), Memory>
+    ensures { OnOk result (places.new ≡ places.old ++ more.now) }
+{
+    for place in more {
+        places.add(*place)?;
+    }
+    Ok(())
+}
+
+// Adds the outcomes of a group, by their places in the part, if they end there so.
+fn add_enders_if(
+    places: &mut List<usize>,
+    sources: &Sources,
+    table: Table,
+    verdict: u8,
+    group: &Group,
+) -> Result<(), Memory>
+    ensures { OnOk result (places.new ≡ places.old ++ enders_if sources.now table verdict group.now) }
+{
+    if ends_in(sources, table, verdict, group) {
+        return add_places(places, group.members.as_slice());
+    }
+    Ok(())
+}
+
+// All outcomes that end there so.
+fn enders(
+    alloc: Global,
+    sources: &Sources,
+    table: Table,
+    verdict: u8,
+    groups: &[Group],
+) -> Result<List<usize>, Memory>
+    ensures { IfOk result (λ places. places ≡ enders sources.now table verdict groups.now) }
+{
+    let mut places = List::new(alloc);
+    for group in groups {
+        add_enders_if(&mut places, sources, table, verdict, group)?;
+    }
+    Ok(places)
+}
+
+/// How many outcomes end in the table's script with this verdict: 0 where they end well, 1 where they fail, 2 where they
+/// are undecided.
+pub fn ender_count(
+    alloc: Global,
+    sources: &Sources,
+    table: Table,
+    verdict: u8,
+    groups: &[Group],
+) -> Result<usize, Memory>
+    ensures { IfOk result (λ count. count ≡ ender_count sources.now table verdict groups.now) }
+{
+    let places = enders(alloc, sources, table, verdict, groups)?;
+    Ok(places.len())
 }

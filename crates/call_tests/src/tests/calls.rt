@@ -703,7 +703,7 @@ const EXPLAINED: &[Called] = &[
             b"p/postinst:3:1: note: the installation: undecided: a link stands there or on the way, and it is not \
               followed here (1 outcome)\n\
               p/postinst:3:1: error: the installation: failure; the package is left unpacked, but its configuration \
-              failed (1 outcome)\n",
+              failed (dpkg: half-configured) (1 outcome)\n",
             b"",
         ),
     ),
@@ -721,7 +721,12 @@ const EXPLAINED: &[Called] = &[
         QUESTION,
         (
             2,
-            b"p 0, install: NOT EXAMINED
+            b"An outcome stands for all systems on which a scenario goes the same way, act by act.
+An undecided one is known up to its place: what it does from there is not, nor how the package is left.
+Lines that are known not to be reached stand at the end of a scenario; of others nothing is said.
+In the line of a script [..] stands for what is left out.
+
+p 0, install: NOT EXAMINED
 There are more than 2 outcomes. More are looked at with --limit; a base that says more leaves fewer.
 
 Premises: b, 0 known places, 0 known links, 0 own folders, 0 stated commands
@@ -735,7 +740,12 @@ Not looked at: contents, modes and owners of files.
         NOTHING,
         (
             0,
-            b"p 0, purge-later: ends well
+            b"An outcome stands for all systems on which a scenario goes the same way, act by act.
+An undecided one is known up to its place: what it does from there is not, nor how the package is left.
+Lines that are known not to be reached stand at the end of a scenario; of others nothing is said.
+In the line of a script [..] stands for what is left out.
+
+p 0, purge-later: ends well
 1 outcome: 0 failing, 0 undecided, 1 ending well
 
 p: ends well; the package is left not installed (1 outcome)

@@ -8,4 +8,6 @@ abbrev pub invariant-loop-group : goal.invariant-loop-group
 invariant-loop-group l =
     l.text
     ≡ l.initial.text
-    ++ flat_map (details_if l.sources (scenario_run l.job) l.part l.verdict l.groups) (take l.group-index l.groups)
+    ++ flat_map
+    (details_if l.sources l.turns (scenario_run l.job) l.part l.verdict l.groups)
+    (take l.group-index l.groups)
