@@ -38,7 +38,7 @@ told() {
 for text in "$here"/explained/*; do
     name=${text##*/}
     (cd "$repository" && "$program" explain "examples/${name%.*}" --scenario "${name##*.}") |
-        sed '/^  One such system/,/^$/{/^$/!d}' >said
+        awk '/^  One such system/ { left = 1 } /^$/ || /^  The same at/ { left = 0 } !left' >said
     same "examples: $name" said <"$text"
 done
 
@@ -71,13 +71,13 @@ many=$(printf '%09982d' 0 | tr 0 a)
 printf 'set -e\n: %s; mkdir /srv/a\n' "$many" | script_of p
 told p 3:9987
 same 'the end of a line of 9,998 bytes' said <<'EOF'
-    ..aaaaaaaaaaaaaaaaaaaaaaaaaaaaaaaaaaaaaa; mkdir /srv/a
-                                              ^^^^^^^^^^^^
+    [..] aaaaaaaaaaaaaaaaaaaaaaaaaaaaaaaaaaaaaa; mkdir /srv/a
+                                                 ^^^^^^^^^^^^
 EOF
 printf 'set -e\nmkdir /srv/a; : %s\n' "$many" | script_of p
 told p 3:1
 same 'the begin of a line of 9,998 bytes' said <<'EOF'
-    mkdir /srv/a; : aaaaaaaaaaaaaaaaaaaaaaaaaaaaaaaaaaaaaaaaaaaa..
+    mkdir /srv/a; : aaaaaaaaaaaaaaaaaaaaaaaaaaaaaaaaaaaaaaaaaaaa [..]
     ^^^^^^^^^^^^
 EOF
 printf 'set -e\n\\\nmkdir \\\n  /srv/a && \\\n  rmdir /srv/a/b\n' | script_of p
@@ -107,6 +107,43 @@ told p 3:1
 same 'a script without a newline at its end' said <<'EOF'
     mkdir /srv/a
     ^^^^^^^^^^^^
+EOF
+
+# ---- what would decide a command without a meaning, by its first word; the stated commands that stand where one can begin
+
+for command in 'foo a' '"foo" a' 'rm -rv /srv/a' 'readonly A' '[ a -nt b ]'; do
+    printf 'set -e\n%s\n' "$command" | script_of p
+    "$program" explain p --scenario install | sed -n 's/^  What would decide it: //p'
+done >said
+same 'what would decide commands' said <<'EOF'
+a base line `call foo ok` or `call foo fails`, where it is true and the command changes no file that matters
+where the name of the command is written out and its calls can be stated, a base line `call NAME ok` or `call NAME fails` that is true, if the command changes no file that matters
+calls of rm cannot be stated (docs/FORMATS.md has the uses with a meaning); base lines on what stands at the places above may keep runs from here
+calls of readonly cannot be stated (docs/FORMATS.md has the uses with a meaning); base lines on what stands at the places above may keep runs from here
+calls of [ cannot be stated (docs/FORMATS.md has the uses with a meaning); base lines on what stands at the places above may keep runs from here
+EOF
+script_of p <<'EOF'
+set -e
+# one is told
+echo "two; three" four
+if ! "five" -a; then A='six seven' eight 2>/dev/null; fi
+nine() { >&2 ten eleven || return 1; }
+case $1 in
+twelve | thirteen) x="$(fourteen)" ;;
+esac
+EOF
+for name in one two three four six seven eleven; do
+    echo "call $name ok"
+done >base
+printf 'call five asks /srv/five\ncall eight ok\ncall ten fails\ncall thirteen ok\ncall fourteen ok\n' >>base
+"$program" explain p --scenario install --base base | sed -n '/Stated commands/p' >said
+same 'stated commands' said <<'EOF'
+  Stated commands that the scripts name: five (asks /srv/five: succeeds where something stands at this place, which is its answer) eight ten (fails) thirteen fourteen
+EOF
+printf 'set -e\nfoo\ntrue\n' | script_of p
+"$program" explain p --scenario install | sed -n '/^Not reached/p' >said
+same 'lines that are not reached' said <<'EOF'
+Not reached in any outcome of install: p/postinst, line 4
 EOF
 
 # ---- a group that no one list of facts tells

@@ -653,7 +653,7 @@ cat >text <<'EOF'
 p:x 1, install: FAILS on some systems
 3 outcomes: 1 failing, 1 undecided, 1 ending well
 
-p:x/postinst:3:1: failure; the package is left unpacked, but its configuration failed (1 outcome)
+p:x/postinst:3:1: failure; the package is left unpacked, but its configuration failed (dpkg: half-configured) (1 outcome)
     echo ': failure' # p 1, install: UNDECIDED
     ^^^^^^^^^^^^^^^^
 p:x: unpacking the files, act 3: undecided: a link stands there (1 outcome)
@@ -667,7 +667,7 @@ cat >coloured <<EOF
 ${escape}[1mp:x 1, install: ${escape}[31mFAILS on some systems${escape}[m
 3 outcomes: 1 failing, 1 undecided, 1 ending well
 
-${escape}[31mp:x/postinst:3:1: failure; the package is left unpacked, but its configuration failed (1 outcome)${escape}[m
+${escape}[31mp:x/postinst:3:1: failure; the package is left unpacked, but its configuration failed (dpkg: half-configured) (1 outcome)${escape}[m
     echo ': failure' # p 1, install: UNDECIDED
     ^^^^^^^^^^^^^^^^
 ${escape}[33mp:x: unpacking the files, act 3: undecided: a link stands there (1 outcome)${escape}[m

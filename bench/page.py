@@ -1,16 +1,18 @@
 #!/usr/bin/env python3
-"""Pages for the browser: python3 bench/page.py [PROGRAM] [--old DIR] [--base FILE] FOLDER ..
+"""Pages for the browser: python3 bench/page.py [PROGRAM] [--old DIR] [--base FILE] [--turns N] FOLDER ..
 
 Of each package folder the page that is expected is made here, and `explain FOLDER --html` is to be the same byte for
 byte. What stands here by itself: the page's fixed words and its style, what is escaped and spelled and how, the names of
-places and the links to them, the class of each line; and by the marks, calls and results of `check --json`, by the
-scripts' bytes, the `control` files and the table of steps below: how each scenario ends and how often, which outcomes end
-in one group and where, which groups are told together and in which order, how many outcomes come to each line, and which
-end there. Of the text of `explain` are taken: what stands below a group's first line, why something is undecided, why a
-scenario was not examined, which lines no outcome reaches, and the premises; nothing of it is left over. Besides, of the
-page as it is: names of places are unique, each link leads to one, elements nest, it has no script and asks for nothing,
-and what a browser reads of it is that text. Where tidy is there it says nothing, and where chromium is there its console
-says nothing. With PAGES=DIR the pages and their pictures, at 400 and 1400 pixels, light and dark, are put there.
+places and the links to them, the class of each line, the command lines to copy; and by the marks, calls and results of
+`check --json`, by the scripts' bytes, the `control` files and the table of steps below: how each scenario ends and how
+often, which outcomes end in one group and where, which groups are told together and in which order, how many outcomes
+have an act in each line and in each script, and which end there. Of the text of `explain` are taken: what stands below a
+group's first line, why something is undecided, why a scenario was not examined, which lines no outcome reaches, and the
+premises; nothing of it is left over. Besides, of the page as it is: names of places are unique, each link leads to one,
+elements nest, it has no script and asks for nothing, and what is read of it is that text. Where tidy is there it says
+nothing; where chromium is there its console says nothing, no request leaves, and the document that it makes has that
+text, these names and links (not with UNBROWSED=1). With PAGES=DIR the pages and their pictures, at 400 and 1400 pixels,
+light and dark, are put there.
 """
 import difflib
 import html.parser
@@ -45,11 +47,19 @@ STEPS = {
     'purge-later': {1: 'dpkg removes the conffiles', 2: 'new postrm purge'},
 }
 STATES = {
-    'Installed': 'installed', 'Unpacked': 'unpacked, but not configured',
-    'Half-Configured': 'unpacked, but its configuration failed',
-    'Half-Installed': 'neither installed nor removed as a whole',
-    'Config-Files': 'removed, but its conffiles are left', 'Not-Installed': 'not installed',
+    'Installed': 'installed', 'Unpacked': 'unpacked, but not configured (dpkg: unpacked)',
+    'Half-Configured': 'unpacked, but its configuration failed (dpkg: half-configured)',
+    'Half-Installed': 'neither installed nor removed as a whole (dpkg: half-installed)',
+    'Config-Files': 'removed, but not purged (dpkg: config-files)', 'Not-Installed': 'not installed',
 }
+# What stands before all that `explain` says, and on no page.
+LEGEND = '''\
+An outcome stands for all systems on which a scenario goes the same way, act by act.
+An undecided one is known up to its place: what it does from there is not, nor how the package is left.
+Lines that are known not to be reached stand at the end of a scenario; of others nothing is said.
+In the line of a script [..] stands for what is left out.
+
+'''
 WELL, FAILING, OPEN = 0, 1, 2
 CLASS = ['well', 'failing', 'undecided']
 HEADS = ['ends well', 'FAILS on some systems', 'UNDECIDED']
@@ -65,16 +75,16 @@ section{margin:2rem 0;padding-top:1rem;border-top:2px solid var(--edge)}footer{b
 .failing{color:var(--bad)}.undecided{color:var(--open)}.well{color:var(--good)}
 details{margin:.75rem 0;padding:.5rem .75rem;border:1px solid var(--edge);border-left:.3rem solid;border-radius:.3rem}
 details.script{border-left-color:var(--edge);padding:.5rem 0 0}details.script>summary{padding:0 .75rem .5rem}
-summary{cursor:pointer;font-weight:600;overflow-wrap:anywhere}details>p,details>pre{color:var(--ink)}
+summary{cursor:pointer;font-weight:600;overflow-wrap:anywhere}details>p,details>ul,details>pre{color:var(--ink)}
 details a{overflow-wrap:anywhere;scroll-margin-top:5rem}
-pre,.text,code{font-family:ui-monospace,monospace;font-size:.875rem;white-space:pre-wrap;overflow-wrap:anywhere;tab-size:4}
+pre,td:last-child,code{font-family:ui-monospace,monospace;font-size:.875rem;white-space:pre-wrap;overflow-wrap:anywhere;tab-size:4}
 pre{margin:.5rem 0;padding:.75rem;background:var(--soft);border-radius:.3rem}
 .made{color:var(--good)}.taken{color:var(--bad)}.changed{color:var(--open)}.decides{font-weight:700}
 table{border-collapse:collapse;width:100%;font-size:.9rem}caption{text-align:left;padding:0 .75rem;color:var(--dim)}
 th,td{padding:.1rem .5rem;text-align:left;vertical-align:top}thead th{border-bottom:1px solid var(--edge);font-size:.8rem}
-tbody th,.number{text-align:right;font-weight:400;color:var(--dim);font-variant-numeric:tabular-nums}
-.come .number{color:var(--ink);font-weight:700}.come{background:var(--soft)}.left{color:var(--dim)}td a{white-space:nowrap}
-.text{width:100%}tr:target,a:target{background:var(--mark)}
+tbody th,td:nth-child(2){text-align:right;font-weight:400;color:var(--dim);font-variant-numeric:tabular-nums}
+.acts td:nth-child(2){color:var(--ink);font-weight:700}.acts{background:var(--soft)}.left{color:var(--dim)}td a{white-space:nowrap}
+td:last-child{width:100%}tr:target,a:target{background:var(--mark)}
 @media (max-width:40rem){body{padding:.5rem}th,td{padding:.1rem .25rem}caption{padding:0 .25rem}}
 @media print{body{max-width:none;padding:0;font-size:.8rem}details{break-inside:auto}tr{break-inside:avoid}}
 '''
@@ -97,8 +107,10 @@ BEGIN = '''\
 '''
 TABLE = '''\
 </summary>
-<table><caption>Outcomes that come to each line, and that end there: %FILE%</caption>
-<thead><tr><th scope="col">Line</th><th scope="col">Come</th><th scope="col">End</th><th scope="col">Text</th></tr></thead>
+<table><caption>Acts: of how many outcomes an act stands in the line. Ends: how many end there. \
+A line where both are blank may be passed all the same; lines that no outcome reaches say so, where that is known.</caption>
+<thead><tr><th scope="col">Line</th><th scope="col">Acts</th><th scope="col">Ends</th>\
+<th scope="col">Text</th></tr></thead>
 <tbody>
 '''
 
@@ -159,7 +171,10 @@ class Page(html.parser.HTMLParser):
             group = any(name == 'details' and given['class'] != 'script' for name, given in self.stack)
             if self.within('h2'):
                 section['head'] += text
-            elif group and self.within('summary', 'pre'):
+            elif group and self.within('summary'):
+                # (how many outcomes end elsewhere stands below the group's first line)
+                section['groups'] += text.partition('\n')[0] + '\n'
+            elif group and self.within('pre'):
                 section['groups'] += text
             elif self.within('summary'):
                 section['tables'][-1]['file'] += text
@@ -179,7 +194,8 @@ class Page(html.parser.HTMLParser):
             whole += f'{self.title}, {name}: {words}\n' + section['counts'] + section['groups']
             for table in section['tables']:
                 if table['left']:
-                    whole += f'\nNot reached in any outcome: {table["file"]}, {lines_words(table["left"])}\n'
+                    file = re.sub(r'^[a-z-]*, (?:of the old package: )?(.*): acts of .*', r'\1', table['file'])
+                    whole += f'\nNot reached in any outcome of {name}: {file}, {lines_words(table["left"])}\n'
             whole += '\n'
         return whole + self.premises
 
@@ -224,8 +240,19 @@ def pre(text):
     told = '<pre>'
     for line in lines_of(text):
         sign = {'    - ': 'taken', '    + ': 'made', '    ~ ': 'changed'}.get(line[:6])
-        told += f'<span class="{sign or ("decides" if line.endswith("<--") else "plain")}">{escaped(line)}</span>\n'
+        sign = sign or ('decides' if line.endswith('<-- told above') else '')
+        told += f'<span class="{sign}">{escaped(line)}</span>\n' if sign else escaped(line) + '\n'
     return told + '</pre>\n'
+
+
+def shell_word(name):
+    """A name as a word of a shell."""
+    name = os.fsdecode(name)
+    return name if re.fullmatch(r'[A-Za-z0-9+,./:@_-]+', name) else "'" + name.replace("'", "'\\''") + "'"
+
+
+def command(line):
+    return f'<code>{escaped(shown(os.fsencode(line)))}</code>'
 
 
 def counted(count):
@@ -237,8 +264,12 @@ def counted(count):
 class Package:
     """The names, versions and scripts of a package's folder, and of the old one where it is named."""
 
-    def __init__(self, where, name, old):
+    def __init__(self, where, name, options):
+        old = options.get('--old')
         self.folders = {'new': name, 'old': old or name}
+        self.words = shell_word(name) + ''.join(
+            f' {option} {shell_word(options[option])}' for option in ('--old', '--base') if option in options)
+        self.turns = '' if options.get('--turns', '100') == '100' else f' --turns {options["--turns"]}'
         self.alone = old is None
         self.texts = {}
         for side, folder in self.folders.items():
@@ -372,24 +403,29 @@ class Part:
         link = ''
         if spot and len(spot) == 3:
             link = f' href="#{self.row_name(self.package.table_of(*spot[:2]), self.position(spot)[0])}"'
-        return f' <a id="{self.group_name(group)}"{link}>{escaped(self.spot_text(spot))}</a>'
+        line = f'colis explain {self.package.words} --scenario {self.name}{self.package.turns} --outcome {group[0].number}'
+        return (f'<li><a id="{self.group_name(group)}"{link}>{escaped(self.spot_text(spot))}</a>: '
+                f'{command(line)}</li>\n')
 
     def table(self, side, script, left):
-        """A script: of each line how many outcomes have an act there, and which groups end there."""
+        """A script: how many outcomes have an act in it, fail in it and are undecided in it, and of each line the same."""
         package, table = self.package, (side, script)
 
         def here(site):
             spot = self.spot(site)
-            return spot and len(spot) == 3 and package.table_of(*spot[:2]) == table
+            return spot is not None and len(spot) == 3 and package.table_of(*spot[:2]) == table
 
         text = package.texts[table]
         acts = [{mark[1] for mark in outcome.marks if here(mark[:2])} for outcome in self.outcomes]
-        file = escaped(package.file(side, script))
-        page = f'<details class="script"{" open" if any(acts) else ""}><summary>{file}' + TABLE.replace('%FILE%', file)
+        failing, undecided = (sum(outcome.verdict == verdict and here(outcome.site) for outcome in self.outcomes)
+                              for verdict in (FAILING, OPEN))
+        page = (f'<details class="script"{" open" if failing + undecided else ""}><summary>{self.name}, '
+                f'{"of the old package: " if side == "old" else ""}{escaped(package.file(side, script))}: acts of {counted(sum(map(bool, acts)))}; '
+                f'here {failing} fail, {undecided} undecided' + TABLE)
         begin = 0
         for number, line in enumerate(lines_of(text), 1):
             end = begin + len(line)
-            come = sum(any(begin <= at <= end for at in sites) for sites in acts)
+            acting = sum(any(begin <= at <= end for at in sites) for sites in acts)
             is_left = number in left
             ends = 'not reached' if is_left else ''
             for group in self.groups:
@@ -397,9 +433,10 @@ class Part:
                     verdict = group[0].verdict
                     ends += (f'<a class="{CLASS[verdict]}" href="#{self.group_name(group)}">'
                              f'{len(group)}{ENDS[verdict]}</a> ')
-            page += (f'<tr class="{"left" if is_left else "come" if come else "quiet"}" id="{self.row_name(table, number)}">'
-                     f'<th scope="row">{number}</th><td class="number">{come or ""}</td><td>{ends}</td>'
-                     f'<td class="text">{escaped(shown(line))}</td></tr>\n')
+            kind = 'left' if is_left else 'acts' if acting else ''
+            page += ('<tr' + f' class="{kind}"' * bool(kind) + f' id="{self.row_name(table, number)}">'
+                     f'<th scope="row">{number}</th><td>{acting or ""}</td><td>{ends}</td>'
+                     f'<td>{escaped(shown(line))}</td></tr>\n')
             begin = end + 1
         return page + '</tbody></table></details>\n'
 
@@ -429,12 +466,15 @@ def examined(part, told):
         title = part.title(group, said)
         if said != title:
             faults.append(f'{part.name}: explain says {said!r} and not {title!r}')
-        page += (f'<details class="{CLASS[group[0].verdict]}"><summary>{escaped(title)}\n</summary>\n<p>Where:'
-                 + ''.join(part.place(other) for other in others) + '</p>\n' + pre(body + '\n') + '</details>\n')
+        elsewhere = sum(len(other) for other in others if other is not group)
+        further = f'and the same elsewhere: {counted(elsewhere)}' if elsewhere else ''
+        page += (f'<details class="{CLASS[group[0].verdict]}"><summary>{escaped(title)}\n{further}</summary>\n<p>Places where it ends so, '
+                 'each with the command line that shows its first outcome:</p>\n<ul>\n'
+                 + ''.join(part.place(other) for other in others) + '</ul>\n' + pre(body + '\n') + '</details>\n')
         at += 1
     left = {}
-    while paragraphs[at].startswith('Not reached in any outcome: '):
-        file, first, last = re.match(r'Not reached in any outcome: (.*), lines? (\d+)(?: to (\d+))?$', paragraphs[at]).groups()
+    while paragraphs[at].startswith(f'Not reached in any outcome of {part.name}: '):
+        file, first, last = re.match(r'[^:]*: (.*), lines? (\d+)(?: to (\d+))?$', paragraphs[at]).groups()
         left[file] = range(int(first), int(last or first) + 1)
         at += 1
     for side in ['new'] if part.package.alone else ['new', 'old']:
@@ -445,7 +485,7 @@ def examined(part, told):
     return page + '</section>\n', '\n\n'.join(paragraphs[at:]), faults
 
 
-def expected(package, parts, told, options):
+def expected(package, parts, told):
     """The whole page, from the scenarios' parts of check --json, where they have one, and what explain says."""
     items, sections, faults = '', '', []
     for name in SCENARIOS:
@@ -464,10 +504,9 @@ def expected(package, parts, told, options):
         sections += section
     if not told.startswith('Premises: '):
         faults.append(f'behind the scenarios explain says {told[:200]!r}')
-    line = 'colis check ' + package.folder('new')
-    line += ''.join(f' {option} {spelled(os.fsencode(value))}' for option, value in sorted(options.items(), reverse=True))
     return (BEGIN.replace('%NAME%', escaped(package.name)) + items + '</ul>\n</nav>\n<main>\n' + sections + '</main>\n<footer>\n'
-            + pre(told) + f'<p>The whole report: <code>{escaped(line)}</code></p>\n</footer>\n</body>\n</html>\n'), faults
+            + pre(told) + f'<p>The whole report: {command("colis check " + package.words + package.turns)}</p>\n</footer>\n'
+            '</body>\n</html>\n'), faults
 
 
 # ---- calls
@@ -491,25 +530,37 @@ def reported(program, words, where):
     return parts
 
 
-def browsed(page, name):
-    """What the console says, and the pictures."""
-    browser = shutil.which('chromium')
-    if not browser:
+def opened(page, home, *words):
+    """What chromium prints of a page, and what its console says."""
+    done = subprocess.run(
+        [shutil.which('chromium'), '--headless', '--no-sandbox', '--disable-gpu', '--hide-scrollbars', '--no-first-run',
+         '--disable-background-networking', '--disable-component-update', '--host-resolver-rules=MAP * ~NOTFOUND',
+         f'--user-data-dir={home}', '--enable-logging=stderr', '--v=0', *words, 'file://' + page],
+        capture_output=True, timeout=300)
+    lines = done.stderr.decode('utf-8', 'replace').splitlines()
+    return done.stdout.decode('utf-8', 'replace'), [line for line in lines if 'CONSOLE' in line]
+
+
+def browsed(page, name, read, told):
+    """Faults of a page in a browser: what the console says, requests, and another text or other anchors than read."""
+    if not shutil.which('chromium'):
         return []
-    faults = []
     keep = os.environ.get('PAGES')
-    looks = [(400, 'light'), (400, 'dark'), (1400, 'light'), (1400, 'dark')] if keep else [(1400, 'light')]
-    for width, look in looks:
-        with tempfile.TemporaryDirectory() as home:
-            words = [browser, '--headless', '--no-sandbox', '--disable-gpu', '--hide-scrollbars', '--no-first-run',
-                     '--disable-background-networking', f'--user-data-dir={home}', '--enable-logging=stderr', '--v=0',
-                     f'--window-size={width},1800', f'--screenshot={home}/shot.png']
-            if look == 'dark':
-                words += ['--force-dark-mode', '--blink-settings=preferredColorScheme=0']
-            done = subprocess.run([*words, 'file://' + page], capture_output=True, text=True, timeout=180)
-            faults += [line for line in done.stderr.splitlines() if 'CONSOLE' in line]
-            if keep and os.path.exists(f'{home}/shot.png'):
-                shutil.copy(f'{home}/shot.png', f'{keep}/{name}-{width}-{look}.png')
+    with tempfile.TemporaryDirectory() as home:
+        dom, faults = opened(page, home, f'--log-net-log={home}/net.json', '--dump-dom')
+        with open(f'{home}/net.json', encoding='utf-8') as log:
+            asked = [event.get('params', {}) for event in json.load(log)['events']]
+        # (the browser's own requests have no origin)
+        faults += [f'a request: {params["url"]}' for params in asked
+                   if 'url' in params and params.get('initiator', 'not an origin') != 'not an origin']
+        seen = Page(dom)
+        faults += ['the text in the browser is not that of explain'] * (seen.text() != told)
+        faults += ['the browser has other anchors'] * (seen.ids != read.ids or seen.links != read.links)
+        for width in (400, 1400) if keep else ():
+            for look in ('light', 'dark'):
+                dark = ['--force-dark-mode', '--blink-settings=preferredColorScheme=0'] if look == 'dark' else []
+                faults += opened(page, home, *dark, f'--window-size={width},1800',
+                                 f'--screenshot={keep}/{name}-{width}-{look}.png')[1]
     return faults
 
 
@@ -528,8 +579,11 @@ def looked_at(program, folder, options):
         return [] if paged == status and not page else [f'status {paged} and not {status}']
     faults = [] if paged == status else [f'status {paged} and not {status}']
     told = told.decode('utf-8')
-    package = Package(where, name, options.get('--old'))
-    wanted, found = expected(package, reported(program, words, where), told, options)
+    if not told.startswith(LEGEND):
+        faults.append(f'explain begins with {told[:200]!r}')
+    told = told.removeprefix(LEGEND)
+    package = Package(where, name, options)
+    wanted, found = expected(package, reported(program, words, where), told)
     faults += found
     if page != wanted.encode('utf-8'):
         faults += differences(page.decode('utf-8'), wanted)
@@ -551,7 +605,7 @@ def looked_at(program, folder, options):
         if os.environ.get('PAGES'):
             shutil.copy(file.name, f'{os.environ["PAGES"]}/{name}.html')
         if not os.environ.get('UNBROWSED'):
-            faults += browsed(file.name, name)
+            faults += browsed(file.name, name, read, told)
     return faults
 
 
@@ -561,8 +615,8 @@ def main():
     if words and os.path.isfile(words[0]):
         program = os.path.abspath(words.pop(0))
     options = {}
-    while words and words[0] in ('--old', '--base'):
-        options[words[0]] = os.path.abspath(words[1])
+    while words and words[0] in ('--old', '--base', '--turns'):
+        options[words[0]] = words[1] if words[0] == '--turns' else os.path.abspath(words[1])
         words = words[2:]
     bad = 0
     for folder in words:
