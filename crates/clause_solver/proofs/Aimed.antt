@@ -1,5 +1,5 @@
 -- What is left where a place of the start tree, which can be nothing but a symbolic link, is given its target.
-use Rattle.std.proofs.Common.{◌≡◌, ℕ, ◌<◌, ◌≤◌, ◌↔◌, inl, inr, IsTrue, Some, None, List, length, refl, sym, ap, ◌∙◌, length-set, get_or-set_other, get_or-set_same}
+use Rattle.std.proofs.Common.{◌≡◌, ℕ, ◌<◌, ◌≤◌, ◌↔◌, inl, inr, Some, None, List, length, refl, sym, ap, ◌∙◌, length-set, get_or-set_other, get_or-set_same}
 use Rattle.feature_trees.specs.declared.kind.Kind.{Kind}
 use Rattle.feature_trees.specs.declared.kind.Kinds.{Kinds}
 use Rattle.feature_trees.specs.declared.value.Value.TheVariants as value

@@ -48,7 +48,7 @@ definition_literal vars i d l w e c =
     literal_of vars i l w
     (Contains-append_left (definition_literals i v.definition) (kinds_literals i v.kinds ++ (fence_literals i v.fence ++ (filled_literals i v.not_empty ++ target_literals i v.target))) l (rw e c))
 
-filled_literal : (vars : List Variable) (i : ℕ) → i < length vars → IsTrue (var_at vars i).not_empty → Contains (literals_from 0 vars) (L.NotEmpty (var i))
+pub filled_literal : (vars : List Variable) (i : ℕ) → i < length vars → IsTrue (var_at vars i).not_empty → Contains (literals_from 0 vars) (L.NotEmpty (var i))
 filled_literal vars i w t =
     let v = var_at vars i in
     let l = L.NotEmpty (var i) in

@@ -1,5 +1,5 @@
 -- The greatest kind of a set of kinds, and the set of all.
-use Rattle.std.proofs.Common.{◌≡◌, ◌≢◌, ◌⊎◌, inl, inr, Bool, true, false, IsTrue, refl}
+use Rattle.std.proofs.Common.{◌≡◌, ◌≢◌, ◌⊎◌, inl, inr, Bool, true, false, if◌then◌else◌, IsTrue, refl, sym, ◌∙◌}
 use Rattle.feature_trees.specs.declared.kind.Kind.{Kind}
 use Rattle.feature_trees.specs.declared.kind.Kind.TheVariants.{Absent, Reg, Link, Special, Dir}
 use Rattle.feature_trees.specs.declared.kind.Special.TheVariants.{Fifo, Socket, Block, Char}
@@ -84,3 +84,29 @@ is_dir_cases Reg = inr refl
 is_dir_cases Link = inr refl
 is_dir_cases (Special s) = inr refl
 is_dir_cases Dir = inl refl
+
+bare : (a r l f s b c d : Bool) → ((k : Kind) → k ≢ Absent → IsTrue (has (set_of a r l f s b c d) k) → ⊥) → choose (set_of a r l f s b c d) ≡ Absent
+bare a r l f s b c true h = absurd (h Dir (λ e. cc) refl)
+bare a true l f s b c false h = absurd (h Reg (λ e. cc) refl)
+bare a false true f s b c false h = absurd (h Link (λ e. cc) refl)
+bare a false false true s b c false h = absurd (h (Special Fifo) (λ e. cc) refl)
+bare a false false false true b c false h = absurd (h (Special Socket) (λ e. cc) refl)
+bare a false false false false true c false h = absurd (h (Special Block) (λ e. cc) refl)
+bare a false false false false false true false h = absurd (h (Special Char) (λ e. cc) refl)
+bare a false false false false false false false h = refl
+
+-- where the greatest kind of a set is absent, so is that of a smaller one
+pub choose_fewer : (few many : Kinds) → ((k : Kind) → IsTrue (has few k) → IsTrue (has many k)) → choose many ≡ Absent → choose few ≡ Absent
+choose_fewer few many more e = bare few.absent few.reg few.link few.fifo few.socket few.block few.char few.dir (λ k ne h. choose_present many k (more k h) ne e)
+
+-- of an entry that was narrowed, whose kind was absent
+pub still_absent : (may : Bool) (few many : Kinds) (kind : Kind) → ((k : Kind) → IsTrue (has few k) → IsTrue (has many k))
+    → kind ≡ (if may then choose many else Absent) → kind ≡ Absent → Absent ≡ (if may then choose few else Absent)
+still_absent true few many kind more is e = sym (choose_fewer few many more (sym is ∙ e))
+still_absent false few many kind more is e = refl
+
+-- of an entry that was narrowed, whose kind was not absent
+pub now_chosen : (may : Bool) (few many : Kinds) (kind : Kind) → kind ≡ (if may then choose many else Absent) → kind ≢ Absent
+    → choose few ≡ (if may then choose few else Absent)
+now_chosen true few many kind is ne = refl
+now_chosen false few many kind is ne = absurd (ne is)

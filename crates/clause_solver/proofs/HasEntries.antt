@@ -81,6 +81,14 @@ node_open vars best open_at n ds a e node ia = (λ t. let q = ia.0 e in free nod
 pub node_closed : (vars : List Variable) (best : List Kind) (open_at : ℕ → Bool) (n : ℕ) (ds : List (List ℕ)) (a b : Bool) → a ≡ false → IsTrue (is_node (var_at vars n).definition) → (IsTrue a ↔ IsOpen best open_at n) → (IsTrue b ↔ ((m : ℕ) × (m < length vars) × IsPresentChild vars best n ds m)) → IsTrue b ↔ HasEntryOutside vars best open_at n ds
 node_closed vars best open_at n ds a b e node ia ib = subst (λ (x : Bool). IsTrue (x || b) ↔ HasEntryOutside vars best open_at n ds) e (node_iff vars best open_at n ds a b node ia ib)
 
+-- where no entry is there under any name, none is there outside some names
+pub node_bare : (vars : List Variable) (best : List Kind) (open_at : ℕ → Bool) (n : ℕ) (ds : List (List ℕ)) (a any : Bool) → a ≡ false → any ≡ false → IsTrue (is_node (var_at vars n).definition) → (IsTrue a ↔ IsOpen best open_at n) → (IsTrue any ↔ ((m : ℕ) × (m < length vars) × IsPresentChild vars best n [] m)) → IsTrue false ↔ HasEntryOutside vars best open_at n ds
+node_bare vars best open_at n ds a any e none node ia iany =
+    node_closed vars best open_at n ds a false e node ia (
+      λ t. let bad : false ≡ true = t in absurd (cc),
+      λ child. sym none ∙ iany.1 (child.0, child.1, (child.2.0, child.2.1, λ l. l)),
+    )
+
 pub derived_iff : (vars : List Variable) (best : List Kind) (open_at : ℕ → Bool) → Ordered vars → (n x : ℕ) (f : List ℕ) (y : ℕ) (ds : List (List ℕ)) (a b : Bool) → (var_at vars n).definition ≡ Derived x f y → (IsTrue a ↔ ((kind_at best y ≢ Absent) × (¬ (Listed f ds)))) → (IsTrue b ↔ HasEntryOutside vars best open_at x (f ∷ ds)) → IsTrue (a || b) ↔ HasEntryOutside vars best open_at n ds
 derived_iff vars best open_at order n x f y ds a b e ia ib = (
   λ t. elim (or_cases a b t) [

@@ -86,6 +86,9 @@ module _ (vars : List Variable) (best : List Kind) (g : Valuation) (order : Orde
   shown : (i : ℕ) → i < length vars → Shown (value_of_variable g i) (kind_at best i)
   shown i w = shown_below (suc i) i (omega arith) w
 
+  pub shown_some : (i : ℕ) → i < length vars → value_of_variable g i ≢ value.Absent → kind_at best i ≢ Absent
+  shown_some i w some = (shown i w).as_some some
+
   -- a definition with one kind
   fits_one : (i : ℕ) (k : Kind) → i < length vars → kind_at best i ≡ k → kind_of (value_of_variable g i) ≡ k → IsTrue (has (var_at vars i).kinds (kind_at best i))
   fits_one i k w b v = rw b (rw v at (fits i w).kind)

@@ -17,7 +17,7 @@ use Rattle.clause_solver.specs.declared.variable.Definition.TheVariants.{Start, 
 use Rattle.clause_solver.specs.declared.variable.Variable.{Variable}
 use Rattle.clause_solver.specs.Aims.{IsAim, IsLed}
 use Rattle.clause_solver.specs.Stands.{Stands}
-use Rattle.clause_solver.specs.Variables.{var_at, is_node, Ordered, AlwaysDir, OnlyDir, IsLinkPlace, narrowed, fixed_in, aimed}
+use Rattle.clause_solver.specs.Variables.{var_at, is_node, Ordered, AlwaysDir, IsLinkPlace, narrowed, fixed_in, aimed}
 use Rattle.clause_solver.proofs.Aimed.{aimed_fits, fits_aimed, aimed_only}
 use Rattle.clause_solver.proofs.Narrowed.{narrowed_definition, narrowed_target, narrowed_fits, fits_narrowed, narrowed_only}
 use Rattle.clause_solver.proofs.OneMore.{seen_of}

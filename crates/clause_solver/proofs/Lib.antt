@@ -45,3 +45,5 @@ pub mod DraftSteps
 pub mod Drafted
 pub mod Added
 pub mod Looked
+pub mod Spares
+pub mod NameSets

@@ -13,7 +13,7 @@ use Rattle.clause_solver.specs.declared.variable.Variable.{Variable}
 use Rattle.clause_solver.specs.Variables.{var_at, allowed, Ordered, narrowed}
 use Rattle.clause_solver.specs.Greatest.{IsBest, IsSatisfied, unfenced, kind_at, is_dir, best_by, best_of}
 use Rattle.clause_solver.specs.Linked.{IsChildOf}
-use Rattle.clause_solver.specs.Settled.{IsGreatest, IsShut, AreSettled}
+use Rattle.clause_solver.specs.Settled.{IsGreatest, IsShut, AreSettled, WasGreatest}
 use Rattle.clause_solver.specs.Decided.{IsLeft, AreFilled, HaveEntries, AreDecided}
 use Rattle.clause_solver.proofs.Deciding.{left_iff, KindsFit, satisfied_entries, decides, decides_at_once, still_fit, may_fall, settled_best, has_entry_same, filled_same}
 use Rattle.clause_solver.proofs.Falling.{best_parent, child_cases, parent_before}
@@ -30,8 +30,16 @@ module _ (vars : List Variable) (x : ℕ) (k : Kinds) (inside : x < length vars)
   by_same best ks (Ensured a) = refl
   by_same best ks (Made m) = refl
 
+  -- the kind that was its greatest
+  pub was_greatest : (best : List Kind) → IsBest vars best → WasGreatest (narrowed vars x k) best x
+  was_greatest best is =
+      let ks = (var_at vars x).kinds in
+      let same : kind_at best x ≡ best_by (narrowed vars x k) best ks (var_at (narrowed vars x k) x).definition =
+      is x inside ∙ by_same best ks (var_at vars x).definition ∙ ap (best_by (narrowed vars x k) best ks) (sym (narrowed_definition vars x k inside x)) in
+      (ks, same, narrowed_has vars x k inside x)
+
   -- the greatest kinds of the other variables stay
-  narrowed_but : (best : List Kind) → IsBest vars best → (i : ℕ) → i < length vars → i ≢ x → IsGreatest (narrowed vars x k) best i
+  pub narrowed_but : (best : List Kind) → IsBest vars best → (i : ℕ) → i < length vars → i ≢ x → IsGreatest (narrowed vars x k) best i
   narrowed_but best is i w n = rw get_or-set_other (is i w ∙ by_same best (var_at vars i).kinds (var_at vars i).definition)
 
   narrowed_filled : (i : ℕ) → (var_at (narrowed vars x k) i).not_empty ≡ (var_at vars i).not_empty

@@ -22,3 +22,5 @@ pub mod Settled
 pub mod Decided
 pub mod Drafts
 pub mod Looking
+pub mod Plainest
+pub mod NameSets

@@ -3,15 +3,22 @@
 use Rattle.std.specs.Prelude.{◌≡◌, ◌≢◌, ◌⊎◌, ◌↔◌, ℕ, ◌+◌, ◌<◌, List, length, Bool, IsTrue}
 use Rattle.feature_trees.specs.declared.kind.Kind.{Kind}
 use Rattle.feature_trees.specs.declared.kind.Kind.TheVariants.{Absent}
+use Rattle.feature_trees.specs.declared.kind.Kinds.{Kinds}
 use Rattle.feature_trees.specs.Kinds.{has}
 use Rattle.clause_solver.specs.declared.variable.Variable.{Variable}
 use Rattle.clause_solver.specs.Variables.{var_at}
-use Rattle.clause_solver.specs.Greatest.{kind_at, best_of}
+use Rattle.clause_solver.specs.Greatest.{kind_at, best_by, best_of}
 use Rattle.clause_solver.specs.Linked.{IsChildOf}
 
 -- the variable has its greatest kind, given those of the earlier ones
 abbrev pub IsGreatest : List Variable → List Kind → ℕ → Type 0
 IsGreatest vars best i = kind_at best i ≡ best_of vars best i
+
+-- the variable had its greatest kind before it was narrowed
+abbrev pub WasGreatest : List Variable → List Kind → ℕ → Type 0
+WasGreatest vars best i =
+    (ks : Kinds) × (kind_at best i ≡ best_by vars best ks (var_at vars i).definition)
+    × ((k : Kind) → IsTrue (has (var_at vars i).kinds k) → IsTrue (has ks k))
 
 -- the variable can be absent alone, given the kinds of the earlier ones
 abbrev pub IsShut : List Variable → List Kind → ℕ → Type 0

@@ -2,13 +2,14 @@
 //! the start tree.
 
 ghost use Rattle.std.specs.Prelude.{◌≡◌, ℕ, List, ◌<◌, [], length, IfOk, OnOk, IsTrue, Some};
-ghost use Rattle.clause_solver.specs.Variables.{Listed, is_node, var_at};
+ghost use Rattle.clause_solver.specs.Variables.{Listed, is_node, member, var_at};
+ghost use Rattle.clause_solver.specs.NameSets.{has};
 ghost use Rattle.clause_solver.specs.Decided.{AreDecided};
 ghost use Rattle.clause_solver.specs.Emptied.{EndsAt, HasItsVariable, HasMore, IsClosed, IsWithin};
 ghost use Rattle.clause_solver.specs.Emptied.{fenced, let_in, names_past, vars_past};
 
-use crate::greatest::{allows, is_member};
 use crate::lists::{Lists, have_entries};
+use crate::name_set::{NameSet, fence_set, lets_in};
 use crate::places::var_at;
 use crate::settling::settle_entries;
 use crate::variable::{Definition, Variable};
@@ -33,21 +34,25 @@ impl Lists {
         &mut self,
         alloc: Global,
         names: &mut List<Name>,
+        known: &mut NameSet,
         f: &Name,
         y: u32,
     ) -> Result<(), Memory>
         requires decided { AreDecided self.old }
         requires inside { y < length self.old.vars }
+        requires known { (g : List ℕ) → has known.old g ≡ member g names.old }
         ensures decided { OnOk result (AreDecided self.new) }
         ensures vars { OnOk result (self.new.vars ≡ vars_past self.old.vars names.old f.now y) }
         ensures names { OnOk result (names.new ≡ names_past names.old f.now) }
+        ensures known { OnOk result ((g : List ℕ) → has known.new g ≡ member g names.new) }
     {
-        if is_member(names.as_slice(), f) {
+        if known.has(f) {
             return Ok(());
         }
         self.narrow(alloc, y, Kinds::of(Kind::Absent))?;
         let name = f.copy(alloc)?;
         names.add(name)?;
+        known.add(f)?;
         Ok(())
     }
 
@@ -65,6 +70,7 @@ impl Lists {
     {
         let mut new = self.fork()?;
         let mut names = fence.copy(alloc)?;
+        let mut known = NameSet::of(alloc, fence.as_slice())?;
         let mut here = x;
         'down: loop {
             let definition = var_at(&new.vars, here as usize).definition.fork()?;
@@ -84,7 +90,7 @@ impl Lists {
                     });
                 }
                 Definition::Derived(of, f, y) => {
-                    new.go_past(alloc, &mut names, f, *y)?;
+                    new.go_past(alloc, &mut names, &mut known, f, *y)?;
                     here = *of;
                 }
                 Definition::Ensured(of) => here = *of,
@@ -144,8 +150,8 @@ impl Lists {
         let mut new = self.with_entries(alloc, n, names)?;
         enclose(alloc, &mut new.vars, n as usize, names)?;
         let best = fork_alone(&new.best)?;
-        let settled = settle_entries(&new.vars, &new.kin, best, n as usize)?;
-        let have = have_entries(&new.vars, &settled.best, &new.kin, &new.filled);
+        let settled = settle_entries(alloc, &new.vars, &new.kin, best, n as usize)?;
+        let have = have_entries(alloc, &new.vars, &settled.best, &new.kin, &new.filled);
         new.alive = (new.alive & settled.fits) & have;
         new.best = settled.best;
         Ok(new)
@@ -189,9 +195,10 @@ impl Lists {
 fn let_in(alloc: Global, fence: &Option<List<Name>>, names: &[Name]) -> Result<List<Name>, Memory>
     ensures { IfOk result (λ kept. kept ≡ let_in fence.now names.now) }
 {
+    let known = fence_set(alloc, fence)?;
     let mut kept = List::new(alloc);
     for i in 0..names.len() {
-        if allows(fence, &names[i]) {
+        if lets_in(&known, &names[i]) {
             let name = names[i].copy(alloc)?;
             kept.add(name)?;
         }

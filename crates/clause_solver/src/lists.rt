@@ -7,7 +7,7 @@ ghost use Rattle.clause_solver.specs.Linked.{AreLinked};
 ghost use Rattle.clause_solver.specs.Decided.{AreDecided, AreFilled, HaveEntries, number_at};
 
 use crate::facts::{fill, narrow};
-use crate::greatest::{ReplacedNames, greatest, has_entry_outside, is_same};
+use crate::greatest::{ReplacedNames, greatest_narrowed, has_entry_outside, is_same};
 use crate::kin::Kin;
 use crate::places::{kind_at, var_at};
 use crate::settling::settle_entries;
@@ -57,7 +57,7 @@ impl Lists {
     {
         let x = x as usize;
         narrow(alloc, &mut self.vars, x, k)?;
-        let kind = greatest(&self.vars, &self.best, x);
+        let kind = greatest_narrowed(&self.vars, &self.best, x);
         let fits = var_at(&self.vars, x).kinds.has(kind);
         if is_same(kind_at(&self.best, x), kind) {
             self.alive = self.alive & fits;
@@ -65,8 +65,8 @@ impl Lists {
         }
         set_alone(&mut self.best, x, kind)?;
         let best = fork_alone(&self.best)?;
-        let settled = settle_entries(&self.vars, &self.kin, best, x)?;
-        let have = have_entries(&self.vars, &settled.best, &self.kin, &self.filled);
+        let settled = settle_entries(alloc, &self.vars, &self.kin, best, x)?;
+        let have = have_entries(alloc, &self.vars, &settled.best, &self.kin, &self.filled);
         self.alive = (self.alive & (fits & settled.fits)) & have;
         self.best = settled.best;
         Ok(())
@@ -86,7 +86,7 @@ impl Lists {
         push_alone(&mut self.filled, x)?;
         let replaced = ReplacedNames::Nothing;
         let has = has_entry_outside(
-            &self.vars, &self.best, &self.kin, true, x as usize, &replaced,
+            alloc, &self.vars, &self.best, &self.kin, true, x as usize, &replaced,
         );
         self.alive = self.alive & has;
         Ok(())
@@ -106,6 +106,7 @@ pub(crate) fn number_at(numbers: &Shared<u32>, k: usize) -> u32
 
 /// Whether each of the variables that have an entry by a fact has one among the greatest kinds.
 pub(crate) fn have_entries(
+    alloc: Global,
     vars: &Shared<Variable>,
     best: &Shared<Kind>,
     kin: &Shared<Kin>,
@@ -120,7 +121,7 @@ pub(crate) fn have_entries(
     for k in 0..filled.len() {
         let replaced = ReplacedNames::Nothing;
         let x = number_at(filled, k) as usize;
-        let has = has_entry_outside(vars, best, kin, true, x, &replaced);
+        let has = has_entry_outside(alloc, vars, best, kin, true, x, &replaced);
         if !has {
             return false;
         }

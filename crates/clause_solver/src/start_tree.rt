@@ -152,7 +152,7 @@ impl Lists {
     }
 
     // Marks the place that a variable is made from, where the variable needs an entry and has none otherwise.
-    fn open_for(&self, marks: &mut [bool], i: usize)
+    fn open_for(&self, alloc: Global, marks: &mut [bool], i: usize)
         requires decided { AreDecided self.now }
         requires marks { length marks.old ≡ length self.now.vars }
         requires inside { i < length self.now.vars }
@@ -169,7 +169,9 @@ impl Lists {
             return;
         }
         let replaced = ReplacedNames::Nothing;
-        if has_entry_outside(&self.vars, &self.best, &self.kin, false, i, &replaced) {
+        if has_entry_outside(
+            alloc, &self.vars, &self.best, &self.kin, false, i, &replaced,
+        ) {
             return;
         }
         let r = match root(&self.vars, i) {
@@ -191,7 +193,7 @@ impl Lists {
         let mut marks = vec![in alloc; false; self.vars.len()]?;
         for k in 0..self.filled.len() {
             let x = number_at(&self.filled, k) as usize;
-            self.open_for(&mut marks, x);
+            self.open_for(alloc, &mut marks, x);
         }
         Ok(marks)
     }

@@ -9,6 +9,7 @@ use Rattle.clause_solver.proofs.lists.Lists.way_down.Goals.{in-Derived+in_ok-go_
 pub down-init : goal.down-init
 down-init c = record {
   decided = rw c.in_ok-new.ensures c.requires.decided;
+  known = rw (c.in_ok-names.ensures, sym c.as_slice.ensures) c.in_ok-known.ensures;
   to = rw (c.in_ok-new.ensures, c.in_ok-names.ensures) (comes_to_itself c.args.self.now.vars c.args.x c.args.fence.now c.requires.decided.order c.requires.inside);
 }
 
@@ -25,6 +26,7 @@ down-preserved c = elim c.match-get.branch [
       sym (c.get.ensures ∙ c.in_ok-definition.ensures ∙ ap (λ (v : Variable). v.definition) c.var_at.ensures) ∙ w.in-Derived.is in
       record {
         decided = rw w.new-is w.in_ok-go_past-in-Derived.ensures.decided;
+        known = rw (w.known-is, w.names-is) w.in_ok-go_past-in-Derived.ensures.known;
         to = rw (w.new-is, w.names-is, w.here-is, w.in_ok-go_past-in-Derived.ensures.vars, w.in_ok-go_past-in-Derived.ensures.names)
             (past_derived c.args.self.now.vars c.args.x c.args.fence.now c.down.new.vars c.down.here c.down.names c.down.invariant.to w.in-Derived.of w.in-Derived.f w.in-Derived.y e);
       }
@@ -33,6 +35,7 @@ down-preserved c = elim c.match-get.branch [
       sym (c.get.ensures ∙ c.in_ok-definition.ensures ∙ ap (λ (v : Variable). v.definition) c.var_at.ensures) ∙ w.in-Ensured.is in
       record {
         decided = rw w.new-is c.down.invariant.decided;
+        known = rw (w.known-is, w.names-is) c.down.invariant.known;
         to = rw (w.new-is, w.names-is, w.here-is) (past_ensured c.args.self.now.vars c.args.x c.args.fence.now c.down.new.vars c.down.here c.down.names c.down.invariant.to w.in-Ensured.of e);
       }
 ]

@@ -1,5 +1,4 @@
-use Rattle.std.proofs.Common.{◌≡◌, ◌<◌, ◌∙◌, ap, length, arith}
-use Rattle.clause_solver.specs.declared.lists.Lists.{Lists}
+use Rattle.std.proofs.Common.{◌<◌, length, arith}
 use Rattle.clause_solver.specs.Aims.{IsLed}
 use Rattle.clause_solver.specs.Variables.{AlwaysDir, OnlyDir}
 use Rattle.clause_solver.proofs.Deciding.{left_alive}
