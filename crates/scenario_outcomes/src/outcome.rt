@@ -1,6 +1,7 @@
 //! One way in which a scenario can end, made from a path.
 
 ghost use Rattle.std.specs.Prelude.{◌≡◌, ◌<◌, ◌≤◌, ◌+◌, ◌^◌, length, IfOk};
+ghost use Rattle.clause_solver.specs.Plainest.{IsLeastTree};
 ghost use Rattle.clause_solver.specs.Stands.{Alive};
 ghost use Rattle.case_paths.specs.Paths.{AllAlive, states};
 ghost use Rattle.scenario_outcomes.specs.OutcomeOf.{IsOutcomeOf, AreOutcomes};
@@ -65,7 +66,8 @@ impl From<Memory> for OutcomesFault {
     }
 }
 
-/// The outcome of a path, by its place in the list of paths, counted from 0.
+/// The outcome of a path, by its place in the list of paths, counted from 0. It shows the least start tree, as
+/// `Store::least_tree` has it.
 pub fn make_outcome(
     alloc: Global,
     place: u32,
@@ -73,7 +75,8 @@ pub fn make_outcome(
 ) -> Result<Outcome, Memory>
     requires alive { Alive path.state.store }
     requires numbered { place + 1 < 2 ^ 32 }
-    ensures { IfOk result (IsOutcomeOf place path) }
+    ensures outcome { IfOk result (IsOutcomeOf place path) }
+    ensures least { IfOk result (λ outcome. IsLeastTree path.state.store outcome.shown) }
 {
     let Found { value, state } = path;
     let (ending, _calls) = value;
@@ -84,7 +87,7 @@ pub fn make_outcome(
         done: _,
     } = state;
     let clause = store.clause()?;
-    let shown = store.start_tree(alloc)?;
+    let shown = store.least_tree(alloc)?;
     Ok(Outcome {
         number: place + 1,
         ending,

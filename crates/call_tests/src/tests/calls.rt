@@ -35,9 +35,7 @@ kind v0 dir
 entry v0 a v1
 kind v1 absent,reg,fifo,socket,block,char
 shown
-f /a
 after
-f /a
 outcome 3 done Installed
 trace 3:17:67
 confirmed yes
@@ -61,9 +59,9 @@ const REPORT_AS_JSON: &[u8] = b"{\"colis\":2,\"scenarios\":[{\"name\":\"install\
     \"clause\":{\"literals\":[\"kind v0 dir\",\"entry v0 a v1\",\"kind v1 link\"],\"now\":0,\"start\":0},\
     \"confirmed\":true,\"number\":1,\"result\":\"incomplete link 3:17\",\"shown\":[\"l /a x\"],\
     \"trace\":\"3:17:65\"},\
-    {\"after\":[\"f /a\"],\"calls\":[\"call new postinst configure \\\\e failed\"],\
+    {\"after\":[],\"calls\":[\"call new postinst configure \\\\e failed\"],\
     \"clause\":{\"literals\":[\"kind v0 dir\",\"entry v0 a v1\",\"kind v1 absent,reg,fifo,socket,block,char\"],\"now\":0,\"start\":0},\
-    \"confirmed\":true,\"number\":2,\"result\":\"failed Half-Configured\",\"shown\":[\"f /a\"],\
+    \"confirmed\":true,\"number\":2,\"result\":\"failed Half-Configured\",\"shown\":[],\
     \"trace\":\"3:17:66\"},\
     {\"after\":[\"d /a\"],\"calls\":[\"call new postinst configure \\\\e ok\"],\
     \"clause\":{\"literals\":[\"kind v0 dir\",\"entry v0 a v1\",\"kind v1 dir\"],\"now\":0,\"start\":0},\
@@ -102,10 +100,8 @@ entry v1 a v2
 kind v2 absent,reg,socket,block,char,dir
 shown
 d /srv
-d /srv/a
 after
 d /srv
-d /srv/a
 outcome 3 done Installed
 trace 3:10:67
 confirmed yes

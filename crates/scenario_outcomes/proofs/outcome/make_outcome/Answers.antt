@@ -2,8 +2,8 @@ use Rattle.std.proofs.Common.{refl}
 use Rattle.tree_clauses.specs.Literals.{value_of_variable}
 use Rattle.scenario_outcomes.proofs.outcome.make_outcome.Goals as goal
 
-pub returns : goal.returns
-returns c = record {
+pub returns-clause-outcome : goal.returns-clause-outcome
+returns-clause-outcome c = record {
   number = refl;
   ending = refl;
   trace = refl;
