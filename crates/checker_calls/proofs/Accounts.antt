@@ -18,12 +18,15 @@ use Rattle.scenario_outcomes.specs.Endings.{endings_of as outcome_endings, AreEn
 use Rattle.outcome_report.specs.declared.outcome_report.ReportEntry.{ReportEntry}
 use Rattle.outcome_report.specs.declared.outcome_report.ReportPart.{ReportPart}
 use Rattle.outcome_report.specs.declared.outcome_report.Report.{Report}
+use Rattle.report_text.specs.declared.told_part.Telling.{Telling}
+use Rattle.report_text.specs.declared.told_part.Telling.TheVariants.{Briefly}
 use Rattle.report_text.specs.declared.told_part.ToldPart.{ToldPart}
 use Rattle.outcome_report.specs.OutcomeReport.{PartAnswers}
-use Rattle.report_text.specs.Told.{Tells, ToldAnswers}
+use Rattle.report_text.specs.Told.{Tells, IsTold, ToldAnswers}
 use Rattle.outcome_report.proofs.PartOf.{part_of}
 use Rattle.load_summary.specs.declared.endings.ScenarioEndings.{ScenarioEndings}
 use Rattle.load_summary.specs.Endings.{ending_of, endings_of}
+use Rattle.checker_calls.specs.declared.account.BriefPart.{BriefPart}
 use Rattle.checker_calls.specs.declared.faults.TaskFault.{TaskFault}
 use Rattle.checker_calls.specs.declared.faults.TaskFault.TheVariants.{Refused, Memory}
 use Rattle.checker_calls.specs.Settled.{settled, after_value}
@@ -42,10 +45,16 @@ module _ (run : Value → Option Replayed) (start : Value → Type 0) (limit : �
   part_itself (Err fault) answers same = answers
 
   -- what is told of it
-  pub part_told : (result : Result ToldPart OutcomesFault) → ToldAnswers run start limit scenario result
-      → JobGives Tells run start limit scenario result
-  part_told (Ok told) is = record { part = is.part; of_scenario = is.of_scenario; answers = is.answers; tells = is.tells }
-  part_told (Err fault) answers = answers
+  pub part_told : (telling : Telling) (result : Result ToldPart OutcomesFault) → ToldAnswers telling run start limit scenario result
+      → JobGives (Tells telling) run start limit scenario result
+  part_told telling (Ok told) is = record { part = is.part; of_scenario = is.of_scenario; answers = is.answers; tells = is.tells }
+  part_told telling (Err fault) answers = answers
+
+  -- what is told of it briefly
+  pub part_briefly_told : (told : ToldPart) → IsTold Briefly run start limit scenario told
+      → IsAccount (λ (part : ReportPart) (account : BriefPart). Tells Briefly part account.told) run start limit scenario
+      (record { told = told })
+  part_briefly_told told is = record { part = is.part; of_scenario = is.of_scenario; answers = is.answers; tells = is.tells }
 
   of_entries : (entries : List ReportEntry) → map ending_of entries ≡ outcome_endings (map (λ (e : ReportEntry). e.outcome) entries)
   of_entries [] = refl
@@ -149,3 +158,27 @@ have_endings [] [] all = refl
 have_endings [] (one ∷ endings) all = absurd all
 have_endings (part ∷ parts) [] all = absurd all
 have_endings (part ∷ parts) (one ∷ endings) all = rw (all.0, have_endings parts endings all.1) refl
+
+tell_briefly : (parts : List ReportPart) (accounts : List BriefPart)
+    → AllZip (λ (part : ReportPart) (account : BriefPart). Tells Briefly part account.told) parts accounts
+    → AllZip (Tells Briefly) parts (map (λ (account : BriefPart). account.told) accounts)
+tell_briefly [] [] all = tt
+tell_briefly [] (account ∷ accounts) all = absurd all
+tell_briefly (part ∷ parts) [] all = absurd all
+tell_briefly (part ∷ parts) (account ∷ accounts) all = (all.0, tell_briefly parts accounts all.1)
+
+-- what is told of parts, of what is told briefly of them, as it was asked for
+pub briefly_told : (packages : Packages) (turns limit : ℕ) (scenarios : List Scenario) (telling : Telling) (accounts : List BriefPart)
+    (told : List ToldPart) → telling ≡ Briefly
+    → AreAccountsOf (λ (part : ReportPart) (account : BriefPart). Tells Briefly part account.told) packages turns limit scenarios accounts
+    → told ≡ map (λ (account : BriefPart). account.told) accounts
+    → AreAccountsOf (Tells telling) packages turns limit scenarios told
+briefly_told packages turns limit scenarios telling accounts told asked are same =
+    let P : Telling → Type 0 = λ t. AreAccountsOf (Tells t) packages turns limit scenarios told in
+    let Q : List ToldPart → Type 0 = λ ts. AllZip (Tells Briefly) are.report.parts ts in
+    let brief : P Briefly = record {
+      report = are.report;
+      parts = are.parts;
+      tell = subst Q (sym same) (tell_briefly are.report.parts accounts are.tell);
+    } in
+    subst P (sym asked) brief

@@ -16,6 +16,8 @@ use Rattle.outcome_report.specs.declared.outcome_report.Report.{Report}
 use Rattle.outcome_report.specs.OutcomeReport.{IsPart, verdict_of}
 use Rattle.report_text.specs.ReportText.{report_text}
 use Rattle.report_text.specs.Whole.{IsRepresentable}
+use Rattle.report_text.specs.declared.told_part.Telling.{Telling}
+use Rattle.report_text.specs.declared.told_part.Telling.TheVariants.{Wholly, Briefly}
 use Rattle.report_text.specs.BriefText.{brief_text}
 use Rattle.report_json.specs.ReportJson.{json_text}
 use Rattle.checker_calls.specs.declared.faults.Refusal.{Refusal}
@@ -34,6 +36,11 @@ abbrev pub layout_text : Layout → Report → List ℕ
 layout_text Plain report = report_text report
 layout_text Brief report = brief_text report
 layout_text Json report = json_text report
+
+-- the layout of a report that is told so
+abbrev pub layout_of : Telling → Layout
+layout_of Wholly = Plain
+layout_of Briefly = Brief
 
 -- why a scenario has no report, by why it has no outcomes
 abbrev pub task_fault : Scenario → ℕ → OutcomesFault → TaskFault

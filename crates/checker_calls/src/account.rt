@@ -4,13 +4,14 @@ ghost use Rattle.std.specs.Prelude.{◌≡◌};
 ghost use Rattle.scenario_runs.specs.Runs.{scenario_run};
 ghost use Rattle.start_trees.specs.Needs.{IsStart};
 ghost use Rattle.outcome_report.specs.declared.outcome_report.ReportPart.{ReportPart};
+ghost use Rattle.report_text.specs.declared.told_part.Telling.TheVariants.{Wholly, Briefly};
 ghost use Rattle.report_text.specs.Told.{Tells};
 ghost use Rattle.load_summary.specs.Endings.{endings_of};
 ghost use Rattle.checker_calls.specs.Accounts.{JobGives};
 
 use load_summary::ScenarioEndings;
 use outcome_report::{ReportPart, make_part};
-use report_text::{ToldPart, tell_part};
+use report_text::{Telling, ToldPart, tell_part};
 use scenario_outcomes::{OutcomesFault, endings};
 use scenario_runs::Job;
 use script_names::List;
@@ -50,7 +51,7 @@ impl Account for ReportPart {
 
 // The lines on it, told outcome by outcome, so that no part is made.
 impl Account for ToldPart {
-    ghost tells = { Tells };
+    ghost tells = { Tells Wholly };
 
     fn of_job(
         alloc: Global,
@@ -58,8 +59,31 @@ impl Account for ToldPart {
         needs: &List<Need>,
         limit: u32,
     ) -> Result<ToldPart, OutcomesFault> {
-        let told = tell_part(alloc, job, needs, limit);
+        let told = tell_part(alloc, job, needs, limit, Telling::Wholly);
         told
+    }
+}
+
+/// What is told briefly of a part.
+#[derive(Drop)]
+pub struct BriefPart {
+    pub told: ToldPart,
+}
+
+// Its brief lines, told in the same way.
+impl Account for BriefPart {
+    ghost tells = { λ part account. Tells Briefly part account.told };
+
+    fn of_job(
+        alloc: Global,
+        job: &Job,
+        needs: &List<Need>,
+        limit: u32,
+    ) -> Result<BriefPart, OutcomesFault> {
+        match tell_part(alloc, job, needs, limit, Telling::Briefly) {
+            Ok(told) => Ok(BriefPart { told }),
+            Err(fault) => Err(fault),
+        }
     }
 }
 

@@ -12,5 +12,5 @@ pub mod TreeTexts
 mod TypeFacts
 pub mod TextApart
 mod PathReplays
-mod Telling
+mod PathsTold
 pub mod Joined

@@ -8,8 +8,9 @@ use script_names::{Bytes, Memory};
 use shown_texts::push_line;
 use std::alloc::Global;
 
+/// Adds the lines of an outcome's number, ending and trace.
 #[tactic(auto, unfolding(crate::specs::BriefText::brief_entry))]
-fn put_entry(text: &mut Bytes, entry: &ReportEntry) -> Result<(), Memory>
+pub(crate) fn put_brief_entry(text: &mut Bytes, entry: &ReportEntry) -> Result<(), Memory>
     ensures { OnOk result (text.new ≡ text.old ++ brief_entry entry.now) }
 {
     put_outcome(text, entry)?;
@@ -20,7 +21,7 @@ fn put_entries(text: &mut Bytes, entries: &[ReportEntry]) -> Result<(), Memory>
     ensures { OnOk result (text.new ≡ text.old ++ flat_map brief_entry entries.now) }
 {
     for entry in entries {
-        put_entry(text, entry)?;
+        put_brief_entry(text, entry)?;
     }
     Ok(())
 }

@@ -27,5 +27,5 @@ pub use representable_pieces::{
 };
 pub use representable_trees::is_representable_tree;
 pub use run_text::render_run;
-pub use told_part::{ToldPart, tell_part};
+pub use told_part::{Telling, ToldPart, tell_part};
 pub use told_report::{join_told, told_verdict};

@@ -1,19 +1,12 @@
 use Rattle.std.proofs.Common.{◌∙◌}
-use Rattle.command_words.specs.declared.request.Layout.TheVariants.{Brief, Json}
+use Rattle.command_words.specs.declared.request.Layout.TheVariants.{Json}
 use Rattle.checker_calls.specs.Reports.{chosen}
 use Rattle.checker_calls.proofs.Rendered.{asked_report}
 use Rattle.checker_calls.proofs.reports.write_report.Goals as goal
 
-pub returns-in_ok-text-in-Brief : goal.returns-in_ok-text-in-Brief
-returns-in_ok-text-in-Brief g c =
-    asked_report c.args.packages.now c.args.turns c.args.limit (chosen c.args.scenario) c.args.layout Brief
-    c.in_ok-report-in-Brief.report c.written.result.text c.written.result.status c.in-Brief.is
-    c.in_ok-report-in-Brief.ensures c.written.ensures.representable
-    (c.written.ensures.text ∙ c.in_ok-text-in-Brief.ensures) c.written.ensures.status
-
 pub returns-in_ok-text-in-Json : goal.returns-in_ok-text-in-Json
 returns-in_ok-text-in-Json g c =
     asked_report c.args.packages.now c.args.turns c.args.limit (chosen c.args.scenario) c.args.layout Json
-    c.in_ok-report-in-Json.report c.written-in-Json.result.text c.written-in-Json.result.status c.in-Json.is
-    c.in_ok-report-in-Json.ensures c.written-in-Json.ensures.representable
-    (c.written-in-Json.ensures.text ∙ c.in_ok-text-in-Json.ensures) c.written-in-Json.ensures.status
+    c.in_ok-report-in-Json.report c.written.result.text c.written.result.status c.in-Json.is
+    c.in_ok-report-in-Json.ensures c.written.ensures.representable
+    (c.written.ensures.text ∙ c.in_ok-text-in-Json.ensures) c.written.ensures.status

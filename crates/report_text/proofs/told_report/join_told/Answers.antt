@@ -5,5 +5,5 @@ use Rattle.report_text.proofs.told_report.join_told.Goals as goal
 
 pub returns : goal.returns
 returns c = λ report are.
-    text_so report c.args.told c.in_ok-text.text c.put_verdict_line.new.text c.verdict_on-verdict.result are c.in_ok-text.ensures
+    text_so c.args.telling report c.args.told c.in_ok-text.text c.put_verdict_line.new.text c.verdict_on-verdict.result are c.in_ok-text.ensures
     (c.verdict_on-verdict.ensures ∙ ap told_verdict c.as_slice.ensures) c.in_ok-put_verdict_line.ensures

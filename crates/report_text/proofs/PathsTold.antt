@@ -14,15 +14,17 @@ use Rattle.scenario_runs.specs.declared.replayed.Replayed.{Replayed}
 use Rattle.scenario_outcomes.specs.OutcomeOf.{Path, IsOutcomeOf, AreOutcomes, ArePaths}
 use Rattle.outcome_report.specs.declared.outcome_report.ReportEntry.{ReportEntry}
 use Rattle.report_text.specs.declared.places.EndPlace.{EndPlace}
+use Rattle.report_text.specs.declared.told_part.Telling.{Telling}
+use Rattle.report_text.specs.declared.told_part.Telling.TheVariants.{Wholly, Briefly}
 use Rattle.report_text.specs.declared.told_part.ToldPart.{ToldPart}
 use Rattle.report_text.specs.Counting.{as_list}
 use Rattle.outcome_report.specs.OutcomeReport.{AllEntries}
 use Rattle.dpkg_scenarios.specs.Verdicts.{ending_verdict}
-use Rattle.report_text.specs.Places.{entry_place, end_places, place_counts}
-use Rattle.report_text.specs.PlaceText.{place_line}
-use Rattle.report_text.specs.ReportText.{heading, entry_text, scenario_line, part_text}
-use Rattle.report_text.specs.Telling.{PathReplays, PathsReplay, AddsPath, TellsPaths}
-use Rattle.report_text.specs.Told.{IsTold}
+use Rattle.report_text.specs.BriefText.{brief_part}
+use Rattle.report_text.specs.Places.{entry_place, end_places}
+use Rattle.report_text.specs.ReportText.{heading, scenario_line, part_text}
+use Rattle.report_text.specs.Telling.{PathReplays, PathsReplay, entry_lines, end_lines, AddsPath, TellsPaths}
+use Rattle.report_text.specs.Told.{part_lines, IsTold}
 use Rattle.report_text.specs.Whole.{IsRepresentableEntry, AllRepresentable}
 use Rattle.report_text.proofs.Counted.{one_place}
 use Rattle.outcome_report.proofs.Entries.{entries_more}
@@ -45,12 +47,13 @@ representable_more : (entries : List ReportEntry) (entry : ReportEntry) → AllR
 representable_more [] entry all one = (one, tt)
 representable_more (x ∷ entries) entry all one = (all.0, representable_more entries entry all.1 one)
 
-text_more : (begun old new : List ℕ) (entries : List ReportEntry) (entry : ReportEntry) → new ≡ old ++ entry_text entry
-    → old ≡ begun ++ flat_map entry_text entries → new ≡ begun ++ flat_map entry_text (entries ++ entry ∷ [])
-text_more begun old new entries entry e so_far =
-    e ∙ ap (λ t. t ++ entry_text entry) so_far ∙ append_assoc begun (flat_map entry_text entries) (entry_text entry)
-    ∙ ap (λ t. begun ++ (flat_map entry_text entries ++ t)) (sym (append-nil (entry_text entry)))
-    ∙ ap (λ t. begun ++ t) (sym (flat_map-append entry_text entries (entry ∷ [])))
+text_more : (lines : ReportEntry → List ℕ) (begun old new : List ℕ) (entries : List ReportEntry) (entry : ReportEntry)
+    → new ≡ old ++ lines entry → old ≡ begun ++ flat_map lines entries
+    → new ≡ begun ++ flat_map lines (entries ++ entry ∷ [])
+text_more lines begun old new entries entry e so_far =
+    e ∙ ap (λ t. t ++ lines entry) so_far ∙ append_assoc begun (flat_map lines entries) (lines entry)
+    ∙ ap (λ t. begun ++ (flat_map lines entries ++ t)) (sym (append-nil (lines entry)))
+    ∙ ap (λ t. begun ++ t) (sym (flat_map-append lines entries (entry ∷ [])))
 
 places_more : (old new : List EndPlace) (entries : List ReportEntry) (entry : ReportEntry) → new ≡ old ++ as_list (entry_place entry)
     → old ≡ end_places entries → new ≡ end_places (entries ++ entry ∷ [])
@@ -73,8 +76,8 @@ any_more verdict old new entries entry e so_far =
 -- ---- the paths so far
 
 -- what is told of the paths that were passed, behind the lines that were there before, and what is known of those left
-pub record ToldSoFar (run : Value → Option Replayed) (all passed left : List Path) (begun : List ℕ) (number : ℕ)
-    (told : ToldPart) (places : List EndPlace) : Type 0 where
+pub record ToldSoFar (telling : Telling) (run : Value → Option Replayed) (all passed left : List Path) (begun : List ℕ)
+    (number : ℕ) (told : ToldPart) (places : List EndPlace) : Type 0 where
   pub joined : passed ++ left ≡ all
   pub counted : number ≡ length passed
   pub alive : AllAlive (states left)
@@ -83,16 +86,16 @@ pub record ToldSoFar (run : Value → Option Replayed) (all passed left : List P
   pub outcomes : AreOutcomes 0 passed (map outcome_of entries)
   pub are : AllEntries run entries
   pub representable : AllRepresentable entries
-  pub text : told.text ≡ begun ++ flat_map entry_text entries
+  pub text : told.text ≡ begun ++ flat_map (entry_lines telling) entries
   pub places_are : places ≡ end_places entries
   pub failed : told.failed ≡ list_any (ends_so 1) entries
   pub unfinished : told.unfinished ≡ list_any (ends_so 2) entries
 
-pub told_first : (run : Value → Option Replayed) (all left : List Path) (begun : List ℕ) (told : ToldPart) (places : List EndPlace)
-    → left ≡ all → AllAlive (states all) → PathsReplay run 0 all → told.text ≡ begun → told.failed ≡ false
-    → told.unfinished ≡ false → places ≡ [] → ToldSoFar run all [] left begun 0 told places
-told_first run all left begun told places same alive replays text failed unfinished none =
-    let P : List Path → Type 0 = λ xs. ToldSoFar run all [] xs begun 0 told places in
+pub told_first : (telling : Telling) (run : Value → Option Replayed) (all left : List Path) (begun : List ℕ)
+    (told : ToldPart) (places : List EndPlace) → left ≡ all → AllAlive (states all) → PathsReplay run 0 all → told.text ≡ begun → told.failed ≡ false
+    → told.unfinished ≡ false → places ≡ [] → ToldSoFar telling run all [] left begun 0 told places
+told_first telling run all left begun told places same alive replays text failed unfinished none =
+    let P : List Path → Type 0 = λ xs. ToldSoFar telling run all [] xs begun 0 told places in
     let there : P all = record {
       joined = refl;
       counted = refl;
@@ -116,9 +119,9 @@ pub record Next (run : Value → Option Replayed) (all passed left : List Path) 
   pub alive : Alive path.state.store
   pub replays : PathReplays run number path
 
-module _ (run : Value → Option Replayed) (all passed before left : List Path) (path : Path) (begun : List ℕ) (number : ℕ)
-    (next : before ≡ path ∷ left) where
-  pub next_of : (told : ToldPart) (places : List EndPlace) → ToldSoFar run all passed before begun number told places
+module _ (telling : Telling) (run : Value → Option Replayed) (all passed before left : List Path) (path : Path)
+    (begun : List ℕ) (number : ℕ) (next : before ≡ path ∷ left) where
+  pub next_of : (told : ToldPart) (places : List EndPlace) → ToldSoFar telling run all passed before begun number told places
       → Next run all passed left number path
   next_of told places so_far =
       let A : List Path → Type 0 = λ xs. AllAlive (states xs) in
@@ -129,9 +132,9 @@ module _ (run : Value → Option Replayed) (all passed before left : List Path) 
         replays = (subst (PathsReplay run number) next so_far.replays).0;
       }
 
-  pub told_more : (old new : ToldPart) (places more : List EndPlace) → AddsPath run number path old new places more
-      → ToldSoFar run all passed before begun number old places
-      → ToldSoFar run all (passed ++ path ∷ []) left begun (number + 1) new more
+  pub told_more : (old new : ToldPart) (places more : List EndPlace) → AddsPath telling run number path old new places more
+      → ToldSoFar telling run all passed before begun number old places
+      → ToldSoFar telling run all (passed ++ path ∷ []) left begun (number + 1) new more
   told_more old new places more adds so_far =
       let A : List Path → Type 0 = λ xs. AllAlive (states xs) in
       let R : ℕ → Type 0 = λ n. PathsReplay run n left in
@@ -144,7 +147,7 @@ module _ (run : Value → Option Replayed) (all passed before left : List Path) 
         outcomes = outcomes_more 0 number passed so_far.entries path adds.entry so_far.outcomes (omega (arith, so_far.counted)) adds.outcome;
         are = entries_more run so_far.entries adds.entry so_far.are adds.is;
         representable = representable_more so_far.entries adds.entry so_far.representable adds.adds.representable;
-        text = text_more begun old.text new.text so_far.entries adds.entry adds.adds.text so_far.text;
+        text = text_more (entry_lines telling) begun old.text new.text so_far.entries adds.entry adds.adds.text so_far.text;
         places_are = places_more places more so_far.entries adds.entry adds.adds.places_are so_far.places_are;
         failed = any_more 1 old.failed new.failed so_far.entries adds.entry adds.adds.failed so_far.failed;
         unfinished = any_more 2 old.unfinished new.unfinished so_far.entries adds.entry adds.adds.unfinished so_far.unfinished;
@@ -164,23 +167,26 @@ empty [] none = refl
 empty (p ∷ paths) none = absurd (omega (arith, none))
 
 -- the lines of a part
-part_lines : (scenario : Scenario) (entries : List ReportEntry) (begun old new : List ℕ) (places : List EndPlace)
-    → begun ≡ heading scenario (length entries) → old ≡ begun ++ flat_map entry_text entries
-    → places ≡ end_places entries → new ≡ old ++ flat_map place_line (place_counts places)
-    → new ≡ part_text (record { scenario = scenario; entries = entries })
-unfolding part_text scenario_line
-part_lines scenario entries begun old new places b o p n =
-    let outcomes = flat_map entry_text entries in
-    let ends = flat_map place_line (place_counts (end_places entries)) in
-    n ∙ ap (λ (ps : List EndPlace). old ++ flat_map place_line (place_counts ps)) p
+part_so : (telling : Telling) (scenario : Scenario) (entries : List ReportEntry) (begun old new : List ℕ) (places : List EndPlace)
+    → begun ≡ heading scenario (length entries) → old ≡ begun ++ flat_map (entry_lines telling) entries
+    → places ≡ end_places entries → new ≡ old ++ end_lines telling places
+    → new ≡ part_lines telling (record { scenario = scenario; entries = entries })
+unfolding part_text brief_part scenario_line
+part_so Wholly scenario entries begun old new places b o p n =
+    let outcomes = flat_map (entry_lines Wholly) entries in
+    let ends = end_lines Wholly (end_places entries) in
+    n ∙ ap (λ (ps : List EndPlace). old ++ end_lines Wholly ps) p
     ∙ ap (λ (t : List ℕ). t ++ ends) (o ∙ ap (λ (t : List ℕ). t ++ outcomes) b)
+part_so Briefly scenario entries begun old new places b o p n =
+    n ∙ append-nil old ∙ o ∙ ap (λ (t : List ℕ). t ++ flat_map (entry_lines Briefly) entries) b
 
-pub all_told : (run : Value → Option Replayed) (scenario : Scenario) (all passed left : List Path) (number : ℕ)
+pub all_told : (telling : Telling) (run : Value → Option Replayed) (scenario : Scenario) (all passed left : List Path) (number : ℕ)
     (told last : ToldPart) (places : List EndPlace) → length left ≡ 0
-    → last.text ≡ told.text ++ flat_map place_line (place_counts places) → last.failed ≡ told.failed
-    → last.unfinished ≡ told.unfinished → ToldSoFar run all passed left (heading scenario (length all)) number told places
-    → TellsPaths run scenario all last
-all_told run scenario all passed left number told last places none text failed unfinished so_far =
+    → last.text ≡ told.text ++ end_lines telling places → last.failed ≡ told.failed
+    → last.unfinished ≡ told.unfinished
+    → ToldSoFar telling run all passed left (heading scenario (length all)) number told places
+    → TellsPaths telling run scenario all last
+all_told telling run scenario all passed left number told last places none text failed unfinished so_far =
     let same : passed ≡ all =
     sym (append-nil passed) ∙ ap (λ (xs : List Path). passed ++ xs) (sym (empty left none)) ∙ so_far.joined in
     let P : List Path → Type 0 = λ xs. AreOutcomes 0 xs (map outcome_of so_far.entries) in
@@ -193,7 +199,7 @@ all_told run scenario all passed left number told last places none text failed u
       tells = record {
         representable = so_far.representable;
         text =
-            part_lines scenario so_far.entries (heading scenario (length all)) told.text last.text places
+            part_so telling scenario so_far.entries (heading scenario (length all)) told.text last.text places
             (ap (heading scenario) count) so_far.text so_far.places_are text;
         failed = failed ∙ so_far.failed;
         unfinished = unfinished ∙ so_far.unfinished;
@@ -202,10 +208,10 @@ all_told run scenario all passed left number told last places none text failed u
 
 -- ---- the part
 
-pub part_told : (run : Value → Option Replayed) (start : Value → Type 0) (limit : ℕ) (scenario : Scenario) (paths : List Path)
-    (told : ToldPart) → ArePaths run start limit paths → TellsPaths run scenario paths told
-    → IsTold run start limit scenario told
-part_told run start limit scenario paths told are tells =
+pub part_told : (telling : Telling) (run : Value → Option Replayed) (start : Value → Type 0) (limit : ℕ) (scenario : Scenario)
+    (paths : List Path) (told : ToldPart) → ArePaths run start limit paths → TellsPaths telling run scenario paths told
+    → IsTold telling run start limit scenario told
+part_told telling run start limit scenario paths told are tells =
     let all = are.told (map outcome_of tells.entries) tells.outcomes in
     record {
       part = record { scenario = scenario; entries = tells.entries };
