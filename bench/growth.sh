@@ -1,11 +1,11 @@
 #!/bin/sh
 # How the built program's time and memory grow with its input: families of packages, each in three sizes that double.
-# Prints for each call the family, n, the seconds of processor time and the most memory in MB, and for each family the
-# exponents of time and memory between its last two sizes. Ends with 1 where an exponent is above 1.3, or where a call
-# is refused. Memory counts above that of a call on nothing; less than 0.05 s and less than 16 MB are not judged (-).
-# Where every outcome tells its own trace, so that the report grows with the square of n (paths, outcomes), the
-# exponents are those by the bytes of the report, and where paths get longer (nested) by the bytes of their list. It
-# needs GNU time.
+# Prints for the fastest of three calls the family, n, the seconds of processor time and the most memory in MB, and for
+# each family the exponents of time and memory between its last two sizes. Ends with 1 where an exponent is above 1.3,
+# or where a call is refused. Memory counts above that of a call on nothing; less than 0.05 s and less than 16 MB are
+# not judged (-). Where every outcome tells its own trace, so that the report grows with the square of n (paths,
+# outcomes), the exponents are those by the bytes of the report, and where paths get longer (nested) by the bytes of
+# their list. It needs GNU time.
 #
 #     bench/growth.sh [FAMILY ..]    one-path paths folder own-folder side nested ifs turns calls words outcomes: all
 #                                    of these, if none is named
@@ -43,12 +43,8 @@ postinst() {
     } >p/postinst
 }
 
-# try FAMILY N SCENARIO OPTION ..: one call on the package p, with the extra words and the stack that ./colis asks for.
-try() {
-    family=$1
-    count=$2
-    scenario=$3
-    shift 3
+# call_once OPTION ..: one call on the package p, with the extra words and the stack that ./colis asks for.
+call_once() {
     # (the extra words are to be cut apart, and some shells know no limit of the stack)
     # shellcheck disable=SC2086,SC3045
     (
@@ -57,7 +53,23 @@ try() {
             "$program" check p --scenario "$scenario" $extra "$@"
     ) >report 2>line
     status=$?
-    read -r user system memory <spent
+}
+
+# try FAMILY N SCENARIO OPTION ..: the fastest of three such calls.
+try() {
+    family=$1
+    count=$2
+    scenario=$3
+    shift 3
+    : >times
+    for _ in 1 2 3; do
+        call_once "$@"
+        read -r user system memory <spent
+        echo "$user $system $memory" >>times
+    done
+    read -r user system memory <<EOF
+$(sort -n -k1,1 times | head -n 1)
+EOF
     case $measure in
     n) of=$count ;;
     *) of=$(wc -c <"$measure") ;;
@@ -128,7 +140,7 @@ files() {
 
 folder_of() {
     for scenario in remove purge upgrade; do
-        for n in $(sizes 4000 8000 16000); do
+        for n in $(sizes 10000 20000 40000); do
             fresh
             files "$n" >>p/list
             try "$1-$scenario" "$n" "$scenario" --brief
@@ -139,7 +151,7 @@ folder_of() {
 
 own_folder() {
     for scenario in remove purge upgrade; do
-        for n in $(sizes 4000 8000 16000); do
+        for n in $(sizes 10000 20000 40000); do
             fresh
             files "$n" >>p/list
             printf 'dir /usr\ndir /usr/share\nown\n' >base
