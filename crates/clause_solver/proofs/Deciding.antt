@@ -4,7 +4,6 @@ use Rattle.std.proofs.lemmas.Bool.{and_parts, and_from}
 use Rattle.std.proofs.lemmas.List.{length-append, get_or_append_left}
 use Rattle.std.proofs.Math.Seq.{get_or-append_seam}
 use Rattle.feature_trees.specs.declared.kind.Kind.{Kind}
-use Rattle.feature_trees.specs.Kinds.{has}
 use Rattle.tree_clauses.specs.Literals.{value_of_variable}
 use Rattle.clause_solver.specs.declared.variable.TheConstants.{MOST_VARIABLES}
 use Rattle.clause_solver.specs.declared.variable.Variable.{Variable}
@@ -12,7 +11,7 @@ use Rattle.clause_solver.specs.Stands.{Alive}
 use Rattle.clause_solver.specs.Variables.{var_at, no_variable, Ordered, AlwaysDir, OnlyDir, filled}
 use Rattle.clause_solver.specs.Greatest.{IsBest, IsSatisfied, HasEntryOutside, free, child_present, here, below, kept, unfenced, kind_at}
 use Rattle.clause_solver.specs.Grown.{values}
-use Rattle.clause_solver.specs.Decided.{IsLeft, number_at, AreFilled, HaveEntries}
+use Rattle.clause_solver.specs.Decided.{AreKindsFitting, IsLeft, number_at, AreFilled, HaveEntries}
 use Rattle.clause_solver.specs.Settled.{IsGreatest, IsShut, Falls, AreSettled}
 use Rattle.clause_solver.specs.Linked.{IsChildOf}
 use Rattle.clause_solver.proofs.Alive.{stands_of, unfenced_none}
@@ -46,12 +45,8 @@ left_alive vars now order tree start = (
   λ a. let s = a.2 in (a.1, s.counted, s.values, fits_from vars a.1 order s.values s.met),
 )
 
--- the greatest kind of every variable is one of its kinds
-abbrev pub KindsFit : List Variable → List Kind → Type 0
-KindsFit vars best = (i : ℕ) → i < length vars → IsTrue (has (var_at vars i).kinds (kind_at best i))
-
 module _ (vars : List Variable) (best : List Kind) (numbers : List ℕ) (listed : AreFilled vars numbers) where
-  pub satisfied_by : KindsFit vars best → HaveEntries vars best numbers → IsSatisfied vars best (unfenced vars)
+  pub satisfied_by : AreKindsFitting vars best → HaveEntries vars best numbers → IsSatisfied vars best (unfenced vars)
   satisfied_by fit have i w = record {
     fits = fit i w;
     filled = λ t. let k = listed.all i w t in subst (λ n. HasEntryOutside vars best (unfenced vars) n []) k.2 (have k.0 k.1);
@@ -60,7 +55,7 @@ module _ (vars : List Variable) (best : List Kind) (numbers : List ℕ) (listed 
   pub satisfied_entries : IsSatisfied vars best (unfenced vars) → HaveEntries vars best numbers
   satisfied_entries f k w = let e = listed.each k w in (f (number_at numbers k) e.0).filled e.1
 
-  module _ (small : length vars ≤ MOST_VARIABLES) (order : Ordered vars) (is : IsBest vars best) (alive fits : Bool) (less : IsLeft vars → IsTrue alive) (sure : IsTrue alive → IsTrue fits → KindsFit vars best) (back : KindsFit vars best → IsTrue fits) where
+  module _ (small : length vars ≤ MOST_VARIABLES) (order : Ordered vars) (is : IsBest vars best) (alive fits : Bool) (less : IsLeft vars → IsTrue alive) (sure : IsTrue alive → IsTrue fits → AreKindsFitting vars best) (back : AreKindsFitting vars best → IsTrue fits) where
     -- a step that leaves fewer valuations, where all that have to have an entry are looked at again
     pub decides : (have : Bool) → (IsTrue have ↔ HaveEntries vars best numbers) → IsTrue ((alive && fits) && have) ↔ IsLeft vars
     decides have ih =
@@ -85,7 +80,7 @@ module _ (vars : List Variable) (best : List Kind) (numbers : List ℕ) (listed 
 -- ---- kinds that fell
 
 module _ (vars : List Variable) (bound : ℕ) (old new : List Kind) (b : Bool) (falls : Falls vars bound old new b) where
-  pub still_fit : KindsFit vars old → IsTrue b → KindsFit vars new
+  pub still_fit : AreKindsFitting vars old → IsTrue b → AreKindsFitting vars new
   still_fit fit t i w = elim (falls.absent i) [
     | inl e ↦ rw e (fit i w)
     | inr z ↦ elim (absent_cases (kind_at old i)) [
@@ -94,7 +89,7 @@ module _ (vars : List Variable) (bound : ℕ) (old new : List Kind) (b : Bool) (
     ]
   ]
 
-  pub may_fall : KindsFit vars new → IsTrue b
+  pub may_fall : AreKindsFitting vars new → IsTrue b
   may_fall fit = falls.may.1 (λ i w ne. elim (falls.absent i) [
     | inl e ↦ absurd (ne e)
     | inr z ↦ rw z at (fit i w)

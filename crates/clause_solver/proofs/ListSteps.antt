@@ -11,14 +11,14 @@ use Rattle.clause_solver.specs.declared.variable.Definition.{Definition}
 use Rattle.clause_solver.specs.declared.variable.Definition.TheVariants.{Start, Child, Derived, Ensured, Made}
 use Rattle.clause_solver.specs.declared.variable.Variable.{Variable}
 use Rattle.clause_solver.specs.Appends.{IsAppended, IsSingle}
-use Rattle.clause_solver.specs.Decided.{IsLeft, AreFilled, HaveEntries, AreDecided}
+use Rattle.clause_solver.specs.Decided.{AreKindsFitting, IsLeft, AreFilled, HaveEntries, AreDecided}
 use Rattle.clause_solver.specs.Emptied.{HasItsVariable, fenced}
 use Rattle.clause_solver.specs.Fresh.{fresh}
 use Rattle.clause_solver.specs.Greatest.{IsBest, IsSatisfied, HasEntryOutside, unfenced, kind_at, is_dir, choose, best_by}
 use Rattle.clause_solver.specs.Linked.{IsChildOf}
 use Rattle.clause_solver.specs.Settled.{IsGreatest, IsShut, AreSettled}
 use Rattle.clause_solver.specs.Variables.{var_at, allowed, Listed, Ordered, Earlier, filled, is_node, defined}
-use Rattle.clause_solver.proofs.Deciding.{left_iff, KindsFit, decides, still_fit, may_fall, settled_best, has_entry_same, filled_same, filled_more, filled_by}
+use Rattle.clause_solver.proofs.Deciding.{left_iff, decides, still_fit, may_fall, settled_best, has_entry_same, filled_same, filled_more, filled_by}
 use Rattle.clause_solver.proofs.Falling.{child_cases}
 use Rattle.clause_solver.proofs.Fenced.{fenced_definition, fenced_kinds, fenced_fits, let_in_both, fenced_order, fenced_linked}
 use Rattle.clause_solver.proofs.Filled.{filled_definition, filled_fence, filled_kinds, filled_fits, filled_order, filled_best, filled_linked}
@@ -178,7 +178,7 @@ module _ (a b : Lists) (n : ℕ) (names : List (List ℕ)) (d : AreDecided a) (i
   shut_less : IsLeft shut → IsTrue a.alive
   shut_less g = d.alive.1 (g.0, g.1 ∙ shut_long, g.2, (fenced_fits a.vars n names inside g.0 g.3).0)
 
-  fit_still : IsTrue a.alive → KindsFit shut a.best
+  fit_still : IsTrue a.alive → AreKindsFitting shut a.best
   fit_still t i w = ap (λ ks. has ks (kind_at a.best i)) (fenced_kinds a.vars n names inside i) ∙ ((left_iff a.vars a.best d.small d.order d.best).1 (d.alive.0 t) i (rw shut_long at w)).fits
 
   pub fenced_decided : (best : List Kind) (fits have : Bool) → AreSettled shut n a.best best fits → (IsTrue have ↔ HaveEntries shut best a.filled) → b.best ≡ best → b.kin ≡ a.kin → b.filled ≡ a.filled → b.alive ≡ ((a.alive && fits) && have) → AreDecided b

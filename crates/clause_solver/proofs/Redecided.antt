@@ -14,8 +14,8 @@ use Rattle.clause_solver.specs.Variables.{var_at, allowed, Ordered, narrowed}
 use Rattle.clause_solver.specs.Greatest.{IsBest, IsSatisfied, unfenced, kind_at, is_dir, best_by, best_of}
 use Rattle.clause_solver.specs.Linked.{IsChildOf}
 use Rattle.clause_solver.specs.Settled.{IsGreatest, IsShut, AreSettled, WasGreatest}
-use Rattle.clause_solver.specs.Decided.{IsLeft, AreFilled, HaveEntries, AreDecided}
-use Rattle.clause_solver.proofs.Deciding.{left_iff, KindsFit, satisfied_entries, decides, decides_at_once, still_fit, may_fall, settled_best, has_entry_same, filled_same}
+use Rattle.clause_solver.specs.Decided.{AreKindsFitting, IsLeft, AreFilled, HaveEntries, AreDecided}
+use Rattle.clause_solver.proofs.Deciding.{left_iff, satisfied_entries, decides, decides_at_once, still_fit, may_fall, settled_best, has_entry_same, filled_same}
 use Rattle.clause_solver.proofs.Falling.{best_parent, child_cases, parent_before}
 use Rattle.clause_solver.proofs.GreatestKinds.{choose_dir, choose_is_dir, is_dir_cases}
 use Rattle.clause_solver.proofs.Narrowed.{narrowed_definition, narrowed_fence, narrowed_has, narrowed_fits, narrowed_order}
@@ -123,7 +123,7 @@ module _ (a b : Lists) (x : ℕ) (k : Kinds) (d : AreDecided a) (inside : x < le
           | inr ne ↦ narrowed_but a.vars x k inside a.best d.best i (rw long at w) ne
         ] in
         let fits_here : fits ≡ has (var_at new x).kinds (kind_at a.best x) = fits_is ∙ ap (has (var_at new x).kinds) (sym here) in
-        let sure : IsTrue a.alive → IsTrue fits → KindsFit new a.best = λ t u i w. elim (nat_cases i x) [
+        let sure : IsTrue a.alive → IsTrue fits → AreKindsFitting new a.best = λ t u i w. elim (nat_cases i x) [
           | inl e ↦ rw e (sym fits_here ∙ u)
           | inr ne ↦ others_fit t i w ne
         ] in
@@ -164,16 +164,16 @@ module _ (a b : Lists) (x : ℕ) (k : Kinds) (d : AreDecided a) (inside : x < le
       pub settled_same : length best ≡ length new
       settled_same = s.falls.same ∙ length-set a.best x top ∙ d.same ∙ sym long
 
-      fit_there : IsTrue a.alive → IsTrue fits → KindsFit new (set a.best x top)
+      fit_there : IsTrue a.alive → IsTrue fits → AreKindsFitting new (set a.best x top)
       fit_there t u i w = elim (nat_cases i x) [
         | inl e ↦ rw e (ap (has (var_at new x).kinds) now_top ∙ sym fits_is ∙ u)
         | inr ne ↦ ap (has (var_at new i).kinds) (get_or-set_other a.best x i top Absent ne) ∙ others_fit t i w ne
       ]
 
-      sure : IsTrue a.alive → IsTrue (fits && below) → KindsFit new best
+      sure : IsTrue a.alive → IsTrue (fits && below) → AreKindsFitting new best
       sure t u = let q = and_parts fits below u in still_fit new (x + 1) (set a.best x top) best below s.falls (fit_there t q.0) q.1
 
-      back : KindsFit new best → IsTrue (fits && below)
+      back : AreKindsFitting new best → IsTrue (fits && below)
       back all =
           let at_x : kind_at best x ≡ top = s.falls.kept x (omega arith) ∙ now_top in
           and_from fits below (fits_is ∙ ap (has (var_at new x).kinds) (sym at_x) ∙ all x inside_new) (may_fall new (x + 1) (set a.best x top) best below s.falls all)

@@ -2,13 +2,18 @@
 -- known.
 use Rattle.std.specs.Prelude.{◌≡◌, ◌↔◌, ℕ, ◌<◌, ◌≤◌, List, [], length, slice_index_or, IsTrue}
 use Rattle.feature_trees.specs.declared.kind.Kind.{Kind}
+use Rattle.feature_trees.specs.Kinds.{has}
 use Rattle.tree_clauses.specs.Literals.{Valuation, IsSound}
 use Rattle.clause_solver.specs.declared.lists.Lists.{Lists}
 use Rattle.clause_solver.specs.declared.variable.TheConstants.{MOST_VARIABLES}
 use Rattle.clause_solver.specs.declared.variable.Variable.{Variable}
 use Rattle.clause_solver.specs.Variables.{var_at, AllFit, Ordered}
-use Rattle.clause_solver.specs.Greatest.{IsBest, HasEntryOutside, unfenced}
+use Rattle.clause_solver.specs.Greatest.{IsBest, HasEntryOutside, kind_at, unfenced}
 use Rattle.clause_solver.specs.Linked.{AreLinked}
+
+-- the greatest kind of every variable is one of its kinds
+abbrev pub AreKindsFitting : List Variable → List Kind → Type 0
+AreKindsFitting vars best = (i : ℕ) → i < length vars → IsTrue (has (var_at vars i).kinds (kind_at best i))
 
 -- some valuation is left
 abbrev pub IsLeft : List Variable → Type 0

@@ -11,7 +11,7 @@ ghost use Rattle.clause_solver.specs.Adds.{AllInside, AddsFrom, LeadsNowhereFrom
 ghost use Rattle.clause_solver.specs.Adds.{AddsCase, LeadsNowhere, AddsBack, LeadsBackNowhere};
 ghost use Rattle.clause_solver.specs.Bare.{IsBare};
 ghost use Rattle.clause_solver.specs.Pairs.{HasPair};
-ghost use Rattle.clause_solver.specs.Plainest.{IsLeastTree};
+ghost use Rattle.clause_solver.specs.Plainest.{IsPlainestTree};
 ghost use Rattle.clause_solver.specs.Stands.{Seen, Stands, Alive, Extends, HasEntry, IsDirectory, HasPut, HasValue};
 ghost use Rattle.clause_solver.specs.Stands.{Empties, Fences, HasEntriesOf, HasSome};
 ghost use Rattle.clause_solver.specs.Variables.{made_value};
@@ -425,24 +425,20 @@ impl Store {
         Ok(tree)
     }
 
-    /// A start tree of some pair in which nothing that a variable stands for is there but what is there in each pair,
-    /// unless some directory has to have an entry: then it may be the tree of `start_tree`.
-    pub fn least_tree(&self, alloc: Global) -> Result<Value, Memory>
+    /// A start tree of some pair than which none has less there, of what variables stand for. Unless some directory has
+    /// to have an entry, nothing is there then but what is there in each pair.
+    pub fn plainest_tree(&self, alloc: Global) -> Result<Value, Memory>
         requires { Alive self.now }
         ensures pair { IfOk result (λ t. (g : Valuation) × Stands self.now t g) }
-        ensures least { IfOk result (IsLeastTree self.now) }
+        ensures plainest { IfOk result (IsPlainestTree self.now) }
     {
         let lists = self.lists.plainest(self.alloc)?;
-        if lists.alive {
-            let plain = Store {
-                lists,
-                current: self.current,
-                alloc: self.alloc,
-            };
-            let tree = plain.start_tree(alloc)?;
-            return Ok(tree);
-        }
-        let tree = self.start_tree(alloc)?;
+        let plain = Store {
+            lists,
+            current: self.current,
+            alloc: self.alloc,
+        };
+        let tree = plain.start_tree(alloc)?;
         Ok(tree)
     }
 

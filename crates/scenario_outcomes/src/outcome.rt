@@ -1,7 +1,7 @@
 //! One way in which a scenario can end, made from a path.
 
 ghost use Rattle.std.specs.Prelude.{◌≡◌, ◌<◌, ◌≤◌, ◌+◌, ◌^◌, length, IfOk};
-ghost use Rattle.clause_solver.specs.Plainest.{IsLeastTree};
+ghost use Rattle.clause_solver.specs.Plainest.{IsPlainestTree};
 ghost use Rattle.clause_solver.specs.Stands.{Alive};
 ghost use Rattle.case_paths.specs.Paths.{AllAlive, states};
 ghost use Rattle.scenario_outcomes.specs.OutcomeOf.{IsOutcomeOf, AreOutcomes};
@@ -66,8 +66,8 @@ impl From<Memory> for OutcomesFault {
     }
 }
 
-/// The outcome of a path, by its place in the list of paths, counted from 0. It shows the least start tree, as
-/// `Store::least_tree` has it.
+/// The outcome of a path, by its place in the list of paths, counted from 0. It shows the plainest start tree, as
+/// `Store::plainest_tree` has it.
 pub fn make_outcome(
     alloc: Global,
     place: u32,
@@ -76,7 +76,7 @@ pub fn make_outcome(
     requires alive { Alive path.state.store }
     requires numbered { place + 1 < 2 ^ 32 }
     ensures outcome { IfOk result (IsOutcomeOf place path) }
-    ensures least { IfOk result (λ outcome. IsLeastTree path.state.store outcome.shown) }
+    ensures plainest { IfOk result (λ outcome. IsPlainestTree path.state.store outcome.shown) }
 {
     let Found { value, state } = path;
     let (ending, _calls) = value;
@@ -87,7 +87,7 @@ pub fn make_outcome(
         done: _,
     } = state;
     let clause = store.clause()?;
-    let shown = store.least_tree(alloc)?;
+    let shown = store.plainest_tree(alloc)?;
     Ok(Outcome {
         number: place + 1,
         ending,

@@ -12,8 +12,8 @@ use script_names::{Bytes, Memory, Name, NameFault};
 use std::alloc::Global;
 use tree_clauses::Var;
 
-// A store in which x is a directory, and the variable of x without an entry; none where x is no directory.
-fn without(s: &mut Store, x: Var, f: &Name) -> Result<Option<Var>, Memory>
+/// A store in which x is a directory, and the variable of x without an entry; none where x is no directory.
+pub(crate) fn without(s: &mut Store, x: Var, f: &Name) -> Result<Option<Var>, Memory>
     requires { x.0 < s.old.count }
     ensures known { IfOk result (λ found. IfSome found (λ y. y.0 < s.new.count)) }
     ensures more { s.old.count ≤ s.new.count }

@@ -15,6 +15,8 @@ mod copied;
 #[cfg(test)]
 mod emptied;
 #[cfg(test)]
+mod plainest;
+#[cfg(test)]
 mod returned;
 #[cfg(test)]
 mod starts;

@@ -5,6 +5,7 @@ ghost use Rattle.clause_solver.specs.Stands.{Alive};
 
 use crate::clause_texts::has_clause;
 use crate::emptied::{is_filled, leaves_nothing, shows_another};
+use crate::plainest::{fences, fills_at, fills_without, shows_plainest};
 use clause_solver::Store;
 use feature_trees::{Kind, Kinds, Special, Value, print_tree};
 use script_names::{Bytes, Memory, Name, NameFault};
@@ -55,6 +56,14 @@ pub(crate) enum Step {
     LeavesNothing,
     /// `/srv` is not empty, `/srv/b` is of one of two kinds, and this tree is shown.
     Filled(Kind, Kind, &'static str),
+    /// The path has entries under these names alone, and a pair is left.
+    Fence(Words, Words),
+    /// The path is not empty, and a pair is left.
+    FillAt(Words),
+    /// The path is a directory that is not empty without its entry of a name, and a pair is left.
+    FillWithout(Words, &'static [u8]),
+    /// A pair is left, and this is its plainest tree.
+    ShowsPlainest(&'static str),
 }
 
 /// What is tried, steps on a store of all trees, then two forks of it, and steps on the store, on each of the forks,
@@ -68,8 +77,8 @@ pub(crate) type Course = (
     &'static [Step],
 );
 
-// The variable of a path, from the tree now on.
-fn walk(alloc: Global, s: &mut Store, words: &[&[u8]]) -> Result<Var, NameFault>
+/// The variable of a path, from the tree now on.
+pub(crate) fn walk(alloc: Global, s: &mut Store, words: &[&[u8]]) -> Result<Var, NameFault>
     ensures known { IfOk result (λ y. y.0 < s.new.count) }
 {
     let mut here = s.now();
@@ -80,8 +89,8 @@ fn walk(alloc: Global, s: &mut Store, words: &[&[u8]]) -> Result<Var, NameFault>
     Ok(here)
 }
 
-// Whether a limit leaves a pair; for want of memory the answer is no.
-fn is_left(s: &mut Store, x: Var, k: Kinds) -> bool
+/// Whether a limit leaves a pair; for want of memory the answer is no.
+pub(crate) fn is_left(s: &mut Store, x: Var, k: Kinds) -> bool
     requires { x.0 < s.old.count }
     ensures kept { (s.new.count ≡ s.old.count) × (s.new.current ≡ s.old.current) }
     ensures alive { IsTrue result → Alive s.new }
@@ -268,8 +277,8 @@ fn fills(s: &mut Store) -> bool {
     }
 }
 
-// The text of a directory.
-fn directory_text(alloc: Global, tree: &Value) -> Result<Bytes, Memory> {
+/// The text of a directory.
+pub(crate) fn directory_text(alloc: Global, tree: &Value) -> Result<Bytes, Memory> {
     match tree {
         Value::Dir(_) => print_tree(alloc, tree),
         _ => Bytes::from_slice(alloc, b"no directory"),
@@ -354,6 +363,12 @@ fn is_done(alloc: Global, s: &mut Store, step: &Step) -> bool {
         Step::ShowsAnother => shows_another(alloc, s),
         Step::LeavesNothing => leaves_nothing(alloc, s),
         Step::Filled(one, other, text) => is_filled(alloc, s, *one, *other, text),
+        Step::Fence(words, names) => matches!(fences(alloc, s, words, names), Ok(true)),
+        Step::FillAt(words) => matches!(fills_at(alloc, s, words), Ok(true)),
+        Step::FillWithout(words, name) => {
+            matches!(fills_without(alloc, s, words, name), Ok(true))
+        }
+        Step::ShowsPlainest(text) => shows_plainest(alloc, s, text.as_bytes()),
     }
 }
 
