@@ -3,7 +3,8 @@
 use crate::keeping::kept_paths;
 use crate::kept_path::{KeptPath, KeptStep};
 use case_paths::Found;
-use script_names::{Done, List, Name, Path, Reason};
+use script_names::{Done, List, Memory, Name, Path, Reason};
+use std::alloc::Global;
 use std::process::Abort;
 use std::test::Fail;
 
@@ -101,18 +102,19 @@ fn machine<R: Abort + AllocGlobal>(rt: &R, steps: &[KeptStep]) -> Result<KeptPat
 }
 
 // Whether a path has these rows, and ends with this answer.
-fn is_as(path: &Found<Done>, wanted: &(&[u8], Done)) -> bool {
-    let marks = path.state.trace.as_slice();
+fn is_as(alloc: Global, path: &Found<Done>, wanted: &(&[u8], Done)) -> Result<bool, Memory> {
+    let listed = path.state.trace.listed(alloc)?;
+    let marks = listed.as_slice();
     let rows = wanted.0;
     if marks.len() != rows.len() {
-        return false;
+        return Ok(false);
     }
     for at in 0..rows.len() {
         if marks[at].row != rows[at] {
-            return false;
+            return Ok(false);
         }
     }
-    path.value == wanted.1
+    Ok(path.value == wanted.1)
 }
 
 // Whether the steps have these paths and no others.
@@ -128,7 +130,7 @@ fn goes_so<R: Abort + AllocGlobal>(
         return Ok(false);
     }
     for at in 0..wanted.len() {
-        if !is_as(&paths[at], &wanted[at]) {
+        if !is_as(rt.alloc(), &paths[at], &wanted[at])? {
             return Ok(false);
         }
     }

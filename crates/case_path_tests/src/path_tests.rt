@@ -39,7 +39,8 @@ fn a_directory_is_asked_for_and_made(rt: HostRuntime) -> Result<(), Fail> {
     assert_eq!(rt; found.len(), 3);
     for at in 0usize..3 {
         if let Some(path) = found.get(at) {
-            let rows = match path.state.trace.as_slice() {
+            let marks = path.state.trace.listed(rt.alloc())?;
+            let rows = match marks.as_slice() {
                 [asked, made] => (asked.row, made.row, path.value),
                 _ => (0, 0, path.value),
             };
@@ -71,7 +72,8 @@ fn paths_come_by_their_rows(rt: HostRuntime) -> Result<(), Fail> {
     assert_eq!(rt; found.len(), 27);
     for at in 0usize..27 {
         if let Some(path) = found.get(at) {
-            let rows = match path.state.trace.as_slice() {
+            let marks = path.state.trace.listed(rt.alloc())?;
+            let rows = match marks.as_slice() {
                 [a, b, c] => (a.row, b.row, c.row),
                 _ => (0, 0, 0),
             };

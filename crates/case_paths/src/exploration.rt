@@ -9,6 +9,7 @@ use crate::machine::Machine;
 use crate::pursuit::pursue;
 use crate::queue::Queue;
 use crate::state::{Found, PathState, PathsFault};
+use crate::trace::Trace;
 use clause_solver::Store;
 use feature_trees::Kinds;
 use script_names::List;
@@ -64,7 +65,7 @@ pub fn explore<V: Drop, M: Machine<End = V>>(
     if room == 0 {
         return Err(PathsFault::Over);
     }
-    let none = List::new(alloc);
+    let none = Trace::new(alloc);
     let mut items = Queue::new(alloc);
     let first = PathState {
         store,

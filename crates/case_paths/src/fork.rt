@@ -7,7 +7,8 @@ ghost use Rattle.case_paths.specs.Steps.{mark_of, GoesOn, Forked, AreForks, HasR
 
 use crate::queue::Queue;
 use crate::state::PathState;
-use script_names::{Copied, List, Mark, Memory, Site};
+use crate::trace::Trace;
+use script_names::{Mark, Memory, Site};
 use std::alloc::Global;
 use tree_clauses::{Case, Var};
 
@@ -19,11 +20,11 @@ pub struct Forks {
     pub higher: Queue<PathState>,
 }
 
-// The trace with one mark more.
-fn with_mark(alloc: Global, trace: &List<Mark>, site: Site, row: u8) -> Result<List<Mark>, Memory>
+// The trace with one mark more, which shares the marks of this one.
+fn with_mark(trace: &Trace, site: Site, row: u8) -> Result<Trace, Memory>
     ensures { IfOk result (λ t. t ≡ trace.now ++ mark_of site row ∷ []) }
 {
-    let mut more = trace.copy(alloc)?;
+    let mut more = trace.fork()?;
     more.add(Mark { site, row })?;
     Ok(more)
 }
@@ -49,7 +50,7 @@ fn siblings(
             Some(store) => store,
             None => continue,
         };
-        let trace = with_mark(alloc, &state.trace, site, case.row)?;
+        let trace = with_mark(&state.trace, site, case.row)?;
         let kept = state.kept;
         let done = state.done + 1;
         forks.push(PathState {

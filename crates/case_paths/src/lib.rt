@@ -12,7 +12,9 @@ mod machine;
 mod pursuit;
 mod queue;
 mod state;
+mod trace;
 
 pub use exploration::explore;
 pub use machine::Machine;
 pub use state::{Found, PathState, PathsFault, Ran};
+pub use trace::Trace;

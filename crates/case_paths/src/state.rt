@@ -2,6 +2,7 @@
 
 ghost use Rattle.std.specs.Prelude.{◌≡◌};
 
+use crate::trace::Trace;
 use clause_solver::Store;
 use script_names::{Copied, List, Mark, Memory};
 use std::alloc::Global;
@@ -14,7 +15,7 @@ use utility_calls::deeds::Deed;
 pub struct PathState {
     pub store: Store,
     pub kept: Var,
-    pub trace: List<Mark>,
+    pub trace: Trace,
     pub done: usize,
 }
 

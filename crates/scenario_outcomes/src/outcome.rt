@@ -6,7 +6,7 @@ ghost use Rattle.clause_solver.specs.Stands.{Alive};
 ghost use Rattle.case_paths.specs.Paths.{AllAlive, states};
 ghost use Rattle.scenario_outcomes.specs.OutcomeOf.{IsOutcomeOf, AreOutcomes};
 
-use case_paths::{Found, PathState, PathsFault};
+use case_paths::Found;
 use dpkg_scenarios::Ending;
 use feature_trees::Value;
 use scenario_runs::ScriptCall;
@@ -80,14 +80,9 @@ pub fn make_outcome(
 {
     let Found { value, state } = path;
     let (ending, _calls) = value;
-    let PathState {
-        store,
-        kept: _,
-        trace,
-        done: _,
-    } = state;
-    let clause = store.clause()?;
-    let shown = store.plainest_tree(alloc)?;
+    let trace = state.trace.listed(alloc)?;
+    let clause = state.store.clause()?;
+    let shown = state.store.plainest_tree(alloc)?;
     Ok(Outcome {
         number: place + 1,
         ending,
