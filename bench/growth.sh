@@ -7,8 +7,8 @@
 # outcomes), the exponents are those by the bytes of the report, and where paths get longer (nested) by the bytes of
 # their list. It needs GNU time.
 #
-#     bench/growth.sh [FAMILY ..]    one-path paths folder own-folder side nested ifs turns calls words outcomes: all
-#                                    of these, if none is named
+#     bench/growth.sh [FAMILY ..]    one-path paths folder own-folder shuffled into side nested ifs turns calls words
+#                                    outcomes: all of these, if none is named
 #     SHARE=N bench/growth.sh ..     the sizes divided by N, for a busy machine or a program with checks
 here=$(dirname "$(readlink -f "$0")")
 . "$here/common.sh"
@@ -162,6 +162,45 @@ own_folder() {
     done
 }
 
+# ---- n files in one folder, listed in an order like a random one
+
+shuffled() {
+    for scenario in remove upgrade; do
+        for n in $(sizes 10000 20000 40000); do
+            fresh
+            files 0 >>p/list
+            awk -v n="$n" 'BEGIN {
+                for (i = 0; i < n; i++) printf "%06d /usr/share/p/f%06d\n", i * 7919 % 99991, i
+            }' | sort | cut -d ' ' -f 2 >>p/list
+            try "shuffled-$scenario" "$n" "$scenario" --brief
+        done
+        judge
+    done
+}
+
+# ---- n links put into a new folder, beside n files; n of these files copied there, and moved
+
+into() {
+    for act in ln cp mv; do
+        case $act in
+        ln) format='ln -s f%06d /usr/share/p/d' ;;
+        *) format="$act /usr/share/p/f%06d /usr/share/p/d" ;;
+        esac
+        for n in $(sizes 1000 2000 4000); do
+            fresh
+            files "$n" >>p/list
+            printf 'dir /usr\ndir /usr/share\nown\nfits\n' >base
+            extra='--base base'
+            {
+                echo 'mkdir /usr/share/p/d'
+                lines "$n" "$format"
+            } | postinst
+            try "into-$act" "$n" install-again --brief
+        done
+        judge
+    done
+}
+
 # ---- n folders side by side, and within one another, where nothing but the package's own stands there
 
 side() {
@@ -260,15 +299,15 @@ least=0
 try nothing 0 install --brief >/dev/null
 least=$memory
 rm -f figures wrong
-for family in ${*:-one-path paths folder own-folder side nested ifs turns calls words outcomes}; do
+for family in ${*:-one-path paths folder own-folder shuffled into side nested ifs turns calls words outcomes}; do
     case $family in
     one-path) one_path ;;
     folder) folder_of folder ;;
     own-folder) own_folder ;;
-    paths | side | nested | ifs | turns | calls | words | outcomes) "$family" ;;
+    paths | shuffled | into | side | nested | ifs | turns | calls | words | outcomes) "$family" ;;
     *)
-        echo "usage: bench/growth.sh [one-path] [paths] [folder] [own-folder] [side] [nested] [ifs] [turns] [calls]" \
-            "[words] [outcomes]" >&2
+        echo "usage: bench/growth.sh [one-path] [paths] [folder] [own-folder] [shuffled] [into] [side] [nested] [ifs]" \
+            "[turns] [calls] [words] [outcomes]" >&2
         exit 1
         ;;
     esac

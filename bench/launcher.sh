@@ -887,6 +887,8 @@ mkdir top/crates/high/specs
 builds 'a folder of a crate that was added'
 : >calls
 touch top/crates/high/out/x top/crates/colis_checker/out/y
+echo x >>top/crates/low_tests/src/lib.rt
+echo x >>top/crates/high/proofs/a/b/Answers.antt
 for call in 'colis load 1' 'touch top/crates/colis_checker/out/colis_checker; colis load 1' \
     'cp -a top moved; moved/colis load 1' 'rm -f top/crates/colis_checker/out/sources; colis load 1' \
     'echo x >top/crates/colis_checker/out/sources; colis load 1' 'colis load 1'; do

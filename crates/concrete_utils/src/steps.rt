@@ -13,7 +13,7 @@ ghost use Rattle.utility_calls.specs.Ways.{in_dir};
 
 use crate::walks::{Seen, entry_or, has_entry, walk};
 use feature_trees::{Entries, Kind, PutFault, Value};
-use script_names::{Copied, Done, Memory, Name, Path};
+use script_names::{Copied, Done, Memory, Name, Path, PathFault};
 use std::alloc::Global;
 use utility_calls::acts::Act;
 use utility_calls::sights::{Effect, Row, Sight};
@@ -205,8 +205,8 @@ fn with_entry(entries: Entries, f: &Name, inner: Value) -> Result<Value, Memory>
     Ok(Value::Dir(changed))
 }
 
-// Puts a value under a name of the directory at a path.
-fn put_under(
+// Puts a value under a name of the directory at a path, in a copy of the directory.
+fn put_in_copy(
     alloc: Global,
     path: &Path,
     f: &Name,
@@ -221,6 +221,27 @@ fn put_under(
     let old = copy_at(alloc, tree, path)?;
     let dir = dir_with(alloc, old, f, value)?;
     put_at(path, dir, tree)
+}
+
+// Puts a value under a name of the directory at a path. Where the path has as many names as one may have, the
+// directory is copied, and the copy put in its place.
+fn put_under(
+    alloc: Global,
+    path: &Path,
+    f: &Name,
+    value: Value,
+    tree: &mut Value,
+) -> Result<(), Memory>
+    requires named { path.now.names ≢ [] }
+    requires parents { IsTrue (has_parents tree.old (path.now.names ++ f.now ∷ [])) }
+    ensures ok { OnOk result (tree.new ≡ put tree.old (path.now.names ++ f.now ∷ []) value) }
+    ensures kept { OnErr result (tree.new ≡ tree.old) }
+{
+    match path.join(alloc, f) {
+        Ok(longer) => put_at(&longer, value, tree),
+        Err(PathFault::Memory) => Err(Memory),
+        Err(_) => put_in_copy(alloc, path, f, value, tree),
+    }
 }
 
 // Puts a value at a path, with the act's inner name behind it where it has one.

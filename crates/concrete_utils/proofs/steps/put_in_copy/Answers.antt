@@ -5,7 +5,7 @@ use Rattle.feature_trees.specs.Tree.{at, is_dir, put, update, entries_of, has_pa
 use Rattle.feature_trees.proofs.Laws.{and_parts}
 use Rattle.utility_calls.proofs.Above.{parents_more}
 use Rattle.concrete_utils.proofs.Puts.{put_below, on_ok_is}
-use Rattle.concrete_utils.proofs.steps.put_under.Goals as goal
+use Rattle.concrete_utils.proofs.steps.put_in_copy.Goals as goal
 
 pub returns-clause-ok : goal.returns-clause-ok
 returns-clause-ok c =
