@@ -1,6 +1,7 @@
-//! Tests of package_jobs: what is needed of the trees that a scenario may begin from, the acts of steps, and the runs of
-//! jobs, with each step that succeeds and each that fails, with files that are put back, with stated calls, with folders
-//! that hold no foreign entry, and along known links. They stand apart from package_jobs, so that it is not proved twice.
+//! Tests of package_jobs: what is needed of the trees that a scenario may begin from, the acts of steps, and the runs
+//! of jobs, with each step that succeeds and each that fails, with files that are put back, with stated calls, with
+//! folders that hold no foreign entry, and along known links; and of reports (outcome_report, report_text, report_json
+//! and report_reader). They stand apart from these crates, so that none is proved twice.
 #![tactic(auto)]
 
 #[cfg(test)]
@@ -10,7 +11,15 @@ mod answers;
 #[cfg(test)]
 mod idioms;
 #[cfg(test)]
+mod json_readings;
+#[cfg(test)]
+mod json_texts;
+#[cfg(test)]
+mod json_versions;
+#[cfg(test)]
 mod linked;
+#[cfg(test)]
+mod made;
 #[cfg(test)]
 mod merged;
 #[cfg(test)]
@@ -25,6 +34,10 @@ mod placed;
 mod plain;
 #[cfg(test)]
 mod put_back;
+#[cfg(test)]
+mod reports;
+#[cfg(test)]
+mod run_texts;
 #[cfg(test)]
 mod runs;
 #[cfg(test)]

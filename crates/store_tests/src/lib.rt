@@ -1,9 +1,12 @@
 //! Tests of act_cases, clause_solver and start_trees: cases of calls and of backs, stores, and cases that are added to
-//! stores. They stand apart from these crates, so that no crate is proved twice.
+//! stores; and of case_paths, by a machine that does two acts, by one that asks for many paths, and by one that keeps
+//! the tree and puts back from it (the types of these stand without tests, since definitions name them). They stand
+//! apart from these crates, so that no crate is proved twice.
 #![tactic(auto)]
 
 #[cfg(test)]
 mod adding;
+mod asked_path;
 #[cfg(test)]
 mod call_words;
 #[cfg(test)]
@@ -15,7 +18,16 @@ mod copied;
 #[cfg(test)]
 mod emptied;
 #[cfg(test)]
+mod keeping;
+mod kept_path;
+#[cfg(test)]
+mod kept_tests;
+#[cfg(test)]
+mod path_tests;
+#[cfg(test)]
 mod plainest;
+#[cfg(test)]
+mod questions;
 #[cfg(test)]
 mod returned;
 #[cfg(test)]
@@ -28,3 +40,5 @@ mod stores;
 mod taken;
 #[cfg(test)]
 mod targets;
+#[cfg(test)]
+mod two_acts;
