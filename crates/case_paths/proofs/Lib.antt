@@ -1,3 +1,4 @@
+mod Listed
 pub mod Orders
 pub mod Walks
 pub mod Parting
